@@ -1,0 +1,66 @@
+-- What can be said of a disk, and what one call may change of it.
+use Rattle.std.specs.Prelude.{◌≡◌, ◌<◌, ◌≤◌, ℕ, ◌+◌, ◌^◌, ◌-◌, Bool, IsTrue, List, [], ◌∷◌, ◌++◌, length, take, drop, min, max, slice_index, if◌then◌else◌}
+
+-- The facts of a disk at one moment.
+pub record Facts : Type 1 where
+  -- the bytes that a read gives
+  pub reads : List ℕ
+  -- the moment, a number that does not fall
+  pub moment : ℕ
+  -- a crash at that moment may leave these bytes
+  pub image : ℕ → List ℕ → Type 0
+  -- it obeys the disk model; no call changes that
+  pub honest : Bool
+  -- how each device call so far ended, the oldest first: true where it went well (of an honest disk)
+  pub outcomes : List Bool
+  -- how many of them failed, up to the last value of a counter
+  pub faults : ℕ
+
+-- a crash now may leave these bytes
+abbrev pub MayLeave : Facts → List ℕ → Type 0
+MayLeave f image = f.image f.moment image
+
+-- a crash at some moment from t on may have left these bytes
+abbrev pub MayHaveLeft : Facts → ℕ → List ℕ → Type 0
+MayHaveLeft f t image = (k : ℕ) × (t ≤ k) × (k ≤ f.moment) × f.image k image
+
+-- a crash now leaves what a read gives
+abbrev pub IsAtRest : Facts → Type 0
+IsAtRest f = (image : List ℕ) → MayLeave f image → image ≡ f.reads
+
+-- A write of n bytes at an offset, cut short anywhere: in the range, and past the old end, any bytes; the same elsewhere.
+pub record Torn (at n : ℕ) (old new : List ℕ) : Type 0 where
+  pub before : (k : ℕ) → k < at → k < length old → slice_index new k ≡ slice_index old k
+  pub after : (k : ℕ) → at + n ≤ k → k < length old → slice_index new k ≡ slice_index old k
+  pub no_shorter : length old ≤ length new
+  pub no_longer : length new ≤ max (length old) (at + n)
+
+-- these bytes written at an offset
+abbrev pub patched : List ℕ → ℕ → List ℕ → List ℕ
+patched old at bytes = take at old ++ (bytes ++ drop (at + length bytes) old)
+
+-- the greatest number of faults that is counted
+abbrev pub most_faults : ℕ
+most_faults = 2 ^ 64 - 1
+
+-- True of every call, whether it ended well or not: time goes on, what is past stays past, and faults are counted. An
+-- honest disk counts its calls too.
+pub record Called (old new : Facts) (ok : Bool) : Type 0 where
+  pub later : old.moment ≤ new.moment
+  pub honest : new.honest ≡ old.honest
+  -- the images of moments past are those that they were
+  pub past : (k : ℕ) (c : List ℕ) → k ≤ old.moment → new.image k c → old.image k c
+  pub kept : (k : ℕ) (c : List ℕ) → k ≤ old.moment → old.image k c → new.image k c
+  -- those of moments within the call are among those of now
+  pub fresh : (k : ℕ) (c : List ℕ) → old.moment < k → k ≤ new.moment → new.image k c → MayLeave new c
+  -- an honest disk tells how each of its calls ended
+  pub outcomes : IsTrue old.honest → length old.outcomes + 1 < 2 ^ 64 → new.outcomes ≡ old.outcomes ++ ok ∷ []
+  pub faults : new.faults ≡ (if ok then old.faults else min (old.faults + 1) most_faults)
+
+-- a crash now leaves nothing that it would not have left before
+abbrev pub NothingNew : Facts → Facts → Type 0
+NothingNew old new = (c : List ℕ) → MayLeave new c → MayLeave old c
+
+-- what a crash may leave now is what it might have left before, with such a write cut short
+abbrev pub TearsAt : ℕ → ℕ → Facts → Facts → Type 0
+TearsAt at n old new = (c : List ℕ) → MayLeave new c → (d : List ℕ) × MayLeave old d × Torn at n d c

@@ -1,0 +1,5 @@
+pub mod Crash
+pub mod Facts
+pub mod Memory
+pub mod Runs
+pub mod Unknown

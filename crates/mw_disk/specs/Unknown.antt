@@ -1,0 +1,13 @@
+-- A disk of which nothing is known but how often it has failed.
+use Rattle.std.specs.Prelude.{ℕ, false, []}
+use Rattle.mw_disk.specs.Facts.{Facts}
+
+abbrev pub unknown : ℕ → Facts
+unknown faults = record {
+  reads = [];
+  moment = 0;
+  image = λ k c. ⊥;
+  honest = false;
+  outcomes = [];
+  faults = faults;
+}

@@ -1,0 +1,362 @@
+//! A disk in memory, whose calls fail where they are told to.
+ghost use Rattle.std.specs.Prelude.{◌≡◌, ◌+◌, ◌≤◌, min, [], length, slice_range, nat_le, true, false, IsTrue, Some, None, is_ok, IfOk, OnOk, OnErr};
+ghost use Rattle.mw_disk.specs.Crash.{Tears, unsynced as unsynced_spans};
+ghost use Rattle.mw_disk.specs.Facts.{most_faults, Called, IsAtRest, MayLeave, NothingNew, TearsAt, Torn, patched};
+ghost use Rattle.mw_disk.specs.Memory.{Memory, memory_facts, next_turn, read_turn, begun, logged, missed_once, refused_once, Answers, FailsAs, keeps_bytes, with_name, sooner};
+ghost use Rattle.mw_disk.specs.declared.event.Call.TheVariants.{Quiet, Wrote, Tore, Synced};
+
+use crate::device::{Disk, DiskFault};
+use crate::edits::overwrite;
+use crate::event::{Block, Call, Event, Turn};
+use crate::spans::{tear, unsynced};
+use std::alloc::{AllocError, Global};
+use std::marker::Model;
+
+/// A disk in memory, which keeps a record of its calls.
+///
+/// Its script names the numbers of the calls that fail, counted from 1 since `new`, reads and looks
+/// at the length too. A write that fails leaves the bytes, and its range counts as written; a sync
+/// that fails syncs nothing. A call that is refused memory, for the record or for the bytes, fails
+/// too and leaves everything as it was; later calls go on as before. No other call fails, save a
+/// read past the end. A write that starts past the end fills the gap with zeros.
+#[derive(Drop)]
+pub struct MemDisk {
+    alloc: Global,
+    first: Vec<u8>,
+    log: Vec<Event>,
+    bytes: Vec<u8>,
+    script: Vec<u64>,
+    stop: Option<u64>,
+    calls: u64,
+    missed: u64,
+    faults: u64,
+    refused: u64,
+}
+
+impl Model for MemDisk {
+    ghost use Rattle.std.specs.Prelude.{◌≡◌};
+    ghost use Rattle.mw_disk.specs.Memory.{Memory, bytes_of};
+
+    ghost Value = { Memory };
+
+    ghost view = { λ d. record {
+      first = d.first.items;
+      log = d.log.items;
+      missed = d.missed;
+      faults = d.faults;
+      refused = d.refused;
+      calls = d.calls;
+      script = d.script.items;
+      stop = d.stop;
+    } };
+
+    ghost invariant = { λ d. d.bytes.items ≡ bytes_of d.first.items d.log.items };
+}
+
+impl MemDisk {
+    /// A disk of these bytes, which a crash now leaves. The only error is want of memory.
+    pub fn new(alloc: Global, bytes: Vec<u8>, script: Vec<u64>) -> Result<MemDisk, AllocError>
+        ensures made { IfOk result (λ disk. disk ≡ record {
+          first = bytes.items;
+          log = [];
+          missed = 0;
+          faults = 0;
+          refused = 0;
+          calls = 0;
+          script = script.items;
+          stop = None;
+        }) }
+        ensures at_rest { IfOk result (λ disk. IsAtRest (memory_facts disk)) }
+    {
+        let first = bytes.to_vec(alloc)?;
+        Ok(MemDisk {
+            alloc,
+            first,
+            log: Vec::new(alloc),
+            bytes,
+            script,
+            stop: None,
+            calls: 0,
+            missed: 0,
+            faults: 0,
+            refused: 0,
+        })
+    }
+
+    /// How many calls were refused memory. The count stays at its last value, `2^64 - 1`.
+    pub fn refused(&self) -> u64
+        ensures { result ≡ self.now.refused }
+    {
+        self.refused
+    }
+
+    /// The `k`-th call from now fails too. An error, for want of memory, leaves the disk as it was.
+    pub fn fail_next(&mut self, k: u64) -> Result<(), AllocError>
+        ensures ok { OnOk result (self.new ≡ record self.old { script = with_name self.old k }) }
+        ensures err { OnErr result (self.new ≡ self.old) }
+    {
+        if let Some(number) = self.calls.checked_add(k) {
+            self.script.push(number)?;
+        }
+        Ok(())
+    }
+
+    /// After `k` more calls every call fails and changes nothing. An earlier stop stays.
+    pub fn stop_next(&mut self, k: u64)
+        ensures { self.new ≡ record self.old { stop = Some (sooner self.old.stop k) } }
+    {
+        let left = match self.stop {
+            Some(left) => left.min(k),
+            None => k,
+        };
+        self.stop = Some(left);
+    }
+
+    /// An equal one. The only error is want of memory.
+    pub fn copy(&self) -> Result<MemDisk, AllocError>
+        ensures { IfOk result (λ disk. disk ≡ self.now) }
+    {
+        let alloc = self.alloc;
+        Ok(MemDisk {
+            alloc,
+            first: self.first.to_vec(alloc)?,
+            log: copies(alloc, &self.log)?,
+            bytes: self.bytes.to_vec(alloc)?,
+            script: self.script.to_vec(alloc)?,
+            stop: self.stop,
+            calls: self.calls,
+            missed: self.missed,
+            faults: self.faults,
+            refused: self.refused,
+        })
+    }
+
+    /// What a crash now leaves. The bytes of all ranges written since the last sync, those of failed
+    /// writes too, are taken from `torn`, in rising order of offset and each offset once. Where
+    /// `torn` is at its end they are the bytes of now, and none past the end. What is left of
+    /// `torn` is not looked at. The only error is want of memory.
+    pub fn crash(&self, torn: &[u8]) -> Result<Vec<u8>, AllocError>
+        ensures torn { IfOk result (λ bytes. Tears (unsynced_spans self.now.log) torn.now (length torn.now)
+            (memory_facts self.now).reads bytes.items) }
+        ensures image { IfOk result (λ bytes. MayLeave (memory_facts self.now) bytes.items) }
+        // What a read gives is an image too.
+        ensures reads { MayLeave (memory_facts self.now) (memory_facts self.now).reads }
+    {
+        let spans = unsynced(self.alloc, &self.log)?;
+        let mut bytes = self.bytes.to_vec(self.alloc)?;
+        tear(&mut bytes, &spans, torn)?;
+        Ok(bytes)
+    }
+
+    // Counts a call, and says what becomes of it.
+    fn begin(&mut self) -> Turn
+        ensures turn { result ≡ next_turn self.old }
+        ensures begun { self.new ≡ begun self.old }
+    {
+        let number = self.calls.checked_add(1);
+        self.calls = number.unwrap_or(u64::MAX);
+        match self.stop {
+            None => {}
+            Some(0) => return Turn::Stopped,
+            Some(left) => self.stop = Some(left - 1),
+        }
+        match number {
+            Some(number) if self.script.contains(&number) => Turn::Fails,
+            _ => Turn::Goes,
+        }
+    }
+
+    fn count_fault(&mut self)
+        ensures { self.new ≡ record self.old { faults = min (self.old.faults + 1) most_faults } }
+    {
+        self.faults = self.faults.saturating_add(1);
+    }
+
+    // Counts a call that fails without a trace.
+    fn miss(&mut self) -> DiskFault
+        ensures { self.new ≡ missed_once self.old }
+    {
+        self.missed = self.missed.saturating_add(1);
+        self.count_fault();
+        DiskFault
+    }
+
+    // The same, for want of memory.
+    fn refuse(&mut self) -> DiskFault
+        ensures { self.new ≡ refused_once self.old }
+    {
+        self.refused = self.refused.saturating_add(1);
+        self.miss()
+    }
+
+    fn push(&mut self, call: Call) -> Result<(), AllocError>
+        requires { IsTrue (keeps_bytes call) }
+        ensures ok { OnOk result (self.new ≡ logged self.old call) }
+        ensures err { OnErr result (self.new ≡ self.old) }
+    {
+        let well = call.went_well();
+        self.log.push(Event {
+            missed: self.missed,
+            call,
+        })?;
+        self.missed = 0;
+        if !well {
+            self.count_fault();
+        }
+        Ok(())
+    }
+
+    // Remembers a call that leaves the bytes as they are.
+    fn remember(&mut self, call: Call) -> Result<(), DiskFault>
+        requires { IsTrue (keeps_bytes call) }
+        ensures ok { OnOk result (self.new ≡ logged self.old call) }
+        ensures err { OnErr result (self.new ≡ refused_once self.old) }
+    {
+        match self.push(call) {
+            Ok(()) => Ok(()),
+            Err(_) => Err(self.refuse()),
+        }
+    }
+
+    // A call that is to fail.
+    fn fail(&mut self, turn: Turn, call: Call) -> DiskFault
+        requires fails { turn ≡ Turn.Goes → ⊥ }
+        requires keeps { IsTrue (keeps_bytes call) }
+        ensures { FailsAs call turn self.old self.new }
+    {
+        if turn == Turn::Stopped {
+            return self.miss();
+        }
+        match self.remember(call) {
+            Ok(()) => DiskFault,
+            Err(fault) => fault,
+        }
+    }
+
+    fn size(&self) -> u64
+        ensures { result ≡ length (memory_facts self.now).reads }
+    {
+        self.bytes.len() as u64
+    }
+
+    // So many bytes are there.
+    fn holds(&self, at: u64, len: usize) -> bool
+        ensures { result ≡ nat_le (at + len) (length (memory_facts self.now).reads) }
+    {
+        let size = self.size();
+        at <= size && len as u64 <= size - at
+    }
+
+    fn copy_to(&self, at: u64, out: &mut [u8])
+        requires { at + length out.old ≤ length (memory_facts self.now).reads }
+        ensures { out.new ≡ slice_range (memory_facts self.now).reads at (at + length out.old) }
+    {
+        let bytes = self.bytes.as_slice();
+        let from = at as usize;
+        out.copy_from_slice(&bytes[from..from + out.len()]);
+    }
+
+    fn put(&mut self, at: u64, bytes: &[u8]) -> Result<(), AllocError>
+        ensures ok { OnOk result (self.new ≡ logged self.old (Wrote at bytes.now)) }
+        ensures err { OnErr result (self.new ≡ self.old) }
+    {
+        let block = Block::of(self.alloc, bytes)?;
+        let before = self.log.len();
+        self.log.push(Event {
+            missed: self.missed,
+            call: Call::Wrote(at, block),
+        })?;
+        if let Err(error) = overwrite(&mut self.bytes, at, bytes) {
+            self.log.truncate(before);
+            return Err(error);
+        }
+        self.missed = 0;
+        Ok(())
+    }
+}
+
+fn copies(alloc: Global, log: &[Event]) -> Result<Vec<Event>, AllocError>
+    ensures { IfOk result (λ events. events.items ≡ log.now) }
+{
+    let mut events = Vec::new(alloc);
+    for event in log {
+        events.push(event.copy(alloc)?)?;
+    }
+    Ok(events)
+}
+
+impl Disk for MemDisk {
+    ghost facts = { memory_facts };
+
+    fn read_at(&mut self, at: u64, out: &mut [u8]) -> Result<(), DiskFault>
+        ensures call { Called (memory_facts self.old) (memory_facts self.new) (is_ok result) }
+        ensures crash { NothingNew (memory_facts self.old) (memory_facts self.new) }
+        ensures same { (memory_facts self.new).reads ≡ (memory_facts self.old).reads }
+        ensures read { OnOk result ((at + length out.old ≤ length (memory_facts self.old).reads)
+            × (out.new ≡ slice_range (memory_facts self.old).reads at (at + length out.old))) }
+        ensures answers { Answers result (read_turn self.old at (length out.old)) (Quiet true) (Quiet false)
+            self.old self.new }
+    {
+        let turn = self.begin();
+        let turn = turn.only_if(self.holds(at, out.len()));
+        if turn != Turn::Goes {
+            return Err(self.fail(turn, Call::Quiet(false)));
+        }
+        self.remember(Call::Quiet(true))?;
+        self.copy_to(at, out);
+        Ok(())
+    }
+
+    fn write_at(&mut self, at: u64, bytes: &[u8]) -> Result<(), DiskFault>
+        ensures call { Called (memory_facts self.old) (memory_facts self.new) (is_ok result) }
+        ensures crash { TearsAt at (length bytes.now) (memory_facts self.old) (memory_facts self.new) }
+        ensures torn { Torn at (length bytes.now) (memory_facts self.old).reads (memory_facts self.new).reads }
+        ensures written { OnOk result (at ≤ length (memory_facts self.old).reads
+            → (memory_facts self.new).reads ≡ patched (memory_facts self.old).reads at bytes.now) }
+        ensures answers { Answers result (next_turn self.old) (Wrote at bytes.now) (Tore at (length bytes.now))
+            self.old self.new }
+    {
+        let turn = self.begin();
+        if turn != Turn::Goes {
+            return Err(self.fail(turn, Call::Tore(at, bytes.len() as u64)));
+        }
+        match self.put(at, bytes) {
+            Ok(()) => Ok(()),
+            Err(_) => Err(self.refuse()),
+        }
+    }
+
+    fn sync(&mut self) -> Result<(), DiskFault>
+        ensures call { Called (memory_facts self.old) (memory_facts self.new) (is_ok result) }
+        ensures crash { NothingNew (memory_facts self.old) (memory_facts self.new) }
+        ensures same { (memory_facts self.new).reads ≡ (memory_facts self.old).reads }
+        ensures durable { OnOk result (IsAtRest (memory_facts self.new)) }
+        ensures answers { Answers result (next_turn self.old) Synced (Quiet false) self.old self.new }
+    {
+        let turn = self.begin();
+        if turn != Turn::Goes {
+            return Err(self.fail(turn, Call::Quiet(false)));
+        }
+        self.remember(Call::Synced)?;
+        Ok(())
+    }
+
+    fn len(&mut self) -> Result<u64, DiskFault>
+        ensures call { Called (memory_facts self.old) (memory_facts self.new) (is_ok result) }
+        ensures crash { NothingNew (memory_facts self.old) (memory_facts self.new) }
+        ensures same { (memory_facts self.new).reads ≡ (memory_facts self.old).reads }
+        ensures length { IfOk result (λ n. n ≡ length (memory_facts self.old).reads) }
+        ensures answers { Answers result (next_turn self.old) (Quiet true) (Quiet false) self.old self.new }
+    {
+        let turn = self.begin();
+        if turn != Turn::Goes {
+            return Err(self.fail(turn, Call::Quiet(false)));
+        }
+        self.remember(Call::Quiet(true))?;
+        Ok(self.size())
+    }
+
+    fn faults(&self) -> u64 {
+        self.faults
+    }
+}

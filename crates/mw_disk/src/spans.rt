@@ -1,0 +1,103 @@
+//! The ranges of a disk in memory that were written since the last sync.
+ghost use Rattle.std.specs.Prelude.{◌≡◌, ◌+◌, [], ◌∷◌, length, slice_set, IfOk, OnOk};
+ghost use Rattle.mw_disk.specs.Memory.{padded};
+ghost use Rattle.mw_disk.specs.Crash.{spans_after, unsynced as unsynced_spans, IsNext, nearer as nearer_of, Tears};
+
+use crate::edits::lengthen;
+use crate::event::{Call, Event};
+use std::alloc::{AllocError, Global};
+
+/// A range of offsets: its first and their number.
+#[derive(Clone, Copy, Debug, PartialEq, Eq)]
+pub(crate) struct Span {
+    pub(crate) at: u64,
+    pub(crate) len: u64,
+}
+
+impl Span {
+    // The least of its offsets that is not below this one.
+    fn first_from(self, from: u64) -> Option<u64>
+        ensures { IsNext (self ∷ []) from result }
+    {
+        let offset = self.at.max(from);
+        if offset - self.at < self.len {
+            Some(offset)
+        } else {
+            None
+        }
+    }
+}
+
+/// The ranges written since the last sync, those of failed writes too.
+pub(crate) fn unsynced(alloc: Global, log: &[Event]) -> Result<Vec<Span>, AllocError>
+    ensures { IfOk result (λ spans. spans.items ≡ unsynced_spans log.now) }
+{
+    let mut spans = Vec::new(alloc);
+    for event in log {
+        note(&mut spans, &event.call)?;
+    }
+    Ok(spans)
+}
+
+fn note(spans: &mut Vec<Span>, call: &Call) -> Result<(), AllocError>
+    ensures { OnOk result (spans.new.items ≡ spans_after spans.old.items call.now) }
+{
+    match call {
+        Call::Quiet(_) => {}
+        Call::Wrote(at, block) => spans.push(Span {
+            at: *at,
+            len: block.len() as u64,
+        })?,
+        Call::Tore(at, len) => spans.push(Span { at: *at, len: *len })?,
+        Call::Synced => spans.clear(),
+    }
+    Ok(())
+}
+
+/// Puts these bytes at the offsets of the ranges, in rising order and each once.
+pub(crate) fn tear(bytes: &mut Vec<u8>, spans: &[Span], torn: &[u8]) -> Result<(), AllocError>
+    ensures { OnOk result (Tears spans.now torn.now (length torn.now) bytes.old.items bytes.new.items) }
+{
+    let mut from = 0;
+    for byte in torn {
+        let Some(offset) = next_in(spans, from) else {
+            return Ok(());
+        };
+        from = put(bytes, offset, *byte)?;
+    }
+    Ok(())
+}
+
+// The least offset in the ranges that is not below this one.
+fn next_in(spans: &[Span], from: u64) -> Option<u64>
+    ensures { IsNext spans.now from result }
+{
+    let mut next = None;
+    for span in spans {
+        next = nearer(next, span.first_from(from));
+    }
+    next
+}
+
+fn nearer(one: Option<u64>, other: Option<u64>) -> Option<u64>
+    ensures { result ≡ nearer_of one other }
+{
+    match (one, other) {
+        (Some(one), Some(other)) => Some(one.min(other)),
+        (None, other) => other,
+        (one, None) => one,
+    }
+}
+
+// Puts a byte there, with zeros in a gap, and gives the offset behind it.
+fn put(bytes: &mut Vec<u8>, at: u64, byte: u8) -> Result<u64, AllocError>
+    ensures behind { IfOk result (λ behind. behind ≡ at + 1) }
+    ensures bytes { OnOk result (bytes.new.items ≡ slice_set (padded bytes.old.items (at + 1)) at byte) }
+{
+    let Some(behind) = at.checked_add(1) else {
+        return Err(AllocError);
+    };
+    lengthen(bytes, behind as usize)?;
+    bytes[at as usize] = byte;
+    Ok(behind)
+}

@@ -1,0 +1,5 @@
+//! Whole examples of the programs, run on real files.
+#![tactic(auto)]
+
+#[cfg(test)]
+mod tests;

@@ -1,0 +1,23 @@
+-- Runs of device calls, one after another.
+use Rattle.std.proofs.Common.{◌≡◌, ℕ, ◌+◌, ◌≤◌, subst, Result, Ok, Err, IsErr, is_err, true, false}
+use Rattle.mw_disk.specs.Facts.{Facts}
+use Rattle.mw_disk.specs.Runs.{Good, Bad, good_trans, then_bad, bad_wider}
+use Rattle.mw_file.specs.Run.{Ran}
+
+-- calls that went well, and then as many more
+pub goes_on : (m n k : ℕ) (a b c : Facts) → m + n ≡ k → Good m a b → Good n b c → Good k a c
+goes_on m n k a b c same ab bc = subst (λ (t : ℕ). Good t a c) same (good_trans m n a b c ab bc)
+
+-- calls that went well, then a run that stopped at a fault, which an error tells
+pub stops : {T E : Type 0} (m n k : ℕ) (a b c : Facts) (r : Result T E) → m + n ≤ k → Good m a b → Bad n b c → IsErr r → Ran k a c r
+stops m n k a b c (Ok x) within ab bc err = absurd (cc)
+stops m n k a b c (Err e) within ab bc err = bad_wider (m + n) k a c within (then_bad m n a b c ab bc)
+
+-- a run that ended well, or didn't, where its number of calls is known by another name
+pub ran_well : {T E : Type 0} (m n : ℕ) (a b : Facts) (r : Result T E) → m ≡ n → is_err r ≡ false → Ran m a b r → Good n a b
+ran_well m n a b (Ok x) same well ran = subst (λ (t : ℕ). Good t a b) same ran
+ran_well m n a b (Err e) same well ran = absurd (cc)
+
+pub ran_badly : {T E : Type 0} (m n : ℕ) (a b : Facts) (r : Result T E) → m ≡ n → is_err r ≡ true → Ran m a b r → Bad n a b
+ran_badly m n a b (Ok x) same badly ran = absurd (cc)
+ran_badly m n a b (Err e) same badly ran = subst (λ (t : ℕ). Bad t a b) same ran

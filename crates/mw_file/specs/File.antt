@@ -1,0 +1,62 @@
+-- A tenant's file, and how a call on it ends.
+use Rattle.std.specs.Prelude.{◌≡◌, ℕ, Bool, true, false, List, Result, Ok, Err, is_err, OnOk}
+use Rattle.mw_disk.specs.Facts.{Facts}
+use Rattle.mw_disk.specs.Runs.{Good, Bad}
+use Rattle.mw_file.specs.declared.slots.Slot.{Slot}
+use Rattle.mw_file.specs.declared.tenant_file.TenantFile.{TenantFile}
+use Rattle.mw_file.specs.declared.tenant_file.FileFault.{FileFault}
+use Rattle.mw_file.specs.declared.tenant_file.FileFault.TheVariants.{Disk, Failed}
+
+module _ {D : Type 0} where
+  -- the disk that the file is on
+  abbrev pub disk_of : TenantFile D → D
+  disk_of file = file.disk
+
+  -- how many words it has
+  abbrev pub words_of : TenantFile D → ℕ
+  words_of file = file.words
+
+  -- its places
+  abbrev pub slots_of : TenantFile D → List Slot
+  slots_of file = file.slots.items
+
+  -- a call on its device has failed since it was opened
+  abbrev pub has_failed : TenantFile D → Bool
+  has_failed file = file.failed
+
+module _ {D : Type 0} (facts : D → Facts) where
+  -- The call went well: it made so many device calls, and none failed.
+  pub record WentWell (calls : ℕ) (old new : TenantFile D) : Type 0 where
+    pub before : has_failed old ≡ false
+    pub after : has_failed new ≡ false
+    pub words : words_of new ≡ words_of old
+    pub made : Good calls (facts (disk_of old)) (facts (disk_of new))
+
+  -- Fewer than so many device calls went well, then one failed, the last that was made. From now on the file has failed.
+  pub record MetFault (calls : ℕ) (old new : TenantFile D) : Type 0 where
+    pub before : has_failed old ≡ false
+    pub after : has_failed new ≡ true
+    pub words : words_of new ≡ words_of old
+    pub slots : slots_of new ≡ slots_of old
+    pub made : Bad calls (facts (disk_of old)) (facts (disk_of new))
+
+  -- The file had failed before. Nothing was touched.
+  pub record HadFailed (old new : TenantFile D) : Type 0 where
+    pub before : has_failed old ≡ true
+    pub same : new ≡ old
+
+  -- How a call of so many device calls ended, by its answer.
+  abbrev pub Ends : {T : Type 0} → ℕ → TenantFile D → TenantFile D → Result T FileFault → Type 0
+  Ends calls old new (Ok x) = WentWell calls old new
+  Ends calls old new (Err Disk) = MetFault calls old new
+  Ends calls old new (Err Failed) = HadFailed old new
+
+-- A call that answered no error went well, and what its Ok promises holds.
+pub ended_well : {D T : Type 0} (facts : D → Facts) (calls : ℕ) (old new : TenantFile D) (r : Result T FileFault) → is_err r ≡ false → Ends facts calls old new r
+    → WentWell facts calls old new
+ended_well facts calls old new (Ok x) well ends = ends
+ended_well facts calls old new (Err fault) well ends = absurd (cc)
+
+pub went_well : {T E : Type 0} (r : Result T E) (P : Type 0) → is_err r ≡ false → OnOk r P → P
+went_well (Ok x) P well holds = holds
+went_well (Err e) P well holds = absurd (cc)

@@ -1,0 +1,58 @@
+-- A file all of whose places are free, and one change that goes through it alone.
+use Rattle.std.proofs.Common.{◌≡◌, ℕ, zero, suc, ◌<◌, List, [], ◌∷◌, length, true, Some, IsSome, is_some, if◌then◌else◌, refl, sym, ap, ◌∙◌, inl, inr, arith}
+use Rattle.std.proofs.lemmas.Bool.{and_parts, and_from, cases_eq}
+use Rattle.mw_file.specs.declared.slots.Slot.{Slot}
+use Rattle.mw_file.specs.declared.slots.Stage.{Stage}
+use Rattle.mw_file.specs.declared.slots.Stage.TheVariants.{Free, Prepared, Sealed}
+use Rattle.mw_file.specs.Slots.{is_free_stage, all_free, free_from, free_place, stage_of, IsStaged, MaySeal}
+
+free_stage : (s : Stage) → is_free_stage s ≡ true → s ≡ Free
+free_stage Free is = refl
+free_stage Prepared is = absurd (cc)
+free_stage Sealed is = absurd (cc)
+
+-- no place of such a file has a change
+pub stage_of-all_free : (slots : List Slot) (place : ℕ) → all_free slots ≡ true → stage_of slots place ≡ Free
+stage_of-all_free [] place all = refl
+stage_of-all_free (s ∷ slots) zero all = free_stage s.stage (and_parts _ _ all).0
+stage_of-all_free (s ∷ slots) (suc place) all = stage_of-all_free slots place (and_parts _ _ all).1
+
+-- some place is free, if there is one
+pub free_place-all_free : (slots : List Slot) → all_free slots ≡ true → 0 < length slots → IsSome (free_place slots)
+free_place-all_free [] all some = absurd (omega arith)
+free_place-all_free (s ∷ slots) all some = ap (λ b. is_some (if b then Some 0 else free_from 1 slots)) (and_parts _ _ all).0
+
+-- where no place has a change, all are free
+pub all_free_from : (slots : List Slot) → ((place : ℕ) → stage_of slots place ≡ Free) → all_free slots ≡ true
+all_free_from [] none = refl
+all_free_from (s ∷ slots) none = and_from _ _ (ap is_free_stage (none 0)) (all_free_from slots (λ place. none (suc place)))
+
+-- the only change of a file may be sealed
+pub may_seal_alone : (old new : List Slot) (place : ℕ) (writes : List (ℕ × ℕ)) → all_free old ≡ true → IsStaged old new place Prepared writes → MaySeal new place
+may_seal_alone old new place writes all staged = record {
+  prepared = staged.stage_here;
+  apart = λ other addr sealed here. elim (cases_eq other place) [
+    | inl same ↦
+        let e : Prepared ≡ Sealed = sym staged.stage_here ∙ ap (λ p. stage_of new p) (sym same) ∙ sealed in absurd (cc)
+    | inr apart ↦
+        let e : Free ≡ Sealed = sym (stage_of-all_free old other all) ∙ sym (staged.stage_there other apart) ∙ sealed in absurd (cc)
+  ];
+}
+
+-- a file is free again once its only change is gone
+pub free_again : (old mid new : List Slot) (place : ℕ) (stage : Stage) (v w : List (ℕ × ℕ)) → all_free old ≡ true → IsStaged old mid place stage v → IsStaged mid new place Free w
+    → all_free new ≡ true
+free_again old mid new place stage v w all first last = all_free_from new (λ other. elim (cases_eq other place) [
+  | inl same ↦ ap (λ p. stage_of new p) same ∙ last.stage_here
+  | inr apart ↦ last.stage_there other apart ∙ first.stage_there other apart ∙ stage_of-all_free old other all
+])
+
+-- a change that goes on
+pub staged_on : (old mid new : List Slot) (place : ℕ) (a b : Stage) (v w : List (ℕ × ℕ)) → IsStaged old mid place a v → IsStaged mid new place b w → IsStaged old new place b w
+staged_on old mid new place a b v w first last = record {
+  count = last.count ∙ first.count;
+  stage_here = last.stage_here;
+  writes_here = last.writes_here;
+  stage_there = λ other apart. last.stage_there other apart ∙ first.stage_there other apart;
+  writes_there = λ other apart. last.writes_there other apart ∙ first.writes_there other apart;
+}

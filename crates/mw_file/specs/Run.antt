@@ -1,0 +1,19 @@
+-- Runs of device calls.
+use Rattle.std.specs.Prelude.{◌≡◌, ℕ, Result, Ok, Err, IsTrue}
+use Rattle.mw_disk.specs.Facts.{Facts, NothingNew}
+use Rattle.mw_disk.specs.Runs.{Good, Bad}
+
+-- How a run of so many device calls ended, by its answer: all went well, or one failed and none was made after it.
+abbrev pub Ran : {T E : Type 0} → ℕ → Facts → Facts → Result T E → Type 0
+Ran calls old new (Ok x) = Good calls old new
+Ran calls old new (Err e) = Bad calls old new
+
+-- how a run of some number of device calls ended, by its answer
+abbrev pub RanSome : {T E : Type 0} → Facts → Facts → Result T E → Type 0
+RanSome old new (Ok x) = (calls : ℕ) × Good calls old new
+RanSome old new (Err e) = (calls : ℕ) × Bad calls old new
+
+-- Nothing was written: a read gives what it gave, and a crash leaves nothing that it would not have left before.
+pub record IsUntouched (old new : Facts) : Type 0 where
+  pub same : IsTrue old.honest → new.reads ≡ old.reads
+  pub nothing_new : IsTrue old.honest → NothingNew old new

@@ -1,0 +1,167 @@
+//! The calls that take a change into a file.
+ghost use Rattle.std.specs.Prelude.{◌≡◌, ◌+◌, ◌<◌, ◌^◌, Some, length, IsTrue, IsSome, IfSome, is_some, IfOk, OnOk, OnErr};
+ghost use Rattle.mw_disk.specs.Runs.{Later};
+ghost use Rattle.mw_file.specs.Run.{Ran};
+ghost use Rattle.mw_words.specs.Change.{is_change};
+ghost use Rattle.mw_file.specs.Writes.{writes_of};
+ghost use Rattle.mw_file.specs.Slots as spec;
+ghost use Rattle.mw_file.specs.Slots.{stage_of, writes_of_place, IsStaged, MaySeal};
+
+use crate::roll::roll_forward;
+use crate::slots::{Slot, Stage, writes_to};
+use crate::tenant_file::{FileFault, Place, TenantFile};
+use mw_disk::{Disk, DiskFault};
+use mw_record::{GATE_OPEN, body, place_at};
+use mw_words::Entries;
+use std::slice;
+
+impl<D: Disk> TenantFile<D> {
+    ghost use Rattle.mw_file.specs.File.{slots_of, words_of, disk_of, Ends};
+
+    /// How many places the file has.
+    pub fn places(&self) -> u16
+        ensures { result ≡ length (slots_of self.now) }
+    {
+        self.slots.len() as u16
+    }
+
+    /// Whether a place is free.
+    pub fn has_place(&self) -> bool
+        ensures { result ≡ is_some (spec.free_place (slots_of self.now)) }
+    {
+        free_place(&self.slots).is_some()
+    }
+
+    /// Writes the record of a change into the lowest free place, and syncs. The change isn't in the
+    /// file yet. A place has to be free, and the change well formed for the file's words.
+    ///
+    /// # Errors
+    ///
+    /// [`FileFault::Disk`] where the device failed; the place is as free as it was.
+    /// [`FileFault::Failed`] where the file had failed before.
+    pub fn prepare(&mut self, entries: &Entries) -> Result<Place, FileFault>
+        requires room { IsSome (spec.free_place (slots_of self.old)) }
+        requires formed { IsTrue (is_change (words_of self.old) entries.now.items) }
+        ensures ends { Ends D.facts 2 self.old self.new result }
+        ensures lowest { IfOk result (λ p. spec.free_place (slots_of self.old) ≡ Some p.0) }
+        ensures staged { IfOk result (λ p. IsStaged (slots_of self.old) (slots_of self.new) p.0
+            Stage.Prepared (writes_of entries.now.items)) }
+        ensures later { Later (D.facts (disk_of self.old)) (D.facts (disk_of self.new)) }
+    {
+        if self.failed {
+            return Err(FileFault::Failed);
+        }
+        let Some(place) = free_place(&self.slots) else {
+            unreachable!()
+        };
+        let at = place_at(self.words, place) + 1;
+        if write_and_sync(&mut self.disk, at, &body(entries)).is_err() {
+            self.failed = true;
+            return Err(FileFault::Disk);
+        }
+        self.slots[place as usize] = Slot {
+            stage: Stage::Prepared,
+            writes: writes_to(entries),
+        };
+        Ok(Place(place))
+    }
+
+    /// Opens the gate of a prepared change, and syncs. From then on the change is in the file,
+    /// durably. The change has to be prepared, and to share no address with one that is sealed and
+    /// not settled.
+    ///
+    /// # Errors
+    ///
+    /// [`FileFault::Disk`] where the device failed; the change may be found when the file is opened
+    /// again. [`FileFault::Failed`] where the file had failed before.
+    pub fn seal(&mut self, place: Place) -> Result<(), FileFault>
+        requires { MaySeal (slots_of self.old) place.0 }
+        ensures ends { Ends D.facts 2 self.old self.new result }
+        ensures staged { OnOk result (IsStaged (slots_of self.old) (slots_of self.new) place.0
+            Stage.Sealed (writes_of_place (slots_of self.old) place.0)) }
+        ensures later { Later (D.facts (disk_of self.old)) (D.facts (disk_of self.new)) }
+    {
+        if self.failed {
+            return Err(FileFault::Failed);
+        }
+        let at = place_at(self.words, place.0);
+        if write_and_sync(&mut self.disk, at, &[GATE_OPEN]).is_err() {
+            self.failed = true;
+            return Err(FileFault::Disk);
+        }
+        self.slots[place.0 as usize].stage = Stage::Sealed;
+        Ok(())
+    }
+
+    /// Puts a sealed change's values into their home words, and shuts its gate. Its place is free
+    /// then.
+    ///
+    /// # Errors
+    ///
+    /// [`FileFault::Disk`] where the device failed; the change was sealed all the same.
+    /// [`FileFault::Failed`] where the file had failed before.
+    pub fn settle(&mut self, place: Place) -> Result<(), FileFault>
+        requires { stage_of (slots_of self.old) place.0 ≡ Stage.Sealed }
+        ensures ends { Ends D.facts (length (writes_of_place (slots_of self.old) place.0) + 3) self.old self.new result }
+        ensures staged { OnOk result (IsStaged (slots_of self.old) (slots_of self.new) place.0
+            Stage.Free (writes_of_place (slots_of self.old) place.0)) }
+        ensures later { Later (D.facts (disk_of self.old)) (D.facts (disk_of self.new)) }
+    {
+        if self.failed {
+            return Err(FileFault::Failed);
+        }
+        let alone = slice::from_ref(&self.slots[place.0 as usize]);
+        if roll_forward(&mut self.disk, self.words, alone, place.0).is_err() {
+            self.failed = true;
+            return Err(FileFault::Disk);
+        }
+        self.slots[place.0 as usize].stage = Stage::Free;
+        Ok(())
+    }
+
+    /// Gives up a prepared change. Its place is free then. This makes no device call, and always
+    /// succeeds.
+    pub fn cancel(&mut self, place: Place)
+        requires { stage_of (slots_of self.old) place.0 ≡ Stage.Prepared }
+        ensures staged { IsStaged (slots_of self.old) (slots_of self.new) place.0
+            Stage.Free (writes_of_place (slots_of self.old) place.0) }
+        ensures rest { self.new ≡ record self.old { slots = self.new.slots; few = self.new.few } }
+    {
+        self.slots[place.0 as usize].stage = Stage::Free;
+    }
+
+    /// The disk again.
+    pub fn into_disk(self) -> D
+        ensures { result ≡ disk_of self }
+    {
+        let TenantFile {
+            disk,
+            words: _,
+            slots: _,
+            failed: _,
+        } = self;
+        disk
+    }
+}
+
+fn free_place(slots: &[Slot]) -> Option<u16>
+    requires { length slots.now < 2 ^ 16 }
+    ensures lowest { result ≡ spec.free_place slots.now }
+    ensures within { IfSome result (λ place. place < length slots.now) }
+{
+    for (place, slot) in slots.iter().enumerate() {
+        if slot.stage == Stage::Free {
+            return Some(place as u16);
+        }
+    }
+    None
+}
+
+fn write_and_sync<D: Disk>(disk: &mut D, at: u64, bytes: &[u8]) -> Result<(), DiskFault>
+    ensures calls { Ran 2 (D.facts disk.old) (D.facts disk.new) result }
+    ensures later { Later (D.facts disk.old) (D.facts disk.new) }
+{
+    disk.write_at(at, bytes)?;
+    disk.sync()?;
+    Ok(())
+}

@@ -1,0 +1,29 @@
+//! The file itself.
+ghost use Rattle.std.specs.Prelude.{◌≤◌, length};
+ghost use Rattle.mw_words.specs.declared.limits.TheConstants.{MAX_PLACES};
+
+use crate::slots::Slot;
+
+/// Why a call on a file did nothing, or not all.
+#[derive(Clone, Copy, Debug, PartialEq, Eq)]
+pub enum FileFault {
+    /// The device failed in this call. From now on the file has failed.
+    Disk,
+    /// The device failed in an earlier call. Nothing was touched.
+    Failed,
+}
+
+/// A place of a file, by its number.
+#[derive(Clone, Copy, Debug, PartialEq, Eq)]
+pub struct Place(pub u16);
+
+/// A tenant's file on a disk. Once a call on the device has failed the file has failed, and is not
+/// touched again until it is opened anew.
+#[derive(Drop)]
+pub struct TenantFile<D> {
+    pub(crate) disk: D,
+    pub(crate) words: u16,
+    pub(crate) slots: Vec<Slot>,
+    pub(crate) failed: bool,
+    ghost few: { length slots.items ≤ MAX_PLACES },
+}

@@ -1,0 +1,34 @@
+use Rattle.std.proofs.Common.{◌≡◌, Bool, true, false, List, refl, sym, ap₂, ◌∙◌}
+use Rattle.std.specs.List.{list_all}
+use Rattle.mw_words.specs.declared.jobs.Entry.{Entry}
+use Rattle.mw_words.specs.Change.{is_change, rises}
+use Rattle.mw_line.specs.Limits.{addr_fits, values_fit}
+use Rattle.mw_line.proofs.Gathering.{all_kept, order_is_left}
+use Rattle.mw_line.proofs.changes.Listing.change.Goals as goal
+
+-- what a test of the entries that are kept says of all entries, where they are the same
+told : (test : List Entry → Bool) (slice kept all : List Entry) (result answer : Bool) → slice ≡ kept → kept ≡ all → result ≡ test slice → result ≡ answer → test all ≡ answer
+told test slice kept all result answer s k t a = cc
+
+pub returns-then-not-addresses_fit : goal.returns-then-not-addresses_fit
+returns-then-not-addresses_fit c = λ es some lists.
+    let k = all_kept es c.args.self lists c.if-self.false in
+    let values = told (list_all values_fit) c.deref.result.now c.args.self.kept.items es c.values_fit.result true c.deref.ensures.0 k.0 c.values_fit.ensures c.if-not-values_fit.false in
+    let addrs = told (list_all addr_fits) c.deref-2.result.now c.args.self.kept.items es c.addresses_fit.result false c.deref-2.ensures.0 k.0 c.addresses_fit.ensures c.if-not-addresses_fit.true in
+    rw (k.1, values, addrs) refl
+
+pub returns-then-not-is_change : goal.returns-then-not-is_change
+returns-then-not-is_change c = λ es some lists.
+    let k = all_kept es c.args.self lists c.if-self.false in
+    let values = told (list_all values_fit) c.deref.result.now c.args.self.kept.items es c.values_fit.result true c.deref.ensures.0 k.0 c.values_fit.ensures c.if-not-values_fit.false in
+    let addrs = told (list_all addr_fits) c.deref-2.result.now c.args.self.kept.items es c.addresses_fit.result true c.deref-2.ensures.0 k.0 c.addresses_fit.ensures c.if-not-addresses_fit.false in
+    let order : rises es ≡ false = sym (order_is_left es some k.1 addrs values) ∙ sym (ap₂ is_change c.from.ensures k.0) ∙ sym c.is_change.ensures ∙ c.if-not-is_change.true in
+    rw (k.1, values, addrs, order) refl
+
+pub returns : goal.returns
+returns c = λ es some lists.
+    let k = all_kept es c.args.self lists c.if-self.false in
+    let values = told (list_all values_fit) c.deref.result.now c.args.self.kept.items es c.values_fit.result true c.deref.ensures.0 k.0 c.values_fit.ensures c.if-not-values_fit.false in
+    let addrs = told (list_all addr_fits) c.deref-2.result.now c.args.self.kept.items es c.addresses_fit.result true c.deref-2.ensures.0 k.0 c.addresses_fit.ensures c.if-not-addresses_fit.false in
+    let order : rises es ≡ true = sym (order_is_left es some k.1 addrs values) ∙ sym (ap₂ is_change c.from.ensures k.0) ∙ sym c.is_change.ensures ∙ c.if-not-is_change.false in
+    (rw (k.1, values, addrs, order) refl, k.0)

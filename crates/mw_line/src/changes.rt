@@ -1,0 +1,105 @@
+//! The entries of a change, as a line lists them.
+ghost use Rattle.std.specs.Prelude.{◌≡◌, ◌<◌, ◌++◌, List, [], ◌∷◌, length, MatchResult};
+ghost use Rattle.mw_line.specs.Grammar.{Cas};
+ghost use Rattle.std.specs.List.{list_all};
+ghost use Rattle.mw_words.specs.declared.jobs.Entry.{Entry as EntryRead};
+ghost use Rattle.mw_line.specs.Limits as limits;
+ghost use Rattle.mw_line.specs.Reading as spec;
+ghost use Rattle.mw_line.specs.Reading.{Gives, narrow};
+ghost use Rattle.mw_line.specs.Listing.{Lists, ListsAll, Adds};
+
+use crate::numbers::{address_at, behind, value_at};
+use crate::requests::LineFault;
+use mw_words::{Entries, Entry, MAX_VALUE, MAX_WORDS, is_change};
+
+/// The entries of a line: as many as a change may have, and whether there are more. A number that
+/// is too large for its field is the greatest that the field holds, which no limit allows.
+#[derive(Drop)]
+pub struct Listing {
+    pub kept: Entries,
+    pub more: bool,
+}
+
+/// The entries that are all of the bytes, with a space before each.
+pub fn listing_of(bytes: &[u8]) -> Option<Listing>
+    ensures { ListsAll (spec.entries_of narrow (length bytes.now) bytes.now) result }
+{
+    let mut listing = Listing::new();
+    let mut rest = bytes;
+    while !rest.is_empty() {
+        let (entry, after) = entry_at(behind(b" ", rest)?)?;
+        listing.note(entry);
+        rest = after;
+    }
+    Some(listing)
+}
+
+/// The entry in front: its address, its expected value and its new value, with colons between them.
+#[tactic(auto, unfolding(crate::specs::Reading::entry_at))]
+fn entry_at(bytes: &[u8]) -> Option<(Entry, &[u8])>
+    ensures { Gives (λ x. (x.0, x.1.now)) result (spec.entry_at narrow bytes.now) }
+{
+    let (addr, rest) = address_at(bytes)?;
+    let (expected, rest) = value_at(behind(b":", rest)?)?;
+    let (new, rest) = value_at(behind(b":", rest)?)?;
+    let entry = Entry {
+        addr,
+        expected,
+        new,
+    };
+    Some((entry, rest))
+}
+
+impl Listing {
+    fn new() -> Listing
+        ensures { Lists [] result }
+    {
+        Listing {
+            kept: Entries::new(),
+            more: false,
+        }
+    }
+
+    fn note(&mut self, entry: Entry)
+        ensures { Adds self.old entry self.new }
+    {
+        if self.kept.try_push(entry).is_err() {
+            self.more = true;
+        }
+    }
+
+    /// The change of these entries, of which there is at least one, or its first fault.
+    pub fn change(self) -> Result<Entries, LineFault>
+        ensures { (es : List EntryRead) → 0 < length es → Lists es self
+            → MatchResult result
+            (λ change. (limits.first_fault (Cas es) ≡ None) × (change.items ≡ es))
+            (λ fault. limits.first_fault (Cas es) ≡ Some fault) }
+    {
+        if self.more {
+            return Err(LineFault::TooManyEntries);
+        }
+        if !values_fit(&self.kept) {
+            return Err(LineFault::ValueRange);
+        }
+        if !addresses_fit(&self.kept) {
+            return Err(LineFault::AddressRange);
+        }
+        // Only the order of the addresses can still be wrong.
+        if !is_change(&self.kept, usize::from(MAX_WORDS)) {
+            return Err(LineFault::AddressOrder);
+        }
+        Ok(self.kept)
+    }
+}
+
+fn values_fit(entries: &[Entry]) -> bool
+    ensures { result ≡ list_all limits.values_fit entries.now }
+{
+    entries.iter().all(|entry| entry.expected <= MAX_VALUE && entry.new <= MAX_VALUE)
+}
+
+fn addresses_fit(entries: &[Entry]) -> bool
+    ensures { result ≡ list_all limits.addr_fits entries.now }
+{
+    entries.iter().all(|entry| entry.addr < MAX_WORDS)
+}

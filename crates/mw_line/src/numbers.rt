@@ -1,0 +1,46 @@
+//! What stands at the front of a text: a fixed text, or a number. Each reader gives the bytes behind
+//! what it read.
+ghost use Rattle.std.specs.Prelude.{◌≡◌};
+ghost use Rattle.mw_line.specs.Reading as spec;
+ghost use Rattle.mw_line.specs.Reading.{Gives, narrow};
+
+/// The bytes behind `text`, if it stands in front.
+pub fn behind<'a>(text: &[u8], bytes: &'a [u8]) -> Option<&'a [u8]>
+    ensures { Gives (λ x. x.now) result (spec.behind text.now bytes.now) }
+{
+    bytes.strip_prefix(text)
+}
+
+/// The number in front, which has no 0 before other digits. One of more than 16 bits is `u16::MAX`.
+pub fn address_at(bytes: &[u8]) -> Option<(u16, &[u8])>
+    ensures { Gives (λ x. (x.0, x.1.now)) result (spec.number_at narrow.addr bytes.now) }
+{
+    let (number, rest) = value_at(bytes)?;
+    Some((u16::try_from(number).unwrap_or(u16::MAX), rest))
+}
+
+/// The number in front, which has no 0 before other digits. One of more than 64 bits is `u64::MAX`.
+#[tactic(auto, unfolding(crate::specs::Reading::number_at))]
+pub fn value_at(bytes: &[u8]) -> Option<(u64, &[u8])>
+    ensures { Gives (λ x. (x.0, x.1.now)) result (spec.number_at narrow.value bytes.now) }
+{
+    match bytes {
+        [b'0', rest @ ..] => Some((0, rest)),
+        [b'1'..=b'9', ..] => Some(digits_at(bytes)),
+        _ => None,
+    }
+}
+
+fn digits_at(bytes: &[u8]) -> (u64, &[u8])
+    ensures { (result.0, result.1.now) ≡ spec.seen narrow.value (spec.digits_at 0 bytes.now) }
+{
+    let mut number: u64 = 0;
+    let mut rest = bytes;
+    while let [digit @ b'0'..=b'9', after @ ..] = rest {
+        number = number
+            .saturating_mul(10)
+            .saturating_add(u64::from(*digit - b'0'));
+        rest = after;
+    }
+    (number, rest)
+}

@@ -1,0 +1,153 @@
+//! What the server says to a client.
+ghost use Rattle.std.specs.Prelude.{◌≡◌, ◌+◌, ◌≤◌, ◌<◌, ◌++◌, [], decimal, length};
+ghost use Rattle.mw_line.specs.Replies as spec;
+ghost use Rattle.mw_line.specs.Replies.{fault_of};
+
+use crate::requests::LineFault;
+use arrayvec::ArrayVec;
+use itoa::Buffer;
+use mw_words::Reply;
+
+/// Room for the text of a [`Say`], with its line feed.
+pub const MAX_REPLY: usize = 32;
+
+/// Why a line is refused.
+#[derive(Clone, Copy, Debug, PartialEq, Eq)]
+pub enum Fault {
+    /// The line has more than [`mw_words::MAX_LINE`] bytes. The session ends.
+    LineTooLong,
+    /// The line isn't in the grammar.
+    NotACommand,
+    /// The session speaks for nobody yet.
+    NotBound,
+    /// The session speaks for somebody already.
+    AlreadyBound,
+    /// No tenant has this name.
+    NoSuchTenant,
+    /// No tenant can have this address, or this tenant has no word there.
+    AddressRange,
+    /// An address isn't above the one before it.
+    AddressOrder,
+    /// A change has too many entries.
+    TooManyEntries,
+    /// An expected or a new value is too large for a word.
+    ValueRange,
+    /// A session of this kind may not ask for this.
+    WrongSession,
+}
+
+impl Fault {
+    /// The number that stands for the fault on the wire, from 1 to 10.
+    pub fn number(self) -> u8
+        ensures { result ≡ spec.number_of self }
+    {
+        match self {
+            Fault::LineTooLong => 1,
+            Fault::NotACommand => 2,
+            Fault::NotBound => 3,
+            Fault::AlreadyBound => 4,
+            Fault::NoSuchTenant => 5,
+            Fault::AddressRange => 6,
+            Fault::AddressOrder => 7,
+            Fault::TooManyEntries => 8,
+            Fault::ValueRange => 9,
+            Fault::WrongSession => 10,
+        }
+    }
+}
+
+impl From<LineFault> for Fault {
+    ghost from_gives = { λ fault answer. answer ≡ fault_of fault };
+
+    fn from(fault: LineFault) -> Fault {
+        match fault {
+            LineFault::NotACommand => Fault::NotACommand,
+            LineFault::AddressRange => Fault::AddressRange,
+            LineFault::AddressOrder => Fault::AddressOrder,
+            LineFault::TooManyEntries => Fault::TooManyEntries,
+            LineFault::ValueRange => Fault::ValueRange,
+        }
+    }
+}
+
+/// One line of an answer.
+#[derive(Clone, Copy, Debug, PartialEq, Eq)]
+pub enum Say {
+    /// The session speaks for a tenant from now on, who has so many words.
+    Ok(u16),
+    /// The session speaks for the administrator from now on.
+    OkAdmin,
+    /// The reply to a job.
+    Store(Reply),
+    /// The session ends, as it was asked to.
+    Bye,
+    /// The line was refused.
+    Err(Fault),
+}
+
+/// A line of an answer as bytes, with its line feed.
+type Text = ArrayVec<u8, MAX_REPLY>;
+
+impl Say {
+    /// The line as bytes, with its line feed.
+    #[tactic(auto, using(crate::proofs::Printed::printed_long))]
+    pub fn text(&self) -> ArrayVec<u8, MAX_REPLY>
+        ensures { result.items ≡ spec.text_of self.now }
+    {
+        let mut text = Text::new();
+        match self {
+            Say::Ok(words) => {
+                put(&mut text, b"OK ");
+                put_number(&mut text, u64::from(*words));
+            }
+            Say::OkAdmin => put(&mut text, b"OK ADMIN"),
+            Say::Store(reply) => put_reply(&mut text, *reply),
+            Say::Bye => put(&mut text, b"BYE"),
+            Say::Err(fault) => {
+                put(&mut text, b"ERR ");
+                put_number(&mut text, u64::from(fault.number()));
+            }
+        }
+        put(&mut text, b"\n");
+        text
+    }
+}
+
+#[tactic(auto, using(crate::proofs::Printed::printed_long, crate::proofs::Printed::printed_short))]
+fn put_reply(text: &mut Text, reply: Reply)
+    requires { text.old.items ≡ [] }
+    ensures words { text.new.items ≡ spec.reply_text reply }
+    ensures room { length text.new.items < MAX_REPLY }
+{
+    match reply {
+        Reply::Val(value) => {
+            put(text, b"VAL ");
+            put_number(text, value);
+        }
+        Reply::Yes => put(text, b"YES"),
+        Reply::No(addr, value) => {
+            put(text, b"NO ");
+            put_number(text, u64::from(addr));
+            put(text, b" ");
+            put_number(text, value);
+        }
+        Reply::Busy => put(text, b"BUSY"),
+        Reply::Fault => put(text, b"FAULT"),
+        Reply::Worn => put(text, b"WORN"),
+    }
+}
+
+fn put(text: &mut Text, bytes: &[u8])
+    requires { length text.old.items + length bytes.now ≤ MAX_REPLY }
+    ensures { text.new.items ≡ text.old.items ++ bytes.now }
+{
+    text.try_extend_from_slice(bytes).unwrap();
+}
+
+fn put_number(text: &mut Text, number: u64)
+    requires { length text.old.items + length (decimal number) ≤ MAX_REPLY }
+    ensures { text.new.items ≡ text.old.items ++ decimal number }
+{
+    let mut buffer = Buffer::new();
+    put(text, buffer.format(number).as_bytes());
+}

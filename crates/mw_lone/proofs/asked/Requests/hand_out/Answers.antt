@@ -1,0 +1,15 @@
+use Rattle.std.proofs.Common.{true, arith}
+use Rattle.mw_lone.proofs.Numbered.{stands_there, if_found, written}
+use Rattle.mw_lone.proofs.asked.Requests.hand_out.Goals as goal
+
+pub overflow_sub-i : goal.overflow_sub-i
+overflow_sub-i c = (stands_there _ _ _ (rw (← c.self.view_is) at c.requires)).0
+
+pub index_mut-requires : goal.index_mut-requires
+index_mut-requires c = let h = (stands_there _ _ _ (rw (← c.self.view_is) at c.requires)).1 in omega arith
+
+pub returns : goal.returns
+returns c =
+    let s = stands_there _ _ _ (rw (← c.self.view_is) at c.requires) in
+    let x = c.index_mut.result.now in
+    rw (← c.self.view_is) (if_found _ _ _ x _ c.index_mut.ensures.value (written _ _ _ _ (record x { handed = true }) s.0 s.1))

@@ -1,0 +1,5 @@
+use Rattle.mw_lone.specs.Laws.{used-stays-within}
+use Rattle.mw_lone.proofs.laws.used_stays_within.Goals as goal
+
+pub returns : goal.returns
+returns c = used-stays-within

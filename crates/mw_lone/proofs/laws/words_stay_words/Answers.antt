@@ -1,0 +1,5 @@
+use Rattle.mw_lone.specs.Laws.{words-stay-words}
+use Rattle.mw_lone.proofs.laws.words_stay_words.Goals as goal
+
+pub returns : goal.returns
+returns c = words-stay-words

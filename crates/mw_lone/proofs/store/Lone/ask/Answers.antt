@@ -1,0 +1,14 @@
+use Rattle.std.proofs.Common.{◌≡◌, IsTrue, length, subst, sym, arith}
+use Rattle.mw_words.specs.Change.{is_well_formed}
+use Rattle.mw_lone.specs.Sound.{sound-insert}
+use Rattle.mw_lone.proofs.store.Lone.ask.Goals.{in-Ok, in-Err}
+use Rattle.mw_lone.proofs.store.Lone.ask.Goals as goal
+
+pub invariant_of-self : goal.invariant_of-self
+invariant_of-self c =
+    let len : c.len.result ≡ length c.self.inside.words.items = omega arith in
+    let fine = subst (λ k. IsTrue (is_well_formed k c.args.job)) len (sym c.if-not-is_well_formed.ensures) in
+    elim c.match-ask.branch [
+      | in-Ok w ↦ rw w.in-Ok.ensures.ok (sound-insert _ _ _ _ _ fine c.self.invariant)
+      | in-Err w ↦ rw w.in-Err.ensures.err c.self.invariant
+    ]

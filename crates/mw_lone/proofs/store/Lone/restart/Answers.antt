@@ -1,0 +1,5 @@
+use Rattle.mw_lone.specs.Sound.{sound-new_store}
+use Rattle.mw_lone.proofs.store.Lone.restart.Goals as goal
+
+pub invariant_of-self : goal.invariant_of-self
+invariant_of-self c = rw c.restart.ensures (sound-new_store _ _ c.new-self-inside.ensures)

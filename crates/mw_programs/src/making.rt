@@ -1,0 +1,151 @@
+//! `mwinit`: makes a tenant's file.
+ghost use Rattle.std.specs.Prelude.{◌≤◌};
+ghost use Rattle.mw_words.specs.declared.limits.TheConstants.{MAX_WORDS, MAX_PLACES};
+
+use clap::error::ErrorKind;
+use clap::{Arg, Command, value_parser};
+use mw_record::{header, size};
+use mw_words::{MAX_PLACES, MAX_WORDS};
+use std::alloc::Global;
+use std::fs::{File, OpenFile, OpenOptions};
+use std::io::{self, Read, Write};
+use std::path::Path;
+use std::rt::Files;
+use thiserror::Error;
+
+/// Why no file was made.
+#[derive(Debug, Drop, Error)]
+enum InitFault {
+    /// The command line is wrong, or asks for help.
+    #[error("{0}")]
+    Words(clap::Error),
+    /// The file is there already, a call of the system failed, or memory was refused.
+    #[error("mwinit: cannot make\n")]
+    CannotMake,
+}
+
+/// What a new file is to be.
+#[derive(Drop)]
+struct NewFile<'a> {
+    path: &'a str,
+    words: u16,
+    places: u16,
+    ghost some_word: { 1 ≤ words },
+    ghost words_fit: { words ≤ MAX_WORDS },
+    ghost some_place: { 1 ≤ places },
+    ghost places_fit: { places ≤ MAX_PLACES },
+}
+
+/// Makes the file that the command line `words`, the program's own name first, asks for:
+/// `mwinit PATH WORDS PLACES`, with 1 to [`MAX_WORDS`] words, all 0, and 1 to [`MAX_PLACES`] record
+/// places. The file and its folder are synced before `made SIZE` is written to `out`.
+///
+/// Gives the exit status: 0 where it was made, 1 where it could not be (the file was there, a call
+/// failed, or memory was refused), 2 for a wrong command line. What went wrong is written to `err`.
+pub fn init<R: Files + AllocGlobal, O: Write, E: Write>(
+    rt: &R,
+    words: &[String],
+    out: &mut O,
+    err: &mut E,
+) -> u8 {
+    match make(rt, words, out) {
+        Ok(()) => 0,
+        Err(InitFault::Words(fault)) if !fault.use_stderr() => {
+            u8::from(write!(out, "{fault}").is_err())
+        }
+        Err(fault) => {
+            let _ = write!(err, "{fault}");
+            match fault {
+                InitFault::Words(_) => 2,
+                InitFault::CannotMake => 1,
+            }
+        }
+    }
+}
+
+fn make<R: Files + AllocGlobal, O: Write>(
+    rt: &R,
+    words: &[String],
+    out: &mut O,
+) -> Result<(), InitFault> {
+    let file = read_words(rt.alloc(), words)?;
+    let made = write_file(rt, &file).and_then(|()| sync_folder(rt, file.path));
+    made.and_then(|()| writeln!(out, "made {}", size(file.words, file.places)))
+        .map_err(|_| InitFault::CannotMake)
+}
+
+impl From<clap::Error> for InitFault {
+    fn from(fault: clap::Error) -> Self {
+        match fault.kind() {
+            ErrorKind::OutOfMemory => InitFault::CannotMake,
+            _ => InitFault::Words(fault),
+        }
+    }
+}
+
+fn read_words<'a>(alloc: Global, words: &'a [String]) -> Result<NewFile<'a>, InitFault> {
+    let matches = command(alloc)?.try_get_matches_from(words)?;
+    let path = matches.get_str("PATH");
+    let words = matches.get_one::<u16>("WORDS");
+    let places = matches.get_one::<u16>("PLACES");
+    match (path, words, places) {
+        (Some(path), Some(words), Some(places))
+            if (1..=MAX_WORDS).contains(&words) && (1..=MAX_PLACES).contains(&places) => {
+            Ok(NewFile {
+                path,
+                words,
+                places,
+            })
+        }
+        _ => Err(InitFault::CannotMake),
+    }
+}
+
+fn command<'a>(alloc: Global) -> Result<Command<'a>, clap::Error> {
+    let path = Arg::new(alloc, "PATH")
+        .required(true)
+        .help("the file to make");
+    let words = Arg::new(alloc, "WORDS")
+        .required(true)
+        .help("how many words it has")
+        .value_parser(value_parser!(u16).range(1..=i64::from(MAX_WORDS)));
+    let places = Arg::new(alloc, "PLACES")
+        .required(true)
+        .help("how many changes it can hold at a time")
+        .value_parser(value_parser!(u16).range(1..=i64::from(MAX_PLACES)));
+    let command = Command::new(alloc, "mwinit")
+        .about("Makes a file of words, all 0.")
+        .arg(path)?
+        .arg(words)?
+        .arg(places)?;
+    Ok(command)
+}
+
+/// Writes a new file and syncs it. What a fault leaves of it is removed, but no file that was there.
+fn write_file<R: Files>(rt: &R, file: &NewFile<'_>) -> io::Result<()> {
+    let mut options = OpenOptions::new();
+    options.write(true).create_new(true);
+    let mut made = options.open(rt, file.path)?;
+    let written = write_contents(&mut made, file);
+    if written.is_err() {
+        let _ = rt.remove_file(file.path);
+    }
+    written
+}
+
+fn write_contents<F: Write + OpenFile>(made: &mut F, file: &NewFile<'_>) -> io::Result<()> {
+    let head = header(file.words, file.places);
+    let zeros = size(file.words, file.places) - head.len() as u64;
+    made.write_all(&head)?;
+    io::copy(&mut io::repeat(0).take(zeros), made)?;
+    made.sync_all()
+}
+
+/// Syncs the folder of a new file, so that its name is there after a crash too.
+fn sync_folder<R: Files>(rt: &R, path: &str) -> io::Result<()> {
+    let folder = match Path::new(path).parent() {
+        Some(folder) if !folder.as_str().is_empty() => folder,
+        _ => Path::new("."),
+    };
+    File::open(rt, folder)?.sync_all()
+}

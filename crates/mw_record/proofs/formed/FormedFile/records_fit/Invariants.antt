@@ -1,0 +1,7 @@
+use Rattle.std.proofs.Common.{◌≡◌, true}
+use Rattle.mw_record.specs.Records as spec
+use Rattle.mw_record.proofs.formed.FormedFile.records_fit.Given as goal
+
+-- the places so far have values
+abbrev pub invariant-loop-place : goal.invariant-loop-place
+invariant-loop-place l = spec.records_fit (spec.record_at l.self.bytes.now l.self.words) l.place ≡ true

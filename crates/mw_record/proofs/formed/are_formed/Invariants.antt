@@ -1,0 +1,7 @@
+use Rattle.std.proofs.Common.{◌≡◌, true}
+use Rattle.mw_record.specs.Records as spec
+use Rattle.mw_record.proofs.formed.are_formed.Given as goal
+
+-- the places so far are in order
+abbrev pub invariant-loop-place : goal.invariant-loop-place
+invariant-loop-place l = spec.are_formed l.words (spec.record_at l.bytes l.words) l.place ≡ true

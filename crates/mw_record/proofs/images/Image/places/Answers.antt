@@ -1,0 +1,13 @@
+use Rattle.std.proofs.Common.{arith}
+use Rattle.mw_record.specs.Faults.{passes, sizes_are}
+use Rattle.mw_record.proofs.images.Image.places.Goals as goal
+
+pub returns-clause-some : goal.returns-clause-some
+returns-clause-some c =
+    let sizes = sizes_are _ (passes _ c.self.invariant.undamaged).sizes in
+    omega (arith, sizes.some_place, c.self.invariant.same_places)
+
+pub returns-clause-fits : goal.returns-clause-fits
+returns-clause-fits c =
+    let sizes = sizes_are _ (passes _ c.self.invariant.undamaged).sizes in
+    omega (arith, sizes.places_fit, c.self.invariant.same_places)

@@ -1,0 +1,7 @@
+use Rattle.std.proofs.Common.{◌≡◌, drop}
+use Rattle.mw_record.specs.Records as spec
+use Rattle.mw_record.proofs.records.Record.over.Given as goal
+
+-- what is left, put over the value so far, gives what the whole record does
+abbrev pub invariant-loop-i : goal.invariant-loop-i
+invariant-loop-i l = spec.over (drop l.i l.self) l.addr l.value ≡ spec.over l.self l.addr l.fn.value

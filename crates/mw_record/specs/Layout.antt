@@ -1,0 +1,53 @@
+-- Where each part of a file lies, and how it is spelled in bytes. A file is the list of its bytes.
+use Rattle.std.specs.Prelude.{ℕ, ◌+◌, ◌-◌, ◌*◌, List, ◌∷◌, ◌++◌, length, take, drop, replicate, map}
+use Rattle.std.specs.List.{flat_map}
+use Rattle.byteorder.specs.Endian.{little_bytes, little_from}
+use Rattle.mw_words.specs.declared.limits.TheConstants.{MAX_ENTRIES}
+use Rattle.mw_words.specs.declared.jobs.Entry.{Entry}
+use Rattle.mw_record.specs.declared.layout.TheConstants.{HEAD_SIZE, WORD_SIZE, ENTRY_SIZE, PLACE_SIZE, MARK}
+
+-- where the home word of an address begins
+abbrev pub home_at : ℕ → ℕ
+home_at addr = HEAD_SIZE + WORD_SIZE * addr
+
+-- where a record place begins, in a file with so many words
+abbrev pub place_at : ℕ → ℕ → ℕ
+place_at words place = HEAD_SIZE + WORD_SIZE * words + PLACE_SIZE * place
+
+-- where the last place ends
+abbrev pub size : ℕ → ℕ → ℕ
+size words places = place_at words places
+
+-- the number in the n bytes at an offset, the lowest byte first
+unfoldable pub number_at : List ℕ → ℕ → ℕ → ℕ
+number_at bytes at n = little_from at n bytes
+
+-- the n bytes of a number, the lowest first
+unfoldable pub number_bytes : ℕ → ℕ → List ℕ
+number_bytes n number = little_bytes n number
+
+-- these bytes with a block written over them at an offset
+abbrev pub patched : List ℕ → ℕ → List ℕ → List ℕ
+patched old at block = take at old ++ (block ++ drop (at + length block) old)
+
+-- the head of a new file: the mark, the number of words in four bytes, the number of places in two, and zeros
+abbrev pub header : ℕ → ℕ → List ℕ
+header words places = MARK ++ (number_bytes 4 words ++ (number_bytes 2 places ++ replicate 18 0))
+
+-- an entry of a record: its address and its new value, in eight bytes each
+abbrev pub entry_bytes : Entry → List ℕ
+entry_bytes e = number_bytes WORD_SIZE e.addr ++ number_bytes WORD_SIZE e.new
+
+-- what stands behind the gate byte of a place with these entries: their number, six zeros, the entries in
+-- order, and zeros for the entries that aren't there
+abbrev pub body : List Entry → List ℕ
+body entries =
+    length entries ∷ (replicate 6 0 ++ (flat_map entry_bytes entries ++ replicate (ENTRY_SIZE * (MAX_ENTRIES - length entries)) 0))
+
+-- the entries as they stand in the file, without their expected values
+abbrev pub pairs_of : List Entry → List (ℕ × ℕ)
+pairs_of entries = map (λ e. (e.addr, e.new)) entries
+
+-- the bytes of a new file: its head, and zeros
+abbrev pub new_file : ℕ → ℕ → List ℕ
+new_file words places = header words places ++ replicate (WORD_SIZE * words + PLACE_SIZE * places) 0

@@ -1,0 +1,166 @@
+//! A file whose bytes are all there, and whose open records are records.
+ghost use Rattle.std.specs.Prelude.{◌≡◌, ◌+◌, ◌≤◌, ◌<◌, ◌&&◌, nat_le, true, length};
+ghost use Rattle.mw_record.specs.Layout as layout;
+ghost use Rattle.mw_record.specs.Records as spec;
+
+use crate::layout::{COUNT_AT, GATE_OPEN, home_at, place_at, read_number};
+use crate::records::Record;
+use mw_words::{MAX_ENTRIES, MAX_VALUE};
+
+/// The bytes of a file with so many words and record places, each open one of which has a record that
+/// is in order by itself.
+#[derive(Drop)]
+pub(crate) struct FormedFile<'a> {
+    pub(crate) bytes: &'a [u8],
+    pub(crate) words: u16,
+    pub(crate) places: u16,
+    ghost whole: { layout.size words places ≤ length bytes.now },
+    ghost formed: { spec.are_formed words (spec.record_at bytes.now words) places ≡ true },
+}
+
+/// Whether each open record has entries, no more than a change may have, at strictly rising addresses
+/// below the number of words.
+pub(crate) fn are_formed(bytes: &[u8], words: u16, places: u16) -> bool
+    requires { layout.size words places ≤ length bytes.now }
+    ensures { result ≡ spec.are_formed words (spec.record_at bytes.now words) places }
+{
+    for place in 0..places {
+        if !is_formed(bytes, words, place) {
+            return false;
+        }
+    }
+    true
+}
+
+/// Whether a place is closed, or its record is in order by itself.
+fn is_formed(bytes: &[u8], words: u16, place: u16) -> bool
+    requires { layout.place_at words (place + 1) ≤ length bytes.now }
+    ensures { result ≡ spec.is_formed words (spec.record_at bytes.now words place) }
+{
+    let at = place_at(words, place) as usize;
+    if bytes[at] != GATE_OPEN {
+        return true;
+    }
+    is_record_len(bytes[at + COUNT_AT]) && Record::new(bytes, at).rises_below(words)
+}
+
+/// Whether a record may have so many entries.
+fn is_record_len(count: u8) -> bool
+    ensures { result ≡ (nat_le 1 count && nat_le count MAX_ENTRIES) }
+{
+    (1..=MAX_ENTRIES).contains(&(count as usize))
+}
+
+impl FormedFile<'_> {
+    /// The record of a place, where its gate is open.
+    pub(crate) fn record(&self, place: u16) -> Option<Record<'_>>
+        requires { place < self.now.places }
+        ensures { result ≡ spec.record_at self.now.bytes.now self.now.words place }
+    {
+        let at = place_at(self.words, place) as usize;
+        if self.bytes[at] == GATE_OPEN {
+            Some(Record::new(self.bytes, at))
+        } else {
+            None
+        }
+    }
+
+    /// The home word of an address.
+    pub(crate) fn home(&self, addr: u16) -> u64
+        requires { addr < self.now.words }
+        ensures { result ≡ spec.home self.now.bytes.now addr }
+    {
+        read_number(self.bytes, home_at(addr) as usize)
+    }
+
+    /// Whether an open record of the first places has the address.
+    fn is_covered(&self, places: u16, addr: u64) -> bool
+        requires { places ≤ self.now.places }
+        ensures { result ≡ spec.is_covered (spec.record_at self.now.bytes.now self.now.words) places addr }
+    {
+        for place in 0..places {
+            if let Some(record) = self.record(place)
+                && record.holds(addr)
+            {
+                return true;
+            }
+        }
+        false
+    }
+
+    /// Whether no open record of the first places has an address of these entries.
+    fn is_apart(&self, places: u16, entries: &Record) -> bool
+        requires { places ≤ self.now.places }
+        ensures { result ≡ spec.is_apart (spec.record_at self.now.bytes.now self.now.words) places entries.now }
+    {
+        for i in 0..entries.len() {
+            if self.is_covered(places, entries.entry(i).0) {
+                return false;
+            }
+        }
+        true
+    }
+
+    /// Whether no two open records share an address.
+    pub(crate) fn are_apart(&self) -> bool
+        ensures { result ≡ spec.are_apart (spec.record_at self.now.bytes.now self.now.words) self.now.places }
+    {
+        for place in 0..self.places {
+            if let Some(record) = self.record(place)
+                && !self.is_apart(place, &record)
+            {
+                return false;
+            }
+        }
+        true
+    }
+
+    /// Whether no new value of an open record is above [`MAX_VALUE`], and no home word that no open
+    /// record covers.
+    pub(crate) fn has_small_values(&self) -> bool
+        ensures { result ≡ (spec.records_fit (spec.record_at self.now.bytes.now self.now.words) self.now.places
+            && spec.homes_fit (spec.home self.now.bytes.now) (spec.record_at self.now.bytes.now self.now.words) self.now.places self.now.words) }
+    {
+        self.records_fit() && self.homes_fit()
+    }
+
+    /// Whether no new value of an open record is above [`MAX_VALUE`].
+    fn records_fit(&self) -> bool
+        ensures { result ≡ spec.records_fit (spec.record_at self.now.bytes.now self.now.words) self.now.places }
+    {
+        for place in 0..self.places {
+            if let Some(record) = self.record(place)
+                && !record.has_values()
+            {
+                return false;
+            }
+        }
+        true
+    }
+
+    /// Whether no home word that no open record covers is above [`MAX_VALUE`].
+    fn homes_fit(&self) -> bool
+        ensures { result ≡ spec.homes_fit (spec.home self.now.bytes.now) (spec.record_at self.now.bytes.now self.now.words) self.now.places self.now.words }
+    {
+        for addr in 0..self.words {
+            if self.home(addr) > MAX_VALUE && !self.is_covered(self.places, u64::from(addr)) {
+                return false;
+            }
+        }
+        true
+    }
+
+    /// The home word of an address with the open records put over it.
+    pub(crate) fn word(&self, addr: u16) -> u64
+        requires { addr < self.now.words }
+        ensures { result ≡ spec.all_over (spec.record_at self.now.bytes.now self.now.words) self.now.places addr (spec.home self.now.bytes.now addr) }
+    {
+        let mut value = self.home(addr);
+        for place in 0..self.places {
+            if let Some(record) = self.record(place) {
+                value = record.over(u64::from(addr), value);
+            }
+        }
+        value
+    }
+}

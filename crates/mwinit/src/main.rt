@@ -1,0 +1,26 @@
+//! `mwinit PATH WORDS PLACES` makes a tenant's file.
+#![tactic(auto)]
+
+use mw_programs::init;
+use std::io::ErrorKind;
+use std::process::ExitCode;
+use std::{env, io};
+
+fn main(rt: HostRuntime) -> ExitCode {
+    let status = match words(&rt) {
+        Ok(words) => init(&rt, &words, &mut rt.stdout(), &mut rt.stderr()),
+        Err(fault) if fault.kind() == ErrorKind::InvalidData => {
+            let _ = rt.eprintln("mwinit: the command line is no text");
+            2
+        }
+        Err(_) => {
+            let _ = rt.eprintln("mwinit: cannot make");
+            1
+        }
+    };
+    ExitCode::from(status)
+}
+
+fn words(rt: &HostRuntime) -> io::Result<Vec<String>> {
+    Ok(env::args(rt)?.collect(rt.alloc())?)
+}

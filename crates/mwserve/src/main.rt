@@ -1,0 +1,26 @@
+//! `mwserve --tenants FILE --script FILE` serves a tenant's words.
+#![tactic(auto)]
+
+use mw_programs::serve;
+use std::io::ErrorKind;
+use std::process::ExitCode;
+use std::{env, io};
+
+fn main(rt: HostRuntime) -> ExitCode {
+    let status = match words(&rt) {
+        Ok(words) => serve(&rt, &words, &mut rt.stdout(), &mut rt.stderr()),
+        Err(fault) if fault.kind() == ErrorKind::InvalidData => {
+            let _ = rt.eprintln("mwserve: refused 1 command");
+            2
+        }
+        Err(_) => {
+            let _ = rt.eprintln("mwserve: memory");
+            1
+        }
+    };
+    ExitCode::from(status)
+}
+
+fn words(rt: &HostRuntime) -> io::Result<Vec<String>> {
+    Ok(env::args(rt)?.collect(rt.alloc())?)
+}
