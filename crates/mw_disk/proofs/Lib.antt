@@ -1,3 +1,4 @@
 pub mod Images
+pub mod Plans
 pub mod Remembered
 pub mod Tearing

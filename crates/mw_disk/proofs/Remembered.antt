@@ -1,10 +1,12 @@
 -- A disk in memory obeys the disk model: lemmas on the calls that it remembers.
-use Rattle.std.proofs.Common.{◌≡◌, ◌<◌, ◌≤◌, ◌-◌, ℕ, ◌+◌, ◌^◌, Bool, true, false, cond, IsTrue, List, [], ◌∷◌, ◌++◌, length, take, drop, min, max, replicate, get_or, refl, sym, ap, ◌∙◌, subst, inl, inr, ◌⊎◌, leb, arith, append_assoc, length-append}
+use Rattle.std.proofs.Common.{◌≡◌, ◌<◌, ◌≤◌, ◌-◌, ℕ, ◌+◌, ◌^◌, Bool, true, false, cond, Some, Result, Ok, Err, IsTrue, List, [], ◌∷◌, ◌++◌, length, take, drop, min, max, replicate, get_or, refl, sym, ap, ◌∙◌, subst, inl, inr, ◌⊎◌, leb, arith, append_assoc, length-append}
 use Rattle.std.specs.List.{flat_map}
+use Rattle.std.specs.Result.{IsErr, is_ok}
 use Rattle.std.proofs.lemmas.List.{append-nil, take_all, take-append-le, drop_all, length-replicate, length-take, length-drop, get_or_append_left, get_or-take, get_or-drop, get_or-append_right, replicate_more, replicate-append-replicate}
-use Rattle.std.proofs.lemmas.Bool.{cases_lt, leb-true}
-use Rattle.mw_disk.specs.Facts.{MayLeave, IsAtRest, Torn, Called, NothingNew, TearsAt, patched, most_faults}
-use Rattle.mw_disk.specs.Memory.{begun, keeps_bytes, State, only, padded, after, run, went_well, outcomes_of, Memory, state_at, bytes_of, memory_facts, logged, missed_once, refused_once, FailsAs, only_if}
+use Rattle.std.proofs.lemmas.Bool.{cases_lt, false≢true, leb-true, le-leb}
+use Rattle.mw_disk.specs.Facts.{MayLeave, IsAtRest, Torn, Called, Spares, NothingNew, TearsAt, patched, most_counted}
+use Rattle.mw_disk.specs.Memory.{begun, next_turn, plan_of, keeps_bytes, State, only, padded, after, run, went_well, outcomes_of, Memory, state_at, bytes_of, memory_facts, logged, missed_once, refused_once, FailsAs, only_if}
+use Rattle.mw_disk.proofs.Plans.{plan_begun, not_doomed, goes_now}
 use Rattle.mw_disk.specs.declared.event.Event.{Event}
 use Rattle.mw_disk.specs.declared.event.Call.{Call}
 use Rattle.mw_disk.specs.declared.event.Call.TheVariants.{Quiet, Wrote, Tore, Synced}
@@ -16,7 +18,9 @@ pub record Logs (call : Call) (old new : Memory) : Type 0 where
   pub first : new.first ≡ old.first
   pub log : new.log ≡ old.log ++ record { missed = old.missed; call = call } ∷ []
   pub missed : new.missed ≡ 0
-  pub faults : new.faults ≡ cond (went_well call) old.faults (min (old.faults + 1) most_faults)
+  pub faults : new.faults ≡ cond (went_well call) old.faults (min (old.faults + 1) most_counted)
+  pub refused : new.refused ≡ old.refused
+  pub plan : (k : ℕ) → plan_of new k ≡ plan_of old k
 
 pub logs_from : (call : Call) (old new : Memory) → new ≡ logged old call → Logs call old new
 logs_from call old new is = record {
@@ -24,14 +28,17 @@ logs_from call old new is = record {
   log = ap (λ (m : Memory). m.log) is;
   missed = ap (λ (m : Memory). m.missed) is;
   faults = ap (λ (m : Memory). m.faults) is;
+  refused = ap (λ (m : Memory). m.refused) is;
+  plan = λ k. ap (λ (m : Memory). plan_of m k) is;
 }
 
 -- the call has failed without a trace
 pub record Misses (old new : Memory) : Type 0 where
   pub first : new.first ≡ old.first
   pub log : new.log ≡ old.log
-  pub missed : new.missed ≡ min (old.missed + 1) most_faults
-  pub faults : new.faults ≡ min (old.faults + 1) most_faults
+  pub missed : new.missed ≡ min (old.missed + 1) most_counted
+  pub faults : new.faults ≡ min (old.faults + 1) most_counted
+  pub plan : (k : ℕ) → plan_of new k ≡ plan_of old k
 
 misses_from : (old new : Memory) → new ≡ missed_once old → Misses old new
 misses_from old new is = record {
@@ -39,6 +46,7 @@ misses_from old new is = record {
   log = ap (λ (m : Memory). m.log) is;
   missed = ap (λ (m : Memory). m.missed) is;
   faults = ap (λ (m : Memory). m.faults) is;
+  plan = λ k. ap (λ (m : Memory). plan_of m k) is;
 }
 
 pub refused_from : (old new : Memory) → new ≡ refused_once old → Misses old new
@@ -47,6 +55,7 @@ refused_from old new is = record {
   log = ap (λ (m : Memory). m.log) is;
   missed = ap (λ (m : Memory). m.missed) is;
   faults = ap (λ (m : Memory). m.faults) is;
+  plan = λ k. ap (λ (m : Memory). plan_of m k) is;
 }
 
 -- the call has failed, and is remembered or not
@@ -195,18 +204,24 @@ logs_outcomes call old new logs =
     ∙ (outcomes_push old.log e
     ∙ sym (append_assoc (flat_map outcomes_of old.log) (replicate old.missed false) (went_well call ∷ [])))))
 
-pub logs_called : (call : Call) (ok : Bool) (old new : Memory) → went_well call ≡ ok → Logs call old new → Called (memory_facts old) (memory_facts new) ok
-logs_called call ok old new is logs = record {
-  later = let n = longer_log call old new logs in omega arith;
+-- the facts once such a call was begun and remembered; one that goes well was not to fail
+pub logs_called : (call : Call) (ok : Bool) (old new : Memory) → went_well call ≡ ok → (plan_of old 0 ≡ Some false → ok ≡ false) → Logs call (begun old) new
+    → Called (memory_facts old) (memory_facts new) ok
+logs_called call ok old new is doomed logs = record {
+  later = let n = longer_log call (begun old) new logs in omega arith;
   honest = refl;
-  past = λ k c le left. subst (λ (s : State). s.left c) (logs_past call old new logs k le) left;
-  kept = λ k c le left. subst (λ (s : State). s.left c) (sym (logs_past call old new logs k le)) left;
+  past = λ k c le left. subst (λ (s : State). s.left c) (logs_past call (begun old) new logs k le) left;
+  kept = λ k c le left. subst (λ (s : State). s.left c) (sym (logs_past call (begun old) new logs k le)) left;
   fresh = λ k c low high left.
-      let n = longer_log call old new logs in
+      let n = longer_log call (begun old) new logs in
       let e : k ≡ length new.log = omega arith in
       subst (λ (j : ℕ). (state_at new j).left c) e left;
-  outcomes = λ honest fits. subst (λ (b : Bool). (memory_facts new).outcomes ≡ (memory_facts old).outcomes ++ b ∷ []) is (logs_outcomes call old new logs);
-  faults = subst (λ (b : Bool). new.faults ≡ cond b old.faults (min (old.faults + 1) most_faults)) is logs.faults;
+  outcomes = λ honest fits. subst (λ (b : Bool). (memory_facts new).outcomes ≡ (memory_facts old).outcomes ++ b ∷ []) is (logs_outcomes call (begun old) new logs);
+  faults = subst (λ (b : Bool). new.faults ≡ cond b old.faults (min (old.faults + 1) most_counted)) is logs.faults;
+  plan = λ k. logs.plan k ∙ plan_begun old k;
+  doomed = doomed;
+  granted = λ well. logs.refused;
+  seen = λ honest. reads_left new;
 }
 
 -- ---- a call that leaves no trace
@@ -233,15 +248,19 @@ misses_outcomes old new misses fits =
     ∙ (ap (λ (l : List Bool). flat_map outcomes_of old.log ++ l) (sym (replicate_more old.missed false))
     ∙ sym (append_assoc (flat_map outcomes_of old.log) (replicate old.missed false) (false ∷ []))))
 
-pub misses_called : (old new : Memory) → Misses old new → Called (memory_facts old) (memory_facts new) false
+pub misses_called : (old new : Memory) → Misses (begun old) new → Called (memory_facts old) (memory_facts new) false
 misses_called old new misses = record {
   later = let n : length new.log ≡ length old.log = ap length misses.log in omega arith;
   honest = refl;
-  past = λ k c le left. subst (λ (s : State). s.left c) (misses_state old new misses k) left;
-  kept = λ k c le left. subst (λ (s : State). s.left c) (sym (misses_state old new misses k)) left;
+  past = λ k c le left. subst (λ (s : State). s.left c) (misses_state (begun old) new misses k) left;
+  kept = λ k c le left. subst (λ (s : State). s.left c) (sym (misses_state (begun old) new misses k)) left;
   fresh = λ k c low high left. absurd (let n : length new.log ≡ length old.log = ap length misses.log in let e : ⊥ = omega arith in e);
-  outcomes = λ honest fits. misses_outcomes old new misses fits;
+  outcomes = λ honest fits. misses_outcomes (begun old) new misses fits;
   faults = misses.faults;
+  plan = λ k. misses.plan k ∙ plan_begun old k;
+  doomed = λ known. refl;
+  granted = λ well. cc;
+  seen = λ honest. reads_left new;
 }
 
 -- ---- the clauses of each call: mid is the disk once the call was begun
@@ -257,6 +276,48 @@ logs_begun call old mid new is logs = subst (λ (m : Memory). Logs call m new) i
 
 refused_begun : (old mid new : Memory) → mid ≡ begun old → new ≡ refused_once mid → Misses (begun old) new
 refused_begun old mid new is refused = subst (λ (m : Memory). Misses m new) is (refused_from mid new refused)
+
+-- a call that went well
+pub went_called : (call : Call) (turn : Turn) (old mid new : Memory) → went_well call ≡ true → turn ≡ next_turn old → turn ≡ Goes → mid ≡ begun old → new ≡ logged mid call
+    → Called (memory_facts old) (memory_facts new) true
+went_called call turn old mid new well its goes is logs =
+    logs_called call true old new well (λ doomed. absurd (not_doomed old (sym its ∙ goes) doomed)) (logs_begun call old mid new is logs)
+
+pub went_spared : (old new : Memory) → Spares (memory_facts old) (memory_facts new) true
+went_spared old new = record { spared = λ known failed. cc }
+
+-- a call that failed
+pub fails_called : (call : Call) (turn : Turn) (old mid new : Memory) → went_well call ≡ false → mid ≡ begun old → FailsAs call turn mid new
+    → Called (memory_facts old) (memory_facts new) false
+fails_called call turn old mid new failed is fails = elim (fails_begun call turn old mid new is fails) [
+  | inl misses ↦ misses_called old new misses
+  | inr logs ↦ logs_called call false old new failed (λ doomed. refl) logs
+]
+
+-- a result that is an error didn't go well
+pub on_err : {T E : Type 0} (P : Bool → Type 0) (r : Result T E) → IsErr r → P false → P (is_ok r)
+on_err P (Ok x) is p = absurd (false≢true is)
+on_err P (Err e) is p = p
+
+-- one that was refused memory
+pub refused_called : (old mid new : Memory) → mid ≡ begun old → new ≡ refused_once mid → Called (memory_facts old) (memory_facts new) false
+refused_called old mid new is refused = misses_called old new (refused_begun old mid new is refused)
+
+pub refused_spared : (old mid new : Memory) → mid ≡ begun old → new ≡ refused_once mid → Spares (memory_facts old) (memory_facts new) false
+refused_spared old mid new is refused = record {
+  spared = λ known failed. ap (λ (m : Memory). m.refused) refused ∙ ap (λ (m : Memory). min (m.refused + 1) most_counted) is;
+}
+
+goes_refused : (call : Call) (turn : Turn) (old new : Memory) → turn ≡ Goes → FailsAs call turn old new → new ≡ refused_once old
+goes_refused call turn old new goes fails = subst (λ (t : Turn). FailsAs call t old new) goes fails
+
+pub fails_spared : (call : Call) (turn : Turn) (old mid new : Memory) → turn ≡ next_turn old → mid ≡ begun old → FailsAs call turn mid new
+    → Spares (memory_facts old) (memory_facts new) false
+fails_spared call turn old mid new its is fails = record {
+  spared = λ known failed.
+      let refused = goes_refused call turn mid new (its ∙ goes_now old known) fails in
+      (refused_spared old mid new is refused).spared known refl;
+}
 
 pub fails_nothing : (turn : Turn) (old mid new : Memory) → mid ≡ begun old → FailsAs (Quiet false) turn mid new → NothingNew (memory_facts old) (memory_facts new)
 fails_nothing turn old mid new is fails = elim (fails_begun (Quiet false) turn old mid new is fails) [
@@ -303,6 +364,28 @@ quiet_nothing old mid new is logs = quiet_logs_nothing true (begun old) new (log
 pub quiet_same : (old mid new : Memory) → mid ≡ begun old → new ≡ logged mid (Quiet true) → (memory_facts new).reads ≡ (memory_facts old).reads
 quiet_same old mid new is logs = logs_reads (Quiet true) (begun old) new (logs_begun (Quiet true) old mid new is logs)
 
+-- where it can go well, its turn is that of the disk
+goes_turn : (fits : Bool) (turn : Turn) → only_if fits turn ≡ Goes → turn ≡ Goes
+goes_turn true turn is = is
+goes_turn false Goes is = refl
+goes_turn false Fails is = cc
+goes_turn false Stopped is = cc
+
+-- a read that went well
+pub read_called : (turn asked : Turn) (fits : Bool) (old mid new : Memory) → turn ≡ next_turn old → asked ≡ only_if fits turn → asked ≡ Goes → mid ≡ begun old
+    → new ≡ logged mid (Quiet true) → Called (memory_facts old) (memory_facts new) true
+read_called turn asked fits old mid new its made goes is logs =
+    went_called (Quiet true) turn old mid new refl its (goes_turn fits turn (sym made ∙ goes)) is logs
+
+-- a read that failed, of bytes that are there
+pub read_spared : (at n : ℕ) (turn asked : Turn) (fits : Bool) (old mid new : Memory) → turn ≡ next_turn old → asked ≡ only_if fits turn
+    → fits ≡ leb (at + n) (length (memory_facts mid).reads) → mid ≡ begun old → FailsAs (Quiet false) asked mid new
+    → at + n ≤ length (memory_facts old).reads → Spares (memory_facts old) (memory_facts new) false
+read_spared at n turn asked fits old mid new its made tests is fails there =
+    let e : length (memory_facts mid).reads ≡ length (memory_facts old).reads = ap (λ (m : Memory). length (memory_facts m).reads) is in
+    let holds : leb (at + n) (length (memory_facts mid).reads) ≡ true = le-leb (at + n) (length (memory_facts mid).reads) (omega arith) in
+    fails_spared (Quiet false) asked old mid new (made ∙ (ap (λ (b : Bool). only_if b turn) (tests ∙ holds) ∙ its)) is fails
+
 -- a call that goes well can go well
 goes_if : (fits : Bool) (turn : Turn) → only_if fits turn ≡ Goes → fits ≡ true
 goes_if true turn is = refl
@@ -311,10 +394,10 @@ goes_if false Fails is = cc
 goes_if false Stopped is = cc
 
 -- what a read that goes well asks for is there, before it and after it
-pub read_there : (at n : ℕ) (turn only : Turn) (fits : Bool) (old mid new : Memory) → mid ≡ begun old → new ≡ logged mid (Quiet true)
-    → fits ≡ leb (at + n) (length (memory_facts mid).reads) → only ≡ only_if fits turn → only ≡ Goes
+pub read_there : (at n : ℕ) (turn asked : Turn) (fits : Bool) (old mid new : Memory) → mid ≡ begun old → new ≡ logged mid (Quiet true)
+    → fits ≡ leb (at + n) (length (memory_facts mid).reads) → asked ≡ only_if fits turn → asked ≡ Goes
     → (at + n ≤ length (memory_facts old).reads) × (at + n ≤ length (memory_facts new).reads)
-read_there at n turn only fits old mid new is logs tests made goes =
+read_there at n turn asked fits old mid new is logs tests made goes =
     let there : at + n ≤ length (memory_facts mid).reads = leb-true (at + n) (length (memory_facts mid).reads) (sym tests ∙ goes_if fits turn (sym made ∙ goes)) in
     let e : length (memory_facts mid).reads ≡ length (memory_facts old).reads = ap (λ (m : Memory). length (memory_facts m).reads) is in
     let f = ap length (logs_reads (Quiet true) mid new (logs_from (Quiet true) mid new logs)) in

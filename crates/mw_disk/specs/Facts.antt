@@ -1,5 +1,5 @@
 -- What can be said of a disk, and what one call may change of it.
-use Rattle.std.specs.Prelude.{◌≡◌, ◌<◌, ◌≤◌, ℕ, ◌+◌, ◌^◌, ◌-◌, Bool, IsTrue, List, [], ◌∷◌, ◌++◌, length, take, drop, min, max, slice_index, if◌then◌else◌}
+use Rattle.std.specs.Prelude.{◌≡◌, ◌<◌, ◌≤◌, ℕ, suc, ◌+◌, ◌^◌, ◌-◌, Bool, true, false, Option, Some, IsTrue, List, [], ◌∷◌, ◌++◌, length, take, drop, min, max, slice_index, if◌then◌else◌}
 
 -- The facts of a disk at one moment.
 pub record Facts : Type 1 where
@@ -15,6 +15,11 @@ pub record Facts : Type 1 where
   pub outcomes : List Bool
   -- how many of them failed, up to the last value of a counter
   pub faults : ℕ
+  -- how many of them were refused memory, up to the last value of a counter
+  pub refused : ℕ
+  -- What is known of the calls to come, of which the next one is number 0. False: it fails. True: it goes well unless it is
+  -- refused memory, or is a read past the end. None: nothing is known.
+  pub plan : ℕ → Option Bool
 
 -- a crash now may leave these bytes
 abbrev pub MayLeave : Facts → List ℕ → Type 0
@@ -39,12 +44,12 @@ pub record Torn (at n : ℕ) (old new : List ℕ) : Type 0 where
 abbrev pub patched : List ℕ → ℕ → List ℕ → List ℕ
 patched old at bytes = take at old ++ (bytes ++ drop (at + length bytes) old)
 
--- the greatest number of faults that is counted
-abbrev pub most_faults : ℕ
-most_faults = 2 ^ 64 - 1
+-- the greatest number of calls that is counted
+abbrev pub most_counted : ℕ
+most_counted = 2 ^ 64 - 1
 
--- True of every call, whether it ended well or not: time goes on, what is past stays past, and faults are counted. An
--- honest disk counts its calls too.
+-- True of every call, whether it ended well or not: time goes on, what is past stays past, faults are counted, and what was
+-- known of the calls to come is known of them still. An honest disk counts its calls too.
 pub record Called (old new : Facts) (ok : Bool) : Type 0 where
   pub later : old.moment ≤ new.moment
   pub honest : new.honest ≡ old.honest
@@ -55,7 +60,19 @@ pub record Called (old new : Facts) (ok : Bool) : Type 0 where
   pub fresh : (k : ℕ) (c : List ℕ) → old.moment < k → k ≤ new.moment → new.image k c → MayLeave new c
   -- an honest disk tells how each of its calls ended
   pub outcomes : IsTrue old.honest → length old.outcomes + 1 < 2 ^ 64 → new.outcomes ≡ old.outcomes ++ ok ∷ []
-  pub faults : new.faults ≡ (if ok then old.faults else min (old.faults + 1) most_faults)
+  pub faults : new.faults ≡ (if ok then old.faults else min (old.faults + 1) most_counted)
+  -- the call that was number 1 is now number 0, and so on
+  pub plan : (k : ℕ) → new.plan k ≡ old.plan (suc k)
+  -- a call that was known to fail has failed
+  pub doomed : old.plan 0 ≡ Some false → ok ≡ false
+  -- a call that went well was not refused memory
+  pub granted : ok ≡ true → new.refused ≡ old.refused
+  -- what a read gives is one of the images that a crash now may leave
+  pub seen : IsTrue old.honest → MayLeave new new.reads
+
+-- Of a call that was known to go well for all but memory: if it failed, it was refused memory.
+pub record Spares (old new : Facts) (ok : Bool) : Type 0 where
+  pub spared : old.plan 0 ≡ Some true → ok ≡ false → new.refused ≡ min (old.refused + 1) most_counted
 
 -- a crash now leaves nothing that it would not have left before
 abbrev pub NothingNew : Facts → Facts → Type 0

@@ -1,7 +1,7 @@
 -- A disk in memory: what a read gives and what a crash may leave, by the calls that it remembers.
 use Rattle.std.specs.Prelude.{◌⊎◌, ◌==◌, ◌&&◌, nat_lt, nat_le, Some, None, Result, MatchResult, ◌≡◌, ℕ, ◌+◌, ◌-◌, Bool, true, false, List, [], ◌∷◌, ◌++◌, length, take, min, replicate, if◌then◌else◌, Option}
 use Rattle.std.specs.List.{flat_map, list_any}
-use Rattle.mw_disk.specs.Facts.{Facts, Torn, patched, most_faults}
+use Rattle.mw_disk.specs.Facts.{Facts, Torn, patched, most_counted}
 use Rattle.mw_disk.specs.declared.event.Event.{Event}
 use Rattle.mw_disk.specs.declared.event.Call.{Call}
 use Rattle.mw_disk.specs.declared.event.Call.TheVariants.{Quiet, Wrote, Tore, Synced}
@@ -65,6 +65,19 @@ pub record Memory : Type 0 where
   pub script : List ℕ
   pub stop : Option ℕ
 
+-- the stop comes at or before the call with this number, of the calls to come
+abbrev pub stops_by : Option ℕ → ℕ → Bool
+stops_by None k = false
+stops_by (Some left) k = nat_le left k
+
+-- the script names that call
+abbrev pub names : Memory → ℕ → Bool
+names m k = nat_lt (m.calls + k) most_counted && list_any (λ n. n == m.calls + k + 1) m.script
+
+-- what is known of the calls to come, the next one being number 0
+abbrev pub plan_of : Memory → ℕ → Option Bool
+plan_of m k = if stops_by m.stop k then Some false else (if names m k then Some false else Some true)
+
 -- the state at the moment at which so many calls were remembered
 abbrev pub state_at : Memory → ℕ → State
 state_at m k = run (only m.first) (take k m.log)
@@ -81,6 +94,8 @@ memory_facts m = record {
   honest = true;
   outcomes = flat_map outcomes_of m.log ++ replicate m.missed false;
   faults = m.faults;
+  refused = m.refused;
+  plan = plan_of m;
 }
 
 -- the call leaves the bytes as they are
@@ -101,7 +116,7 @@ one_less (Some left) = Some (left - 1)
 
 -- the script names the next call
 abbrev pub is_named : Memory → Bool
-is_named m = nat_lt m.calls most_faults && list_any (λ n. n == m.calls + 1) m.script
+is_named m = nat_lt m.calls most_counted && list_any (λ n. n == m.calls + 1) m.script
 
 -- what becomes of the next call
 abbrev pub next_turn : Memory → Turn
@@ -109,23 +124,23 @@ next_turn m = if is_stopped m.stop then Stopped else (if is_named m then Fails e
 
 -- one call more was begun
 abbrev pub begun : Memory → Memory
-begun m = record m { calls = min (m.calls + 1) most_faults; stop = one_less m.stop }
+begun m = record m { calls = min (m.calls + 1) most_counted; stop = one_less m.stop }
 
 -- a call that is remembered
 abbrev pub logged : Memory → Call → Memory
 logged m call = record m {
   log = m.log ++ record { missed = m.missed; call = call } ∷ [];
   missed = 0;
-  faults = if went_well call then m.faults else min (m.faults + 1) most_faults;
+  faults = if went_well call then m.faults else min (m.faults + 1) most_counted;
 }
 
 -- a call that failed without a trace
 abbrev pub missed_once : Memory → Memory
-missed_once m = record m { missed = min (m.missed + 1) most_faults; faults = min (m.faults + 1) most_faults }
+missed_once m = record m { missed = min (m.missed + 1) most_counted; faults = min (m.faults + 1) most_counted }
 
 -- the same, for want of memory
 abbrev pub refused_once : Memory → Memory
-refused_once m = record (missed_once m) { refused = min (m.refused + 1) most_faults }
+refused_once m = record (missed_once m) { refused = min (m.refused + 1) most_counted }
 
 -- a call that was to fail is remembered as one that failed, if there is memory for it; one that was to go well fails for want of memory alone
 abbrev pub FailsAs : Call → Turn → Memory → Memory → Type 0
@@ -151,9 +166,21 @@ read_turn m at len = only_if (nat_le (at + len) (length (bytes_of m.first m.log)
 
 -- the script with the k-th call from now, if calls can be counted so far
 abbrev pub with_name : Memory → ℕ → List ℕ
-with_name m k = if nat_le (m.calls + k) most_faults then m.script ++ (m.calls + k) ∷ [] else m.script
+with_name m k = if nat_le (m.calls + k) most_counted then m.script ++ (m.calls + k) ∷ [] else m.script
 
 -- how many calls are left when the stop comes after k more at the latest
 abbrev pub sooner : Option ℕ → ℕ → ℕ
 sooner None k = k
 sooner (Some left) k = min left k
+
+-- what this script tells of the calls of a new disk
+abbrev pub scripted : List ℕ → ℕ → Option Bool
+scripted script k = if list_any (λ n. n == k + 1) script && nat_lt k most_counted then Some false else Some true
+
+-- what is known of the calls to come, once the k-th of them is to fail too, if calls can be counted so far
+abbrev pub with_fault : Memory → ℕ → ℕ → Option Bool
+with_fault m k j = if (j + 1 == k) && nat_le (m.calls + k) most_counted then Some false else plan_of m j
+
+-- what is known of them, once all after k more are to fail
+abbrev pub with_stop : Memory → ℕ → ℕ → Option Bool
+with_stop m k j = if nat_le k j then Some false else plan_of m j

@@ -1,9 +1,9 @@
 -- Runs of device calls: what a run may change of a disk, and how it counts its calls.
-use Rattle.std.specs.Prelude.{◌≡◌, ◌<◌, ◌≤◌, ℕ, ◌+◌, ◌^◌, Bool, true, false, List, [], ◌∷◌, ◌++◌, length, min, replicate, slice_index, IsTrue}
+use Rattle.std.specs.Prelude.{◌≡◌, ◌<◌, ◌≤◌, ℕ, suc, ◌+◌, ◌-◌, ◌^◌, Bool, true, false, Some, List, [], ◌∷◌, ◌++◌, length, min, replicate, slice_index, IsTrue}
 use Rattle.std.proofs.Common.{refl, sym, ap, ◌∙◌, subst, inl, inr, arith, append_assoc, length-append}
 use Rattle.std.proofs.lemmas.List.{get_or_past, length-replicate, replicate-append-replicate, append-nil}
-use Rattle.std.proofs.lemmas.Bool.{cases_lt}
-use Rattle.mw_disk.specs.Facts.{Facts, MayLeave, MayHaveLeft, IsAtRest, Torn, Called, NothingNew, TearsAt, most_faults}
+use Rattle.std.proofs.lemmas.Bool.{cases_lt, false≢true}
+use Rattle.mw_disk.specs.Facts.{Facts, MayLeave, MayHaveLeft, IsAtRest, Torn, Called, Spares, NothingNew, TearsAt, most_counted}
 
 -- the same length, and the same byte at each offset outside S
 pub record SameBut (S : ℕ → Type 0) (old new : List ℕ) : Type 0 where
@@ -207,33 +207,63 @@ leaves_more a b c ab bc = record {
 pub leaves_now : (old new : Facts) {P : List ℕ → Type 0} → LeavesOnly old new P → (c : List ℕ) → MayLeave new c → P c
 leaves_now old new only c left = only.each c (new.moment, only.later.later, omega arith, left)
 
--- so many calls were made, and all went well
+-- So many calls were made, and all went well: none of them was known to fail, and none was refused memory.
 pub record Good (count : ℕ) (old new : Facts) : Type 0 where
   pub honest : new.honest ≡ old.honest
   pub outcomes : IsTrue old.honest → length old.outcomes + count < 2 ^ 64 → new.outcomes ≡ old.outcomes ++ replicate count true
   pub faults : new.faults ≡ old.faults
+  pub refused : new.refused ≡ old.refused
+  pub none_doomed : (k : ℕ) → k < count → old.plan k ≡ Some false → ⊥
+  -- the calls to come are those behind these
+  pub plan : (k : ℕ) → new.plan k ≡ old.plan (count + k)
 
--- fewer than so many calls went well, then one failed, and none was made after it
+-- Fewer than so many calls went well, then one failed, and none was made after it. None of those that went well was known to
+-- fail, and on an honest disk the one that failed was refused memory, if it was known to go well otherwise.
 pub record Bad (count : ℕ) (old new : Facts) : Type 0 where
   pub well : ℕ
   pub fewer : well < count
   pub honest : new.honest ≡ old.honest
   pub outcomes : IsTrue old.honest → length old.outcomes + count < 2 ^ 64 → new.outcomes ≡ old.outcomes ++ replicate well true ++ false ∷ []
-  pub faults : new.faults ≡ min (old.faults + 1) most_faults
+  pub faults : new.faults ≡ min (old.faults + 1) most_counted
+  pub spared : IsTrue old.honest → old.plan well ≡ Some true → new.refused ≡ min (old.refused + 1) most_counted
+  pub none_doomed : (k : ℕ) → k < well → old.plan k ≡ Some false → ⊥
+  -- the calls to come are those behind the one that failed
+  pub plan : (k : ℕ) → new.plan k ≡ old.plan (well + suc k)
+
+-- the plan of one call, by its number
+plan_at : (f : Facts) (j k : ℕ) → j ≡ k → f.plan j ≡ f.plan k
+plan_at f j k same = ap (λ (n : ℕ). f.plan n) same
 
 pub good_none : (f : Facts) → Good 0 f f
-good_none f = record { honest = refl; outcomes = λ honest fits. sym (append-nil f.outcomes); faults = refl }
+good_none f = record {
+  honest = refl;
+  outcomes = λ honest fits. sym (append-nil f.outcomes);
+  faults = refl;
+  refused = refl;
+  none_doomed = λ k low doomed. omega arith;
+  plan = λ k. plan_at f k (0 + k) (omega arith);
+}
 
 pub good_call : (old new : Facts) → Called old new true → Good 1 old new
-good_call old new call = record { honest = call.honest; outcomes = call.outcomes; faults = call.faults }
+good_call old new call = record {
+  honest = call.honest;
+  outcomes = call.outcomes;
+  faults = call.faults;
+  refused = call.granted refl;
+  none_doomed = λ k low doomed. false≢true (sym (call.doomed (plan_at old 0 k (omega arith) ∙ doomed)));
+  plan = λ k. call.plan k ∙ plan_at old (suc k) (1 + k) (omega arith);
+}
 
-pub bad_call : (old new : Facts) → Called old new false → Bad 1 old new
-bad_call old new call = record {
+pub bad_call : (old new : Facts) → Called old new false → (IsTrue old.honest → Spares old new false) → Bad 1 old new
+bad_call old new call spares = record {
   well = 0;
   fewer = omega arith;
   honest = call.honest;
   outcomes = λ honest fits. call.outcomes honest fits ∙ ap (λ (l : List Bool). l ++ false ∷ []) (sym (append-nil old.outcomes));
   faults = call.faults;
+  spared = λ honest known. (spares honest).spared known refl;
+  none_doomed = λ k low doomed. omega arith;
+  plan = λ k. call.plan k ∙ plan_at old (suc k) (0 + suc k) (omega arith);
 }
 
 -- the calls of one run and then those of another, in one list
@@ -249,6 +279,17 @@ longer xs ys m n is fits =
 still : (b c : Bool) → c ≡ b → IsTrue b → IsTrue c
 still b c same honest = subst (λ (v : Bool). IsTrue v) (sym same) honest
 
+-- behind a run that went well, the calls of the next one have these numbers
+plan_behind : (m : ℕ) (a b : Facts) → Good m a b → (k : ℕ) → m ≤ k → b.plan (k - m) ≡ a.plan k
+plan_behind m a b ab k low = ab.plan (k - m) ∙ plan_at a (m + (k - m)) k (omega arith)
+
+-- in two runs none was known to fail
+none_doomed_trans : (m n : ℕ) (a b : Facts) → Good m a b → ((k : ℕ) → k < n → b.plan k ≡ Some false → ⊥) → (k : ℕ) → k < m + n → a.plan k ≡ Some false → ⊥
+none_doomed_trans m n a b ab none k low doomed = elim (cases_lt k m) [
+  | inl before ↦ ab.none_doomed k before doomed
+  | inr since ↦ none (k - m) (omega arith) (plan_behind m a b ab k since ∙ doomed)
+]
+
 pub good_trans : (m n : ℕ) (a b c : Facts) → Good m a b → Good n b c → Good (m + n) a c
 good_trans m n a b c ab bc = record {
   honest = bc.honest ∙ ab.honest;
@@ -257,6 +298,9 @@ good_trans m n a b c ab bc = record {
       bc.outcomes (still a.honest b.honest ab.honest honest) (longer a.outcomes b.outcomes m n is fits)
       ∙ (ap (λ (l : List Bool). l ++ replicate n true) is ∙ joined a.outcomes m n);
   faults = bc.faults ∙ ab.faults;
+  refused = bc.refused ∙ ab.refused;
+  none_doomed = none_doomed_trans m n a b ab bc.none_doomed;
+  plan = λ k. bc.plan k ∙ (ab.plan (n + k) ∙ plan_at a (m + (n + k)) (m + n + k) (omega arith));
 }
 
 pub then_bad : (m n : ℕ) (a b c : Facts) → Good m a b → Bad n b c → Bad (m + n) a c
@@ -268,7 +312,10 @@ then_bad m n a b c ab bc = record {
       let is = ab.outcomes honest (omega arith) in
       bc.outcomes (still a.honest b.honest ab.honest honest) (longer a.outcomes b.outcomes m n is fits)
       ∙ ap (λ (l : List Bool). l ++ false ∷ []) (ap (λ (l : List Bool). l ++ replicate bc.well true) is ∙ joined a.outcomes m bc.well);
-  faults = bc.faults ∙ ap (λ (n : ℕ). min (n + 1) most_faults) ab.faults;
+  faults = bc.faults ∙ ap (λ (n : ℕ). min (n + 1) most_counted) ab.faults;
+  spared = λ honest known. bc.spared (still a.honest b.honest ab.honest honest) (ab.plan bc.well ∙ known) ∙ ap (λ (n : ℕ). min (n + 1) most_counted) ab.refused;
+  none_doomed = none_doomed_trans m bc.well a b ab bc.none_doomed;
+  plan = λ k. bc.plan k ∙ (ab.plan (bc.well + suc k) ∙ plan_at a (m + (bc.well + suc k)) (m + bc.well + suc k) (omega arith));
 }
 
 pub bad_wider : (m n : ℕ) (old new : Facts) → m ≤ n → Bad m old new → Bad n old new
@@ -278,4 +325,7 @@ bad_wider m n old new wider bad = record {
   honest = bad.honest;
   outcomes = λ honest fits. bad.outcomes honest (omega arith);
   faults = bad.faults;
+  spared = bad.spared;
+  none_doomed = bad.none_doomed;
+  plan = bad.plan;
 }

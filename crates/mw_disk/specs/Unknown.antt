@@ -1,5 +1,5 @@
 -- A disk of which nothing is known but how often it has failed.
-use Rattle.std.specs.Prelude.{ℕ, false, []}
+use Rattle.std.specs.Prelude.{ℕ, false, None, []}
 use Rattle.mw_disk.specs.Facts.{Facts}
 
 abbrev pub unknown : ℕ → Facts
@@ -10,4 +10,6 @@ unknown faults = record {
   honest = false;
   outcomes = [];
   faults = faults;
+  refused = 0;
+  plan = λ k. None;
 }

@@ -1,6 +1,6 @@
 //! A disk over a file.
 ghost use Rattle.std.specs.Prelude.{◌≡◌, ◌+◌, min, is_ok, IsErr, MatchResult, if◌then◌else◌};
-ghost use Rattle.mw_disk.specs.Facts.{most_faults};
+ghost use Rattle.mw_disk.specs.Facts.{most_counted};
 ghost use Rattle.mw_disk.specs.Unknown.{unknown};
 
 use crate::device::{Disk, DiskFault};
@@ -39,7 +39,7 @@ impl<F> FileDisk<F> {
     // Counts a call that failed.
     fn ended<T: Drop>(&mut self, outcome: io::Result<T>) -> Result<T, DiskFault>
         ensures value { MatchResult outcome (λ value. result ≡ Ok value) (λ _. IsErr result) }
-        ensures faults { self.new ≡ (if is_ok outcome then self.old else record self.old { faults = min (self.old.faults + 1) most_faults }) }
+        ensures faults { self.new ≡ (if is_ok outcome then self.old else record self.old { faults = min (self.old.faults + 1) most_counted }) }
     {
         match outcome {
             Ok(value) => Ok(value),

@@ -1,8 +1,8 @@
 //! A disk in memory, whose calls fail where they are told to.
-ghost use Rattle.std.specs.Prelude.{◌≡◌, ◌+◌, ◌≤◌, min, [], length, slice_range, nat_le, true, false, IsTrue, Some, None, is_ok, IfOk, OnOk, OnErr};
+ghost use Rattle.std.specs.Prelude.{◌≡◌, ◌+◌, ◌≤◌, ℕ, min, [], length, slice_range, nat_le, true, false, IsTrue, Some, None, is_ok, IfOk, OnOk, OnErr};
 ghost use Rattle.mw_disk.specs.Crash.{Tears, unsynced as unsynced_spans};
-ghost use Rattle.mw_disk.specs.Facts.{most_faults, Called, IsAtRest, MayLeave, NothingNew, TearsAt, Torn, patched};
-ghost use Rattle.mw_disk.specs.Memory.{Memory, memory_facts, next_turn, read_turn, begun, logged, missed_once, refused_once, Answers, FailsAs, keeps_bytes, with_name, sooner};
+ghost use Rattle.mw_disk.specs.Facts.{most_counted, Called, Spares, IsAtRest, MayLeave, NothingNew, TearsAt, Torn, patched};
+ghost use Rattle.mw_disk.specs.Memory.{Memory, memory_facts, next_turn, read_turn, begun, logged, missed_once, refused_once, Answers, FailsAs, keeps_bytes, with_name, scripted, with_fault, with_stop, sooner};
 ghost use Rattle.mw_disk.specs.declared.event.Call.TheVariants.{Quiet, Wrote, Tore, Synced};
 
 use crate::device::{Disk, DiskFault};
@@ -67,6 +67,8 @@ impl MemDisk {
           stop = None;
         }) }
         ensures at_rest { IfOk result (λ disk. IsAtRest (memory_facts disk)) }
+        ensures seen { IfOk result (λ disk. MayLeave (memory_facts disk) (memory_facts disk).reads) }
+        ensures plan { IfOk result (λ disk. (k : ℕ) → (memory_facts disk).plan k ≡ scripted script.items k) }
     {
         let first = bytes.to_vec(alloc)?;
         Ok(MemDisk {
@@ -94,6 +96,7 @@ impl MemDisk {
     pub fn fail_next(&mut self, k: u64) -> Result<(), AllocError>
         ensures ok { OnOk result (self.new ≡ record self.old { script = with_name self.old k }) }
         ensures err { OnErr result (self.new ≡ self.old) }
+        ensures plan { OnOk result ((j : ℕ) → (memory_facts self.new).plan j ≡ with_fault self.old k j) }
     {
         if let Some(number) = self.calls.checked_add(k) {
             self.script.push(number)?;
@@ -103,7 +106,8 @@ impl MemDisk {
 
     /// After `k` more calls every call fails and changes nothing. An earlier stop stays.
     pub fn stop_next(&mut self, k: u64)
-        ensures { self.new ≡ record self.old { stop = Some (sooner self.old.stop k) } }
+        ensures stop { self.new ≡ record self.old { stop = Some (sooner self.old.stop k) } }
+        ensures plan { (j : ℕ) → (memory_facts self.new).plan j ≡ with_stop self.old k j }
     {
         let left = match self.stop {
             Some(left) => left.min(k),
@@ -167,7 +171,7 @@ impl MemDisk {
     }
 
     fn count_fault(&mut self)
-        ensures { self.new ≡ record self.old { faults = min (self.old.faults + 1) most_faults } }
+        ensures { self.new ≡ record self.old { faults = min (self.old.faults + 1) most_counted } }
     {
         self.faults = self.faults.saturating_add(1);
     }
@@ -290,6 +294,8 @@ impl Disk for MemDisk {
 
     fn read_at(&mut self, at: u64, out: &mut [u8]) -> Result<(), DiskFault>
         ensures call { Called (memory_facts self.old) (memory_facts self.new) (is_ok result) }
+        ensures spared { at + length out.old ≤ length (memory_facts self.old).reads
+            → Spares (memory_facts self.old) (memory_facts self.new) (is_ok result) }
         ensures crash { NothingNew (memory_facts self.old) (memory_facts self.new) }
         ensures same { (memory_facts self.new).reads ≡ (memory_facts self.old).reads }
         ensures read { OnOk result ((at + length out.old ≤ length (memory_facts self.old).reads)
@@ -309,6 +315,7 @@ impl Disk for MemDisk {
 
     fn write_at(&mut self, at: u64, bytes: &[u8]) -> Result<(), DiskFault>
         ensures call { Called (memory_facts self.old) (memory_facts self.new) (is_ok result) }
+        ensures spared { Spares (memory_facts self.old) (memory_facts self.new) (is_ok result) }
         ensures crash { TearsAt at (length bytes.now) (memory_facts self.old) (memory_facts self.new) }
         ensures torn { Torn at (length bytes.now) (memory_facts self.old).reads (memory_facts self.new).reads }
         ensures written { OnOk result (at ≤ length (memory_facts self.old).reads
@@ -328,6 +335,7 @@ impl Disk for MemDisk {
 
     fn sync(&mut self) -> Result<(), DiskFault>
         ensures call { Called (memory_facts self.old) (memory_facts self.new) (is_ok result) }
+        ensures spared { Spares (memory_facts self.old) (memory_facts self.new) (is_ok result) }
         ensures crash { NothingNew (memory_facts self.old) (memory_facts self.new) }
         ensures same { (memory_facts self.new).reads ≡ (memory_facts self.old).reads }
         ensures durable { OnOk result (IsAtRest (memory_facts self.new)) }
@@ -343,6 +351,7 @@ impl Disk for MemDisk {
 
     fn len(&mut self) -> Result<u64, DiskFault>
         ensures call { Called (memory_facts self.old) (memory_facts self.new) (is_ok result) }
+        ensures spared { Spares (memory_facts self.old) (memory_facts self.new) (is_ok result) }
         ensures crash { NothingNew (memory_facts self.old) (memory_facts self.new) }
         ensures same { (memory_facts self.new).reads ≡ (memory_facts self.old).reads }
         ensures length { IfOk result (λ n. n ≡ length (memory_facts self.old).reads) }

@@ -1,3 +1,13 @@
+pub mod Bytes
+pub mod Changing
+pub mod Looping
 pub mod Opened
 pub mod Places
 pub mod Ran
+pub mod Recalled
+pub mod Reopened
+pub mod Rolled
+pub mod Rolling
+pub mod Safety
+pub mod Settling
+pub mod Writing

@@ -5,15 +5,16 @@ use Rattle.std.proofs.lemmas.List.{get_or-set_same, get_or-set_other, length-set
 use Rattle.mw_file.specs.declared.slots.Slot.{Slot}
 use Rattle.mw_file.specs.declared.slots.Stage.{Stage}
 use Rattle.mw_file.specs.declared.slots.Stage.TheVariants.{Free, Sealed}
-use Rattle.mw_file.specs.Slots.{stage_at, stage_of, writes_in, writes_of_place, if_sealed, roll_calls, IsStaged}
+use Rattle.mw_file.specs.Free.{free_stage_at}
+use Rattle.mw_file.specs.Slots.{free_place, stage_at, stage_of, writes_in, writes_of_place, if_sealed, roll_calls, IsStaged}
 
 -- what is read at a place that isn't free is the slot there
-pub slot_at : (slots : List Slot) (p : ℕ) (s : Slot) → s ≡ get_or slots p s → stage_of slots p ≡ Sealed → slice_get slots p ≡ Some s
-slot_at slots p s read sealed = elim ((slice_get_cases slots p).1) [
+pub slot_at : (slots : List Slot) (p : ℕ) (s : Slot) (stage : Stage) → s ≡ get_or slots p s → stage_of slots p ≡ stage → (stage ≡ Free → ⊥) → slice_get slots p ≡ Some s
+slot_at slots p s stage read is busy = elim ((slice_get_cases slots p).1) [
   | inl there ↦
-      let is : get_or slots p s ≡ there.0 = get_or_from_slice_get slots p there.0 s there.2 in
-      there.2 ∙ ap Some (sym (read ∙ is))
-  | inr past ↦ let e : Free ≡ Sealed = sym (ap stage_at past.1) ∙ sealed in absurd (cc)
+      let same : get_or slots p s ≡ there.0 = get_or_from_slice_get slots p there.0 s there.2 in
+      there.2 ∙ ap Some (sym (read ∙ same))
+  | inr past ↦ absurd (busy (sym is ∙ ap stage_at past.1))
 ]
 
 if_sealed-Sealed : (t : Stage) (n : ℕ) → t ≡ Sealed → if_sealed t n ≡ n
@@ -55,3 +56,17 @@ pub staged_as : (slots : List Slot) (p : ℕ) (old new : Slot) → slice_get slo
 staged_as slots p old new at same =
     let is : new.writes.items ≡ writes_of_place slots p = ap (λ w. w.items) same ∙ sym (ap writes_in at) in
     subst (λ (w : List (ℕ × ℕ)). IsStaged slots (slice_set slots p new) p new.stage w) is (staged slots p new (slice_get_within slots p old at))
+
+-- what was found among the places, where they are known by another name
+pub found_free : (slots seen : List Slot) (place : ℕ) → seen ≡ slots → free_place seen ≡ Some place → place < length seen → (stage_of slots place ≡ Free) × (place < length slots)
+found_free slots seen place same found within = (
+  free_stage_at slots place (ap free_place (sym same) ∙ found),
+  subst (λ (ss : List Slot). place < length ss) same within,
+)
+
+-- a place that isn't free is one of the file's
+pub slot_there : (slots : List Slot) (place : ℕ) (stage : Stage) → stage_of slots place ≡ stage → (stage ≡ Free → ⊥) → place < length slots
+slot_there slots place stage is busy = elim ((slice_get_cases slots place).1) [
+  | inl there ↦ there.1
+  | inr past ↦ absurd (busy (sym is ∙ ap stage_at past.1))
+]

@@ -1,7 +1,7 @@
 -- Runs of device calls, one after another.
-use Rattle.std.proofs.Common.{◌≡◌, ℕ, ◌+◌, ◌≤◌, subst, Result, Ok, Err, IsErr, is_err, true, false}
-use Rattle.mw_disk.specs.Facts.{Facts}
-use Rattle.mw_disk.specs.Runs.{Good, Bad, good_trans, then_bad, bad_wider}
+use Rattle.std.proofs.Common.{◌≡◌, ℕ, ◌+◌, ◌≤◌, subst, sym, IsTrue, is_ok, Result, Ok, Err, IsErr, is_err, true, false}
+use Rattle.mw_disk.specs.Facts.{Facts, Called, Spares}
+use Rattle.mw_disk.specs.Runs.{Good, Bad, good_call, bad_call, good_trans, then_bad, bad_wider}
 use Rattle.mw_file.specs.Run.{Ran}
 
 -- calls that went well, and then as many more
@@ -21,3 +21,8 @@ ran_well m n a b (Err e) same well ran = absurd (cc)
 pub ran_badly : {T E : Type 0} (m n : ℕ) (a b : Facts) (r : Result T E) → m ≡ n → is_err r ≡ true → Ran m a b r → Bad n a b
 ran_badly m n a b (Ok x) same badly ran = absurd (cc)
 ran_badly m n a b (Err e) same badly ran = subst (λ (t : ℕ). Bad t a b) same ran
+
+-- one call, of as many as there are to make
+pub ran_one : {T E : Type 0} (n : ℕ) (a b : Facts) (r : Result T E) → n ≡ 1 → Called a b (is_ok r) → (IsTrue a.honest → Spares a b (is_ok r)) → Ran n a b r
+ran_one n a b (Ok x) is call spares = subst (λ (t : ℕ). Good t a b) (sym is) (good_call a b call)
+ran_one n a b (Err e) is call spares = subst (λ (t : ℕ). Bad t a b) (sym is) (bad_call a b call spares)

@@ -24,8 +24,15 @@ module _ {D : Type 0} where
   abbrev pub has_failed : TenantFile D → Bool
   has_failed file = file.failed
 
+-- Two files are the same: on equal disks, with equal places, and as far.
+pub record IsCopy {D : Type 0} (old new : TenantFile D) : Type 0 where
+  pub disk : disk_of new ≡ disk_of old
+  pub words : words_of new ≡ words_of old
+  pub slots : slots_of new ≡ slots_of old
+  pub failed : has_failed new ≡ has_failed old
+
 module _ {D : Type 0} (facts : D → Facts) where
-  -- The call went well: it made so many device calls, and none failed.
+  -- The call went well: it made so many device calls, as an honest disk counts them, and none failed.
   pub record WentWell (calls : ℕ) (old new : TenantFile D) : Type 0 where
     pub before : has_failed old ≡ false
     pub after : has_failed new ≡ false

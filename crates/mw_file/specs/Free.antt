@@ -1,10 +1,10 @@
 -- A file all of whose places are free, and one change that goes through it alone.
-use Rattle.std.proofs.Common.{◌≡◌, ℕ, zero, suc, ◌<◌, List, [], ◌∷◌, length, true, Some, IsSome, is_some, if◌then◌else◌, refl, sym, ap, ◌∙◌, inl, inr, arith}
-use Rattle.std.proofs.lemmas.Bool.{and_parts, and_from, cases_eq}
+use Rattle.std.proofs.Common.{◌≡◌, ℕ, zero, suc, ◌+◌, ◌-◌, ◌<◌, ◌≤◌, List, [], ◌∷◌, length, true, Some, IsSome, is_some, if◌then◌else◌, refl, sym, ap, ◌∙◌, inl, inr, arith}
+use Rattle.std.proofs.lemmas.Bool.{and_parts, and_from, cases_eq, cases_Bool}
 use Rattle.mw_file.specs.declared.slots.Slot.{Slot}
 use Rattle.mw_file.specs.declared.slots.Stage.{Stage}
 use Rattle.mw_file.specs.declared.slots.Stage.TheVariants.{Free, Prepared, Sealed}
-use Rattle.mw_file.specs.Slots.{is_free_stage, all_free, free_from, free_place, stage_of, IsStaged, MaySeal}
+use Rattle.mw_file.specs.Slots.{is_free_stage, is_free, all_free, free_from, free_place, stage_of, IsStaged, MaySeal}
 
 free_stage : (s : Stage) → is_free_stage s ≡ true → s ≡ Free
 free_stage Free is = refl
@@ -56,3 +56,20 @@ staged_on old mid new place a b v w first last = record {
   stage_there = λ other apart. last.stage_there other apart ∙ first.stage_there other apart;
   writes_there = λ other apart. last.writes_there other apart ∙ first.writes_there other apart;
 }
+
+-- the lowest free place is free
+free_at : (first : ℕ) (slots : List Slot) (place : ℕ) → free_from first slots ≡ Some place → (first ≤ place) × (stage_of slots (place - first) ≡ Free)
+free_at first [] place found = absurd (cc)
+free_at first (s ∷ slots) place found = elim (cases_Bool (is_free s)) [
+  | inl is ↦
+      let e : Some first ≡ Some place = sym (ap (λ b. if b then Some first else free_from (first + 1) slots) is) ∙ found in
+      let same : first ≡ place = cc in
+      (omega (arith, same), ap (stage_of (s ∷ slots)) (let z : place - first ≡ 0 = omega (arith, same) in z) ∙ free_stage s.stage is)
+  | inr other ↦
+      let e : free_from (first + 1) slots ≡ Some place = sym (ap (λ b. if b then Some first else free_from (first + 1) slots) other) ∙ found in
+      let more = free_at (first + 1) slots place e in
+      (omega (arith, more.0), ap (stage_of (s ∷ slots)) (let z : place - first ≡ suc (place - (first + 1)) = omega (arith, more.0) in z) ∙ more.1)
+]
+
+pub free_stage_at : (slots : List Slot) (place : ℕ) → free_place slots ≡ Some place → stage_of slots place ≡ Free
+free_stage_at slots place found = ap (stage_of slots) (let z : place ≡ place - 0 = omega arith in z) ∙ (free_at 0 slots place found).1

@@ -1,6 +1,10 @@
+pub mod Again
 pub mod File
 pub mod Free
+pub mod Keeps
 pub mod Opening
+pub mod Rolls
 pub mod Run
 pub mod Slots
-pub mod Writes
+pub mod Stores
+pub mod Taken

@@ -1,17 +1,18 @@
 -- How the opening of a file ends.
-use Rattle.std.specs.Prelude.{◌≡◌, ◌≤◌, ◌<◌, ℕ, false, Some, None, List, length, take, Vec, Result, Ok, Err, IsTrue}
+use Rattle.std.specs.Prelude.{◌≡◌, ◌≤◌, ◌<◌, ◌==◌, ℕ, zero, suc, ◌+◌, false, Some, None, is_none, List, [], length, take, min, if◌then◌else◌, Vec, Result, Ok, Err, IsTrue}
 use Rattle.std.specs.declared.alloc.Global.{Global}
-use Rattle.mw_disk.specs.Facts.{Facts}
-use Rattle.mw_disk.specs.Runs.{Good, Bad, Later}
+use Rattle.mw_disk.specs.Facts.{Facts, IsAtRest}
+use Rattle.mw_disk.specs.Runs.{Good, Bad, Later, LeavesOnly}
 use Rattle.mw_record.specs.declared.damages.Damage.{Damage as DamageKind}
 use Rattle.mw_record.specs.declared.layout.TheConstants.{MAX_FILE}
-use Rattle.mw_record.specs.Damages.{damage_of, words_in, places_of}
+use Rattle.mw_record.specs.Damages.{damage_of, file_words, words_in, places_of, pairs_in}
 use Rattle.mw_file.specs.declared.tenant_file.TenantFile.{TenantFile}
 use Rattle.mw_file.specs.declared.opening.OpenFault.{OpenFault}
 use Rattle.mw_file.specs.declared.opening.OpenFault.TheVariants.{Damage, Disk, Memory}
 use Rattle.mw_file.specs.Run.{IsUntouched}
 use Rattle.mw_file.specs.Slots.{all_free}
 use Rattle.mw_file.specs.File.{disk_of, words_of, slots_of, has_failed}
+use Rattle.mw_file.specs.Keeps.{Keeps}
 
 -- what of a disk's bytes can belong to a file
 abbrev pub front : Facts → List ℕ
@@ -21,50 +22,108 @@ front f = take MAX_FILE f.reads
 abbrev pub WasRead : Facts → List ℕ → Type 0
 WasRead f image = IsTrue f.honest → image ≡ front f
 
+-- how many device calls the reading of these bytes takes: the length, and one read unless there is nothing to read
+abbrev pub read_calls : List ℕ → ℕ
+read_calls image = 1 + min 1 (length image)
+
+-- how many entries the open record of a place has, 0 where it is shut
+abbrev pub entries_in : List ℕ → ℕ → ℕ
+entries_in image place = length (pairs_in image place)
+
+-- how many entries the open records of the first places have
+abbrev pub entries_below : List ℕ → ℕ → ℕ
+entries_below image zero = 0
+entries_below image (suc place) = entries_below image place + entries_in image place
+
+-- how many of the first places are open, in a file without damage, whose open records have entries
+abbrev pub records_below : List ℕ → ℕ → ℕ
+records_below image zero = 0
+records_below image (suc place) = records_below image place + min 1 (entries_in image place)
+
+abbrev pub open_entries : List ℕ → ℕ
+open_entries image = entries_below image (places_of image)
+
+abbrev pub open_records : List ℕ → ℕ
+open_records image = records_below image (places_of image)
+
+-- The device calls that finish the changes whose records are open: their home words, a sync, their gates, a sync; none where
+-- no record is open.
+abbrev pub repair_calls : List ℕ → ℕ
+repair_calls image = if open_records image == 0 then 0 else (open_entries image + 1) + (open_records image + 1)
+
+-- all device calls of an opening of these bytes
+abbrev pub open_calls : List ℕ → ℕ
+open_calls image = read_calls image + (if is_none (damage_of image) then repair_calls image else 0)
+
+-- These bytes have the same words as those, or none as those, and as many places in their head.
+pub record SameFile (before image : List ℕ) : Type 0 where
+  pub words : file_words image ≡ file_words before
+  pub places : places_of image ≡ places_of before
+
+-- The file stands for what it stood for: in what a read gives, and in what a crash at any moment since may have left.
+pub record Unchanged (old new : Facts) : Type 0 where
+  pub read : SameFile old.reads new.reads
+  pub left : LeavesOnly old new (SameFile old.reads)
+
+-- an opening on an honest disk that was at rest leaves the file what it was
+abbrev pub OpensSafely : Facts → Facts → Type 0
+OpensSafely old new = IsTrue old.honest → IsAtRest old → Unchanged old new
+
+-- the disk after an opening
+abbrev pub disk_after : {D : Type 0} → Result (TenantFile D × Vec ℕ Global) (OpenFault × D) → D
+disk_after (Ok opened) = disk_of opened.0
+disk_after (Err failed) = failed.1
+
 module _ {D : Type 0} (facts : D → Facts) where
   -- The file is open: every place is free, no device call failed, and it has the words and the places that were read.
   pub record IsOpened (disk : D) (file : TenantFile D) (words : List ℕ) : Type 0 where
     pub later : Later (facts disk) (facts (disk_of file))
-    pub calls : ℕ
-    pub made : Good calls (facts disk) (facts (disk_of file))
-    pub sound : has_failed file ≡ false
-    pub count : words_of file ≡ length words
-    pub some_place : 0 < length (slots_of file)
-    pub free : IsTrue (all_free (slots_of file))
+    pub unchanged : OpensSafely (facts disk) (facts (disk_of file))
     pub image : List ℕ
     pub seen : WasRead (facts disk) image
     pub undamaged : damage_of image ≡ None
+    pub made : Good (open_calls image) (facts disk) (facts (disk_of file))
     pub read : words ≡ words_in image
+    pub count : words_of file ≡ length words
     pub places : length (slots_of file) ≡ places_of image
+    pub some_place : 0 < length (slots_of file)
+    pub free : IsTrue (all_free (slots_of file))
+    pub sound : has_failed file ≡ false
+    -- of an honest disk these are the words of all its bytes, and the file stands for them if the disk was at rest
+    pub whole : IsTrue (facts disk).honest → file_words (facts disk).reads ≡ Some words
+    pub keeps : IsTrue (facts disk).honest → IsAtRest (facts disk) → Keeps facts file words []
 
   -- The file is damaged. It was read alone, and no device call failed.
   pub record IsDamaged (disk after : D) (damage : DamageKind) : Type 0 where
     pub later : Later (facts disk) (facts after)
-    pub calls : ℕ
-    pub few : calls ≤ 2
-    pub made : Good calls (facts disk) (facts after)
+    pub unchanged : OpensSafely (facts disk) (facts after)
     pub untouched : IsUntouched (facts disk) (facts after)
     pub image : List ℕ
     pub seen : WasRead (facts disk) image
     pub found : damage_of image ≡ Some damage
+    pub whole : IsTrue (facts disk).honest → damage_of (facts disk).reads ≡ Some damage
+    pub made : Good (open_calls image) (facts disk) (facts after)
 
   -- A device call failed, the last that was made.
-  pub record IsLost (disk after : D) : Type 0 where
+  pub record DiskFailed (disk after : D) : Type 0 where
     pub later : Later (facts disk) (facts after)
+    pub unchanged : OpensSafely (facts disk) (facts after)
     pub calls : ℕ
     pub made : Bad calls (facts disk) (facts after)
+    pub within : IsTrue (facts disk).honest → calls ≤ open_calls (front (facts disk))
 
   -- Memory was refused before the file was read. Its length alone was asked for.
-  pub record IsRefused (disk after : D) : Type 0 where
+  pub record MemoryRefused (disk after : D) : Type 0 where
     pub later : Later (facts disk) (facts after)
-    pub made : Good 1 (facts disk) (facts after)
+    pub unchanged : OpensSafely (facts disk) (facts after)
     pub untouched : IsUntouched (facts disk) (facts after)
+    pub made : Good 1 (facts disk) (facts after)
 
   -- how an opening that failed left the disk
   abbrev pub Fails : D → OpenFault → D → Type 0
   Fails disk (Damage damage) after = IsDamaged disk after damage
-  Fails disk Disk after = IsLost disk after
-  Fails disk Memory after = IsRefused disk after
+  Fails disk Disk after = DiskFailed disk after
+  Fails disk Memory after = MemoryRefused disk after
 
   -- how an opening ended, by its answer
   abbrev pub Opens : D → Result (TenantFile D × Vec ℕ Global) (OpenFault × D) → Type 0

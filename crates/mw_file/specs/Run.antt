@@ -8,12 +8,7 @@ abbrev pub Ran : {T E : Type 0} → ℕ → Facts → Facts → Result T E → T
 Ran calls old new (Ok x) = Good calls old new
 Ran calls old new (Err e) = Bad calls old new
 
--- how a run of some number of device calls ended, by its answer
-abbrev pub RanSome : {T E : Type 0} → Facts → Facts → Result T E → Type 0
-RanSome old new (Ok x) = (calls : ℕ) × Good calls old new
-RanSome old new (Err e) = (calls : ℕ) × Bad calls old new
-
--- Nothing was written: a read gives what it gave, and a crash leaves nothing that it would not have left before.
+-- Of an honest disk: at the end a read gives what it gave, and a crash leaves nothing that it would not have left.
 pub record IsUntouched (old new : Facts) : Type 0 where
   pub same : IsTrue old.honest → new.reads ≡ old.reads
   pub nothing_new : IsTrue old.honest → NothingNew old new

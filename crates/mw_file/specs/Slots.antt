@@ -4,7 +4,7 @@ use Rattle.std.specs.List.{list_all}
 use Rattle.mw_file.specs.declared.slots.Slot.{Slot}
 use Rattle.mw_file.specs.declared.slots.Stage.{Stage}
 use Rattle.mw_file.specs.declared.slots.Stage.TheVariants.{Free, Prepared, Sealed}
-use Rattle.mw_file.specs.Writes.{writes_at}
+use Rattle.mw_record.specs.Records.{holds}
 
 abbrev pub is_free_stage : Stage → Bool
 is_free_stage Free = true
@@ -68,7 +68,7 @@ gate_writes slots = sum_by gate_writes_of slots
 abbrev pub roll_calls : List Slot → ℕ
 roll_calls slots = (home_writes slots + 1) + (gate_writes slots + 1)
 
--- One place alone has changed: it is so far, and its change writes this.
+-- This place's slot is now at this stage, with these writes; all other slots are as they were.
 pub record IsStaged (old new : List Slot) (place : ℕ) (stage : Stage) (writes : List (ℕ × ℕ)) : Type 0 where
   pub count : length new ≡ length old
   pub stage_here : stage_of new place ≡ stage
@@ -79,4 +79,4 @@ pub record IsStaged (old new : List Slot) (place : ℕ) (stage : Stage) (writes 
 -- The change in a place may be sealed: it is prepared, and no sealed place writes to a word that it writes to.
 pub record MaySeal (slots : List Slot) (place : ℕ) : Type 0 where
   pub prepared : stage_of slots place ≡ Prepared
-  pub apart : (other addr : ℕ) → stage_of slots other ≡ Sealed → writes_at (writes_of_place slots place) addr ≡ true → writes_at (writes_of_place slots other) addr ≡ false
+  pub apart : (other addr : ℕ) → stage_of slots other ≡ Sealed → holds (writes_of_place slots place) addr ≡ true → holds (writes_of_place slots other) addr ≡ false

@@ -1,9 +1,11 @@
 //! The calls that take a change into a file.
-ghost use Rattle.std.specs.Prelude.{◌≡◌, ◌+◌, ◌<◌, ◌^◌, Some, length, IsTrue, IsSome, IfSome, is_some, IfOk, OnOk, OnErr};
-ghost use Rattle.mw_disk.specs.Runs.{Later};
+ghost use Rattle.std.specs.Prelude.{◌≡◌, ◌+◌, ◌≤◌, ◌<◌, ◌^◌, Some, length, IsTrue, IsSome, IfSome, is_some, IfOk, OnOk, OnErr};
+ghost use Rattle.mw_disk.specs.Facts.{IsAtRest, patched};
+ghost use Rattle.mw_disk.specs.Runs.{Later, Touched, Fits};
+ghost use Rattle.mw_file.specs.Rolls.{InRange};
 ghost use Rattle.mw_file.specs.Run.{Ran};
 ghost use Rattle.mw_words.specs.Change.{is_change};
-ghost use Rattle.mw_file.specs.Writes.{writes_of};
+ghost use Rattle.mw_record.specs.Layout.{pairs_of};
 ghost use Rattle.mw_file.specs.Slots as spec;
 ghost use Rattle.mw_file.specs.Slots.{stage_of, writes_of_place, IsStaged, MaySeal};
 
@@ -17,6 +19,7 @@ use std::slice;
 
 impl<D: Disk> TenantFile<D> {
     ghost use Rattle.mw_file.specs.File.{slots_of, words_of, disk_of, Ends};
+    ghost use Rattle.mw_file.specs.Keeps.{ContentsStay, ChangeIsSealed};
 
     /// How many places the file has.
     pub fn places(&self) -> u16
@@ -33,7 +36,8 @@ impl<D: Disk> TenantFile<D> {
     }
 
     /// Writes the record of a change into the lowest free place, and syncs. The change isn't in the
-    /// file yet. A place has to be free, and the change well formed for the file's words.
+    /// file yet: a crash at any moment leaves the words as they were. A place has to be free, and the
+    /// change well formed for the file's words.
     ///
     /// # Errors
     ///
@@ -45,8 +49,9 @@ impl<D: Disk> TenantFile<D> {
         ensures ends { Ends D.facts 2 self.old self.new result }
         ensures lowest { IfOk result (λ p. spec.free_place (slots_of self.old) ≡ Some p.0) }
         ensures staged { IfOk result (λ p. IsStaged (slots_of self.old) (slots_of self.new) p.0
-            Stage.Prepared (writes_of entries.now.items)) }
+            Stage.Prepared (pairs_of entries.now.items)) }
         ensures later { Later (D.facts (disk_of self.old)) (D.facts (disk_of self.new)) }
+        ensures safe { ContentsStay D.facts self.old self.new }
     {
         if self.failed {
             return Err(FileFault::Failed);
@@ -67,8 +72,9 @@ impl<D: Disk> TenantFile<D> {
     }
 
     /// Opens the gate of a prepared change, and syncs. From then on the change is in the file,
-    /// durably. The change has to be prepared, and to share no address with one that is sealed and
-    /// not settled.
+    /// durably. Until then a crash at any moment leaves the words before, or these with the whole
+    /// change. The change has to be prepared, and to share no address with one that is sealed and not
+    /// settled.
     ///
     /// # Errors
     ///
@@ -80,6 +86,7 @@ impl<D: Disk> TenantFile<D> {
         ensures staged { OnOk result (IsStaged (slots_of self.old) (slots_of self.new) place.0
             Stage.Sealed (writes_of_place (slots_of self.old) place.0)) }
         ensures later { Later (D.facts (disk_of self.old)) (D.facts (disk_of self.new)) }
+        ensures safe { ChangeIsSealed D.facts self.old self.new (writes_of_place (slots_of self.old) place.0) result }
     {
         if self.failed {
             return Err(FileFault::Failed);
@@ -93,8 +100,8 @@ impl<D: Disk> TenantFile<D> {
         Ok(())
     }
 
-    /// Puts a sealed change's values into their home words, and shuts its gate. Its place is free
-    /// then.
+    /// Puts a sealed change's values into their home words and syncs, then shuts its gate and syncs. Its
+    /// place is free then. A crash at any moment leaves the words as they were, with this change.
     ///
     /// # Errors
     ///
@@ -106,6 +113,7 @@ impl<D: Disk> TenantFile<D> {
         ensures staged { OnOk result (IsStaged (slots_of self.old) (slots_of self.new) place.0
             Stage.Free (writes_of_place (slots_of self.old) place.0)) }
         ensures later { Later (D.facts (disk_of self.old)) (D.facts (disk_of self.new)) }
+        ensures safe { ContentsStay D.facts self.old self.new }
     {
         if self.failed {
             return Err(FileFault::Failed);
@@ -126,6 +134,7 @@ impl<D: Disk> TenantFile<D> {
         ensures staged { IsStaged (slots_of self.old) (slots_of self.new) place.0
             Stage.Free (writes_of_place (slots_of self.old) place.0) }
         ensures rest { self.new ≡ record self.old { slots = self.new.slots; few = self.new.few } }
+        ensures safe { ContentsStay D.facts self.old self.new }
     {
         self.slots[place.0 as usize].stage = Stage::Free;
     }
@@ -160,6 +169,11 @@ fn free_place(slots: &[Slot]) -> Option<u16>
 fn write_and_sync<D: Disk>(disk: &mut D, at: u64, bytes: &[u8]) -> Result<(), DiskFault>
     ensures calls { Ran 2 (D.facts disk.old) (D.facts disk.new) result }
     ensures later { Later (D.facts disk.old) (D.facts disk.new) }
+    ensures touched { IsTrue (D.facts disk.old).honest → Fits (D.facts disk.old) (at + length bytes.now)
+        → Touched (InRange at (length bytes.now)) (D.facts disk.old) (D.facts disk.new) }
+    ensures rest { OnOk result (IsTrue (D.facts disk.old).honest → IsAtRest (D.facts disk.new)) }
+    ensures written { OnOk result (IsTrue (D.facts disk.old).honest → at ≤ length (D.facts disk.old).reads
+        → (D.facts disk.new).reads ≡ patched (D.facts disk.old).reads at bytes.now) }
 {
     disk.write_at(at, bytes)?;
     disk.sync()?;

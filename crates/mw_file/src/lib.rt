@@ -4,14 +4,25 @@
 //! record's gate, from when on the change is in the file, `settle` puts its values into the home
 //! words and shuts the gate again. `cancel` gives up a change that was prepared. `open` reads a
 //! file and finishes the changes that were sealed and not settled.
+//!
+//! On a device that keeps the model of [`mw_disk::Disk`] a crash at any moment of any of these calls,
+//! of an opening and of the next one too, leaves the words with every sealed change, and with the one
+//! that was being sealed wholly or not at all.
+//!
+//! The words in the field's terms: a place is a slot of a redo log and its gate the commit byte, a
+//! home word is the data in place, `seal` commits, `settle` is a checkpoint of one change, and `open`
+//! recovers by redoing what was committed.
 #![tactic(auto)]
 
 mod calls;
+mod laws;
+mod memory;
 mod opening;
 mod roll;
 mod slots;
 mod tenant_file;
 
+pub use laws::{crash_in_an_opening, crash_of_a_file, places_are_counted};
 pub use opening::OpenFault;
 pub use slots::{Slot, Stage, Writes};
 pub use tenant_file::{FileFault, Place, TenantFile};

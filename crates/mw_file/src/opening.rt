@@ -1,11 +1,17 @@
 //! Opening a file.
-ghost use Rattle.std.specs.Prelude.{◌≡◌, ◌≤◌, ◌<◌, length, vec_len, min, take, IsTrue, IfOk, OnOk};
+ghost use Rattle.std.specs.Prelude.{◌≡◌, ◌≤◌, ◌<◌, ◌^◌, ◌==◌, ℕ, not, if◌then◌else◌, List, length, None, vec_len, min, take, IsTrue, IfOk, OnOk};
 ghost use Rattle.mw_words.specs.declared.limits.TheConstants.{MAX_PLACES, MAX_WORDS};
 ghost use Rattle.mw_record.specs.declared.layout.TheConstants.{MAX_FILE};
-ghost use Rattle.mw_disk.specs.Runs.{Later};
+ghost use Rattle.mw_disk.specs.Runs.{Later, Touched, LeavesOnly};
 ghost use Rattle.mw_record.specs.Damages.{words_of, places_of, words_in, pairs_in};
-ghost use Rattle.mw_file.specs.Slots.{all_free};
-ghost use Rattle.mw_file.specs.Run.{Ran, RanSome, IsUntouched};
+ghost use Rattle.mw_record.specs.Records.{record_at};
+ghost use Rattle.mw_record.specs.Stands.{HasWords};
+ghost use Rattle.mw_file.specs.Opening.{repair_calls};
+ghost use Rattle.mw_file.specs.Rolls.{CanRoll, CanFinish, IsRolled, IsRecalled, Nowhere, record_of};
+ghost use Rattle.mw_file.specs.Run.{Ran, IsUntouched};
+ghost use Rattle.mw_file.specs.Slots.{all_free, gate_writes, roll_calls};
+ghost use Rattle.mw_file.specs.Stores.{IsDurable};
+ghost use Rattle.mw_file.specs.declared.slots.Stage.TheVariants.{Prepared, Sealed};
 
 use crate::roll::roll_forward;
 use crate::slots::{Slot, Stage, Writes};
@@ -20,7 +26,7 @@ use std::alloc::{AllocError, Global};
 pub enum OpenFault {
     /// The file is damaged, this being its first damage. It was not written to.
     Damage(Damage),
-    /// The device failed.
+    /// The device failed. The file's words are what they were.
     Disk,
     /// Memory was refused. The file was neither read nor written to.
     Memory,
@@ -32,9 +38,14 @@ impl<D: Disk> TenantFile<D> {
     /// Opens the file on a disk: reads it, and finishes the changes that were sealed and not settled,
     /// so that every place is free then. Gives its words too, in order of address.
     ///
+    /// It asks for the length and reads; if any record is open, it writes the home words of all open
+    /// records, syncs, shuts their gates and syncs. On a file it takes memory once, before it reads:
+    /// no other call on the file takes any.
+    ///
     /// # Errors
     ///
-    /// An [`OpenFault`], with the disk.
+    /// An [`OpenFault`], with the disk. Whatever the fault, the file's words are what they were, in
+    /// what a read gives and in what a crash at any moment leaves.
     pub fn open(alloc: Global, disk: D) -> Result<(TenantFile<D>, Vec<u64>), (OpenFault, D)>
         ensures { Opens D.facts disk result }
     {
@@ -112,9 +123,11 @@ fn free_slots(alloc: Global) -> Result<Vec<Slot>, AllocError>
 
 /// Reads the first bytes. Where there are none to read no device call is made.
 fn read_front<D: Disk>(disk: &mut D, bytes: &mut [u8]) -> Result<(), DiskFault>
+    requires within { IsTrue (D.facts disk.old).honest → length bytes.old ≤ length (D.facts disk.old).reads }
     ensures calls { Ran (min 1 (length bytes.old)) (D.facts disk.old) (D.facts disk.new) result }
     ensures later { Later (D.facts disk.old) (D.facts disk.new) }
     ensures untouched { IsUntouched (D.facts disk.old) (D.facts disk.new) }
+    ensures touched { IsTrue (D.facts disk.old).honest → Touched Nowhere (D.facts disk.old) (D.facts disk.new) }
     ensures read { OnOk result (IsTrue (D.facts disk.old).honest → length bytes.old ≤ length (D.facts disk.old).reads
         → bytes.new ≡ take (length bytes.old) (D.facts disk.old).reads) }
 {
@@ -139,45 +152,92 @@ fn fill_words(image: &Image<'_>, words: &mut Vec<u64>)
 fn finish<D: Disk>(disk: &mut D, image: &Image<'_>, slots: &mut [Slot]) -> Result<(), DiskFault>
     requires each { length slots.old ≡ places_of image.now }
     requires few { length slots.old ≤ MAX_PLACES }
-    ensures calls { RanSome (D.facts disk.old) (D.facts disk.new) result }
+    ensures calls { Ran (repair_calls image.now) (D.facts disk.old) (D.facts disk.new) result }
     ensures later { Later (D.facts disk.old) (D.facts disk.new) }
     ensures free { IsTrue (all_free slots.new) }
+    ensures moments { (contents : List ℕ) → CanFinish (D.facts disk.old) image.now contents
+        → LeavesOnly (D.facts disk.old) (D.facts disk.new) (HasWords (words_of image.now) (places_of image.now) contents) }
+    ensures read { (contents : List ℕ) → CanFinish (D.facts disk.old) image.now contents
+        → HasWords (words_of image.now) (places_of image.now) contents (D.facts disk.new).reads }
+    ensures done { OnOk result ((contents : List ℕ) → CanFinish (D.facts disk.old) image.now contents
+        → IsDurable (D.facts disk.new) (words_of image.now) contents slots.new) }
 {
     recall(image, slots);
-    if slots.iter().any(|slot| slot.stage == Stage::Sealed) {
-        let ran = roll_forward(disk, image.words(), slots, 0);
-        set_free(slots);
-        ran
-    } else {
-        set_free(slots);
-        Ok(())
+    let ran = repair(disk, image.words(), slots);
+    set_free(slots);
+    ran
+}
+
+/// Tells each place whose record is open as a sealed one, and the others as free.
+fn recall(image: &Image<'_>, slots: &mut [Slot])
+    requires { length slots.old ≡ places_of image.now }
+    ensures { IsRecalled image.now slots.new }
+{
+    for place in 0..image.places() {
+        slots[place as usize] = slot_of(image, place);
     }
 }
 
-/// Tells each place whose record is open as a sealed one.
-fn recall(image: &Image<'_>, slots: &mut [Slot])
-    requires { length slots.old ≡ places_of image.now }
+/// A place as a file that was read tells it.
+fn slot_of(image: &Image<'_>, place: u16) -> Slot
+    requires { place < places_of image.now }
+    ensures record { record_of result ≡ record_at image.now (words_of image.now) place }
+    ensures stage { result.stage ≡ Prepared → ⊥ }
+    ensures some { result.stage ≡ Sealed → 1 ≤ length result.writes.items }
 {
-    for place in 0..image.places() {
-        if image.count(place) > 0 {
-            slots[place as usize] = Slot {
-                stage: Stage::Sealed,
-                writes: writes_of(image, place),
-            };
-        }
+    let writes = writes_of(image, place);
+    if writes.is_empty() {
+        return Slot {
+            stage: Stage::Free,
+            writes,
+        };
+    }
+    Slot {
+        stage: Stage::Sealed,
+        writes,
     }
 }
 
 /// What the record of a place writes.
 fn writes_of(image: &Image<'_>, place: u16) -> Writes
     requires { place < places_of image.now }
-    ensures { result.items ≡ pairs_in image.now place }
+    ensures pairs { result.items ≡ pairs_in image.now place }
+    ensures closed { length result.items ≡ 0 → record_at image.now (words_of image.now) place ≡ None }
 {
     let mut writes = Writes::new();
     for i in 0..image.count(place) {
         writes.push(image.pair(place, i));
     }
     writes
+}
+
+/// Puts the sealed places into their home words, if there are any.
+fn repair<D: Disk>(disk: &mut D, words: u16, slots: &[Slot]) -> Result<(), DiskFault>
+    requires { length slots.now < 2 ^ 16 }
+    ensures calls { Ran (if gate_writes slots.now == 0 then 0 else roll_calls slots.now) (D.facts disk.old) (D.facts disk.new) result }
+    ensures later { Later (D.facts disk.old) (D.facts disk.new) }
+    ensures moments { (contents : List ℕ) → CanRoll (D.facts disk.old) words (length slots.now) 0 slots.now contents
+        → LeavesOnly (D.facts disk.old) (D.facts disk.new) (HasWords words (length slots.now) contents) }
+    ensures read { (contents : List ℕ) → CanRoll (D.facts disk.old) words (length slots.now) 0 slots.now contents
+        → HasWords words (length slots.now) contents (D.facts disk.new).reads }
+    ensures done { OnOk result ((contents : List ℕ) → CanRoll (D.facts disk.old) words (length slots.now) 0 slots.now contents
+        → IsRolled words 0 slots.now (D.facts disk.old) (D.facts disk.new)) }
+{
+    if !has_sealed(slots) {
+        return Ok(());
+    }
+    roll_forward(disk, words, slots, 0)
+}
+
+fn has_sealed(slots: &[Slot]) -> bool
+    ensures { result ≡ not (gate_writes slots.now == 0) }
+{
+    for slot in slots {
+        if slot.stage == Stage::Sealed {
+            return true;
+        }
+    }
+    false
 }
 
 fn set_free(slots: &mut [Slot])

@@ -1,16 +1,18 @@
 //! The places of a tenant's file, as the file keeps them in memory.
-ghost use Rattle.std.specs.Prelude.{◌≡◌};
-ghost use Rattle.mw_file.specs.Writes.{writes_of};
+ghost use Rattle.std.specs.Prelude.{◌≡◌, IfOk};
+ghost use Rattle.mw_record.specs.Layout.{pairs_of};
 
 use arrayvec::ArrayVec;
 use mw_words::{Entries, MAX_ENTRIES};
+use std::alloc::{AllocError, Global};
 
 /// How far the change in a place is.
 #[derive(Clone, Copy, Debug, PartialEq, Eq)]
 pub enum Stage {
     /// There is none.
     Free,
-    /// Its record is written, and its gate is not known to be open.
+    /// Its record is written and its gate shut. After a seal that the device failed in, the gate may
+    /// be open.
     Prepared,
     /// Its gate is open: the change is in the file.
     Sealed,
@@ -30,7 +32,7 @@ pub struct Slot {
 
 /// What these entries write.
 pub(crate) fn writes_to(entries: &Entries) -> Writes
-    ensures { result.items ≡ writes_of entries.now.items }
+    ensures { result.items ≡ pairs_of entries.now.items }
 {
     let mut writes = Writes::new();
     for i in 0..entries.len() {
@@ -38,4 +40,30 @@ pub(crate) fn writes_to(entries: &Entries) -> Writes
         writes.push((entry.addr, entry.new));
     }
     writes
+}
+
+/// The same slots once more. The only error is want of memory.
+pub(crate) fn copies(alloc: Global, slots: &[Slot]) -> Result<Vec<Slot>, AllocError>
+    ensures { IfOk result (λ copies. copies.items ≡ slots.now) }
+{
+    let mut copies = Vec::with_capacity(alloc, slots.len())?;
+    for slot in slots {
+        copies.push(slot.copy())?;
+    }
+    Ok(copies)
+}
+
+impl Slot {
+    fn copy(&self) -> Slot
+        ensures { result ≡ self.now }
+    {
+        let mut writes = Writes::new();
+        for write in self.writes.as_slice() {
+            writes.push(*write);
+        }
+        Slot {
+            stage: self.stage,
+            writes,
+        }
+    }
 }

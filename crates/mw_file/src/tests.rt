@@ -1,65 +1,485 @@
+ghost use Rattle.std.specs.Prelude.{◌≡◌, ◌≤◌, ◌==◌, true};
+ghost use Rattle.mw_words.specs.declared.limits.TheConstants.{MAX_PLACES, MAX_WORDS};
+ghost use Rattle.mw_file.specs.Slots.{MaySeal, gate_writes, stage_of};
+
 use super::*;
-use mw_disk::{Disk, MemDisk};
-use mw_record::{Damage, header, size};
+use mw_disk::{Disk, DiskFault, MemDisk};
+use mw_record::{header, size};
+use mw_words::{Entries, Entry, is_change};
 use std::alloc::{AllocError, Global};
 use std::test::Fail;
 
-/// A new file of two words and two places, with one byte changed.
-fn changed_file(alloc: Global, at: usize, byte: u8) -> Result<MemDisk, AllocError> {
-    let mut bytes = vec![in alloc; 0; size(2, 2) as usize]?;
-    for (to, from) in bytes.iter_mut().zip(header(2, 2)) {
+/// Four bytes that a crash leaves, over and over, in what was not synced: none are given, all are
+/// zero, all are ones, and a mixture that begins with a shut gate or with an open one.
+const TORN: [&[u8]; 5] = [
+    &[],
+    &[0x00, 0x00, 0x00, 0x00],
+    &[0xff, 0xff, 0xff, 0xff],
+    &[0x00, 0xa5, 0xff, 0x5a],
+    &[0xa5, 0xff, 0x5a, 0x00],
+];
+
+/// The bytes of a new file, all of whose words are 0.
+fn new_bytes(alloc: Global, words: u16, places: u16) -> Result<Vec<u8>, AllocError>
+    requires some_word { 1 ≤ words }
+    requires words_fit { words ≤ MAX_WORDS }
+    requires some_place { 1 ≤ places }
+    requires places_fit { places ≤ MAX_PLACES }
+{
+    let mut bytes = vec![in alloc; 0; size(words, places) as usize]?;
+    for (to, from) in bytes.iter_mut().zip(header(words, places)) {
         *to = from;
     }
-    if let Some(to) = bytes.get_mut(at) {
-        *to = byte;
-    }
-    MemDisk::new(alloc, bytes, Vec::new(alloc))
+    Ok(bytes)
 }
 
-/// A file that was opened: its words, how many places it has, and whether one is free.
-type Opened = (Vec<u64>, u16, bool);
+/// A disk of these bytes.
+fn disk_with(alloc: Global, bytes: &[u8]) -> Result<MemDisk, AllocError> {
+    MemDisk::new(alloc, bytes.to_vec(alloc)?, Vec::new(alloc))
+}
 
-/// How an opening ends, and how often the disk has failed then.
-fn opening<D: Disk + Drop>(alloc: Global, disk: D) -> (Result<Opened, OpenFault>, u64) {
+/// How a device fails after so many calls that go well.
+#[derive(Clone, Copy, Debug, PartialEq, Eq)]
+enum Trouble {
+    /// The next call alone fails.
+    Once,
+    /// Every further call fails, and changes nothing.
+    Stop,
+}
+
+/// A disk of these bytes that has trouble after so many calls.
+fn troubled(
+    alloc: Global,
+    bytes: &[u8],
+    calls: u8,
+    trouble: Trouble,
+) -> Result<MemDisk, AllocError> {
+    let mut disk = disk_with(alloc, bytes)?;
+    match trouble {
+        Trouble::Once => disk.fail_next(u64::from(calls) + 1)?,
+        Trouble::Stop => disk.stop_next(u64::from(calls)),
+    }
+    Ok(disk)
+}
+
+/// What a crash of a disk leaves, with these torn bytes over and over, longer than any one write.
+fn crash(alloc: Global, disk: &MemDisk, torn: &[u8]) -> Result<Vec<u8>, AllocError> {
+    let mut bytes = Vec::new(alloc);
+    for _ in 0..50 {
+        bytes.extend_from_slice(torn)?;
+    }
+    disk.crash(&bytes)
+}
+
+/// How an opening ends, and the disk then.
+fn opening(alloc: Global, disk: MemDisk) -> (Result<Vec<u64>, OpenFault>, MemDisk) {
     match TenantFile::open(alloc, disk) {
         Ok(opened) => {
             let (file, words) = opened;
-            let seen = (words, file.places(), file.has_place());
-            (Ok(seen), file.into_disk().faults())
+            (Ok(words), file.into_disk())
         }
         Err(failed) => {
             let (fault, disk) = failed;
-            (Err(fault), disk.faults())
+            (Err(fault), disk)
         }
+    }
+}
+
+/// The words of a file with these bytes, if it opens.
+fn words_of(alloc: Global, bytes: &[u8]) -> Result<Option<Vec<u64>>, AllocError> {
+    let (ended, _) = opening(alloc, disk_with(alloc, bytes)?);
+    Ok(ended.ok())
+}
+
+/// The file on a disk, if it opens.
+fn opened(alloc: Global, disk: MemDisk) -> Option<TenantFile<MemDisk>> {
+    match TenantFile::open(alloc, disk) {
+        Ok(opened) => {
+            let (file, _) = opened;
+            Some(file)
+        }
+        Err(_) => None,
+    }
+}
+
+/// The change that writes these values where 0 stood.
+fn change(writes: &[(u16, u64)]) -> Entries {
+    let mut entries = Entries::new();
+    for write in writes {
+        let _ = entries.try_push(Entry {
+            addr: write.0,
+            expected: 0,
+            new: write.1,
+        });
+    }
+    entries
+}
+
+/// Whether a place is so far.
+fn is_at(slots: &[Slot], place: Place, stage: Stage) -> bool
+    ensures { result ≡ true → stage_of slots.now place.0 ≡ stage }
+{
+    match slots.get(place.0 as usize) {
+        Some(slot) => slot.stage == stage,
+        None => false,
+    }
+}
+
+/// Whether no place is sealed.
+fn none_sealed(slots: &[Slot]) -> bool
+    ensures { result ≡ (gate_writes slots.now == 0) }
+{
+    for slot in slots {
+        if slot.stage == Stage::Sealed {
+            return false;
+        }
+    }
+    true
+}
+
+/// Whether this place may be sealed, as is sure where no other one is.
+fn may_seal(slots: &[Slot], place: Place) -> bool
+    ensures { result ≡ true → MaySeal slots.now place.0 }
+{
+    is_at(slots, place, Stage::Prepared) && none_sealed(slots)
+}
+
+/// Prepares a change, if there is a place and the file has its words.
+fn prepare(file: &mut TenantFile<MemDisk>, entries: &Entries) -> Option<Result<Place, FileFault>> {
+    if file.has_place() && is_change(entries, file.words as usize) {
+        Some(file.prepare(entries))
+    } else {
+        None
+    }
+}
+
+/// Seals a change, if it is prepared and none is sealed.
+fn seal(file: &mut TenantFile<MemDisk>, place: Place) -> Option<Result<(), FileFault>> {
+    if may_seal(&file.slots, place) {
+        Some(file.seal(place))
+    } else {
+        None
+    }
+}
+
+/// Settles a change, if it is sealed.
+fn settle(file: &mut TenantFile<MemDisk>, place: Place) -> Option<Result<(), FileFault>> {
+    if is_at(&file.slots, place, Stage::Sealed) {
+        Some(file.settle(place))
+    } else {
+        None
+    }
+}
+
+/// Cancels a change, if it is prepared.
+fn cancel(file: &mut TenantFile<MemDisk>, place: Place) -> Option<()> {
+    if is_at(&file.slots, place, Stage::Prepared) {
+        Some(file.cancel(place))
+    } else {
+        None
     }
 }
 
 #[test]
 fn a_new_file_opens_with_all_places_free(rt: HostRuntime) -> Result<(), Fail> {
-    let disk = changed_file(rt.alloc(), 32, 5)?;
-    let words = vec![in rt.alloc(); 5, 0]?;
-    assert_eq!(rt; opening(rt.alloc(), disk), (Ok((words, 2, true)), 0));
+    let alloc = rt.alloc();
+    let mut bytes = new_bytes(alloc, 2, 2)?;
+    if let Some(byte) = bytes.get_mut(32) {
+        *byte = 5;
+    }
+    let file = opened(alloc, disk_with(alloc, &bytes)?).ok_or("the file opens")?;
+    assert_eq!(rt; (file.places(), file.has_place()), (2, true));
+    for (calls, fault) in [
+        (0, Some(OpenFault::Disk)),
+        (1, Some(OpenFault::Disk)),
+        (2, None),
+    ] {
+        for trouble in [Trouble::Once, Trouble::Stop] {
+            let (ended, disk) = opening(alloc, troubled(alloc, &bytes, calls, trouble)?);
+            let faults = if fault.is_some() { 1 } else { 0 };
+            assert_eq!(rt;
+                (ended.err(), disk.faults()),
+                (fault, faults),
+                "after {calls} calls"
+            );
+        }
+    }
+    assert_eq!(rt; words_of(alloc, &bytes)?, Some(vec![in alloc; 5, 0]?));
+    Ok(())
+}
+
+/// The file of two words and so many places with these bytes changed, of which so many are kept.
+fn damaged_bytes(
+    alloc: Global,
+    places: u16,
+    changes: &[(usize, u8)],
+    kept: usize,
+) -> Result<Vec<u8>, AllocError>
+    requires some_place { 1 ≤ places }
+    requires places_fit { places ≤ MAX_PLACES }
+{
+    let mut bytes = new_bytes(alloc, 2, places)?;
+    for change in changes {
+        if let Some(byte) = bytes.get_mut(change.0) {
+            *byte = change.1;
+        }
+    }
+    bytes.truncate(kept);
+    Ok(bytes)
+}
+
+/// Two open records, each of address 0 and value 1.
+const OVERLAP: [(usize, u8); 6] = [
+    (48, 0xa5),
+    (49, 1),
+    (64, 1),
+    (184, 0xa5),
+    (185, 1),
+    (200, 1),
+];
+
+#[test]
+fn damaged_files(rt: HostRuntime) -> Result<(), Fail> {
+    let alloc = rt.alloc();
+    let cases: [(u16, &[(usize, u8)], usize, u8); 11] = [
+        (1, &[(0, 0x58)], 184, 1),
+        (1, &[(0, 0)], 184, 1),
+        (1, &[(12, 0)], 184, 2),
+        (1, &[(15, 0xa5)], 184, 2),
+        (1, &[(38, 1)], 184, 3),
+        (1, &[(39, 1)], 184, 3),
+        (1, &[(48, 0xa5)], 184, 4),
+        (1, &[(48, 0xa5), (49, 9)], 184, 4),
+        (2, &OVERLAP, 320, 5),
+        (1, &[], 183, 6),
+        (1, &[], 31, 6),
+    ];
+    for (places, changes, kept, number) in cases {
+        let bytes = damaged_bytes(alloc, places, changes, kept)?;
+        let (ended, disk) = opening(alloc, disk_with(alloc, &bytes)?);
+        let found = match ended {
+            Err(OpenFault::Damage(damage)) => damage.number(),
+            _ => 0,
+        };
+        assert_eq!(rt; (bytes.len(), found), (kept, number), "{number}");
+        assert_eq!(rt; (disk.faults(), disk.crash(&[])?), (0, bytes), "{number}");
+    }
     Ok(())
 }
 
 #[test]
-fn a_file_that_cannot_be_opened_gives_its_disk_back(rt: HostRuntime) -> Result<(), Fail> {
-    let damages = [
-        (0, 0, Damage::NotThisFormat),
-        (12, 0, Damage::Sizes),
-        (48, 0xa5, Damage::Record),
-        (39, 1, Damage::Value),
-    ];
-    for (at, byte, damage) in damages {
-        let disk = changed_file(rt.alloc(), at, byte)?;
-        let ended = opening(rt.alloc(), disk);
-        assert_eq!(rt; ended, (Err(OpenFault::Damage(damage)), 0), "at {at}");
+fn two_records(rt: HostRuntime) -> Result<(), Fail> {
+    let alloc = rt.alloc();
+    let bytes = new_bytes(alloc, 3, 2)?;
+    assert_eq!(rt; bytes.len(), 328);
+    let mut file = opened(alloc, disk_with(alloc, &bytes)?).ok_or("the file opens")?;
+    let (first, second) = (change(&[(0, 1)]), change(&[(1, 2), (2, 3)]));
+    assert_eq!(rt; prepare(&mut file, &first), Some(Ok(Place(0))));
+    assert_eq!(rt; prepare(&mut file, &second), Some(Ok(Place(1))));
+    assert_eq!(rt; seal(&mut file, Place(1)), Some(Ok(())));
+    let left = file.crash(&[])?;
+    for (calls, wanted) in [(7, Ok(vec![in alloc; 0, 2, 3]?)), (6, Err(OpenFault::Disk))] {
+        let (ended, _) = opening(alloc, troubled(alloc, &left, calls, Trouble::Stop)?);
+        assert_eq!(rt; ended, wanted, "after {calls} calls");
     }
-    for call in [1, 2] {
-        let mut disk = changed_file(rt.alloc(), 32, 5)?;
-        disk.fail_next(call)?;
-        let ended = opening(rt.alloc(), disk);
-        assert_eq!(rt; ended, (Err(OpenFault::Disk), 1), "at call {call}");
+    assert_eq!(rt; prepare(&mut file, &first), None);
+    assert_eq!(rt; cancel(&mut file, Place(0)), Some(()));
+    assert_eq!(rt; prepare(&mut file, &first), Some(Ok(Place(0))));
+    Ok(())
+}
+
+/// The change of both words of a file, from 0 to 1 and 2.
+fn both() -> Entries {
+    change(&[(0, 1), (1, 2)])
+}
+
+/// A file of two words and so many places whose disk has trouble so many calls after its opening.
+fn troubled_file(
+    alloc: Global,
+    places: u16,
+    calls: u8,
+    trouble: Trouble,
+) -> Result<Option<TenantFile<MemDisk>>, AllocError>
+    requires some_place { 1 ≤ places }
+    requires places_fit { places ≤ MAX_PLACES }
+{
+    let bytes = new_bytes(alloc, 2, places)?;
+    let Some(mut file) = opened(alloc, disk_with(alloc, &bytes)?) else {
+        return Ok(None);
+    };
+    match trouble {
+        Trouble::Once => file.fail_next(u64::from(calls) + 1)?,
+        Trouble::Stop => file.stop_next(u64::from(calls)),
     }
+    Ok(Some(file))
+}
+
+/// What a file answers to prepare, seal and settle of a change in its first place, of which each is
+/// asked where it may be.
+type Answers = (
+    Option<Result<Place, FileFault>>,
+    Option<Result<(), FileFault>>,
+    Option<Result<(), FileFault>>,
+);
+
+fn answers(file: &mut TenantFile<MemDisk>) -> Answers {
+    let prepared = prepare(file, &both());
+    let sealed = seal(file, Place(0));
+    let settled = settle(file, Place(0));
+    (prepared, sealed, settled)
+}
+
+/// The answers of a file whose device has trouble after so many calls, and those that come then.
+fn answers_to(calls: u8, places: u16) -> (Answers, Answers) {
+    let (first, well) = (Some(Ok(Place(0))), Some(Ok(())));
+    let (fault, failed) = (Some(Err(FileFault::Disk)), Some(Err(FileFault::Failed)));
+    let next = if places == 1 {
+        None
+    } else {
+        Some(Err(FileFault::Failed))
+    };
+    match calls {
+        0..=1 => (
+            (Some(Err(FileFault::Disk)), None, None),
+            (Some(Err(FileFault::Failed)), None, None),
+        ),
+        2..=3 => ((first, fault, None), (next, failed, None)),
+        4..=8 => ((first, well, fault), (next, None, failed)),
+        _ => (
+            (first, well, well),
+            (Some(Err(FileFault::Disk)), None, None),
+        ),
+    }
+}
+
+/// Whether a crash leaves the gate open where the device had trouble after so many calls.
+fn is_sealed(calls: u8, trouble: Trouble, torn: &[u8]) -> bool {
+    match (calls, trouble) {
+        (0..=1, _) | (2, Trouble::Stop) => false,
+        (2, Trouble::Once) => torn.first() == Some(&0xa5),
+        (3, _) => torn.is_empty() || torn.first() == Some(&0xa5),
+        _ => true,
+    }
+}
+
+#[test]
+fn a_crash_in_each_call(rt: HostRuntime) -> Result<(), Fail> {
+    let alloc = rt.alloc();
+    for calls in 0..=9 {
+        for trouble in [Trouble::Once, Trouble::Stop] {
+            for places in [1, 2] {
+                let file = troubled_file(alloc, places, calls, trouble)?;
+                let mut file = file.ok_or("the file opens")?;
+                let (first, again) = answers_to(calls, places);
+                let faults = if calls < 9 { 1 } else { 0 };
+                let at = (calls, trouble, places);
+                assert_eq!(rt;
+                    (answers(&mut file), file.disk.faults()),
+                    (first, faults),
+                    "{at:?}"
+                );
+                assert_eq!(rt;
+                    (answers(&mut file), file.disk.faults()),
+                    (again, 1),
+                    "{at:?}"
+                );
+                for torn in TORN {
+                    let found = words_of(alloc, &crash(alloc, &file.disk, torn)?)?;
+                    let wanted = if is_sealed(calls, trouble, torn) {
+                        [1, 2]
+                    } else {
+                        [0, 0]
+                    };
+                    assert_eq!(rt; found.as_deref(), Some(wanted.as_slice()), "{at:?}");
+                }
+            }
+        }
+    }
+    Ok(())
+}
+
+/// Adds what crashes of this disk leave.
+fn add_crashes(alloc: Global, disk: &MemDisk, images: &mut Vec<Vec<u8>>) -> Result<(), AllocError> {
+    for torn in TORN {
+        images.push(crash(alloc, disk, torn)?)?;
+    }
+    Ok(())
+}
+
+/// What crashes leave after openings of a file with these bytes, each with trouble at another call.
+fn left_by_openings(alloc: Global, bytes: &[u8]) -> Result<Vec<Vec<u8>>, AllocError> {
+    let mut images = Vec::new(alloc);
+    for calls in 0..7 {
+        for trouble in [Trouble::Once, Trouble::Stop] {
+            let (_, disk) = opening(alloc, troubled(alloc, bytes, calls, trouble)?);
+            add_crashes(alloc, &disk, &mut images)?;
+        }
+    }
+    Ok(images)
+}
+
+#[test]
+fn opening_sweep(rt: HostRuntime) -> Result<(), Fail> {
+    let alloc = rt.alloc();
+    // The change is sealed, and the device stops before settle's first call.
+    let mut file = troubled_file(alloc, 1, 4, Trouble::Stop)?.ok_or("the file opens")?;
+    let (answered, _) = answers_to(4, 1);
+    assert_eq!(rt; answers(&mut file), answered);
+    let image = file.crash(&[])?;
+    for calls in 0..=7 {
+        for trouble in [Trouble::Once, Trouble::Stop] {
+            let (ended, disk) = opening(alloc, troubled(alloc, &image, calls, trouble)?);
+            let wanted = if calls < 7 {
+                (Err(OpenFault::Disk), 1)
+            } else {
+                (Ok(vec![in alloc; 1, 2]?), 0)
+            };
+            assert_eq!(rt; (ended, disk.faults()), wanted, "after {calls} calls");
+        }
+    }
+    for first in left_by_openings(alloc, &image)? {
+        let found = words_of(alloc, &first)?;
+        assert_eq!(rt; found.as_deref(), Some([1, 2].as_slice()));
+        for second in left_by_openings(alloc, &first)? {
+            let found = words_of(alloc, &second)?;
+            assert_eq!(rt; found.as_deref(), Some([1, 2].as_slice()));
+        }
+    }
+    Ok(())
+}
+
+#[test]
+fn copies_and_counts(rt: HostRuntime) -> Result<(), Fail> {
+    let alloc = rt.alloc();
+    let bytes = new_bytes(alloc, 2, 1)?;
+    let file = opened(alloc, disk_with(alloc, &bytes)?).ok_or("the file opens")?;
+    let well: Answers = (Some(Ok(Place(0))), Some(Ok(())), Some(Ok(())));
+    // A copy goes its own way.
+    let mut copy = file.copy(alloc)?;
+    assert_eq!(rt; answers(&mut copy), well);
+    assert_eq!(rt; file.crash(&[])?, bytes);
+    // The third call fails, which is seal's write of the gate byte.
+    let mut failing = file.copy(alloc)?;
+    failing.fail_next(3)?;
+    assert_eq!(rt; answers(&mut failing), answers_to(2, 1).0);
+    // Of two stops the earlier one counts.
+    let mut stopped = file.copy(alloc)?;
+    stopped.stop_next(3);
+    stopped.stop_next(5);
+    assert_eq!(rt; answers(&mut stopped), answers_to(3, 1).0);
+    for (left, words) in [
+        (copy.crash(&[])?, [1, 2]),
+        (failing.crash(&[])?, [0, 0]),
+        (failing.crash(&[0xa5])?, [1, 2]),
+        (stopped.crash(&[])?, [1, 2]),
+        (stopped.crash(&[0])?, [0, 0]),
+    ] {
+        assert_eq!(rt; words_of(alloc, &left)?.as_deref(), Some(words.as_slice()));
+    }
+    // There is not so much memory. The next calls go well.
+    let mut refused = file.copy(alloc)?;
+    assert_eq!(rt; refused.disk.write_at(1 << 63, &[1]), Err(DiskFault));
+    assert_eq!(rt; (refused.refused(), file.refused()), (1, 0));
+    assert_eq!(rt; answers(&mut refused), well);
     Ok(())
 }

@@ -176,6 +176,9 @@ fn fill<F: Read>(file: &mut F, room: &mut [u8]) -> io::Result<usize> {
 
 /// The store over a tenant's file. None, and a note, where the file doesn't open or isn't as the
 /// tenants file says; then every request of the tenant is answered FAULT.
+///
+/// The file is synced first: a server that was killed may have left writes that a read gives and a
+/// crash loses, and an opening has to begin on bytes that a crash leaves.
 fn open_store<R: Files + AllocGlobal, L: Log>(
     rt: &R,
     notes: &L,
@@ -194,7 +197,12 @@ where
             return Ok(None);
         }
     };
-    match TenantFile::open(rt.alloc(), FileDisk::new(file)) {
+    let mut disk = FileDisk::new(file);
+    if disk.sync().is_err() {
+        warn!(notes; "tenant {name}: disk");
+        return Ok(None);
+    }
+    match TenantFile::open(rt.alloc(), disk) {
         Ok((file, words)) => {
             if words.len() != line.words as usize || file.places() < u16::from(line.quota) {
                 warn!(notes; "tenant {name}: misfit");

@@ -54,6 +54,13 @@ few_entries words pairs formed =
     let inner = and_parts (nat_le 1 (length pairs)) (nat_le (length pairs) MAX_ENTRIES) outer.0 in
     leb-true (length pairs) MAX_ENTRIES inner.1
 
+-- and one at least
+pub some_entries : (words : ℕ) (pairs : Pairs) → is_record words pairs ≡ true → 1 ≤ length pairs
+some_entries words pairs formed =
+    let outer = and_parts (nat_le 1 (length pairs) && nat_le (length pairs) MAX_ENTRIES) (rises_below words 0 pairs) formed in
+    let inner = and_parts (nat_le 1 (length pairs)) (nat_le (length pairs) MAX_ENTRIES) outer.0 in
+    leb-true 1 (length pairs) inner.0
+
 -- where all open records are in order, each is
 pub formed_at : (words places place : ℕ) (kept : Kept) (pairs : Pairs) → are_formed words kept places ≡ true → place < places → kept place ≡ Some pairs → is_record words pairs ≡ true
 formed_at words places place kept pairs all lt is =

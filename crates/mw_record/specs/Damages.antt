@@ -2,7 +2,7 @@
 use Rattle.std.specs.Prelude.{◌≡◌, ℕ, ◌==◌, ◌&&◌, not, nat_eq, nat_le, if◌then◌else◌, Bool, Option, Some, None, List, [], ◌∷◌, length, map, slice_index, unwrap_or, is_none}
 use Rattle.std.specs.List.{range_with_len, starts_with}
 use Rattle.mw_words.specs.declared.limits.TheConstants.{MAX_WORDS, MAX_PLACES}
-use Rattle.mw_record.specs.declared.layout.TheConstants.{HEAD_SIZE, MARK, GATE_OPEN, WORDS_AT, PLACES_AT, OTHER_LAYOUT_AT}
+use Rattle.mw_record.specs.declared.layout.TheConstants.{HEAD_SIZE, MAGIC, GATE_OPEN, WORDS_AT, PLACES_AT, OTHER_LAYOUT_AT}
 use Rattle.mw_record.specs.declared.damages.Damage.{Damage}
 use Rattle.mw_record.specs.declared.damages.Damage.TheVariants.{NotThisFormat, Sizes, Value, Record, Overlap, Short}
 use Rattle.mw_record.specs.Layout.{size, number_at}
@@ -32,9 +32,9 @@ records_of image = record_at image (words_of image)
 abbrev pub has_head : List ℕ → Bool
 has_head image = nat_le HEAD_SIZE (length image)
 
--- it begins with the mark of the format
+-- it begins with the magic bytes of the format
 abbrev pub has_mark : List ℕ → Bool
-has_mark image = starts_with nat_eq image MARK
+has_mark image = starts_with nat_eq image MAGIC
 
 -- it has a word, a place and no more of either than a file may have, and isn't of another layout
 abbrev pub has_sizes : List ℕ → Bool

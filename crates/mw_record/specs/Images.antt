@@ -1,12 +1,14 @@
 -- Which changes of a file's bytes keep its words, and which put a record over them.
 use Rattle.std.proofs.Common.{◌≡◌, ℕ, ◌<◌, ◌≤◌, List, length, refl, inl, arith}
-use Rattle.mw_record.specs.declared.layout.TheConstants.{HEAD_SIZE}
-use Rattle.mw_record.specs.Layout.{size}
+use Rattle.mw_record.specs.declared.layout.TheConstants.{HEAD_SIZE, WORD_SIZE, PLACE_SIZE}
+use Rattle.mw_record.specs.Layout.{home_at, place_at, size}
 use Rattle.mw_record.specs.Records.{Pairs, put_pairs, record_at, home}
 use Rattle.mw_record.specs.Stands.{HasWords}
 use Rattle.mw_record.specs.Changes.{StaysOrShut, StaysOrCovered, Opens, stands_same, stands_more}
-use Rattle.mw_record.specs.Reading.{SameBytes}
-use Rattle.mw_record.specs.ReadAgain.{head_same}
+use Rattle.mw_record.specs.Below.{few_entries}
+use Rattle.mw_record.specs.Reading.{SameBytes, home_same}
+use Rattle.mw_record.specs.ReadAgain.{head_same, within}
+use Rattle.mw_record.specs.Writes.{record_same}
 
 module _ (words places : ℕ) (contents image image2 : List ℕ)
     (was : HasWords words places contents image)
@@ -33,3 +35,13 @@ module _ (words places : ℕ) (contents image image2 : List ℕ)
     stands = stands_more words places place ps (home image2) (record_at image words) (record_at image2 words) contents opens
         (stands_same words places (home image) (home image2) (record_at image words) (record_at image words) contents (λ j lt. inl refl) (λ a lt. inl (homes a lt)) was.stands);
   }
+
+-- The words stay where all bytes stay that the sizes of the file ask for. Those behind them don't matter.
+pub has_words_same : (words places : ℕ) (contents xs ys : List ℕ) → HasWords words places contents xs → size words places ≤ length ys
+    → SameBytes (size words places) 0 0 ys xs → HasWords words places contents ys
+has_words_same words places contents xs ys was long same =
+    let n : ℕ = size words places in
+    words_stay words places contents xs ys was long (λ k lt. same k (omega (arith, lt)))
+    (λ j lt. inl (record_same ys xs words j (within n PLACE_SIZE (place_at words j) ys xs same (omega (arith, lt)))
+    (λ ps is. few_entries words ps (was.stands.formed j ps lt is))))
+    (λ a lt. inl (home_same ys xs a (within n WORD_SIZE (home_at a) ys xs same (omega (arith, lt)))))

@@ -4,7 +4,7 @@ use Rattle.std.specs.List.{flat_map}
 use Rattle.byteorder.specs.Endian.{little_bytes, little_from}
 use Rattle.mw_words.specs.declared.limits.TheConstants.{MAX_ENTRIES}
 use Rattle.mw_words.specs.declared.jobs.Entry.{Entry}
-use Rattle.mw_record.specs.declared.layout.TheConstants.{HEAD_SIZE, WORD_SIZE, ENTRY_SIZE, PLACE_SIZE, MARK}
+use Rattle.mw_record.specs.declared.layout.TheConstants.{HEAD_SIZE, WORD_SIZE, ENTRY_SIZE, PLACE_SIZE, MAGIC}
 
 -- where the home word of an address begins
 abbrev pub home_at : ℕ → ℕ
@@ -30,9 +30,9 @@ number_bytes n number = little_bytes n number
 abbrev pub patched : List ℕ → ℕ → List ℕ → List ℕ
 patched old at block = take at old ++ (block ++ drop (at + length block) old)
 
--- the head of a new file: the mark, the number of words in four bytes, the number of places in two, and zeros
+-- the head of a new file: the magic bytes, the number of words in four bytes, the number of places in two, and zeros
 abbrev pub header : ℕ → ℕ → List ℕ
-header words places = MARK ++ (number_bytes 4 words ++ (number_bytes 2 places ++ replicate 18 0))
+header words places = MAGIC ++ (number_bytes 4 words ++ (number_bytes 2 places ++ replicate 18 0))
 
 -- an entry of a record: its address and its new value, in eight bytes each
 abbrev pub entry_bytes : Entry → List ℕ

@@ -7,7 +7,7 @@ use Rattle.std.proofs.lemmas.List.{append-nil, get_or-take, length-append, lengt
 use Rattle.mw_words.specs.declared.limits.TheConstants.{MAX_ENTRIES, MAX_VALUE, MAX_WORDS, MAX_PLACES}
 use Rattle.mw_words.specs.declared.jobs.Entry.{Entry}
 use Rattle.mw_words.specs.Change.{is_in_range, rises_from, is_change, put}
-use Rattle.mw_record.specs.declared.layout.TheConstants.{HEAD_SIZE, BODY_SIZE, ENTRY_SIZE, GATE_OPEN, MARK}
+use Rattle.mw_record.specs.declared.layout.TheConstants.{HEAD_SIZE, BODY_SIZE, ENTRY_SIZE, GATE_OPEN, MAGIC}
 use Rattle.mw_record.specs.Layout.{home_at, place_at, number_at, number_bytes, header, entry_bytes, body, pairs_of, new_file}
 use Rattle.mw_record.specs.Records.{pairs_at, body_at, record_at, home, put_pairs, is_covered, is_record, rises_below, has_values}
 use Rattle.mw_record.specs.Damages.{has_mark, words_of, places_of}
@@ -24,18 +24,18 @@ mark_of_head words places rest = refl
 words_of_head : (words places : ℕ) (rest : List ℕ) → words < 2 ^ 32 → words_of (header words places ++ rest) ≡ words
 words_of_head words places rest fits =
     let tail : List ℕ = number_bytes 2 places ++ replicate 18 0 in
-    let is : header words places ++ rest ≡ MARK ++ (number_bytes 4 words ++ (tail ++ rest)) =
-    ap (λ xs. MARK ++ xs) (append_assoc (number_bytes 4 words) tail rest) in
-    ap words_of is ∙ number_written MARK (tail ++ rest) 8 4 words refl fits
+    let is : header words places ++ rest ≡ MAGIC ++ (number_bytes 4 words ++ (tail ++ rest)) =
+    ap (λ xs. MAGIC ++ xs) (append_assoc (number_bytes 4 words) tail rest) in
+    ap words_of is ∙ number_written MAGIC (tail ++ rest) 8 4 words refl fits
 
 places_of_head : (words places : ℕ) (rest : List ℕ) → places < 2 ^ 16 → places_of (header words places ++ rest) ≡ places
 places_of_head words places rest fits =
-    let front : List ℕ = MARK ++ number_bytes 4 words in
+    let front : List ℕ = MAGIC ++ number_bytes 4 words in
     let zeros : List ℕ = replicate 18 0 in
-    let long : length front ≡ 12 = omega (arith, length-append MARK (number_bytes 4 words), length-number_bytes 4 words) in
+    let long : length front ≡ 12 = omega (arith, length-append MAGIC (number_bytes 4 words), length-number_bytes 4 words) in
     let is : header words places ++ rest ≡ front ++ (number_bytes 2 places ++ (zeros ++ rest)) =
-    ap (λ xs. MARK ++ xs) (append_assoc (number_bytes 4 words) (number_bytes 2 places ++ zeros) rest ∙ ap (λ xs. number_bytes 4 words ++ xs) (append_assoc (number_bytes 2 places) zeros rest))
-    ∙ sym (append_assoc MARK (number_bytes 4 words) (number_bytes 2 places ++ (zeros ++ rest))) in
+    ap (λ xs. MAGIC ++ xs) (append_assoc (number_bytes 4 words) (number_bytes 2 places ++ zeros) rest ∙ ap (λ xs. number_bytes 4 words ++ xs) (append_assoc (number_bytes 2 places) zeros rest))
+    ∙ sym (append_assoc MAGIC (number_bytes 4 words) (number_bytes 2 places ++ (zeros ++ rest))) in
     ap places_of is ∙ number_written front (zeros ++ rest) 12 2 places long fits
 
 second_layout_of_head : (words places : ℕ) (rest : List ℕ) → slice_index (header words places ++ rest) 15 ≡ 0
@@ -75,18 +75,22 @@ take_same n xs ys p q same =
     let e : 0 + k ≡ k = omega arith in
     get_or-take n xs k 0 l ∙ ap (λ a. get_or xs a 0) (sym e) ∙ same k l ∙ ap (λ a. get_or ys a 0) e ∙ sym (get_or-take n ys k 0 l))
 
-within : (n m i : ℕ) (xs ys : List ℕ) → SameBytes n 0 0 xs ys → i + m ≤ n → SameBytes m i i xs ys
+-- a part of the first bytes
+pub within : (n m i : ℕ) (xs ys : List ℕ) → SameBytes n 0 0 xs ys → i + m ≤ n → SameBytes m i i xs ys
 within n m i xs ys same fits k lt =
     let e : 0 + (i + k) ≡ i + k = omega arith in
     ap (λ a. get_or xs a 0) (sym e) ∙ same (i + k) (omega (arith, fits, lt)) ∙ ap (λ a. get_or ys a 0) e
 
--- whether the first eight bytes are the mark
+-- whether the first eight bytes are the magic ones
 starts_with_front : List ℕ → Bool
-starts_with_front front = pointwise nat_eq MARK front
+starts_with_front front = pointwise nat_eq MAGIC front
+
+pub mark_same : (xs ys : List ℕ) → take 8 xs ≡ take 8 ys → has_mark xs ≡ has_mark ys
+unfolding starts_with_front
+mark_same xs ys front = ap (λ f. starts_with_front f) front
 
 -- A head stays where its bytes stay.
 pub head_same : (words places : ℕ) (xs ys : List ℕ) → HEAD_SIZE ≤ length xs → HEAD_SIZE ≤ length ys → SameBytes HEAD_SIZE 0 0 xs ys → IsHead words places ys → IsHead words places xs
-unfolding starts_with_front
 head_same words places xs ys p q same h =
     let w : words_of xs ≡ words_of ys = number_same 4 8 8 xs ys (within 32 4 8 xs ys same (omega arith)) in
     let m : places_of xs ≡ places_of ys = number_same 2 12 12 xs ys (within 32 2 12 xs ys same (omega arith)) in
@@ -95,7 +99,7 @@ head_same words places xs ys p q same h =
     let front : take 8 xs ≡ take 8 ys = take_same 8 xs ys (omega (arith, p)) (omega (arith, q)) (λ k lt. same k (omega (arith, lt))) in
     let s = sizes_are ys h.sizes in
     record {
-      mark = ap (λ f. starts_with_front f) front ∙ h.mark;
+      mark = mark_same xs ys front ∙ h.mark;
       sizes = are_sizes xs (record {
         some_word = omega (arith, w, s.some_word);
         words_fit = omega (arith, w, s.words_fit);
@@ -112,7 +116,7 @@ length-header words places =
     let zeros : List ℕ = replicate 18 0 in
     omega (
       arith,
-      length-append MARK (number_bytes 4 words ++ (number_bytes 2 places ++ zeros)),
+      length-append MAGIC (number_bytes 4 words ++ (number_bytes 2 places ++ zeros)),
       length-append (number_bytes 4 words) (number_bytes 2 places ++ zeros),
       length-append (number_bytes 2 places) zeros,
       length-number_bytes 4 words,

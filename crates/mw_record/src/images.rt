@@ -5,7 +5,7 @@ ghost use Rattle.mw_record.specs.Damages as spec;
 
 use crate::damages::Damage;
 use crate::formed::{FormedFile, are_formed};
-use crate::layout::{GATE_OPEN, HEAD_SIZE, MARK, OTHER_LAYOUT_AT, PLACES_AT, WORDS_AT, size};
+use crate::layout::{GATE_OPEN, HEAD_SIZE, MAGIC, OTHER_LAYOUT_AT, PLACES_AT, WORDS_AT, size};
 use byteorder::{ByteOrder, LittleEndian};
 use mw_words::{MAX_PLACES, MAX_WORDS};
 use std::marker::Model;
@@ -27,7 +27,9 @@ impl<'a> Model for Image<'a> {
     ghost invariant = { λ image. IsSound image.file.bytes.now image.file.words image.file.places };
 }
 
-/// Reads the bytes of a whole file. Of a longer one the first [`crate::MAX_FILE`] bytes are enough.
+/// Reads the bytes of a whole file. Of a longer one the first [`crate::MAX_FILE`] bytes are enough: they
+/// have the same damage, words and records
+/// ([`bytes_past_the_largest_file_do_not_matter`](crate::bytes_past_the_largest_file_do_not_matter)).
 ///
 /// # Errors
 ///
@@ -42,7 +44,7 @@ pub fn decode(bytes: &[u8]) -> Result<Image<'_>, Damage>
     if bytes.len() < HEAD_SIZE {
         return Err(Damage::Short);
     }
-    if !bytes.starts_with(&MARK) {
+    if !bytes.starts_with(&MAGIC) {
         return Err(Damage::NotThisFormat);
     }
     let Some((words, places)) = sizes(bytes) else {
@@ -119,6 +121,7 @@ impl Image<'_> {
     pub fn count(&self, place: u16) -> u8
         requires { place < spec.places_of self.now }
         ensures value { result ≡ length (spec.pairs_in self.now place) }
+        ensures closed { result ≡ 0 → spec.records_of self.now place ≡ None }
         ensures fits { result ≤ MAX_ENTRIES }
     {
         match self.file.record(place) {

@@ -1,16 +1,16 @@
 //! Laws of the layout: what is written is read again, and a file without damage is one whose bytes
 //! stand for its words. None of these functions does anything.
-ghost use Rattle.std.specs.Prelude.{◌≡◌, ◌+◌, ◌≤◌, ◌↔◌, ℕ, true, Some, None, List, length, replicate, slice_index};
+ghost use Rattle.std.specs.Prelude.{◌≡◌, ◌+◌, ◌<◌, ◌≤◌, ◌↔◌, ℕ, true, Some, None, List, length, replicate, slice_index, take};
 ghost use Rattle.mw_words.specs.declared.jobs.Entry.{Entry};
 ghost use Rattle.mw_words.specs.Change.{is_change, put};
-ghost use Rattle.mw_record.specs.Damages.{damage_of, file_words, places_of, words_of};
+ghost use Rattle.mw_record.specs.Damages.{damage_of, file_words, pairs_in, places_of, words_in, words_of};
 ghost use Rattle.mw_record.specs.Layout as layout;
 ghost use Rattle.mw_record.specs.ReadAgain.{AreNumbers, MayHave};
 ghost use Rattle.mw_record.specs.Reading.{SameBytes};
 ghost use Rattle.mw_record.specs.Records.{has_values, is_record, put_pairs, record_at};
 ghost use Rattle.mw_record.specs.Stands.{HasWords, IsHead};
 
-use crate::layout::{BODY_SIZE, GATE_OPEN, HEAD_SIZE};
+use crate::layout::{BODY_SIZE, GATE_OPEN, HEAD_SIZE, MAX_FILE};
 use mw_words::{MAX_ENTRIES, MAX_WORDS};
 
 /// Where the head of a file is [`header`](crate::header) of sizes that a file may have, the file has
@@ -51,4 +51,17 @@ pub fn words_are_what_the_bytes_stand_for()
 /// A new file, [`header`](crate::header) and zeros, has the word 0 at every address.
 pub fn new_files_have_zeros()
     ensures { (words places : ℕ) → MayHave words places → HasWords words places (replicate words 0) (layout.new_file words places) }
+{}
+
+/// Of a file longer than [`MAX_FILE`](crate::MAX_FILE) bytes the first [`MAX_FILE`](crate::MAX_FILE) say
+/// what the whole file says: the sizes of its head, its damage and its words, and where it has no
+/// damage the entries of each of its record places.
+pub fn bytes_past_the_largest_file_do_not_matter()
+    ensures damage { (bytes : List ℕ) → damage_of (take MAX_FILE bytes) ≡ damage_of bytes }
+    ensures file_words { (bytes : List ℕ) → file_words (take MAX_FILE bytes) ≡ file_words bytes }
+    ensures words { (bytes : List ℕ) → words_of (take MAX_FILE bytes) ≡ words_of bytes }
+    ensures places { (bytes : List ℕ) → places_of (take MAX_FILE bytes) ≡ places_of bytes }
+    ensures contents { (bytes : List ℕ) → damage_of bytes ≡ None → words_in (take MAX_FILE bytes) ≡ words_in bytes }
+    ensures pairs { (bytes : List ℕ) (place : ℕ) → damage_of bytes ≡ None → place < places_of bytes
+        → pairs_in (take MAX_FILE bytes) place ≡ pairs_in bytes place }
 {}

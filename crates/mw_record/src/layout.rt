@@ -5,8 +5,8 @@ ghost use Rattle.mw_record.specs.Layout as spec;
 use byteorder::{ByteOrder, LittleEndian};
 use mw_words::{MAX_ENTRIES, MAX_PLACES, MAX_WORDS};
 
-/// The eight bytes that a file begins with.
-pub const MARK: [u8; 8] = *b"MWCASF1\n";
+/// The magic bytes: the eight that a file begins with.
+pub const MAGIC: [u8; 8] = *b"MWCASF1\n";
 
 /// The number of bytes of a file's head.
 pub const HEAD_SIZE: usize = 32;

@@ -32,14 +32,15 @@ mod written;
 pub use damages::Damage;
 pub use images::{Image, decode};
 pub use laws::{
-    body_is_read_again, change_is_a_record, header_is_read_again, new_files_have_zeros,
-    undamaged_files_have_words, words_are_what_the_bytes_stand_for,
+    body_is_read_again, bytes_past_the_largest_file_do_not_matter, change_is_a_record,
+    header_is_read_again, new_files_have_zeros, undamaged_files_have_words,
+    words_are_what_the_bytes_stand_for,
 };
 pub use layout::{
-    BODY_SIZE, ENTRY_SIZE, GATE_OPEN, HEAD_SIZE, MARK, MAX_FILE, PLACE_SIZE, WORD_SIZE, home_at,
+    BODY_SIZE, ENTRY_SIZE, GATE_OPEN, HEAD_SIZE, MAGIC, MAX_FILE, PLACE_SIZE, WORD_SIZE, home_at,
     place_at, size,
 };
-pub use written::{body, header};
+pub use written::{body, header, home_word};
 
 #[cfg(test)]
 mod tests;

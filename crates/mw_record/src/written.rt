@@ -1,9 +1,9 @@
 //! What is written to a file: its head, and the body of a record.
-ghost use Rattle.std.specs.Prelude.{◌≡◌, ◌≤◌};
+ghost use Rattle.std.specs.Prelude.{◌≡◌, ◌≤◌, ◌<◌, ◌^◌};
 ghost use Rattle.mw_record.specs.Layout as spec;
 
 use crate::layout::{
-    BODY_SIZE, ENTRIES_AT, ENTRY_SIZE, HEAD_SIZE, MARK, PLACES_AT, WORD_SIZE, WORDS_AT,
+    BODY_SIZE, ENTRIES_AT, ENTRY_SIZE, HEAD_SIZE, MAGIC, PLACES_AT, WORD_SIZE, WORDS_AT,
     write_number,
 };
 use byteorder::{ByteOrder, LittleEndian};
@@ -20,7 +20,7 @@ pub fn header(words: u16, places: u16) -> [u8; HEAD_SIZE]
     ensures { result ≡ spec.header words places }
 {
     let mut head = [0; HEAD_SIZE];
-    head[..WORDS_AT].copy_from_slice(&MARK);
+    head[..WORDS_AT].copy_from_slice(&MAGIC);
     LittleEndian::write_u32(&mut head[WORDS_AT..PLACES_AT], u32::from(words));
     LittleEndian::write_u16(&mut head[PLACES_AT..PLACES_AT + 2], places);
     head
@@ -39,4 +39,15 @@ pub fn body(entries: &Entries) -> [u8; BODY_SIZE]
         write_number(&mut body, at + WORD_SIZE, entry.new);
     }
     body
+}
+
+/// The bytes of a home word of this value.
+#[tactic(auto, unfolding(crate::specs::Layout::number_bytes))]
+pub fn home_word(value: u64) -> [u8; WORD_SIZE]
+    ensures bytes { result ≡ spec.number_bytes WORD_SIZE value }
+    ensures fits { value < 256 ^ WORD_SIZE }
+{
+    let mut word = [0; WORD_SIZE];
+    LittleEndian::write_u64(&mut word, value);
+    word
 }

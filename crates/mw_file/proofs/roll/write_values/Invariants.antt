@@ -1,8 +1,13 @@
+use Rattle.std.proofs.Common.{ℕ, take, Some}
 use Rattle.mw_disk.specs.Runs.{Good, Later}
+use Rattle.mw_file.specs.Rolls.{HasHomes, IsBelow}
+use Rattle.mw_file.proofs.Writing.{IsPut}
 use Rattle.mw_file.proofs.roll.write_values.Given as goal
 
--- each value so far took a call that went well
-abbrev pub invariant-loop-addr : goal.invariant-loop-addr
-invariant-loop-addr g l =
-    Good l.addr-index (g.D.Disk.facts l.initial.disk) (g.D.Disk.facts l.disk)
+-- each value so far took a call that went well, and stands in its home word
+abbrev pub invariant-loop-write : goal.invariant-loop-write
+invariant-loop-write g l =
+    Good l.write-index (g.D.Disk.facts l.initial.disk) (g.D.Disk.facts l.disk)
     × Later (g.D.Disk.facts l.initial.disk) (g.D.Disk.facts l.disk)
+    × ((words : ℕ) → HasHomes (g.D.Disk.facts l.initial.disk) words → IsBelow words (Some l.writes.items)
+    → IsPut words l.writes.items (take l.write-index l.writes.items) (g.D.Disk.facts l.initial.disk) (g.D.Disk.facts l.disk))

@@ -1,7 +1,7 @@
 use Rattle.std.proofs.Common.{◌≡◌, take}
-use Rattle.mw_file.specs.Writes.{writes_of}
+use Rattle.mw_record.specs.Layout.{pairs_of}
 use Rattle.mw_file.proofs.slots.writes_to.Given as goal
 
 -- what the entries so far write
 abbrev pub invariant-loop-i : goal.invariant-loop-i
-invariant-loop-i l = l.writes.items ≡ writes_of (take l.i l.entries.items)
+invariant-loop-i l = l.writes.items ≡ pairs_of (take l.i l.entries.items)

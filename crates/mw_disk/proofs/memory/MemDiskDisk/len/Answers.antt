@@ -1,5 +1,7 @@
-use Rattle.std.proofs.Common.{ap, ◌∙◌, length}
-use Rattle.mw_disk.proofs.Remembered.{fails_nothing, fails_same, quiet_nothing, quiet_same}
+use Rattle.std.proofs.Common.{Bool, refl, rules, ap, ◌∙◌, length}
+use Rattle.mw_disk.proofs.Remembered.{went_called, went_spared, fails_called, fails_spared, refused_called, refused_spared, on_err, fails_nothing, fails_same, quiet_nothing, quiet_same}
+use Rattle.mw_disk.specs.Facts.{Called, Spares}
+use Rattle.mw_disk.specs.Memory.{memory_facts}
 use Rattle.mw_disk.proofs.memory.MemDiskDisk.len.Goals as goal
 
 pub returns-then-ne-clause-crash : goal.returns-then-ne-clause-crash
@@ -17,3 +19,25 @@ returns-clause-same c = quiet_same _ _ _ c.begin-turn.ensures.begun c.in_ok-reme
 pub returns-clause-length : goal.returns-clause-length
 returns-clause-length c =
     c.size.ensures ∙ ap length (quiet_same _ _ _ c.begin-turn.ensures.begun c.in_ok-remember.ensures.ok)
+
+pub returns-then-ne-clause-call : goal.returns-then-ne-clause-call
+returns-then-ne-clause-call c = fails_called _ c.begin-turn.result _ _ c.fail.new.self refl c.begin-turn.ensures.begun c.fail.ensures
+
+pub returns-then-ne-clause-spared : goal.returns-then-ne-clause-spared
+returns-then-ne-clause-spared c = fails_spared _ c.begin-turn.result _ _ c.fail.new.self c.begin-turn.ensures.turn c.begin-turn.ensures.begun c.fail.ensures
+
+pub returns-in_err-remember-clause-call : goal.returns-in_err-remember-clause-call
+returns-in_err-remember-clause-call c =
+    on_err (λ (b : Bool). Called (memory_facts c.args.self.now) (memory_facts c.remember.new.self) b) c.from_residual.result c.from_residual.ensures.0
+    (refused_called _ _ _ c.begin-turn.ensures.begun c.in_err-remember.ensures.err)
+
+pub returns-in_err-remember-clause-spared : goal.returns-in_err-remember-clause-spared
+returns-in_err-remember-clause-spared c =
+    on_err (λ (b : Bool). Spares (memory_facts c.args.self.now) (memory_facts c.remember.new.self) b) c.from_residual.result c.from_residual.ensures.0
+    (refused_spared _ _ _ c.begin-turn.ensures.begun c.in_err-remember.ensures.err)
+
+pub returns-clause-call : goal.returns-clause-call
+returns-clause-call c = went_called _ c.begin-turn.result _ _ _ refl c.begin-turn.ensures.turn (search rules) c.begin-turn.ensures.begun c.in_ok-remember.ensures.ok
+
+pub returns-clause-spared : goal.returns-clause-spared
+returns-clause-spared c = went_spared c.args.self.now c.remember.new.self

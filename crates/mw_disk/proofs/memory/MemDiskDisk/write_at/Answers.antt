@@ -1,4 +1,5 @@
-use Rattle.mw_disk.proofs.Remembered.{fails_tears, fails_torn, wrote_tears, wrote_torn, wrote_written}
+use Rattle.std.proofs.Common.{refl, ◌∙◌, rules}
+use Rattle.mw_disk.proofs.Remembered.{went_called, went_spared, fails_called, fails_spared, refused_called, refused_spared, fails_tears, fails_torn, wrote_tears, wrote_torn, wrote_written}
 use Rattle.mw_disk.proofs.memory.MemDiskDisk.write_at.Goals as goal
 
 pub returns-then-ne-clause-crash : goal.returns-then-ne-clause-crash
@@ -15,3 +16,21 @@ returns-in-Ok-clause-torn c = wrote_torn c.args.at c.args.bytes.now _ _ _ c.begi
 
 pub returns-in-Ok-clause-written : goal.returns-in-Ok-clause-written
 returns-in-Ok-clause-written c fits = wrote_written c.args.at c.args.bytes.now _ _ _ c.begin-turn.ensures.begun c.in-Ok.ensures.ok fits
+
+pub returns-then-ne-clause-call : goal.returns-then-ne-clause-call
+returns-then-ne-clause-call c = fails_called _ c.begin-turn.result _ _ c.fail.new.self refl c.begin-turn.ensures.begun c.fail.ensures
+
+pub returns-then-ne-clause-spared : goal.returns-then-ne-clause-spared
+returns-then-ne-clause-spared c = fails_spared _ c.begin-turn.result _ _ c.fail.new.self c.begin-turn.ensures.turn c.begin-turn.ensures.begun c.fail.ensures
+
+pub returns-in-Ok-clause-call : goal.returns-in-Ok-clause-call
+returns-in-Ok-clause-call c = went_called _ c.begin-turn.result _ _ _ refl c.begin-turn.ensures.turn (search rules) c.begin-turn.ensures.begun c.in-Ok.ensures.ok
+
+pub returns-in-Ok-clause-spared : goal.returns-in-Ok-clause-spared
+returns-in-Ok-clause-spared c = went_spared c.args.self.now c.put.new.self
+
+pub returns-in-Err-clause-call : goal.returns-in-Err-clause-call
+returns-in-Err-clause-call c = refused_called _ _ _ (c.in-Err.ensures.err ∙ c.begin-turn.ensures.begun) c.refuse.ensures
+
+pub returns-in-Err-clause-spared : goal.returns-in-Err-clause-spared
+returns-in-Err-clause-spared c = refused_spared _ _ _ (c.in-Err.ensures.err ∙ c.begin-turn.ensures.begun) c.refuse.ensures

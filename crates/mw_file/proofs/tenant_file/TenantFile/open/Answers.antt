@@ -1,96 +1,189 @@
-use Rattle.std.proofs.Common.{◌≡◌, ◌+◌, length, min, arith, sym, ap, ◌∙◌, refl, true, IsTrue, subst, List}
+use Rattle.std.proofs.Common.{◌≡◌, ◌+◌, ℕ, List, length, min, take, arith, sym, ap, ◌∙◌, refl, Some, true, false, IsTrue, subst}
 use Rattle.std.proofs.lemmas.List.FromFn.{length-map-range_with_len}
-use Rattle.mw_disk.specs.Runs.{good_call, good_trans, then_bad, called_later, later_trans, still_honest}
+use Rattle.mw_disk.specs.Facts.{IsAtRest}
+use Rattle.mw_disk.specs.Runs.{Good, Bad, Touched, good_call, bad_call, good_trans, then_bad, called_later, later_trans, still_honest, touched_trans, touched_quiet}
+use Rattle.mw_record.specs.declared.layout.TheConstants.{MAX_FILE}
 use Rattle.mw_record.specs.Damages.{words_in, words_of, places_of, word_at}
 use Rattle.mw_file.specs.declared.slots.Slot.{Slot}
 use Rattle.mw_file.specs.Slots.{all_free}
 use Rattle.mw_file.specs.File.{went_well}
-use Rattle.mw_file.specs.Opening.{front}
+use Rattle.mw_file.specs.Rolls.{Nowhere, CanFinish}
+use Rattle.mw_file.specs.Opening.{front, open_calls, repair_calls, OpensSafely}
 use Rattle.mw_file.proofs.Ran.{ran_well, ran_badly}
-use Rattle.mw_file.proofs.Opened.{whole, front_read, some_well, some_badly, untouched_trans}
+use Rattle.mw_file.proofs.Opened.{whole, front_read, untouched_trans, nothing_written, rest_stays, reads_stay, all_finished, can_finish, whole_words, whole_damage, calls_sound, calls_damaged, calls_before}
+use Rattle.mw_file.proofs.Safety.{keeps_well, durable_as}
 use Rattle.mw_file.proofs.tenant_file.TenantFile.open.Goals as goal
+
+pub returns-in_default : goal.returns-in_default
+returns-in_default g c =
+    let f0 = g.D.Disk.facts c.args.disk in
+    let f1 = g.D.Disk.facts c.len.new.self in
+    record {
+      later = called_later f0 f1 false c.in_default.ensures.call;
+      unchanged = λ honest rest. nothing_written f0 f1 (touched_quiet Nowhere f0 f1 false c.in_default.ensures.call (c.in_default.ensures.crash honest) (c.in_default.ensures.same honest)) rest;
+      calls = 1;
+      made = bad_call f0 f1 c.in_default.ensures.call (λ honest. c.in_default.ensures.spared);
+      within = λ honest. omega arith;
+    }
 
 pub returns-then-is_err : goal.returns-then-is_err
 returns-then-is_err g c =
-    let n = min 1 (length c.deref_mut.result.now) in
+    let f0 = g.D.Disk.facts c.args.disk in
+    let f1 = g.D.Disk.facts c.len.new.self in
+    let f2 = g.D.Disk.facts c.read_front.new.disk in
+    let size = length c.deref_mut.result.now in
+    let n = min 1 size in
+    let first = called_later f0 f1 true c.in-Ok.ensures.call in
+    let size_is = c.deref_mut.ensures.len ∙ c.in-Ok-new.ensures.0 in
+    let quiet : IsTrue f0.honest → Touched Nowhere f0 f2 = λ honest. touched_trans Nowhere f0 f1 f2
+    (touched_quiet Nowhere f0 f1 true c.in-Ok.ensures.call (c.in-Ok.ensures.crash honest) (c.in-Ok.ensures.same honest))
+    (c.read_front.ensures.touched (still_honest f0 f1 first honest)) in
     record {
-      later = later_trans _ _ _ (called_later _ _ _ c.in-Ok.ensures.call) c.read_front.ensures.later;
+      later = later_trans f0 f1 f2 first c.read_front.ensures.later;
+      unchanged = λ honest rest. nothing_written f0 f2 (quiet honest) rest;
       calls = 1 + n;
-      made = then_bad 1 n _ _ _ (good_call _ _ c.in-Ok.ensures.call) (ran_badly n n _ _ _ refl (sym c.is_err.ensures.value ∙ c.if-is_err.true) c.read_front.ensures.calls);
+      made = then_bad 1 n f0 f1 f2 (good_call f0 f1 c.in-Ok.ensures.call) (ran_badly n n f1 f2 _ refl (sym c.is_err.ensures.value ∙ c.if-is_err.true) c.read_front.ensures.calls);
+      within = λ honest. calls_before f0 c.in-Ok.len size (c.in-Ok.ensures.length honest) size_is;
     }
 
 pub returns-in-Err : goal.returns-in-Err
 returns-in-Err g c =
     let f0 = g.D.Disk.facts c.args.disk in
     let f1 = g.D.Disk.facts c.len.new.self in
-    let n = min 1 (length c.deref_mut.result.now) in
-    let well = sym c.is_err.ensures.value ∙ c.if-is_err.false in
+    let f2 = g.D.Disk.facts c.read_front.new.disk in
+    let size = length c.deref_mut.result.now in
+    let n = min 1 size in
     let first = called_later f0 f1 true c.in-Ok.ensures.call in
-    let is : c.deref.result.now ≡ c.read_front.new.bytes =
+    let size_is = c.deref_mut.ensures.len ∙ c.in-Ok-new.ensures.0 in
+    let quiet : IsTrue f0.honest → Touched Nowhere f0 f2 = λ honest. touched_trans Nowhere f0 f1 f2
+    (touched_quiet Nowhere f0 f1 true c.in-Ok.ensures.call (c.in-Ok.ensures.crash honest) (c.in-Ok.ensures.same honest))
+    (c.read_front.ensures.touched (still_honest f0 f1 first honest)) in
+    let well = sym c.is_err.ensures.value ∙ c.if-is_err.false in
+    let image = c.deref.result.now in
+    let is : image ≡ c.read_front.new.bytes =
     c.deref.ensures.value ∙ whole _ c.read_front.new.bytes _ (c.read_front.auto.bytes ∙ c.deref_mut.ensures.len) in
+    let long : length image ≡ size = ap length is ∙ c.read_front.auto.bytes in
+    let seen : IsTrue f0.honest → image ≡ front f0 = λ honest.
+    let read = went_well c.read_front.result _ well c.read_front.ensures.read (still_honest f0 f1 first honest) in
+    is ∙ front_read f0 f1 c.in-Ok.len _ _ (c.in-Ok.ensures.length honest) size_is (c.in-Ok.ensures.same honest) read in
+    let so_far = good_trans 1 n f0 f1 f2 (good_call f0 f1 c.in-Ok.ensures.call) (ran_well n n f1 f2 _ refl well c.read_front.ensures.calls) in
     record {
-      later = later_trans _ _ _ first c.read_front.ensures.later;
-      calls = 1 + n;
-      few = omega arith;
-      made = good_trans 1 n _ _ _ (good_call _ _ c.in-Ok.ensures.call) (ran_well n n _ _ _ refl well c.read_front.ensures.calls);
-      untouched = untouched_trans f0 f1 _ first (record { same = c.in-Ok.ensures.same; nothing_new = c.in-Ok.ensures.crash }) c.read_front.ensures.untouched;
-      image = c.deref.result.now;
-      seen = λ honest.
-          let read = went_well c.read_front.result _ well c.read_front.ensures.read (still_honest f0 f1 first honest) in
-          is ∙ front_read f0 f1 c.in-Ok.len _ _ (c.in-Ok.ensures.length honest) (c.deref_mut.ensures.len ∙ c.in-Ok-new.ensures.0) (c.in-Ok.ensures.same honest) read;
+      later = later_trans f0 f1 f2 first c.read_front.ensures.later;
+      unchanged = λ honest rest. nothing_written f0 f2 (quiet honest) rest;
+      untouched = untouched_trans f0 f1 f2 first (record { same = c.in-Ok.ensures.same; nothing_new = c.in-Ok.ensures.crash }) c.read_front.ensures.untouched;
+      image = image;
+      seen = seen;
       found = c.in-Err.ensures;
+      whole = λ honest. whole_damage f0.reads image _ (seen honest) c.in-Err.ensures;
+      made = subst (λ (k : ℕ). Good k f0 f2) (calls_damaged image _ size long c.in-Err.ensures) so_far;
     }
 
 pub returns-then-is_err-2 : goal.returns-then-is_err-2
 returns-then-is_err-2 g c =
-    let n = min 1 (length c.deref_mut.result.now) in
+    let f0 = g.D.Disk.facts c.args.disk in
+    let f1 = g.D.Disk.facts c.len.new.self in
+    let f2 = g.D.Disk.facts c.read_front.new.disk in
+    let size = length c.deref_mut.result.now in
+    let n = min 1 size in
+    let first = called_later f0 f1 true c.in-Ok.ensures.call in
+    let size_is = c.deref_mut.ensures.len ∙ c.in-Ok-new.ensures.0 in
+    let quiet : IsTrue f0.honest → Touched Nowhere f0 f2 = λ honest. touched_trans Nowhere f0 f1 f2
+    (touched_quiet Nowhere f0 f1 true c.in-Ok.ensures.call (c.in-Ok.ensures.crash honest) (c.in-Ok.ensures.same honest))
+    (c.read_front.ensures.touched (still_honest f0 f1 first honest)) in
     let well = sym c.is_err.ensures.value ∙ c.if-is_err.false in
-    let last = some_badly _ _ c.finish.result (sym c.is_err-2.ensures.value ∙ c.if-is_err-2.true) c.finish.ensures.calls in
+    let image = c.deref.result.now in
+    let is : image ≡ c.read_front.new.bytes =
+    c.deref.ensures.value ∙ whole _ c.read_front.new.bytes _ (c.read_front.auto.bytes ∙ c.deref_mut.ensures.len) in
+    let long : length image ≡ size = ap length is ∙ c.read_front.auto.bytes in
+    let seen : IsTrue f0.honest → image ≡ front f0 = λ honest.
+    let read = went_well c.read_front.result _ well c.read_front.ensures.read (still_honest f0 f1 first honest) in
+    is ∙ front_read f0 f1 c.in-Ok.len _ _ (c.in-Ok.ensures.length honest) size_is (c.in-Ok.ensures.same honest) read in
+    let so_far = good_trans 1 n f0 f1 f2 (good_call f0 f1 c.in-Ok.ensures.call) (ran_well n n f1 f2 _ refl well c.read_front.ensures.calls) in
+    let f3 = g.D.Disk.facts c.finish.new.disk in
+    let none = c.in-Ok-decode.ensures.0 in
+    let same = c.in-Ok-decode.ensures.1 in
+    let later = later_trans f0 f2 f3 (later_trans f0 f1 f2 first c.read_front.ensures.later) c.finish.ensures.later in
+    let can : (honest : IsTrue f0.honest) (rest : IsAtRest f0) → CanFinish f2 c.in-Ok-decode.image (words_in c.in-Ok-decode.image) = λ honest rest.
+    let touched = quiet honest in
+    subst (λ (i : List ℕ). CanFinish f2 i (words_in i)) (sym same)
+    (can_finish f2 image (still_honest f0 f2 touched.later honest) (rest_stays f0 f2 touched rest) (seen honest ∙ ap (λ b. take MAX_FILE b) (sym (reads_stay f0 f2 touched rest))) none) in
+    let unchanged : OpensSafely f0 f3 = λ honest rest.
+    let fits = can honest rest in
+    all_finished f0 f2 (quiet honest) rest f3 (words_of c.in-Ok-decode.image) (places_of c.in-Ok-decode.image) (words_in c.in-Ok-decode.image) fits.has
+    (c.finish.ensures.moments (words_in c.in-Ok-decode.image) fits) (c.finish.ensures.read (words_in c.in-Ok-decode.image) fits) in
+    let calls : (1 + n) + repair_calls c.in-Ok-decode.image ≡ open_calls image = ap (λ i. (1 + n) + repair_calls i) same ∙ calls_sound image size long none in
     record {
-      later = later_trans _ _ _ (later_trans _ _ _ (called_later _ _ _ c.in-Ok.ensures.call) c.read_front.ensures.later) c.finish.ensures.later;
-      calls = (1 + n) + last.0;
-      made = then_bad (1 + n) last.0 _ _ _
-          (good_trans 1 n _ _ _ (good_call _ _ c.in-Ok.ensures.call) (ran_well n n _ _ _ refl well c.read_front.ensures.calls)) last.1;
+      later = later;
+      unchanged = unchanged;
+      calls = open_calls image;
+      made = subst (λ (k : ℕ). Bad k f0 f3) calls
+          (then_bad (1 + n) (repair_calls c.in-Ok-decode.image) f0 f2 f3 so_far
+          (ran_badly (repair_calls c.in-Ok-decode.image) (repair_calls c.in-Ok-decode.image) f2 f3 _ refl (sym c.is_err-2.ensures.value ∙ c.if-is_err-2.true) c.finish.ensures.calls));
+      within = λ honest. let e = ap open_calls (seen honest) in omega arith;
     }
 
 pub returns : goal.returns
 returns g c =
     let f0 = g.D.Disk.facts c.args.disk in
     let f1 = g.D.Disk.facts c.len.new.self in
-    let n = min 1 (length c.deref_mut.result.now) in
-    let well = sym c.is_err.ensures.value ∙ c.if-is_err.false in
+    let f2 = g.D.Disk.facts c.read_front.new.disk in
+    let size = length c.deref_mut.result.now in
+    let n = min 1 size in
     let first = called_later f0 f1 true c.in-Ok.ensures.call in
-    let last = some_well _ _ c.finish.result (sym c.is_err-2.ensures.value ∙ c.if-is_err-2.false) c.finish.ensures.calls in
-    let is : c.deref.result.now ≡ c.read_front.new.bytes =
+    let size_is = c.deref_mut.ensures.len ∙ c.in-Ok-new.ensures.0 in
+    let quiet : IsTrue f0.honest → Touched Nowhere f0 f2 = λ honest. touched_trans Nowhere f0 f1 f2
+    (touched_quiet Nowhere f0 f1 true c.in-Ok.ensures.call (c.in-Ok.ensures.crash honest) (c.in-Ok.ensures.same honest))
+    (c.read_front.ensures.touched (still_honest f0 f1 first honest)) in
+    let well = sym c.is_err.ensures.value ∙ c.if-is_err.false in
+    let image = c.deref.result.now in
+    let is : image ≡ c.read_front.new.bytes =
     c.deref.ensures.value ∙ whole _ c.read_front.new.bytes _ (c.read_front.auto.bytes ∙ c.deref_mut.ensures.len) in
-    let image = c.in-Ok-decode.image in
-    let words_are : c.words.result ≡ words_of image = c.words.ensures.value in
+    let long : length image ≡ size = ap length is ∙ c.read_front.auto.bytes in
+    let seen : IsTrue f0.honest → image ≡ front f0 = λ honest.
+    let read = went_well c.read_front.result _ well c.read_front.ensures.read (still_honest f0 f1 first honest) in
+    is ∙ front_read f0 f1 c.in-Ok.len _ _ (c.in-Ok.ensures.length honest) size_is (c.in-Ok.ensures.same honest) read in
+    let so_far = good_trans 1 n f0 f1 f2 (good_call f0 f1 c.in-Ok.ensures.call) (ran_well n n f1 f2 _ refl well c.read_front.ensures.calls) in
+    let f3 = g.D.Disk.facts c.finish.new.disk in
+    let none = c.in-Ok-decode.ensures.0 in
+    let same = c.in-Ok-decode.ensures.1 in
+    let later = later_trans f0 f2 f3 (later_trans f0 f1 f2 first c.read_front.ensures.later) c.finish.ensures.later in
+    let can : (honest : IsTrue f0.honest) (rest : IsAtRest f0) → CanFinish f2 c.in-Ok-decode.image (words_in c.in-Ok-decode.image) = λ honest rest.
+    let touched = quiet honest in
+    subst (λ (i : List ℕ). CanFinish f2 i (words_in i)) (sym same)
+    (can_finish f2 image (still_honest f0 f2 touched.later honest) (rest_stays f0 f2 touched rest) (seen honest ∙ ap (λ b. take MAX_FILE b) (sym (reads_stay f0 f2 touched rest))) none) in
+    let unchanged : OpensSafely f0 f3 = λ honest rest.
+    let fits = can honest rest in
+    all_finished f0 f2 (quiet honest) rest f3 (words_of c.in-Ok-decode.image) (places_of c.in-Ok-decode.image) (words_in c.in-Ok-decode.image) fits.has
+    (c.finish.ensures.moments (words_in c.in-Ok-decode.image) fits) (c.finish.ensures.read (words_in c.in-Ok-decode.image) fits) in
+    let calls : (1 + n) + repair_calls c.in-Ok-decode.image ≡ open_calls image = ap (λ i. (1 + n) + repair_calls i) same ∙ calls_sound image size long none in
+    let ended = sym c.is_err-2.ensures.value ∙ c.if-is_err-2.false in
+    let words_are : c.words.result ≡ words_of c.in-Ok-decode.image = c.words.ensures.value in
     let slots_len = c.finish.auto.slots ∙ c.deref_mut-2.ensures.len in
     let slots_are = whole _ c.finish.new.slots _ slots_len in
-    let seen : (honest : _) → c.deref.result.now ≡ front f0 = λ honest.
-    let read = went_well c.read_front.result _ well c.read_front.ensures.read (still_honest f0 f1 first honest) in
-    is ∙ front_read f0 f1 c.in-Ok.len _ _ (c.in-Ok.ensures.length honest) (c.deref_mut.ensures.len ∙ c.in-Ok-new.ensures.0) (c.in-Ok.ensures.same honest) read in
+    let few = c.truncate.ensures.len in
+    let made = c.in-Ok-new.ensures.2 in
+    let slots_long = ap length slots_are in
+    let count = words_are ∙ sym (ap length c.fill_words.ensures ∙ length-map-range_with_len (word_at c.in-Ok-decode.image) 0 (words_of c.in-Ok-decode.image)) in
     record {
-      later = later_trans _ _ _ (later_trans _ _ _ first c.read_front.ensures.later) c.finish.ensures.later;
-      calls = (1 + n) + last.0;
-      made = good_trans (1 + n) last.0 _ _ _
-          (good_trans 1 n _ _ _ (good_call _ _ c.in-Ok.ensures.call) (ran_well n n _ _ _ refl well c.read_front.ensures.calls)) last.1;
-      sound = refl;
-      count = words_are ∙ sym (ap length c.fill_words.ensures ∙ length-map-range_with_len (word_at image) 0 (words_of image));
-      some_place =
-          let few = c.truncate.ensures.len in
-          let made = c.in-Ok-new.ensures.2 in
-          let long = ap length slots_are in
-          omega (arith, few, made, long, slots_len, c.places.ensures.some, c.places.ensures.fits);
-      free = subst (λ (ss : List Slot). IsTrue (all_free ss)) (sym slots_are) c.finish.ensures.free;
-      image = c.deref.result.now;
+      later = later;
+      unchanged = unchanged;
+      image = image;
       seen = seen;
-      undamaged = c.in-Ok-decode.ensures.0;
-      read = c.fill_words.ensures ∙ ap words_in c.in-Ok-decode.ensures.1;
+      undamaged = none;
+      made = subst (λ (k : ℕ). Good k f0 f3) calls
+          (good_trans (1 + n) (repair_calls c.in-Ok-decode.image) f0 f2 f3 so_far
+          (ran_well (repair_calls c.in-Ok-decode.image) (repair_calls c.in-Ok-decode.image) f2 f3 _ refl ended c.finish.ensures.calls));
+      read = c.fill_words.ensures ∙ ap words_in same;
+      count = count;
       places =
-          let few = c.truncate.ensures.len in
-          let made = c.in-Ok-new.ensures.2 in
-          let long = ap length slots_are in
-          let is = ap places_of c.in-Ok-decode.ensures.1 in
-          omega (arith, few, made, long, slots_len, c.places.ensures.value, c.places.ensures.fits, is);
+          let is_places = ap places_of same in
+          omega (arith, few, made, slots_long, slots_len, c.places.ensures.value, c.places.ensures.fits, is_places);
+      some_place = omega (arith, few, made, slots_long, slots_len, c.places.ensures.some, c.places.ensures.fits);
+      free = subst (λ (ss : List Slot). IsTrue (all_free ss)) (sym slots_are) c.finish.ensures.free;
+      sound = refl;
+      whole = λ honest. whole_words f0.reads image (seen honest) none ∙ ap Some (sym (ap words_in same) ∙ sym c.fill_words.ensures);
+      keeps = λ honest rest.
+          let durable = went_well c.finish.result _ ended c.finish.ensures.done (words_in c.in-Ok-decode.image) (can honest rest) in
+          keeps_well g.D.Disk.facts _ c.fill_words.new.words.items (sym count)
+          (durable_as f3 _ _ _ _ _ _ words_are c.fill_words.ensures slots_are durable);
     }

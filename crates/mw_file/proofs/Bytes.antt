@@ -1,0 +1,92 @@
+-- A file's bytes after some of them have changed: which records and home words stay.
+use Rattle.std.proofs.Common.{◌≡◌, ℕ, ◌+◌, ◌<◌, ◌≤◌, ◌==◌, ◌&&◌, nat_le, nat_lt, List, [], ◌∷◌, length, Some, true, slice_index, sym, ap, ◌∙◌, inl, inr, arith, subst}
+use Rattle.std.proofs.lemmas.Bool.{cases_eq, and_parts, or_cases, eqb-true, ltb-true}
+use Rattle.mw_words.specs.declared.limits.TheConstants.{MAX_ENTRIES}
+use Rattle.mw_disk.specs.Runs.{SameBut}
+use Rattle.mw_record.specs.declared.layout.TheConstants.{WORD_SIZE, PLACE_SIZE}
+use Rattle.mw_record.specs.Layout.{home_at, place_at, size}
+use Rattle.mw_record.specs.Records.{Pairs, holds, record_at, home, is_record, rises_below}
+use Rattle.mw_record.specs.Reading.{SameBytes, body_same, length_body, home_same}
+use Rattle.mw_record.specs.Writes.{record_same}
+use Rattle.mw_record.specs.Below.{few_entries}
+use Rattle.mw_record.specs.Stands.{HasWords}
+use Rattle.mw_file.specs.declared.slots.Slot.{Slot}
+use Rattle.mw_file.specs.declared.slots.Stage.{Stage}
+use Rattle.mw_file.specs.declared.slots.Stage.TheVariants.{Free, Prepared, Sealed}
+use Rattle.mw_file.specs.Slots.{stage_of, writes_of_place, IsStaged}
+use Rattle.mw_file.specs.Stores.{PlacedAs, Stores}
+
+-- bytes outside the changed ones are the same
+pub same_bytes : (S : ℕ → Type 0) (b c : List ℕ) (n i : ℕ) → SameBut S b c → ((k : ℕ) → k < n → S (i + k) → ⊥) → SameBytes n i i c b
+same_bytes S b c n i same out k lt = same.outside (i + k) (out k lt)
+
+-- an address of a record is below the number of words
+rises_holds : (words lowest : ℕ) (ps : Pairs) (a : ℕ) → rises_below words lowest ps ≡ true → holds ps a ≡ true → a < words
+rises_holds words lowest [] a rises some = cc
+rises_holds words lowest (p ∷ ps) a rises some =
+    let outer = and_parts (nat_le lowest p.0 && nat_lt p.0 words) (rises_below words (p.0 + 1) ps) rises in
+    let below : p.0 < words = ltb-true p.0 words (and_parts (nat_le lowest p.0) (nat_lt p.0 words) outer.0).1 in
+    elim (or_cases (p.0 == a) (holds ps a) some) [
+      | inl here ↦ omega (arith, eqb-true p.0 a here, below)
+      | inr there ↦ rises_holds words (p.0 + 1) ps a outer.1 there
+    ]
+
+pub held_below : (words : ℕ) (ps : Pairs) (a : ℕ) → is_record words ps ≡ true → holds ps a ≡ true → a < words
+held_below words ps a formed some = rises_holds words 0 ps a (and_parts _ _ formed).1 some
+
+module _ (words places : ℕ) (contents b c : List ℕ) (S : ℕ → Type 0) (has : HasWords words places contents b) (same : SameBut S b c) where
+  -- the file is as long as it was
+  pub still_long : size words places ≤ length c
+  still_long = let l = has.long in let e = same.size in omega arith
+
+  pub few_there : (place : ℕ) → place < places → (ps : Pairs) → record_at b words place ≡ Some ps → length ps ≤ MAX_ENTRIES
+  few_there place lt ps is = few_entries words ps (has.stands.formed place ps lt is)
+
+  -- a place whose bytes stayed has the record that it had
+  pub record_missed : (place : ℕ) → place < places → ((k : ℕ) → k < PLACE_SIZE → S (place_at words place + k) → ⊥) → record_at c words place ≡ record_at b words place
+  record_missed place lt out = record_same c b words place (same_bytes S b c PLACE_SIZE (place_at words place) same out) (few_there place lt)
+
+  -- so does a home word
+  pub home_missed : (addr : ℕ) → ((k : ℕ) → k < WORD_SIZE → S (home_at addr + k) → ⊥) → home c addr ≡ home b addr
+  home_missed addr out = home_same c b addr (same_bytes S b c WORD_SIZE (home_at addr) same out)
+
+-- what is in a place by how far its change is, where that is known by other names
+pub placed_as : (image : List ℕ) (words place : ℕ) (s t : Stage) (v w : Pairs) → s ≡ t → v ≡ w → PlacedAs image words place t w → PlacedAs image words place s v
+placed_as image words place s t v w is_stage is_writes placed =
+    subst (λ (u : Stage). PlacedAs image words place u v) (sym is_stage) (subst (λ (x : Pairs). PlacedAs image words place t x) (sym is_writes) placed)
+
+-- a place whose bytes stayed
+pub placed_same : (b c : List ℕ) (words place : ℕ) (s : Stage) (w : Pairs) → SameBytes PLACE_SIZE (place_at words place) (place_at words place) c b
+    → ((ps : Pairs) → record_at b words place ≡ Some ps → length ps ≤ MAX_ENTRIES) → PlacedAs b words place s w → PlacedAs c words place s w
+placed_same b c words place Free w same few was = record_same c b words place same few ∙ was
+placed_same b c words place Sealed w same few was = record_same c b words place same few ∙ was
+placed_same b c words place Prepared w same few was =
+    let at : ℕ = place_at words place in
+    let count : slice_index b (at + 1) ≤ MAX_ENTRIES = omega (arith, few_entries words w was.formed, length_body b at, ap length was.behind) in
+    record {
+      shut = record_same c b words place same few ∙ was.shut;
+      behind = body_same c b at at count (λ k lt.
+          let e : (at + 1) + k ≡ at + (1 + k) = omega arith in
+          ap (λ i. slice_index c i) e ∙ same (1 + k) (omega arith) ∙ ap (λ i. slice_index b i) (sym e)) ∙ was.behind;
+      formed = was.formed;
+      values = was.values;
+    }
+
+-- A file in which one place's change has gone on, and the bytes of the other places stayed.
+pub stores_staged : (b c : List ℕ) (words : ℕ) (before after : List ℕ) (slots new : List Slot) (place : ℕ) (stage : Stage) (writes : Pairs)
+    → Stores b words before slots → IsStaged slots new place stage writes → HasWords words (length slots) after c
+    → ((other : ℕ) → other < length slots → (other ≡ place → ⊥) → SameBytes PLACE_SIZE (place_at words other) (place_at words other) c b)
+    → PlacedAs c words place stage writes → Stores c words after new
+stores_staged b c words before after slots new place stage writes was staged has same here = record {
+  has = subst (λ (n : ℕ). HasWords words n after c) (sym staged.count) has;
+  placed = λ other lt. let within : other < length slots = (let e = staged.count in omega arith) in
+      elim (cases_eq other place) [
+        | inl e ↦ placed_as c words other (stage_of new other) stage (writes_of_place new other) writes
+            (ap (λ p. stage_of new p) e ∙ staged.stage_here) (ap (λ p. writes_of_place new p) e ∙ staged.writes_here)
+            (subst (λ (p : ℕ). PlacedAs c words p stage writes) (sym e) here)
+        | inr ne ↦ placed_as c words other (stage_of new other) (stage_of slots other) (writes_of_place new other) (writes_of_place slots other)
+            (staged.stage_there other ne) (staged.writes_there other ne)
+            (placed_same b c words other (stage_of slots other) (writes_of_place slots other) (same other within ne)
+            (λ ps is. few_entries words ps (was.has.stands.formed other ps within is)) (was.placed other within))
+      ];
+}

@@ -1,0 +1,7 @@
+use Rattle.std.proofs.Common.{refl, ◌∙◌}
+use Rattle.mw_disk.specs.Memory.{memory_facts}
+use Rattle.mw_file.proofs.Safety.{keeps_copy}
+use Rattle.mw_file.proofs.memory.TenantFile+MemDisk.copy.Goals as goal
+
+pub returns-clause-keeps : goal.returns-clause-keeps
+returns-clause-keeps c contents doubt was = keeps_copy memory_facts c.args.self.now _ contents doubt (record { disk = c.in_ok-disk.ensures; words = refl; slots = c.in_ok-slots.ensures ∙ c.deref.ensures.value; failed = refl }) was

@@ -1,0 +1,16 @@
+use Rattle.std.proofs.Common.{◌≡◌, length, min, arith, sym, ◌∙◌}
+use Rattle.std.proofs.lemmas.Bool.{eqb-false}
+use Rattle.mw_disk.specs.Runs.{touched_none}
+use Rattle.mw_file.specs.Rolls.{Nowhere}
+use Rattle.mw_file.proofs.Ran.{ran_one}
+use Rattle.mw_file.proofs.opening.read_front.Goals as goal
+
+pub returns-then-is_empty-clause-touched : goal.returns-then-is_empty-clause-touched
+returns-then-is_empty-clause-touched g c honest = touched_none Nowhere (g.D.Disk.facts c.args.disk.now)
+
+pub returns-clause-calls : goal.returns-clause-calls
+returns-clause-calls g c =
+    let some = eqb-false (length c.args.bytes.now) 0 (sym c.is_empty.ensures ∙ c.if-is_empty.false) in
+    let one : min 1 (length c.args.bytes.now) ≡ 1 = omega (arith, some) in
+    ran_one (min 1 (length c.args.bytes.now)) (g.D.Disk.facts c.args.disk.now) (g.D.Disk.facts c.read_at.new.self) c.read_at.result one c.read_at.ensures.call
+    (λ honest. c.read_at.ensures.spared (let w = c.requires.within honest in omega (arith, w)))

@@ -1,0 +1,6 @@
+use Rattle.std.proofs.Common.{◌≡◌, take}
+use Rattle.mw_file.proofs.slots.Slot.copy.Given as goal
+
+-- the writes so far
+abbrev pub invariant-loop-write : goal.invariant-loop-write
+invariant-loop-write l = l.writes.items ≡ take l.write-index l.self.writes.items

@@ -1,0 +1,68 @@
+//! A file on a disk in memory.
+ghost use Rattle.std.specs.Prelude.{◌≡◌, ℕ, List, length, IfOk, OnOk, OnErr};
+ghost use Rattle.mw_disk.specs.Crash.{Tears, unsynced};
+ghost use Rattle.mw_disk.specs.Facts.{MayLeave};
+ghost use Rattle.mw_record.specs.Records.{Pairs};
+ghost use Rattle.mw_disk.specs.Memory.{memory_facts, with_name, sooner};
+
+use crate::slots::copies;
+use crate::tenant_file::TenantFile;
+use mw_disk::MemDisk;
+use std::alloc::{AllocError, Global};
+
+impl TenantFile<MemDisk> {
+    ghost use Rattle.std.specs.Prelude.{Some};
+    ghost use Rattle.mw_file.specs.File.{disk_of, IsCopy};
+    ghost use Rattle.mw_file.specs.Keeps.{ContentsStay, Keeps};
+
+    /// An equal one, on an equal disk. The only error is want of memory.
+    pub fn copy(&self, alloc: Global) -> Result<TenantFile<MemDisk>, AllocError>
+        ensures same { IfOk result (λ file. IsCopy self.now file) }
+        ensures keeps { IfOk result (λ file. (contents : List ℕ) (doubt : Pairs) → Keeps memory_facts self.now contents doubt
+            → Keeps memory_facts file contents doubt) }
+    {
+        let disk = self.disk.copy()?;
+        let slots = copies(alloc, &self.slots)?;
+        Ok(TenantFile {
+            disk,
+            words: self.words,
+            slots,
+            failed: self.failed,
+        })
+    }
+
+    /// The `k`-th device call from now fails too. An error, for want of memory, leaves the file as it
+    /// was.
+    pub fn fail_next(&mut self, k: u64) -> Result<(), AllocError>
+        ensures ok { OnOk result (self.new ≡ record self.old { disk = record (disk_of self.old) { script = with_name (disk_of self.old) k } }) }
+        ensures err { OnErr result (self.new ≡ self.old) }
+        ensures safe { ContentsStay memory_facts self.old self.new }
+    {
+        self.disk.fail_next(k)
+    }
+
+    /// After `k` more device calls every one fails and changes nothing. An earlier stop stays.
+    pub fn stop_next(&mut self, k: u64)
+        ensures stop { self.new ≡ record self.old { disk = record (disk_of self.old) { stop = Some (sooner (disk_of self.old).stop k) } } }
+        ensures safe { ContentsStay memory_facts self.old self.new }
+    {
+        self.disk.stop_next(k);
+    }
+
+    /// How many device calls were refused memory. The count stays at its last value, `2^64 - 1`.
+    pub fn refused(&self) -> u64
+        ensures { result ≡ (disk_of self.now).refused }
+    {
+        self.disk.refused()
+    }
+
+    /// What a crash now leaves of the file, with the bytes of all ranges written since the last sync
+    /// taken from `torn`: as [`MemDisk::crash`]. The only error is want of memory.
+    pub fn crash(&self, torn: &[u8]) -> Result<Vec<u8>, AllocError>
+        ensures torn { IfOk result (λ bytes. Tears (unsynced (disk_of self.now).log) torn.now (length torn.now)
+            (memory_facts (disk_of self.now)).reads bytes.items) }
+        ensures image { IfOk result (λ bytes. MayLeave (memory_facts (disk_of self.now)) bytes.items) }
+    {
+        self.disk.crash(torn)
+    }
+}

@@ -1,0 +1,5 @@
+use Rattle.mw_frame.specs.Given.{however-cut, same-lines}
+use Rattle.mw_frame.proofs.laws.however_cut.Goals as goal
+
+pub returns : goal.returns
+returns c = record { whole = however-cut; same_lines = same-lines }

@@ -1,0 +1,28 @@
+//! What the report tells.
+
+use arrayvec::ArrayVec;
+use mw_words::{MAX_TENANTS, Name};
+
+/// The figures of one tenant.
+#[derive(Debug, Default, PartialEq, Eq, Drop)]
+pub struct TenantFigures {
+    /// The tenant's name.
+    pub name: Name,
+    /// How many words it has, at most [`mw_words::MAX_WORDS`].
+    pub words: u16,
+    /// How many slots it may use at a time, at most [`mw_words::MAX_QUOTA`].
+    pub quota: u8,
+    /// How many slots it uses, at most [`mw_words::MAX_QUOTA`].
+    pub used: u8,
+    /// Whether its file takes changes: it has opened and hasn't failed since.
+    pub up: bool,
+}
+
+/// The figures of all tenants, in their order, and of the pool.
+#[derive(Debug, PartialEq, Eq, Drop)]
+pub struct Figures {
+    /// Of each tenant.
+    pub tenants: ArrayVec<TenantFigures, MAX_TENANTS>,
+    /// How many slots of the pool are free, at most [`mw_words::MAX_POOL`].
+    pub pool_free: u16,
+}
