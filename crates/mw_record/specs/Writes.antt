@@ -65,8 +65,14 @@ gate_torn xs ys words place same few =
 length-entries : (entries : List Entry) → length (flat_map entry_bytes entries) ≡ ENTRY_SIZE * length entries
 length-entries [] = refl
 length-entries (e ∷ es) =
-    omega (arith, length-append (entry_bytes e) (flat_map entry_bytes es), length-append (number_bytes 8 e.addr) (number_bytes 8 e.new),
-    length-number_bytes 8 e.addr, length-number_bytes 8 e.new, length-entries es)
+    omega (
+      arith,
+      length-append (entry_bytes e) (flat_map entry_bytes es),
+      length-append (number_bytes 8 e.addr) (number_bytes 8 e.new),
+      length-number_bytes 8 e.addr,
+      length-number_bytes 8 e.new,
+      length-entries es,
+    )
 
 -- a record fills its place, whatever it has
 pub length-body : (entries : List Entry) → length entries ≤ MAX_ENTRIES → length (body entries) ≡ BODY_SIZE
