@@ -1,8 +1,9 @@
 -- Runs of device calls, one after another.
-use Rattle.std.proofs.Common.{◌≡◌, ℕ, ◌+◌, ◌≤◌, subst, sym, IsTrue, is_ok, Result, Ok, Err, IsErr, is_err, true, false}
-use Rattle.mw_disk.specs.Facts.{Facts, Called, Spares}
+use Rattle.std.proofs.Common.{◌≡◌, ◌⊎◌, ℕ, ◌+◌, ◌<◌, ◌≤◌, min, inl, inr, arith, subst, sym, IsTrue, is_ok, Result, Ok, Err, IsErr, is_err, true, false}
+use Rattle.mw_disk.specs.Facts.{Facts, Called, Spares, most_counted}
 use Rattle.mw_disk.specs.Runs.{Good, Bad, good_call, bad_call, good_trans, then_bad, bad_wider}
-use Rattle.mw_file.specs.Run.{Ran}
+use Rattle.std.proofs.lemmas.Bool.{cases_lt}
+use Rattle.mw_file.specs.Run.{Ran, IsDoomed}
 
 -- calls that went well, and then as many more
 pub goes_on : (m n k : ℕ) (a b c : Facts) → m + n ≡ k → Good m a b → Good n b c → Good k a c
@@ -26,3 +27,21 @@ ran_badly m n a b (Err e) same badly ran = subst (λ (t : ℕ). Bad t a b) same 
 pub ran_one : {T E : Type 0} (n : ℕ) (a b : Facts) (r : Result T E) → n ≡ 1 → Called a b (is_ok r) → (IsTrue a.honest → Spares a b (is_ok r)) → Ran n a b r
 ran_one n a b (Ok x) is call spares = subst (λ (t : ℕ). Good t a b) (sym is) (good_call a b call)
 ran_one n a b (Err e) is call spares = subst (λ (t : ℕ). Bad t a b) (sym is) (bad_call a b call spares)
+
+-- a run that went well ended before the call that was to fail
+pub told_well : (calls k : ℕ) (a b : Facts) → IsDoomed a k → Good calls a b → calls ≤ k
+told_well calls k a b doomed good = elim (cases_lt k calls) [
+  | inl reached ↦ absurd (good.none_doomed k reached doomed.fails)
+  | inr ended ↦ ended
+]
+
+-- one that met a fault met it there, or was refused memory before
+pub told_badly : (calls k : ℕ) (a b : Facts) → IsTrue a.honest → IsDoomed a k → (bad : Bad calls a b)
+    → ((bad.well ≡ k) × (k < calls)) ⊎ (b.refused ≡ min (a.refused + 1) most_counted)
+told_badly calls k a b honest doomed bad = elim (cases_lt bad.well k) [
+  | inl before ↦ inr (bad.spared honest (doomed.go bad.well before))
+  | inr since ↦ elim (cases_lt k bad.well) [
+    | inl past ↦ absurd (bad.none_doomed k past doomed.fails)
+    | inr at ↦ inl (omega (arith, since, at), omega (arith, since, at, bad.fewer))
+  ]
+]

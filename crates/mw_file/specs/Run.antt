@@ -1,5 +1,5 @@
 -- Runs of device calls.
-use Rattle.std.specs.Prelude.{◌≡◌, ℕ, Result, Ok, Err, IsTrue}
+use Rattle.std.specs.Prelude.{◌≡◌, ◌<◌, ℕ, Some, true, false, Result, Ok, Err, IsTrue}
 use Rattle.mw_disk.specs.Facts.{Facts, NothingNew}
 use Rattle.mw_disk.specs.Runs.{Good, Bad}
 
@@ -12,3 +12,8 @@ Ran calls old new (Err e) = Bad calls old new
 pub record IsUntouched (old new : Facts) : Type 0 where
   pub same : IsTrue old.honest → new.reads ≡ old.reads
   pub nothing_new : IsTrue old.honest → NothingNew old new
+
+-- It is known of a disk that its next k calls go well but for memory, and that the one behind them fails.
+pub record IsDoomed (f : Facts) (k : ℕ) : Type 0 where
+  pub go : (j : ℕ) → j < k → f.plan j ≡ Some true
+  pub fails : f.plan k ≡ Some false

@@ -1,14 +1,15 @@
 //! Laws of a file that is opened again after a crash. None of these functions does anything.
-ghost use Rattle.std.specs.Prelude.{◌≡◌, ◌+◌, ◌<◌, ℕ, List, length, is_some, nat_lt, Vec, Result, IsTrue};
+ghost use Rattle.std.specs.Prelude.{◌≡◌, ◌⊎◌, ◌+◌, ◌<◌, ◌≤◌, ℕ, min, List, length, is_some, nat_lt, Vec, Result, IsTrue};
 ghost use Rattle.std.specs.declared.alloc.Global.{Global};
-ghost use Rattle.mw_disk.specs.Facts.{IsAtRest, MayLeave, MayHaveLeft};
+ghost use Rattle.mw_disk.specs.Facts.{IsAtRest, MayLeave, MayHaveLeft, most_counted};
 ghost use Rattle.mw_record.specs.Records.{Pairs};
 ghost use Rattle.mw_file.specs.declared.tenant_file.TenantFile.{TenantFile as File};
 ghost use Rattle.mw_file.specs.declared.opening.OpenFault.{OpenFault};
-ghost use Rattle.mw_file.specs.File.{disk_of};
+ghost use Rattle.mw_file.specs.File.{disk_of, WentWell, MetFault};
 ghost use Rattle.mw_file.specs.Keeps.{Keeps, IsEither};
 ghost use Rattle.mw_file.specs.Opening.{Opens, disk_after, SameFile};
 ghost use Rattle.mw_file.specs.Again.{Holds};
+ghost use Rattle.mw_file.specs.Run.{IsDoomed};
 ghost use Rattle.mw_file.specs.declared.slots.Slot.{Slot};
 ghost use Rattle.mw_file.specs.declared.slots.Stage.{Stage};
 ghost use Rattle.mw_file.specs.Slots.{free_place, stage_of, IsStaged};
@@ -49,4 +50,14 @@ pub fn places_are_counted()
     ensures free { (slots : List Slot) → is_some (free_place slots) ≡ nat_lt (taken slots) (length slots) }
     ensures staged { (old new : List Slot) (place : ℕ) (stage : Stage) (writes : Pairs) → place < length old → IsStaged old new place stage writes
         → taken new + if_taken (stage_of old place) ≡ taken old + if_taken stage }
+{}
+
+/// On an honest disk of which it is known that its next `k` calls go well but for memory, and that the
+/// call behind them fails: a call on a file that went well has made no more than `k` device calls, and
+/// one that met a fault met it at the call behind those, the (k + 1)-th, or was refused memory before.
+pub fn the_device_fails_where_it_is_told<D: Disk>()
+    ensures well { (calls k : ℕ) (old new : File D) → IsDoomed (D.facts (disk_of old)) k → WentWell D.facts calls old new → calls ≤ k }
+    ensures fault { (calls k : ℕ) (old new : File D) → IsTrue (D.facts (disk_of old)).honest → IsDoomed (D.facts (disk_of old)) k
+        → (met : MetFault D.facts calls old new)
+        → ((met.made.well ≡ k) × (k < calls)) ⊎ ((D.facts (disk_of new)).refused ≡ min ((D.facts (disk_of old)).refused + 1) most_counted) }
 {}

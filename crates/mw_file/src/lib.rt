@@ -22,7 +22,9 @@ mod roll;
 mod slots;
 mod tenant_file;
 
-pub use laws::{crash_in_an_opening, crash_of_a_file, places_are_counted};
+pub use laws::{
+    crash_in_an_opening, crash_of_a_file, places_are_counted, the_device_fails_where_it_is_told,
+};
 pub use opening::OpenFault;
 pub use slots::{Slot, Stage, Writes};
 pub use tenant_file::{FileFault, Place, TenantFile};

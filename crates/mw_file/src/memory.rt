@@ -3,7 +3,7 @@ ghost use Rattle.std.specs.Prelude.{◌≡◌, ℕ, List, length, IfOk, OnOk, On
 ghost use Rattle.mw_disk.specs.Crash.{Tears, unsynced};
 ghost use Rattle.mw_disk.specs.Facts.{MayLeave};
 ghost use Rattle.mw_record.specs.Records.{Pairs};
-ghost use Rattle.mw_disk.specs.Memory.{memory_facts, with_name, sooner};
+ghost use Rattle.mw_disk.specs.Memory.{memory_facts, with_name, with_fault, with_stop, sooner};
 
 use crate::slots::copies;
 use crate::tenant_file::TenantFile;
@@ -35,6 +35,7 @@ impl TenantFile<MemDisk> {
     /// was.
     pub fn fail_next(&mut self, k: u64) -> Result<(), AllocError>
         ensures ok { OnOk result (self.new ≡ record self.old { disk = record (disk_of self.old) { script = with_name (disk_of self.old) k } }) }
+        ensures plan { OnOk result ((j : ℕ) → (memory_facts (disk_of self.new)).plan j ≡ with_fault (disk_of self.old) k j) }
         ensures err { OnErr result (self.new ≡ self.old) }
         ensures safe { ContentsStay memory_facts self.old self.new }
     {
@@ -44,6 +45,7 @@ impl TenantFile<MemDisk> {
     /// After `k` more device calls every one fails and changes nothing. An earlier stop stays.
     pub fn stop_next(&mut self, k: u64)
         ensures stop { self.new ≡ record self.old { disk = record (disk_of self.old) { stop = Some (sooner (disk_of self.old).stop k) } } }
+        ensures plan { (j : ℕ) → (memory_facts (disk_of self.new)).plan j ≡ with_stop (disk_of self.old) k j }
         ensures safe { ContentsStay memory_facts self.old self.new }
     {
         self.disk.stop_next(k);

@@ -1,0 +1,8 @@
+pub mod Sending
+pub mod Jobs
+pub mod Performing
+pub mod Turning
+pub mod Ending
+pub mod Judging
+pub mod Figured
+pub mod Hearing

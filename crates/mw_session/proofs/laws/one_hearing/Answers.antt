@@ -1,0 +1,5 @@
+use Rattle.mw_session.proofs.Hearing.{one_hearing}
+use Rattle.mw_session.proofs.laws.one_hearing.Goals as goal
+
+pub returns : goal.returns
+returns c = one_hearing

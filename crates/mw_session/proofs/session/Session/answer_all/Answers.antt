@@ -1,0 +1,70 @@
+use Rattle.std.proofs.Common.{sym, subst, ◌∙◌, [], ◌∷◌, ◌++◌}
+use Rattle.mw_session.specs.Parts.{Gives}
+use Rattle.mw_session.specs.Serving.{Tells}
+use Rattle.mw_session.proofs.Judging.{none_left, turned_ok}
+use Rattle.mw_session.proofs.Performing.{asked_nothing, asked_then}
+use Rattle.mw_session.proofs.Turning.{fewer_lines, gives_then, spoken_more, spoken_nothing, turned_then}
+use Rattle.mw_session.proofs.session.Session.answer_all.Goals as goal
+
+pub loop-line-init : goal.loop-line-init
+loop-line-init g c =
+    let s = g.S.Service in
+    let old = c.args.self.now in
+    let now = c.args.service.now in
+    record {
+      spoken = spoken_nothing (g.W.Write.contents c.args.writer.now) (Tells s.tells s.noted s.found now now) old.written old.feed old.bound (asked_nothing s.tells s.noted s.found now);
+      served = c.requires;
+    }
+
+pub loop-line-smaller : goal.loop-line-smaller
+loop-line-smaller g c =
+    let old = c.loop-line.self.feed in
+    let line = c.in-Some.line in
+    fewer_lines old c.answer-answered.new.self.feed line (subst (λ f. Gives old (line ∷ []) f) (sym c.answer-answered.ensures.feed) c.in-Some.ensures.lines)
+
+pub loop-line-preserved : goal.loop-line-preserved
+loop-line-preserved g c =
+    let W = g.W.Write.contents in
+    let s = g.S.Service in
+    let first = c.args.self.now in
+    let old = c.loop-line.self in
+    let line = c.in-Some.line in
+    let a = c.answer-answered in
+    let start = c.args.service.now in
+    let middle = c.loop-line.service in
+    let end = a.new.service in
+    record {
+      spoken = spoken_more (W c.args.writer.now) (W c.loop-line.writer) (W a.new.writer)
+          (Tells s.tells s.noted s.found start middle) (Tells s.tells s.noted s.found middle end) (Tells s.tells s.noted s.found start end)
+          (asked_then s.tells s.noted s.found start middle end)
+          first.written old.written a.new.self.written first.feed old.feed a.new.self.feed line first.bound old.bound a.new.self.bound
+          c.loop-line.invariant.spoken
+          (subst (λ f. Gives old.feed (line ∷ []) f) (sym a.ensures.feed) c.in-Some.ensures.lines)
+          (turned_ok (W c.loop-line.writer) (W a.new.writer) old.written a.new.self.written (Tells s.tells s.noted s.found middle end) (line ∷ []) old.bound a.new.self.bound a.result
+          (sym c.is_err.ensures.value ∙ c.if-is_err.false) a.ensures.turned);
+      served = a.ensures.served;
+    }
+
+pub returns-then-is_err-clause-turned : goal.returns-then-is_err-clause-turned
+returns-then-is_err-clause-turned g c =
+    let W = g.W.Write.contents in
+    let s = g.S.Service in
+    let first = c.args.self.now in
+    let old = c.loop-line.self in
+    let line = c.in-Some.line in
+    let a = c.answer-answered in
+    let start = c.args.service.now in
+    let middle = c.loop-line.service in
+    let end = a.new.service in
+    let so_far = c.loop-line.invariant.spoken in (
+      so_far.lines ++ line ∷ [],
+      gives_then first.feed old.feed a.new.self.feed so_far.lines (line ∷ []) so_far.gives
+          (subst (λ f. Gives old.feed (line ∷ []) f) (sym a.ensures.feed) c.in-Some.ensures.lines),
+      turned_then (W c.args.writer.now) (W c.loop-line.writer) (W a.new.writer)
+          (Tells s.tells s.noted s.found start middle) (Tells s.tells s.noted s.found middle end) (Tells s.tells s.noted s.found start end)
+          (asked_then s.tells s.noted s.found start middle end)
+          first.written old.written a.new.self.written so_far.lines (line ∷ []) first.bound old.bound a.new.self.bound a.result so_far.talked a.ensures.turned,
+    )
+
+pub returns-clause-all : goal.returns-clause-all
+returns-clause-all g c = none_left c.loop-line.self.feed c.next.new.self c.next.result c.in_default.is c.next.ensures.first c.next.ensures.left

@@ -1,0 +1,19 @@
+use Rattle.std.proofs.Common.{length}
+use Rattle.mw_frame.specs.Stream.{lines_of}
+use Rattle.mw_session.specs.Parts.{Spoken}
+use Rattle.mw_session.specs.Serving.{IsServed, Tells}
+use Rattle.mw_session.proofs.session.Session.answer_all.Given as goal
+
+-- the lines so far were answered
+abbrev pub invariant-loop-line : goal.invariant-loop-line
+invariant-loop-line g l =
+    let W = g.W.Write.contents in
+    let s = g.S.Service in
+    record {
+      spoken : Spoken (W l.initial.writer) (W l.writer) (Tells s.tells s.noted s.found l.initial.service l.service)
+          l.initial.self.written l.self.written l.initial.self.feed l.self.feed l.initial.self.bound l.self.bound;
+      served : IsServed (s.has_words l.service) l.self.bound;
+    }
+
+abbrev pub decreases-loop-line : goal.decreases-loop-line
+decreases-loop-line g l = length (lines_of l.self.feed)

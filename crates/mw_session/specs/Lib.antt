@@ -1,0 +1,7 @@
+pub mod Talk
+pub mod Serving
+pub mod Lines
+pub mod Judged
+pub mod Parts
+pub mod Whole
+pub mod UnderWay

@@ -1,0 +1,19 @@
+-- Where a session stands between two reads.
+use Rattle.std.specs.Prelude.{◌≡◌, ℕ, ◌++◌, List, [], Option}
+use Rattle.std.specs.Io.KnownBytes.{Consumes}
+use Rattle.mw_frame.specs.declared.lines.Line.{Line}
+use Rattle.mw_frame.specs.Lines.{lines}
+use Rattle.mw_frame.specs.Stream.{Stream, fed, lines_of}
+use Rattle.mw_session.specs.declared.steps.Bound.{Bound}
+use Rattle.mw_session.specs.declared.steps.Bound.TheVariants.{Nobody}
+use Rattle.mw_session.specs.Talk.{Call}
+use Rattle.mw_session.specs.Parts.{On, Talked}
+
+-- All lines that have come were answered, and no other call was made.
+pub record UnderWay (left new_left taken new_taken : Option (List ℕ)) (Asked : List Call → Type 0) (feed : Stream) (bound : Bound) (written : ℕ) : Type 0 where
+  pub read : List ℕ
+  pub is_read : Consumes left new_left read
+  pub seen : List Line
+  pub gives : (more : List ℕ) → lines (read ++ more) ≡ seen ++ lines_of (fed feed more)
+  pub talked : Talked taken new_taken Asked 0 written seen Nobody (On bound) []
+  pub waits : lines_of feed ≡ []

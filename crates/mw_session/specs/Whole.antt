@@ -1,0 +1,65 @@
+-- What holds of a whole session, by how it ended.
+use Rattle.std.specs.Prelude.{◌≡◌, ℕ, ◌-◌, ◌^◌, ◌<◌, ◌++◌, min, List, [], ◌∷◌, length, Option}
+use Rattle.std.specs.Io.KnownBytes.{Appends, Consumes, IsAtEnd}
+use Rattle.mw_frame.specs.declared.lines.Line.{Line}
+use Rattle.mw_frame.specs.Lines.{lines}
+use Rattle.mw_session.specs.declared.steps.Bound.TheVariants.{Nobody}
+use Rattle.mw_session.specs.declared.session.Ended.{Ended}
+use Rattle.mw_session.specs.declared.session.Ended.TheVariants.{Quit, PeerEnd, TooLong, ReadFault, WriteFault, Memory}
+use Rattle.mw_session.specs.Talk.{Answer, Call, Cuts, End, Heard, Listens, Quits, Script, after, talk}
+use Rattle.mw_session.specs.Lines.{HearsAll}
+
+-- The talk of what was heard is this text, with these calls, and no line lacked its answer.
+abbrev pub IsTalk : List Heard → List Answer → List ℕ → List Call → Type 0
+IsTalk heard answers text calls = talk Nobody heard answers ≡ record { text = text; calls = calls; end = Listens }
+
+-- The talk ends so behind what was heard, whatever lines and answers would follow.
+abbrev pub EndsTalk : List Heard → List Answer → List ℕ → List Call → End → Type 0
+EndsTalk heard answers text calls end = (unheard : List Heard) (unused : List Answer)
+    → talk Nobody (heard ++ unheard) (answers ++ unused) ≡ record { text = text; calls = calls; end = end }
+
+-- The text is what the talk says to what was heard, without a last part that wasn't sent, and the calls are those of
+-- the talk; so it is a beginning of each talk that goes on behind what was heard. All that was said to the lines before
+-- the last was sent, and of the reply to the last a part.
+pub record BeginsTalk (heard : List Heard) (answers : List Answer) (text : List ℕ) (calls : List Call) : Type 0 where
+  pub unsent : List ℕ
+  pub some : 0 < length unsent
+  pub said : (talk Nobody heard answers).text ≡ text ++ unsent
+  pub made : (talk Nobody heard answers).calls ≡ calls
+  pub begins : (unheard : List Heard) (unused : List Answer)
+      → (rest : Script) × (talk Nobody (heard ++ unheard) (answers ++ unused) ≡ after (text ++ unsent) calls rest)
+  pub earlier : List Heard
+  pub last : Heard
+  pub heard_are : heard ≡ earlier ++ last ∷ []
+  pub part : List ℕ
+  pub replied : text ≡ (talk Nobody earlier answers).text ++ part
+
+-- What was written, by how the session ended. Each line that was read was answered where the peer sends no more or the
+-- reader failed; up to QUIT, up to a line too long, or up to where memory or the writer failed, where that was the end.
+abbrev pub EndsSo : Option (List ℕ) → List Line → List Heard → List Answer → List ℕ → List Call → Ended → Type 0
+EndsSo left unseen heard answers text calls PeerEnd = IsAtEnd left × (unseen ≡ []) × IsTalk heard answers text calls
+EndsSo left unseen heard answers text calls ReadFault = (unseen ≡ []) × IsTalk heard answers text calls
+EndsSo left unseen heard answers text calls Quit = EndsTalk heard answers text calls Quits
+EndsSo left unseen heard answers text calls TooLong = EndsTalk heard answers text calls Cuts
+EndsSo left unseen heard answers text calls Memory = IsTalk heard answers text calls
+EndsSo left unseen heard answers text calls (WriteFault told) = (told ≡ min (length text) (2 ^ 64 - 1)) × BeginsTalk heard answers text calls
+
+-- A session: the reader had these bytes left before and after it, and the writer had taken these; Asked says that just
+-- these calls of the service were made.
+pub record Holds (left new_left taken new_taken : Option (List ℕ)) (Asked : List Call → Type 0) (ended : Ended) : Type 0 where
+  -- what was read, the lines of it that were looked at, and the others
+  pub read : List ℕ
+  pub seen : List Line
+  pub unseen : List Line
+  pub heard : List Heard
+  -- what the service answered, and its calls, both in order
+  pub answers : List Answer
+  pub calls : List Call
+  -- what the writer took
+  pub text : List ℕ
+  pub is_read : Consumes left new_left read
+  pub are_lines : lines read ≡ seen ++ unseen
+  pub is_heard : HearsAll seen heard
+  pub is_asked : Asked calls
+  pub is_taken : Appends taken new_taken text
+  pub ends : EndsSo new_left unseen heard answers text calls ended

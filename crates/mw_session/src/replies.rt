@@ -1,0 +1,50 @@
+//! What is said to a line, and what the service is asked for it.
+ghost use Rattle.std.specs.Prelude.{◌≡◌};
+ghost use Rattle.mw_line.specs.Replies as line_spec;
+ghost use Rattle.mw_session.specs.Parts.{Performs};
+ghost use Rattle.mw_session.specs.Serving.{CanAsk, IsServed, Tells};
+
+use crate::service::Service;
+use crate::steps::{Bound, Step};
+use arrayvec::ArrayVec;
+use mw_line::{Fault, Say};
+use mw_report::{MAX_REPORT, report_text};
+
+/// What is said to one line.
+pub type Text = ArrayVec<u8, MAX_REPORT>;
+
+/// Takes a step: asks the service what it needs, binds the session, and gives the text.
+pub fn perform<S: Service>(step: &Step, bound: &mut Bound, service: &mut S) -> Text
+    requires served { IsServed (S.has_words service.old) bound.old }
+    requires can_ask { CanAsk (S.has_words service.old) step.now }
+    ensures performs { Performs (Tells S.tells S.noted S.found service.old service.new) step.now bound.old bound.new result.items }
+    ensures served { IsServed (S.has_words service.new) bound.new }
+{
+    match step {
+        Step::Refuse(fault) => text(Say::Err(*fault)),
+        Step::Find(name) => match service.find(name) {
+            Some((number, words)) => {
+                *bound = Bound::Tenant(number, words);
+                text(Say::Ok(words))
+            }
+            None => text(Say::Err(Fault::NoSuchTenant)),
+        },
+        Step::BindAdmin => {
+            *bound = Bound::Admin;
+            text(Say::OkAdmin)
+        }
+        Step::Ask(tenant, job) => text(Say::Store(service.ask(*tenant, job))),
+        Step::Report => {
+            let figures = service.figures();
+            report_text(&figures.tenants, figures.pool_free)
+        }
+        Step::Leave => text(Say::Bye),
+        Step::Overrun => text(Say::Err(Fault::LineTooLong)),
+    }
+}
+
+fn text(say: Say) -> Text
+    ensures { result.items ≡ line_spec.text_of say }
+{
+    Text::try_from(say.text().as_slice()).unwrap()
+}

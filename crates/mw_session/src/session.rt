@@ -1,0 +1,135 @@
+//! The session itself: it reads, and answers the lines that have come.
+ghost use Rattle.std.specs.Prelude.{◌≡◌, [], ◌∷◌, List, OnOk};
+ghost use Rattle.mw_frame.specs.declared.lines.Line.{Line as LineRead};
+ghost use Rattle.mw_frame.specs.Stream.{lines_of};
+ghost use Rattle.mw_session.specs.Parts.{Gives, Turned};
+ghost use Rattle.mw_session.specs.Serving.{IsServed, Tells};
+ghost use Rattle.mw_session.specs.Whole.{Holds};
+
+use crate::replies::perform;
+use crate::service::Service;
+use crate::steps::{Bound, step_at};
+use crate::writing::write_counted;
+use mw_frame::{Feed, Line};
+use std::alloc::Global;
+use std::io::{Read, Write};
+use std::sync::Wait;
+
+/// How a session ended.
+#[derive(Clone, Copy, Debug, PartialEq, Eq)]
+pub enum Ended {
+    /// The peer said `QUIT`. What it sent behind that isn't looked at.
+    Quit,
+    /// The peer sends no more. A last line without its line feed got no reply.
+    PeerEnd,
+    /// A line was too long, and the peer was told so.
+    TooLong,
+    /// The reader failed.
+    ReadFault,
+    /// The writer failed, or took nothing, after so many bytes of this session. The number stays at
+    /// `u64::MAX`.
+    WriteFault(u64),
+    /// There was no memory for what came.
+    Memory,
+}
+
+/// How many bytes are asked of a reader at a time.
+const PIECE: usize = 512;
+
+/// A session under way.
+#[derive(Drop)]
+pub struct Session {
+    /// What has come and isn't looked at yet.
+    feed: Feed,
+    /// For whom the session speaks.
+    bound: Bound,
+    /// How many bytes the writer has taken; it stays at `u64::MAX`.
+    written: u64,
+}
+
+impl Session {
+    /// Serves one peer: reads its lines and writes the reply to each, before the next line is looked
+    /// at, until the session ends. A reader may never end, so this may wait for ever.
+    pub fn run<R: Read, W: Write, S: Service>(
+        alloc: Global,
+        rt: &impl Wait,
+        reader: &mut R,
+        writer: &mut W,
+        service: &mut S,
+    ) -> Ended
+        ensures { Holds (R.remaining reader.old) (R.remaining reader.new) (W.contents writer.old) (W.contents writer.new)
+            (Tells S.tells S.noted S.found service.old service.new) result }
+    {
+        let Ok(feed) = Feed::new(alloc) else {
+            return Ended::Memory;
+        };
+        let mut session = Session {
+            feed,
+            bound: Bound::Nobody,
+            written: 0,
+        };
+        let mut piece = [0; PIECE];
+        for _ in rt.forever() {
+            match reader.read(&mut piece) {
+                Ok(0) => return Ended::PeerEnd,
+                Ok(count) => {
+                    if session.feed.feed(&piece[..count]).is_err() {
+                        return Ended::Memory;
+                    }
+                    if let Err(ended) = session.answer_all(writer, service) {
+                        return ended;
+                    }
+                }
+                Err(_) => return Ended::ReadFault,
+            }
+        }
+        unreachable!()
+    }
+
+    /// Answers the lines that are there, in order. An error says how the session has ended.
+    fn answer_all<W: Write, S: Service>(
+        &mut self,
+        writer: &mut W,
+        service: &mut S,
+    ) -> Result<(), Ended>
+        requires { IsServed (S.has_words service.old) self.old.bound }
+        ensures turned { (lines : List LineRead) × Gives self.old.feed lines self.new.feed
+            × Turned (W.contents writer.old) (W.contents writer.new) (Tells S.tells S.noted S.found service.old service.new)
+            self.old.written self.new.written lines self.old.bound self.new.bound result }
+        ensures all { OnOk result (lines_of self.new.feed ≡ []) }
+        ensures served { OnOk result (IsServed (S.has_words service.new) self.new.bound) }
+    {
+        while let Some(line) = self.feed.next() {
+            let answered = self.answer(&line, writer, service);
+            if answered.is_err() {
+                return answered;
+            }
+        }
+        Ok(())
+    }
+
+    /// Answers a line. An error says how the session has ended.
+    fn answer<W: Write, S: Service>(
+        &mut self,
+        line: &Line,
+        writer: &mut W,
+        service: &mut S,
+    ) -> Result<(), Ended>
+        requires { IsServed (S.has_words service.old) self.old.bound }
+        ensures turned { Turned (W.contents writer.old) (W.contents writer.new) (Tells S.tells S.noted S.found service.old service.new)
+            self.old.written self.new.written (line.now ∷ []) self.old.bound self.new.bound result }
+        ensures served { IsServed (S.has_words service.new) self.new.bound }
+        ensures feed { self.new.feed ≡ self.old.feed }
+    {
+        let step = step_at(self.bound, line);
+        let text = perform(&step, &mut self.bound, service);
+        let sent = write_counted(writer, &text, &mut self.written);
+        if sent.is_err() {
+            return sent;
+        }
+        match step.end() {
+            Some(ended) => Err(ended),
+            None => Ok(()),
+        }
+    }
+}

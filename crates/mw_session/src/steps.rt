@@ -1,0 +1,103 @@
+//! What a line asks the session to do.
+ghost use Rattle.std.specs.Prelude.{◌≡◌, ℕ, IsTrue};
+ghost use Rattle.mw_words.specs.Change.{is_well_formed};
+ghost use Rattle.mw_words.specs.declared.limits.TheConstants.{MAX_WORDS};
+ghost use Rattle.mw_session.specs.Judged.{Judges, Suits};
+ghost use Rattle.mw_session.specs.Parts.{end_of};
+ghost use Rattle.mw_session.specs.Talk as spec;
+ghost use Rattle.mw_line.specs.Limits.{FitsLargestTenant};
+
+use crate::session::Ended;
+use mw_frame::Line;
+use mw_line::{Fault, Request, read_line};
+use mw_words::{Job, Name};
+
+/// For whom a session speaks.
+#[derive(Clone, Copy, Debug, PartialEq, Eq)]
+pub enum Bound {
+    /// For nobody yet.
+    Nobody,
+    /// For the tenant of this number, who has so many words.
+    Tenant(u8, u16),
+    /// For the administrator.
+    Admin,
+}
+
+/// What a session does at a line.
+#[derive(Debug, PartialEq, Eq, Drop)]
+pub enum Step {
+    /// Say what is wrong with the line.
+    Refuse(Fault),
+    /// Look for the tenant of this name, and be bound to it.
+    Find(Name),
+    /// Be bound to the administrator.
+    BindAdmin,
+    /// Ask for the job of the tenant of this number.
+    Ask(u8, Job),
+    /// Report the figures.
+    Report,
+    /// End, as the line asks.
+    Leave,
+    /// End, since the line is too long.
+    Overrun,
+}
+
+impl Step {
+    /// How the session ends with this step, if it does.
+    pub fn end(&self) -> Option<Ended>
+        ensures { result ≡ end_of self.now }
+    {
+        match self {
+            Step::Leave => Some(Ended::Quit),
+            Step::Overrun => Some(Ended::TooLong),
+            _ => None,
+        }
+    }
+}
+
+/// What a session that is bound so does at a line.
+pub fn step_at(bound: Bound, line: &Line) -> Step
+    ensures judges { Judges bound line.now result }
+    ensures suits { Suits bound result }
+{
+    match line {
+        Line::TooLong => Step::Overrun,
+        Line::Text(text) => match read_line(text) {
+            Ok(request) => step_for(bound, request),
+            Err(fault) => Step::Refuse(fault.into()),
+        },
+    }
+}
+
+fn step_for(bound: Bound, request: Request) -> Step
+    requires { FitsLargestTenant request }
+    ensures step { result ≡ spec.step_for bound request }
+    ensures suits { Suits bound result }
+{
+    match (request, bound) {
+        (Request::Quit, _) => Step::Leave,
+        (Request::Tenant(name), Bound::Nobody) => Step::Find(name),
+        (Request::Admin, Bound::Nobody) => Step::BindAdmin,
+        (Request::Job(_) | Request::Report, Bound::Nobody) => Step::Refuse(Fault::NotBound),
+        (Request::Tenant(_) | Request::Admin, _) => Step::Refuse(Fault::AlreadyBound),
+        (Request::Job(job), Bound::Tenant(number, words)) => step_for_job(number, words, job),
+        (Request::Report, Bound::Admin) => Step::Report,
+        (Request::Job(_), Bound::Admin) | (Request::Report, Bound::Tenant(..)) => {
+            Step::Refuse(Fault::WrongSession)
+        }
+    }
+}
+
+/// Asks for a tenant's job if its addresses are below the tenant's words.
+#[tactic(auto, using(crate::proofs::Jobs::job_steps))]
+fn step_for_job(number: u8, words: u16, job: Job) -> Step
+    requires { IsTrue (is_well_formed MAX_WORDS job) }
+    ensures step { result ≡ spec.step_for (Bound.Tenant number words) (Request.Job job) }
+    ensures suits { Suits (Bound.Tenant number words) result }
+{
+    if job.is_well_formed(usize::from(words)) {
+        Step::Ask(number, job)
+    } else {
+        Step::Refuse(Fault::AddressRange)
+    }
+}
