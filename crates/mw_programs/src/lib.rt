@@ -1,16 +1,12 @@
-//! The programs of the server: `mwinit` makes a tenant's file, `mwserve` serves its words.
+//! The programs of the server: `mwinit` makes a tenant's file, `mwserve` serves tenants' words.
 #![tactic(auto)]
 
 mod making;
 mod notes;
-mod plain;
+mod opening;
+mod served;
 mod serving;
-mod session;
-mod tenants;
+mod worker;
 
 pub use making::init;
 pub use serving::serve;
-pub use tenants::{Refusal, TenantLine, read_tenants};
-
-#[cfg(test)]
-mod tests;

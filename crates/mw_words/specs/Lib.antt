@@ -1,2 +1,4 @@
 pub mod Change
 pub mod Name
+pub mod PatternLaws
+pub mod Patterns

@@ -1,19 +1,33 @@
 //! The words that every layer of the server speaks: its limits, the entries of a change, the jobs
-//! that a tenant may ask for, and the replies to them.
+//! that a tenant may ask for, the replies to them, and the words of 64 bits that workers share.
 #![tactic(auto)]
 
+mod doors;
+mod gates;
 mod jobs;
 mod limits;
 mod names;
+mod places;
 mod replies;
+mod rows;
+mod statuses;
+mod words;
 
+pub use doors::Door;
+pub use gates::Gate;
 pub use jobs::{Entries, Entry, Job, copy_of, is_change};
 pub use limits::{
-    MAX_CONNECTIONS, MAX_ENTRIES, MAX_LINE, MAX_NAME, MAX_PATH, MAX_PLACES, MAX_POOL, MAX_QUOTA,
-    MAX_TENANTS, MAX_TENANTS_FILE, MAX_VALUE, MAX_WORDS, MAX_WORKERS, WORN_NUMBER,
+    MAX_CONNECTIONS, MAX_ENTRIES, MAX_LINE, MAX_NAME, MAX_PATH, MAX_PINS, MAX_PLACES, MAX_POOL,
+    MAX_QUOTA, MAX_TENANTS, MAX_TENANTS_FILE, MAX_VALUE, MAX_WORDS, MAX_WORKERS, WORN_NUMBER,
 };
 pub use names::{Name, is_name};
+pub use places::At;
 pub use replies::Reply;
+pub use rows::Row;
+pub use statuses::Status;
+pub use words::Word;
 
+#[cfg(test)]
+mod pattern_tests;
 #[cfg(test)]
 mod tests;

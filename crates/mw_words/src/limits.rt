@@ -7,6 +7,9 @@ pub const MAX_VALUE: u64 = 281_474_976_710_655;
 /// in use are below it.
 pub const WORN_NUMBER: u64 = 281_474_976_710_655;
 
+/// The most pins of a gate, `2^15 - 1`.
+pub const MAX_PINS: u16 = 32_767;
+
 /// The most tenants that one server serves.
 pub const MAX_TENANTS: usize = 16;
 

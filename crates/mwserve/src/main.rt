@@ -1,4 +1,4 @@
-//! `mwserve --tenants FILE --script FILE` serves a tenant's words.
+//! `mwserve --tenants FILE --script FILE` serves tenants' words.
 #![tactic(auto)]
 
 use mw_programs::serve;

@@ -1,0 +1,14 @@
+pub mod Acting
+pub mod Admitting
+pub mod Asks
+pub mod Finishing
+pub mod Helping
+pub mod Inspecting
+pub mod JobLaws
+pub mod Pinned
+pub mod Program
+pub mod RangeLaws
+pub mod Ranges
+pub mod RunLaws
+pub mod Runs
+pub mod Sweeping

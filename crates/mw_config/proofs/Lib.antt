@@ -1,0 +1,4 @@
+pub mod Narrowly
+pub mod Spelled
+pub mod Taken
+mod OneAnswer

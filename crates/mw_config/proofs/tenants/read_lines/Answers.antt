@@ -1,0 +1,16 @@
+use Rattle.std.proofs.Common.{◌≡◌, List, subst, rules}
+use Rattle.mw_config.specs.declared.lines.TenantLine.{TenantLine}
+use Rattle.mw_config.specs.Spelling.{line_of, lines_of}
+use Rattle.mw_config.specs.Reading.{Continues}
+use Rattle.mw_config.proofs.Taken.{tenants_more}
+use Rattle.mw_config.proofs.tenants.read_lines.Goals as goal
+
+pub loop-rest-preserved : goal.loop-rest-preserved
+loop-rest-preserved c =
+    let items = c.loop-rest.tenants.items in
+    let rest = c.loop-rest.rest.now in
+    let after = c.in_ok-tenant.after.now in
+    let line = line_of c.in_ok-tenant.tenant in
+    let same : c.deref.result.now ≡ items = search rules in
+    let continues = subst (λ (ts : List TenantLine). Continues (lines_of ts) rest line after) same c.in_ok-tenant.ensures in
+    tenants_more items c.push.new.self.items c.in_ok-tenant.tenant rest after c.args.text.now c.loop-rest.invariant continues c.push.ensures.items

@@ -1,0 +1,5 @@
+pub mod Spelling
+pub mod Limits
+pub mod Judging
+pub mod Reading
+pub mod CommandLine

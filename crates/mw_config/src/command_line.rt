@@ -1,0 +1,162 @@
+//! The command line of `mwserve`.
+ghost use Rattle.std.specs.Prelude.{IfOk, IfSome};
+ghost use Rattle.mw_config.specs.CommandLine.{ArePermittedArgs, IsPermittedMode, IsUpTo};
+
+use clap::builder::ValueParser;
+use clap::error::ErrorKind;
+use clap::{Arg, ArgAction, ArgMatches, Command};
+use mw_words::{MAX_CONNECTIONS, MAX_POOL, MAX_WORKERS};
+use std::alloc::{AllocError, Global};
+use thiserror::Error;
+
+/// What the command line of a server asks for.
+#[derive(Debug, Drop)]
+pub struct Args {
+    /// The path of the tenants file.
+    pub tenants: String,
+    /// How many slots all tenants share, 1 to [`MAX_POOL`].
+    pub pool: u16,
+    /// How many workers there are, 1 to [`MAX_WORKERS`].
+    pub workers: u8,
+    /// Where the sessions come from.
+    pub mode: Mode,
+}
+
+/// Where a server's sessions come from.
+#[derive(Debug, Drop)]
+pub enum Mode {
+    /// From connections to this address; the server ends after so many, 1 to [`MAX_CONNECTIONS`], if
+    /// a number is given.
+    Listen(String, Option<u32>),
+    /// From the script with this path, which is one session.
+    Script(String),
+}
+
+/// Why a command line is not served.
+#[derive(Debug, Drop, Error)]
+pub enum ArgFault {
+    /// It isn't of the form that the help tells, a number is out of range, or it asks for the help.
+    #[error("{0}")]
+    Refused(clap::Error),
+    /// It hasn't exactly one of `--listen` and `--script`, or has `--connections` with `--script`.
+    #[error("mwserve: refused 1 command")]
+    Words,
+    /// Memory was refused.
+    #[error("mwserve: memory")]
+    Memory,
+}
+
+impl From<AllocError> for ArgFault {
+    fn from(_: AllocError) -> Self {
+        ArgFault::Memory
+    }
+}
+
+impl From<clap::Error> for ArgFault {
+    fn from(fault: clap::Error) -> Self {
+        match fault.kind() {
+            ErrorKind::OutOfMemory => ArgFault::Memory,
+            _ => ArgFault::Refused(fault),
+        }
+    }
+}
+
+/// Reads the command line `words`, the program's own name first:
+/// `mwserve --tenants FILE [--pool P] [--workers N]` with either `--listen ADDR [--connections C]` or
+/// `--script FILE`. P is 1 to [`MAX_POOL`], and that where it isn't given; N is 1 to [`MAX_WORKERS`],
+/// and 4 where it isn't given; C is 1 to [`MAX_CONNECTIONS`].
+///
+/// # Errors
+///
+/// [`ArgFault::Refused`] where clap refuses the words, or they ask for the help; [`ArgFault::Words`]
+/// where they haven't exactly one of `--listen` and `--script`, or have `--connections` with
+/// `--script`; [`ArgFault::Memory`] where memory was refused. The words are only read.
+pub fn read_words(alloc: Global, words: &[String]) -> Result<Args, ArgFault>
+    ensures permitted { IfOk result (λ args. ArePermittedArgs args) }
+{
+    let matches = command(alloc)?.try_get_matches_from(words)?;
+    let (Some(tenants), Some(pool), Some(workers)) = (
+        matches.get_str("tenants"),
+        number_of(&matches, "pool", u32::from(MAX_POOL)),
+        number_of(&matches, "workers", u32::from(MAX_WORKERS)),
+    ) else {
+        return Err(ArgFault::Words);
+    };
+    Ok(Args {
+        tenants: String::from_str(alloc, tenants)?,
+        pool: pool as u16,
+        workers: workers as u8,
+        mode: mode_of(alloc, &matches)?,
+    })
+}
+
+fn mode_of(alloc: Global, matches: &ArgMatches<'_>) -> Result<Mode, ArgFault>
+    ensures { IfOk result (λ mode. IsPermittedMode mode) }
+{
+    let connections = number_of(matches, "connections", MAX_CONNECTIONS);
+    match (matches.get_str("listen"), matches.get_str("script")) {
+        (Some(address), None) => {
+            Ok(Mode::Listen(String::from_str(alloc, address)?, connections))
+        }
+        (None, Some(script)) if connections.is_none() => {
+            Ok(Mode::Script(String::from_str(alloc, script)?))
+        }
+        _ => Err(ArgFault::Words),
+    }
+}
+
+/// The number of an option, where it was given or has a default. It is 1 to `most`, as the option's
+/// parser has seen to.
+fn number_of(matches: &ArgMatches<'_>, name: &str, most: u32) -> Option<u32>
+    ensures { IfSome result (λ number. IsUpTo most number) }
+{
+    matches
+        .get_one::<u32>(name)
+        .filter(|number| (1..=most).contains(number))
+}
+
+fn command<'a>(alloc: Global) -> Result<Command<'a>, clap::Error> {
+    let tenants = Arg::new(alloc, "tenants")
+        .long("tenants")
+        .value_name("FILE")
+        .required(true)
+        .action(ArgAction::Set)
+        .help("which tenants are served, and from which files");
+    let pool = number(alloc, "pool", "P", u64::from(MAX_POOL))
+        .default_value("256")
+        .help("how many changes of all tenants may be under way at a time, 1 to 256");
+    let workers = number(alloc, "workers", "N", u64::from(MAX_WORKERS))
+        .default_value("4")
+        .help("how many workers make the changes, 1 to 64");
+    let listen = Arg::new(alloc, "listen")
+        .long("listen")
+        .value_name("ADDR")
+        .action(ArgAction::Set)
+        .help("where to wait for connections, each of them a session");
+    let connections = number(alloc, "connections", "C", u64::from(MAX_CONNECTIONS)).help(
+        "after how many connections to end, 1 to 1000000; without it, never",
+    );
+    let script = Arg::new(alloc, "script")
+        .long("script")
+        .value_name("FILE")
+        .action(ArgAction::Set)
+        .help("the lines of one session, in place of connections");
+    let command = Command::new(alloc, "mwserve")
+        .about("Serves tenants' words.")
+        .arg(tenants)?
+        .arg(pool)?
+        .arg(workers)?
+        .arg(listen)?
+        .arg(connections)?
+        .arg(script)?;
+    Ok(command)
+}
+
+/// An option with a number from 1 to `most`.
+fn number<'a>(alloc: Global, name: &'a str, value: &'a str, most: u64) -> Arg<'a> {
+    Arg::new(alloc, name)
+        .long(name)
+        .value_name(value)
+        .action(ArgAction::Set)
+        .value_parser(ValueParser::unsigned(1, most))
+}

@@ -1,0 +1,101 @@
+//! The lines of a tenants file, before any limit is looked at.
+ghost use Rattle.std.specs.Prelude.{◌≡◌, MatchOption, true, false};
+ghost use Rattle.std.specs.List.{list_all};
+ghost use Rattle.mw_line.specs.Reading.{Gives, narrow};
+ghost use Rattle.mw_words.specs.Name as name_spec;
+ghost use Rattle.mw_config.specs.Spelling as spelling;
+ghost use Rattle.mw_config.specs.Spelling.{line_of};
+ghost use Rattle.mw_config.specs.Limits as limits;
+ghost use Rattle.mw_config.specs.Reading as spec;
+ghost use Rattle.mw_config.specs.Reading.{told_line};
+
+use crate::fields::{behind, field, number_at};
+use arrayvec::ArrayString;
+use mw_words::{MAX_PATH, Name, is_name};
+use std::str;
+
+/// A tenant, as its line in the tenants file tells it.
+#[derive(Debug, Default, Drop)]
+pub struct TenantLine {
+    /// Its name.
+    pub name: Name,
+    /// How many words it has, 1 to [`mw_words::MAX_WORDS`].
+    pub words: u16,
+    /// How many changes it may have under way at a time, 1 to [`mw_words::MAX_QUOTA`].
+    pub quota: u8,
+    /// The path of its file.
+    pub path: ArrayString<MAX_PATH>,
+}
+
+/// The fields of a line. A number of more than 16 bits is told as `u16::MAX`.
+#[derive(Drop)]
+pub struct Told {
+    pub name: Name,
+    pub words: u16,
+    pub quota: u16,
+    pub path: ArrayString<MAX_PATH>,
+}
+
+impl Told {
+    /// Whether a tenant has another name and another path.
+    pub fn differs_from(&self, tenant: &TenantLine) -> bool
+        ensures { result ≡ limits.differ (line_of tenant.now) (told_line self.now) }
+    {
+        tenant.name.as_slice() != self.name.as_slice() && tenant.path.as_str() != self.path.as_str()
+    }
+}
+
+/// The line in front of `text`, and the bytes behind it.
+#[tactic(auto, unfolding(crate::specs::Reading::line_at))]
+pub fn told_at(text: &[u8]) -> Option<(Told, &[u8])>
+    ensures { Gives (λ x. (told_line x.0, x.1.now)) result (spec.line_at narrow.addr text.now) }
+{
+    let (name, rest) = field(b' ', text)?;
+    let (words, rest) = number_at(rest)?;
+    let rest = behind(b" ", rest)?;
+    let (quota, rest) = number_at(rest)?;
+    let rest = behind(b" ", rest)?;
+    let (path, rest) = field(b'\n', rest)?;
+    let told = Told {
+        name: read_name(name)?,
+        words,
+        quota,
+        path: read_path(path)?,
+    };
+    Some((told, rest))
+}
+
+fn read_name(text: &[u8]) -> Option<Name>
+    ensures { MatchOption result (name_spec.is_name text.now ≡ false)
+        (λ name. (name_spec.is_name text.now ≡ true) × (name.items ≡ text.now)) }
+{
+    if !is_name(text) {
+        return None;
+    }
+    Name::try_from(text).ok()
+}
+
+fn read_path(text: &[u8]) -> Option<ArrayString<MAX_PATH>>
+    ensures { MatchOption result (spelling.is_path text.now ≡ false)
+        (λ path. (spelling.is_path text.now ≡ true) × (path.bytes ≡ text.now)) }
+{
+    if !is_path(text) {
+        return None;
+    }
+    let Ok(path) = str::from_utf8(text) else {
+        return None;
+    };
+    ArrayString::from(path).ok()
+}
+
+fn is_path(text: &[u8]) -> bool
+    ensures { result ≡ spelling.is_path text.now }
+{
+    (1..=MAX_PATH).contains(&text.len()) && are_path_bytes(text)
+}
+
+fn are_path_bytes(text: &[u8]) -> bool
+    ensures { result ≡ list_all spelling.is_path_byte text.now }
+{
+    text.iter().all(|byte| (b'!'..=b'~').contains(byte))
+}

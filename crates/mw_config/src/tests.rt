@@ -1,0 +1,345 @@
+use super::*;
+use std::alloc::{AllocError, Global};
+use std::test::Fail;
+
+const SIXTEEN: &[u8] =
+    b"a 1 1 a\nb 1 1 b\nc 1 1 c\nd 1 1 d\ne 1 1 e\nf 1 1 f\ng 1 1 g\nh 1 1 h\ni 1 1 i\nj 1 1 j\nk 1 1 k\nl 1 1 l\nm 1 1 m\nn 1 1 n\no 1 1 o\np 1 1 p\n";
+
+/// How many tenants a text tells.
+fn count(text: &[u8], pool: u16) -> Result<usize, Refusal> {
+    match read_tenants(text, pool) {
+        Ok(tenants) => Ok(tenants.len()),
+        Err(refusal) => Err(refusal),
+    }
+}
+
+#[test]
+fn files_that_are_accepted(rt: HostRuntime) {
+    match read_tenants(b"t-0 4096 32 ./a.mw\nu 1 1 ~!\n", 33) {
+        Ok(tenants) => match tenants.as_slice() {
+            [first, second] => {
+                assert!(rt; first.name.as_slice() == b"t-0".as_slice());
+                assert_eq!(rt; (first.words, first.quota), (4096, 32));
+                assert_eq!(rt; first.path.as_str(), "./a.mw");
+                assert!(rt; second.name.as_slice() == b"u".as_slice());
+                assert_eq!(rt; (second.words, second.quota), (1, 1));
+                assert_eq!(rt; second.path.as_str(), "~!");
+            }
+            _ => assert!(rt; false, "there are two"),
+        },
+        Err(refusal) => assert!(rt; false, "{refusal}"),
+    }
+    assert_eq!(rt; count(SIXTEEN, 16), Ok(16));
+    assert_eq!(rt; count(b"abcdefghijklmnop 1 1 a\n", 1), Ok(1));
+}
+
+#[test]
+fn one_line_that_is_refused(rt: HostRuntime) {
+    let cases: [(&[u8], Refusal); 22] = [
+        (b"", Refusal::None),
+        (b"\n", Refusal::Form(1)),
+        (b"t\n", Refusal::Form(1)),
+        (b"t 1 1 a", Refusal::Form(1)),
+        (b"t 1 1 a\r\n", Refusal::Form(1)),
+        (b"t 1 1 a b\n", Refusal::Form(1)),
+        (b"t 1 1 \n", Refusal::Form(1)),
+        (b"t 1 1\n", Refusal::Form(1)),
+        (b"t  1 1 a\n", Refusal::Form(1)),
+        (b" t 1 1 a\n", Refusal::Form(1)),
+        (b"T 1 1 a\n", Refusal::Form(1)),
+        (b"abcdefghijklmnopq 1 1 a\n", Refusal::Form(1)),
+        (b"t 01 1 a\n", Refusal::Form(1)),
+        (b"t 1 00 a\n", Refusal::Form(1)),
+        (b"t -1 1 a\n", Refusal::Form(1)),
+        (b"t 1 1 \xc3\xa9\n", Refusal::Form(1)),
+        (b"t 0 1 a\n", Refusal::Words(1)),
+        (b"t 4097 1 a\n", Refusal::Words(1)),
+        (b"t 65537 1 a\n", Refusal::Words(1)),
+        (b"t 1 0 a\n", Refusal::Quota(1)),
+        (b"t 1 33 a\n", Refusal::Quota(1)),
+        (b"t 1 257 a\n", Refusal::Quota(1)),
+    ];
+    for (text, refusal) in cases {
+        assert_eq!(rt; count(text, 256), Err(refusal));
+    }
+}
+
+#[test]
+fn the_first_refusal_is_the_answer(rt: HostRuntime) {
+    let cases: [(&[u8], u16, Refusal); 11] = [
+        (b"t 0 0 a", 256, Refusal::Form(1)),
+        (b"t 0 33 a\n", 256, Refusal::Words(1)),
+        (
+            b"t 99999999999999999999999999 0 a\n",
+            256,
+            Refusal::Words(1),
+        ),
+        (b"t 1 18446744073709551617 a\nt\n", 256, Refusal::Quota(1)),
+        (b"t 1 1 a\nt 1 0 a\n", 256, Refusal::Quota(2)),
+        (b"t 1 1 a\nt 0 1 a\n", 256, Refusal::Words(2)),
+        (b"t 2 1 a.mw\nt 2 1 b.mw\n", 256, Refusal::Twice(2)),
+        (b"t 2 1 a.mw\nu 2 1 a.mw\nv\n", 256, Refusal::Twice(2)),
+        (b"t 1 1 a\n\n", 0, Refusal::Form(2)),
+        (b"t 1 1 a\nu 1 32 b\n", 32, Refusal::Pool),
+        (b"t 1 1 a\n", 0, Refusal::Pool),
+    ];
+    for (text, pool, refusal) in cases {
+        assert_eq!(rt; count(text, pool), Err(refusal));
+    }
+    assert_eq!(rt; count(b"t 1 1 a\nu 1 32 b\n", 33), Ok(2));
+}
+
+/// Sixteen lines and this one.
+fn seventeen(line: &[u8]) -> Result<usize, Refusal> {
+    let mut text = [b' '; 256];
+    let mut length = 0;
+    for byte in SIXTEEN.iter().chain(line) {
+        if let Some(place) = text.get_mut(length) {
+            *place = *byte;
+            length += 1;
+        }
+    }
+    count(text.get(..length).unwrap_or(b"?"), 0)
+}
+
+#[test]
+fn a_seventeenth_line(rt: HostRuntime) {
+    let cases: [(&[u8], Refusal); 7] = [
+        (b"q 1 1", Refusal::Form(17)),
+        (b"q 1 1 q", Refusal::Form(17)),
+        (b"a 0 0 a\n", Refusal::Words(17)),
+        (b"a 1 33 a\n", Refusal::Quota(17)),
+        (b"p 1 1 q\n", Refusal::Twice(17)),
+        (b"q 1 1 a\n", Refusal::Twice(17)),
+        (b"q 1 1 q\n", Refusal::Many(17)),
+    ];
+    for (line, refusal) in cases {
+        assert_eq!(rt; seventeen(line), Err(refusal));
+    }
+    assert_eq!(rt; seventeen(b""), Err(Refusal::Pool));
+}
+
+#[test]
+fn long_files_and_paths(rt: HostRuntime) {
+    assert_eq!(rt; count(&[b'a'; 8192], 256), Err(Refusal::Form(1)));
+    assert_eq!(rt; count(&[b'a'; 8193], 256), Err(Refusal::File));
+    let mut text = [b'p'; 208];
+    text[..6].copy_from_slice(b"t 1 1 ");
+    text[206] = b'\n';
+    assert_eq!(rt; count(&text[..207], 256), Ok(1));
+    text[206] = b'p';
+    text[207] = b'\n';
+    assert_eq!(rt; count(&text, 256), Err(Refusal::Form(1)));
+}
+
+#[test]
+fn texts_of_refusals(rt: HostRuntime) -> Result<(), Fail> {
+    let cases = [
+        (Refusal::File, "mwserve: refused 2 file"),
+        (Refusal::Form(1), "mwserve: refused 3 form line 1"),
+        (Refusal::Words(2), "mwserve: refused 4 words line 2"),
+        (Refusal::Quota(16), "mwserve: refused 5 quota line 16"),
+        (Refusal::Twice(2), "mwserve: refused 6 twice line 2"),
+        (Refusal::Many(17), "mwserve: refused 7 many line 17"),
+        (Refusal::None, "mwserve: refused 8 none"),
+        (Refusal::Pool, "mwserve: refused 9 pool"),
+    ];
+    for (refusal, wanted) in cases {
+        let text = format!(in rt.alloc(); "{refusal}")?;
+        assert_eq!(rt; text.as_str(), wanted);
+    }
+    Ok(())
+}
+
+/// What a command line gives: what it asks for, or the name of its fault.
+fn read(alloc: Global, words: &[&str]) -> Result<String, AllocError> {
+    let mut given = Vec::new(alloc);
+    for word in words {
+        given.push(String::from_str(alloc, word)?)?;
+    }
+    match read_words(alloc, &given) {
+        Ok(args) => format!(in alloc; "{args:?}"),
+        Err(ArgFault::Refused(_)) => String::from_str(alloc, "refused"),
+        Err(ArgFault::Words) => String::from_str(alloc, "words"),
+        Err(ArgFault::Memory) => Err(AllocError),
+    }
+}
+
+const LINES: [(&[&str], &str); 4] = [
+    (
+        &["mwserve", "--tenants", "t", "--script", "s"],
+        "Args { tenants: \"t\", pool: 256, workers: 4, mode: Script(\"s\") }",
+    ),
+    (
+        &["mwserve", "--listen", "a:1", "--tenants", "t"],
+        "Args { tenants: \"t\", pool: 256, workers: 4, mode: Listen(\"a:1\", None) }",
+    ),
+    (
+        &[
+            "mwserve",
+            "--tenants",
+            "t",
+            "--pool",
+            "1",
+            "--workers",
+            "64",
+            "--listen",
+            "a:1",
+            "--connections",
+            "1000000",
+        ],
+        "Args { tenants: \"t\", pool: 1, workers: 64, mode: Listen(\"a:1\", Some(1000000)) }",
+    ),
+    (
+        &[
+            "mwserve",
+            "--tenants",
+            "t",
+            "--pool=256",
+            "--workers=1",
+            "--listen=a:1",
+            "--connections=1",
+        ],
+        "Args { tenants: \"t\", pool: 256, workers: 1, mode: Listen(\"a:1\", Some(1)) }",
+    ),
+];
+
+#[test]
+fn command_lines_that_are_accepted(rt: HostRuntime) -> Result<(), Fail> {
+    for (words, wanted) in LINES {
+        let text = read(rt.alloc(), words)?;
+        assert_eq!(rt; text.as_str(), wanted);
+    }
+    Ok(())
+}
+
+#[test]
+fn command_lines_without_one_mode(rt: HostRuntime) -> Result<(), Fail> {
+    let cases: [&[&str]; 3] = [
+        &["mwserve", "--tenants", "t"],
+        &[
+            "mwserve",
+            "--tenants",
+            "t",
+            "--listen",
+            "a:1",
+            "--script",
+            "s",
+        ],
+        &[
+            "mwserve",
+            "--tenants",
+            "t",
+            "--script",
+            "s",
+            "--connections",
+            "1",
+        ],
+    ];
+    for words in cases {
+        let text = read(rt.alloc(), words)?;
+        assert_eq!(rt; text.as_str(), "words");
+    }
+    Ok(())
+}
+
+#[test]
+fn command_lines_that_are_refused(rt: HostRuntime) -> Result<(), Fail> {
+    let cases: [&[&str]; 13] = [
+        &["mwserve"],
+        &["mwserve", "--script", "s"],
+        &["mwserve", "--help"],
+        &["mwserve", "--tenants"],
+        &["mwserve", "--tenants", "t", "--script", "s", "--pool", "0"],
+        &[
+            "mwserve",
+            "--tenants",
+            "t",
+            "--script",
+            "s",
+            "--pool",
+            "257",
+        ],
+        &["mwserve", "--tenants", "t", "--script", "s", "--pool", "x"],
+        &[
+            "mwserve",
+            "--tenants",
+            "t",
+            "--script",
+            "s",
+            "--workers",
+            "0",
+        ],
+        &[
+            "mwserve",
+            "--tenants",
+            "t",
+            "--script",
+            "s",
+            "--workers",
+            "65",
+        ],
+        &[
+            "mwserve",
+            "--tenants",
+            "t",
+            "--listen",
+            "a",
+            "--connections",
+            "0",
+        ],
+        &[
+            "mwserve",
+            "--tenants",
+            "t",
+            "--listen",
+            "a",
+            "--connections",
+            "1000001",
+        ],
+        &["mwserve", "--tenants", "t", "--script", "s", "--what"],
+        &["mwserve", "--tenants", "t", "--script", "s", "more"],
+    ];
+    for words in cases {
+        let text = read(rt.alloc(), words)?;
+        assert_eq!(rt; text.as_str(), "refused");
+    }
+    Ok(())
+}
+
+/// Where memory is refused the answer is want of memory, and never another one.
+#[test]
+fn no_other_answer_for_want_of_memory(rt: HostRuntime) {
+    for (words, wanted) in LINES {
+        if let Ok(text) = read(rt.alloc(), words) {
+            assert_eq!(rt; text.as_str(), wanted);
+        }
+    }
+}
+
+/// The text of the fault that a command line of one word has.
+fn fault_of(alloc: Global, word: &str) -> Result<String, AllocError> {
+    let mut words = Vec::new(alloc);
+    words.push(String::from_str(alloc, "mwserve")?)?;
+    words.push(String::from_str(alloc, word)?)?;
+    match read_words(alloc, &words) {
+        Ok(_) => String::from_str(alloc, "none"),
+        Err(fault) => format!(in alloc; "{fault}"),
+    }
+}
+
+#[test]
+fn the_help_names_each_option(rt: HostRuntime) -> Result<(), Fail> {
+    let help = fault_of(rt.alloc(), "--help")?;
+    for option in [
+        "--tenants <FILE>",
+        "--pool <P>",
+        "--workers <N>",
+        "--listen <ADDR>",
+        "--connections <C>",
+        "--script <FILE>",
+    ] {
+        assert!(rt; help.as_str().contains(option), "{option}");
+    }
+    Ok(())
+}

@@ -1,0 +1,5 @@
+mod Finding
+mod Kept
+mod Made
+mod Numbered
+mod Told

@@ -1,0 +1,7 @@
+use Rattle.mw_engine.specs.Passes.{IsIdle}
+use Rattle.mw_engine.proofs.tests.served_by_one.Given as goal
+
+-- the pass is idle
+abbrev pub invariant-loop-name : goal.invariant-loop-name
+invariant-loop-name g l =
+    (goal.iterator-loop-name g).can_next l.name-iterator × (goal.iterator-loop-name g).is_finite l.name-iterator × IsIdle l.pass

@@ -1,0 +1,4 @@
+pub mod Identity
+pub mod Lines
+pub mod Passes
+pub mod Starting

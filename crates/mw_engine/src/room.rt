@@ -1,0 +1,16 @@
+//! What names an engine.
+use std::marker::Brand;
+
+/// Names one engine: its identity is what stays of it for its whole life. What is under a lock is known
+/// by its type alone, so the types of the engine and of what it guards have this name.
+pub trait Room {
+    ghost use Rattle.mw_engine.specs.Identity.{Identity};
+
+    ghost identity: { Identity };
+}
+
+impl Room for Brand {
+    ghost use Rattle.mw_engine.specs.Identity.{of_no_tenant};
+
+    ghost identity = { of_no_tenant };
+}

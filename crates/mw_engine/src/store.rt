@@ -1,0 +1,15 @@
+//! What the engine's lock guards.
+ghost use Rattle.std.specs.Prelude.{◌≡◌};
+ghost use Rattle.mw_engine.specs.Lines.{identity_over};
+
+use crate::room::Room;
+use mw_plain::Plain;
+use std::marker::PhantomData;
+
+/// The plain store of the tenants that the engine's identity tells.
+#[derive(Drop)]
+pub(crate) struct Store<J: Room, D> {
+    pub(crate) plain: Plain<D>,
+    pub(crate) room: PhantomData<J>,
+    ghost same: { identity_over plain ≡ J.identity },
+}

@@ -1,0 +1,5 @@
+use Rattle.mw_look.specs.RunLaws.{replies-give-back, replies-stay}
+use Rattle.mw_look.proofs.laws.replies_give_back.Goals as goal
+
+pub returns : goal.returns
+returns c = record { give_back = replies-give-back; stay = replies-stay }

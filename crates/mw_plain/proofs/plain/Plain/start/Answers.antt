@@ -1,0 +1,25 @@
+use Rattle.std.proofs.Common.{refl, ap}
+use Rattle.mw_plain.proofs.Serves.{start_of, serves_one, part_here, starts_here}
+use Rattle.mw_plain.proofs.plain.Plain.start.Goals as goal
+
+pub returns-in-Done-clause-answers : goal.returns-in-Done-clause-answers
+returns-in-Done-clause-answers g c =
+    let ends = c.start.ensures.ends in (
+      ends.0,
+      starts_here g.D.Disk.facts c.args.self.now _ c.args.tenant c.index_mut.result.now c.start.new.self c.args.job.now ends.0 c.start.result _ (ap (start_of c.args.tenant) c.in-Done.is)
+          c.requires.tenant c.index_mut.ensures.value refl refl c.start.ensures.line c.requires.formed ends.1,
+    )
+
+pub returns-in-Prepared-clause-one : goal.returns-in-Prepared-clause-one
+returns-in-Prepared-clause-one g c =
+    let old = c.args.self.now in
+    let was = part_here old c.args.tenant c.index_mut.result.now c.requires.tenant c.index_mut.ensures.value in
+    (serves_one old _ c.args.tenant c.index_mut.result.now c.start.new.self c.requires.tenant was refl refl c.start.ensures.line).0
+
+pub returns-in-Prepared-clause-answers : goal.returns-in-Prepared-clause-answers
+returns-in-Prepared-clause-answers g c =
+    let ends = c.start.ensures.ends in (
+      ends.0,
+      starts_here g.D.Disk.facts c.args.self.now _ c.args.tenant c.index_mut.result.now c.start.new.self c.args.job.now ends.0 c.start.result _ (ap (start_of c.args.tenant) c.in-Prepared.is)
+          c.requires.tenant c.index_mut.ensures.value refl refl c.start.ensures.line c.requires.formed ends.1,
+    )

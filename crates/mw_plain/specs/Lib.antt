@@ -1,0 +1,16 @@
+pub mod Answers
+pub mod Books
+pub mod Cases
+pub mod Lines
+pub mod Made
+pub mod Marks
+pub mod Misses
+pub mod Names
+pub mod Parts
+pub mod Quotas
+pub mod Report
+pub mod Restarts
+pub mod Running
+pub mod Serving
+pub mod Stands
+pub mod Tickets

@@ -1,0 +1,106 @@
+-- What the marks of a call do to the store alone: they are legal, they hand out the call's reply, and after them the
+-- store is the one that the case says.
+use Rattle.std.specs.Prelude.{ℕ, ◌≡◌, ◌≢◌, Bool, if◌then◌else◌, List, [], ◌∷◌, ◌++◌, length, Option, Some, None, IsTrue}
+use Rattle.std.specs.Option.{option_and_then, option_map, option_to_list, unwrap_or}
+use Rattle.std.proofs.Common.{refl, sym, ap, ◌∙◌, append_assoc}
+use Rattle.std.proofs.lemmas.Option.{none-some, same_Some}
+use Rattle.mw_words.specs.declared.jobs.Job.{Job}
+use Rattle.mw_words.specs.declared.replies.Reply.{Reply}
+use Rattle.mw_words.specs.Change.{is_well_formed, put}
+use Rattle.mw_lone.specs.declared.marks.Mark.{Mark}
+use Rattle.mw_lone.specs.Store.{Store, RequestState, step, run, outgoing, replies_from, request, store_after_start, entries_of}
+use Rattle.mw_lone.specs.declared.marks.Mark.TheVariants.{Restart}
+use Rattle.mw_plain.specs.Cases.{StartCase, FinishCase, AskCase, StartFits, FinishFits, AskFits, CanChange, start_marks, finish_marks, ask_marks, start_reply, finish_reply, ask_reply, after_start, after_finish, after_ask, request_after_start, under_way, ended, gives_back, Served, ServedFits, AllFit, after_served, after_all, marks_of_all, replies_to_all}
+
+-- These marks are legal in this order. They hand out these replies, each with its request's number, and leave that store.
+pub record Goes (s : Store) (marks : List Mark) (replies : List (ℕ × Reply)) (t : Store) : Type 0 where
+  pub ran : run s marks ≡ Some t
+  pub said : replies_from s marks ≡ replies
+
+-- the reply to the request n, if there is one
+abbrev pub reply_to : ℕ → Option Reply → List (ℕ × Reply)
+reply_to n reply = option_to_list (option_map (λ r. (n, r)) reply)
+
+-- of all requests only the one with this number changed, and it is now this
+pub record Alone (s t : Store) (n : ℕ) (r : RequestState) : Type 0 where
+  pub own : request t n ≡ Some r
+  pub others : (m : ℕ) → m ≢ n → request t m ≡ request s m
+
+-- A start of a well-formed job takes the store's next number.
+pub record Started (s : Store) (job : Job) (case : StartCase) : Type 0 where
+  pub goes : Goes s (start_marks s.next job case) (reply_to s.next (start_reply s.words job case)) (after_start s job case)
+  pub requests : Alone s (after_start s job case) s.next (request_after_start s.words job case)
+
+abbrev pub StartGoes : Type 0
+StartGoes = (s : Store) (job : Job) (case : StartCase) → IsTrue (is_well_formed (length s.words) job) → StartFits s job case → Started s job case
+
+-- A finish takes a change under way to its end.
+pub record Finished (s : Store) (n : ℕ) (job : Job) (case : FinishCase) : Type 0 where
+  pub goes : Goes s (finish_marks n case) (reply_to n (finish_reply s.words job case)) (after_finish s n job case)
+  pub requests : Alone s (after_finish s n job case) n (ended job (finish_reply s.words job case) (gives_back case))
+
+abbrev pub FinishGoes : Type 0
+FinishGoes = (s : Store) (n : ℕ) (job : Job) (case : FinishCase) → request s n ≡ Some (under_way job) → FinishFits s job case → Finished s n job case
+
+-- A job that is started, and finished where the start prepared it.
+pub record Answered (s : Store) (job : Job) (case : AskCase) : Type 0 where
+  pub goes : Goes s (ask_marks s.next job case) (reply_to s.next (ask_reply s.words job case)) (after_ask s job case)
+  pub others : (m : ℕ) → m ≢ s.next → request (after_ask s job case) m ≡ request s m
+
+abbrev pub AskGoes : Type 0
+AskGoes = (s : Store) (job : Job) (case : AskCase) → IsTrue (is_well_formed (length s.words) job) → AskFits s job case → Answered s job case
+
+-- Jobs that are asked one after another: the marks of all are legal, and each job has its one reply, in order.
+abbrev pub AllGo : Type 0
+AllGo = (s : Store) (all : List Served) → AllFit s all → Goes s (marks_of_all s.next all) (replies_to_all s.next all) (after_all s all)
+
+-- one job more fits the store that all before it left
+abbrev pub OneMoreFits : Type 0
+OneMoreFits = (s : Store) (all : List Served) (last : Served) → AllFit s all → ServedFits (after_all s all) last → AllFit s (all ++ last ∷ []) × (after_all s (all ++ last ∷ []) ≡ after_served (after_all s all) last)
+
+-- All may stop while such a change is sealed: the start after it is legal, whether it finds all of the change or nothing.
+abbrev pub MayStop : Type 0
+MayStop = (s : Store) (n : ℕ) (job : Job) (take opened : Bool) → request s n ≡ Some (under_way job) → CanChange s job → step s (Restart (Some n) take opened) ≡ Some (store_after_start s (if take then put s.words (entries_of job) else s.words) opened)
+
+-- the store after one list of marks and then another is what the other makes of the store after the one
+abbrev pub RunsJoin : Type 0
+RunsJoin = (s : Store) (first second : List Mark) → run s (first ++ second) ≡ option_and_then (λ t. run t second) (run s first)
+
+-- and the replies of both are those of the one and then those of the other
+abbrev pub RepliesJoin : Type 0
+RepliesJoin = (s t : Store) (first second : List Mark) → run s first ≡ Some t → replies_from s (first ++ second) ≡ replies_from s first ++ replies_from t second
+
+run_on : (o : Option Store) (first second : List Mark) → ((t : Store) → run t (first ++ second) ≡ option_and_then (λ u. run u second) (run t first)) → option_and_then (λ t. run t (first ++ second)) o ≡ option_and_then (λ u. run u second) (option_and_then (λ t. run t first) o)
+run_on None first second h = refl
+run_on (Some t) first second h = h t
+
+pub runs-join : RunsJoin
+runs-join s [] second = refl
+runs-join s (mark ∷ first) second = run_on (step s mark) first second (λ t. runs-join t first second)
+
+replies_on : (o : Option Store) (t : Store) (first second : List Mark) → option_and_then (λ u. run u first) o ≡ Some t → ((u : Store) → run u first ≡ Some t → replies_from u (first ++ second) ≡ replies_from u first ++ replies_from t second) → unwrap_or (option_map (λ u. replies_from u (first ++ second)) o) [] ≡ unwrap_or (option_map (λ u. replies_from u first) o) [] ++ replies_from t second
+replies_on None t first second e h = absurd (none-some t e)
+replies_on (Some u) t first second e h = h u e
+
+pub replies-join : RepliesJoin
+replies-join s t [] second e = ap (λ u. replies_from u second) (same_Some s t e)
+replies-join s t (mark ∷ first) second e =
+    let said = option_to_list (outgoing s mark) in
+    ap (λ rest. said ++ rest) (replies_on (step s mark) t first second e (λ u at. replies-join u t first second at)) ∙ sym (append_assoc said _ _)
+
+-- where nothing happens, nothing changes
+pub goes-nowhere : (s : Store) → Goes s [] [] s
+goes-nowhere s = record { ran = refl; said = refl }
+
+-- one list of marks, and then another
+pub goes-then : (s t u : Store) (first second : List Mark) (early late : List (ℕ × Reply)) → Goes s first early t → Goes t second late u → Goes s (first ++ second) (early ++ late) u
+goes-then s t u first second early late g h = record {
+  ran = runs-join s first second ∙ ap (option_and_then (λ t. run t second)) g.ran ∙ h.ran;
+  said = replies-join s t first second g.ran ∙ ap (λ xs. xs ++ replies_from t second) g.said ∙ ap (λ xs. early ++ xs) h.said;
+}
+
+pub one-more-fits : OneMoreFits
+one-more-fits s [] last fit fits = ((fits, tt), refl)
+one-more-fits s (served ∷ more) last fit fits =
+    let rest = one-more-fits (after_served s served) more last fit.1 fits in
+    ((fit.0, rest.0), rest.1)

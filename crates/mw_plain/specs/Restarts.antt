@@ -1,0 +1,38 @@
+-- What a start goes on from.
+use Rattle.std.specs.Prelude.{◌≡◌, ℕ, Bool, List, [], length, Option, Some, Vec, Result, Ok, Err}
+use Rattle.std.specs.declared.alloc.Global.{Global}
+use Rattle.mw_disk.specs.Facts.{Facts, MayLeave}
+use Rattle.mw_file.specs.declared.tenant_file.TenantFile.{TenantFile}
+use Rattle.mw_file.specs.declared.opening.OpenFault.{OpenFault}
+use Rattle.mw_file.specs.File.{slots_of}
+use Rattle.mw_file.specs.Again.{NotDamaged}
+use Rattle.mw_file.specs.Keeps.{Keeps, IsFile}
+use Rattle.mw_lone.specs.Store.{Store, step, store_after_start}
+use Rattle.mw_lone.specs.declared.marks.Mark.TheVariants.{Restart}
+
+-- The store alone may start with these words: with the change that was interrupted or is in doubt, all of it, or without. They are
+-- as many as before.
+pub record MayStartWith (s : Store) (interrupted : Option ℕ) (words : List ℕ) : Type 0 where
+  pub take : Bool
+  pub legal : (opened : Bool) → step s (Restart interrupted take opened) ≡ Some (store_after_start s words opened)
+  pub count : length words ≡ length s.words
+
+module _ {D : Type 0} (facts : D → Facts) where
+  -- The store may start with the words that were read. The file stands for them, no change is in doubt, and it has so many places.
+  pub record GoesOn (s : Store) (interrupted : Option ℕ) (places : ℕ) (file : TenantFile D) (words : List ℕ) : Type 0 where
+    pub start : MayStartWith s interrupted words
+    pub keeps : Keeps facts file words []
+    pub places_are : length (slots_of file) ≡ places
+
+  -- The file was not found damaged; and there are words that the store may start with, though faulted, such that a crash leaves a
+  -- file of these words and so many places. So openings that fail lose nothing.
+  pub record StaysBehind (s : Store) (interrupted : Option ℕ) (places : ℕ) (fault : OpenFault) (disk : D) : Type 0 where
+    pub sound : NotDamaged facts s.words [] fault
+    pub words : List ℕ
+    pub start : MayStartWith s interrupted words
+    pub left : (image : List ℕ) → MayLeave (facts disk) image → IsFile places words image
+
+  -- the opening of what a crash left, by its answer
+  abbrev pub StartGoesOn : Store → Option ℕ → ℕ → Result (TenantFile D × Vec ℕ Global) (OpenFault × D) → Type 0
+  StartGoesOn s interrupted places (Ok opened) = GoesOn s interrupted places opened.0 opened.1.items
+  StartGoesOn s interrupted places (Err failed) = StaysBehind s interrupted places failed.0 failed.1

@@ -1,0 +1,23 @@
+//! The words of a tenant whose file has opened, over that file.
+ghost use Rattle.std.specs.Prelude.{◌≡◌, ℕ, false, vec_len};
+ghost use Rattle.mw_file.specs.declared.slots.Stage.TheVariants.{Sealed};
+ghost use Rattle.mw_file.specs.File.{words_of, slots_of, has_failed};
+ghost use Rattle.mw_file.specs.Slots.{stage_of};
+ghost use Rattle.mw_file.specs.Taken.{taken};
+
+use mw_file::TenantFile;
+
+/// The words of a tenant, its file, how many slots it uses, and whether it has faulted: a call on its
+/// file has failed since the file was opened. Until then every change that uses a slot is prepared in a
+/// place of the file.
+#[derive(Drop)]
+pub struct Book<D> {
+    pub(crate) file: TenantFile<D>,
+    pub(crate) words: Vec<u64>,
+    pub(crate) used: u8,
+    pub(crate) faulted: bool,
+    ghost same_words: { vec_len words ≡ words_of file },
+    ghost sound: { faulted ≡ false → has_failed file ≡ false },
+    ghost counted: { faulted ≡ false → taken (slots_of file) ≡ used },
+    ghost unsealed: { faulted ≡ false → (place : ℕ) → stage_of (slots_of file) place ≡ Sealed → ⊥ },
+}

@@ -1,0 +1,120 @@
+//! The store as its tenants' files opened.
+ghost use Rattle.std.specs.Prelude.{◌≡◌, ◌≤◌, length, map, IfOk};
+ghost use Rattle.mw_words.specs.declared.limits.TheConstants.{MAX_POOL, MAX_TENANTS};
+
+use crate::book::Book;
+use crate::part::Part;
+use crate::plain::Plain;
+use crate::serving::copy_of_name;
+use mw_config::TenantLine;
+use mw_disk::Disk;
+use mw_file::TenantFile;
+use std::alloc::{AllocError, Global};
+
+impl<D: Disk + Drop> Plain<D> {
+    ghost use Rattle.mw_plain.specs.Lines.{FitLines, AreMadeOf, StartsWith, quotas_in};
+    ghost use Rattle.mw_plain.specs.Made.{EachStands};
+    ghost use Rattle.mw_plain.specs.Quotas.{disk_in};
+
+    /// The store of the tenants with these lines, each over its file and the words that it was opened
+    /// with; a tenant whose file didn't open, or doesn't fit its line, has faulted from the start. The
+    /// tenants share a pool of so many slots.
+    ///
+    /// # Errors
+    ///
+    /// [`AllocError`] for want of memory. The files are dropped.
+    pub fn new(
+        alloc: Global,
+        lines: &[TenantLine],
+        files: Vec<Option<(TenantFile<D>, Vec<u64>)>>,
+        pool: u16,
+    ) -> Result<Plain<D>, AllocError>
+        requires few { length lines.now ≤ MAX_TENANTS }
+        requires fit { FitLines lines.now files.items }
+        requires shared { quotas_in lines.now ≤ pool }
+        requires small { pool ≤ MAX_POOL }
+        ensures made { IfOk result (λ plain. AreMadeOf lines.now files.items plain.parts.items) }
+        ensures pool { IfOk result (λ plain. plain.pool ≡ pool) }
+        ensures stands { IfOk result (EachStands D.facts lines.now files.items) }
+    {
+        let mut parts = Vec::with_capacity(alloc, lines.len())?;
+        for file in files {
+            let part = Part::new(&lines[parts.len()], file);
+            parts.push(part)?;
+        }
+        Ok(Plain { parts, pool })
+    }
+
+    /// The disks that the tenants' files are on, by number; none where a file didn't open.
+    ///
+    /// # Errors
+    ///
+    /// [`AllocError`] for want of memory. The disks are dropped.
+    pub fn into_disks(self, alloc: Global) -> Result<Vec<Option<D>>, AllocError>
+        ensures { IfOk result (λ disks. disks.items ≡ map disk_in self.parts.items) }
+    {
+        let mut disks = Vec::with_capacity(alloc, self.parts.len())?;
+        for part in self.parts {
+            disks.push(part.into_disk())?;
+        }
+        Ok(disks)
+    }
+}
+
+impl<D: Disk> Part<D> {
+    ghost use Rattle.mw_plain.specs.Lines.{IsWithin, FitsLine, IsMadeOf};
+    ghost use Rattle.mw_plain.specs.Quotas.{disk_in};
+
+    fn new(line: &TenantLine, opened: Option<(TenantFile<D>, Vec<u64>)>) -> Part<D>
+        requires within { IsWithin line.now }
+        requires fits { FitsLine line.now opened }
+        ensures { IsMadeOf line.now opened result }
+    {
+        let book = match opened {
+            Some((file, words)) => Some(Book {
+                file,
+                words,
+                used: 0,
+                faulted: false,
+            }),
+            None => None,
+        };
+        Part {
+            name: copy_of_name(&line.name),
+            words: line.words,
+            quota: line.quota,
+            book,
+        }
+    }
+
+    fn into_disk(self) -> Option<D>
+        ensures { result ≡ disk_in self }
+    {
+        let Part {
+            name: _,
+            words: _,
+            quota: _,
+            book,
+        } = self;
+        match book {
+            Some(book) => Some(book.into_disk()),
+            None => None,
+        }
+    }
+}
+
+impl<D: Disk> Book<D> {
+    ghost use Rattle.mw_file.specs.File.{disk_of};
+
+    fn into_disk(self) -> D
+        ensures { result ≡ disk_of self.file }
+    {
+        let Book {
+            file,
+            words: _,
+            used: _,
+            faulted: _,
+        } = self;
+        file.into_disk()
+    }
+}

@@ -1,0 +1,87 @@
+//! The calls of one tenant.
+ghost use Rattle.std.specs.Prelude.{◌≡◌, not, IsTrue};
+ghost use Rattle.mw_words.specs.Change.{is_change, is_well_formed};
+ghost use Rattle.mw_plain.specs.Books.{used_in, faulted_in, IsPrepared};
+ghost use Rattle.mw_plain.specs.Cases.{StartCase, FinishCase};
+ghost use Rattle.mw_plain.specs.Serving.{StartEnds, FinishEnds};
+
+use crate::calls::Begun;
+use crate::part::Part;
+use mw_disk::Disk;
+use mw_file::Place;
+use mw_report::TenantFigures;
+use mw_words::{Entries, Job, Name, Reply};
+
+impl<D: Disk> Part<D> {
+    ghost use Rattle.mw_plain.specs.Parts.{SameLine};
+    ghost use Rattle.mw_plain.specs.Report.{figures_of};
+
+    /// How many slots the tenant uses.
+    pub(crate) fn used(&self) -> u8
+        ensures { result ≡ used_in self.now.book }
+    {
+        match &self.book {
+            Some(book) => book.used,
+            None => 0,
+        }
+    }
+
+    /// Whether its file takes changes.
+    pub(crate) fn is_up(&self) -> bool
+        ensures { result ≡ not (faulted_in self.now.book) }
+    {
+        match &self.book {
+            Some(book) => !book.faulted,
+            None => false,
+        }
+    }
+
+    /// Its figures.
+    pub(crate) fn figures(&self) -> TenantFigures
+        ensures { result ≡ figures_of self.now }
+    {
+        TenantFigures {
+            name: copy_of_name(&self.name),
+            words: self.words,
+            quota: self.quota,
+            used: self.used(),
+            up: self.is_up(),
+        }
+    }
+
+    /// Starts a job of the tenant.
+    pub(crate) fn start(&mut self, job: &Job) -> Begun
+        requires formed { IsTrue (is_well_formed self.old.words job.now) }
+        ensures line { SameLine self.old self.new }
+        ensures ends { (case : StartCase) × StartEnds D.facts case self.old.quota self.old.book self.new.book job.now result }
+    {
+        match &mut self.book {
+            Some(book) => book.start(job, self.quota),
+            None => Begun::Done(Reply::Fault),
+        }
+    }
+
+    /// Finishes a change of the tenant that was prepared.
+    pub(crate) fn finish(&mut self, place: Place, entries: &Entries) -> Reply
+        requires formed { IsTrue (is_change self.old.words entries.now.items) }
+        requires prepared { IsPrepared self.old.book place.0 entries.now.items }
+        ensures line { SameLine self.old self.new }
+        ensures ends { (case : FinishCase) × FinishEnds D.facts case self.old.book self.new.book place.0 entries.now result }
+    {
+        match &mut self.book {
+            Some(book) => book.finish(place, entries),
+            None => Reply::Fault,
+        }
+    }
+}
+
+/// The same name once more.
+pub(crate) fn copy_of_name(name: &Name) -> Name
+    ensures { result ≡ name.now }
+{
+    let mut copy = Name::new();
+    for i in 0..name.len() {
+        copy.push(name[i]);
+    }
+    copy
+}

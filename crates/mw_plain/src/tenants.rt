@@ -1,0 +1,135 @@
+//! The calls on the store of all tenants.
+ghost use Rattle.std.specs.Prelude.{◌≡◌, ◌<◌, ◌-◌, map, IsTrue, MatchOption, IfOk, OnErr};
+ghost use Rattle.mw_report.specs.Table.{AreWithinLimits};
+ghost use Rattle.mw_words.specs.Change.{is_well_formed};
+
+use crate::calls::Begun;
+use crate::plain::Plain;
+use crate::tickets::{Start, Task, Ticket};
+use arrayvec::ArrayVec;
+use mw_disk::Disk;
+use mw_report::Figures;
+use mw_words::{Job, Name, Reply};
+use std::alloc::{AllocError, Global};
+
+impl<D: Disk> Plain<D> {
+    ghost use Rattle.mw_plain.specs.Parts.{tenants, words_at, ServesOne};
+    ghost use Rattle.mw_plain.specs.Quotas.{used_by};
+    ghost use Rattle.mw_plain.specs.Report.{figures_of};
+    ghost use Rattle.mw_plain.specs.Names.{HasNone, IsFirst};
+    ghost use Rattle.mw_plain.specs.Running.{AreTasks, AskedAll, ServesAll};
+    ghost use Rattle.mw_plain.specs.Tickets.{IsOpen};
+    ghost use Rattle.mw_plain.specs.Cases.{StartCase, FinishCase, AskCase};
+    ghost use Rattle.mw_plain.specs.Answers.{StartsAs, FinishesAs, AsksAs};
+
+    /// How many tenants there are.
+    pub fn len(&self) -> usize
+        ensures { result ≡ tenants self.now }
+    {
+        self.parts.len()
+    }
+
+    /// How many words a tenant has.
+    pub fn words_of(&self, tenant: u8) -> u16
+        requires { tenant < tenants self.now }
+        ensures { result ≡ words_at self.now tenant }
+    {
+        self.parts[tenant as usize].words
+    }
+
+    /// Starts a job of a tenant. A word that was asked for is told. A change is counted as one of the
+    /// tenant's slots in use and prepared in the tenant's file, and the ticket finishes it; it is BUSY
+    /// where the quota is used up. A tenant that has faulted answers FAULT; so does one whose file fails
+    /// here, which has faulted from then on, with the slot in use.
+    pub fn start(&mut self, tenant: u8, job: &Job) -> Start
+        requires tenant { tenant < tenants self.old }
+        requires formed { IsTrue (is_well_formed (words_at self.old tenant) job.now) }
+        ensures one { ServesOne self.old self.new tenant }
+        ensures answers { (case : StartCase) × StartsAs D.facts case self.old self.new tenant job.now result }
+    {
+        match self.parts[tenant as usize].start(job) {
+            Begun::Done(reply) => Start::Done(reply),
+            Begun::Prepared(place, entries) => Start::Open(Ticket {
+                tenant,
+                place,
+                entries,
+            }),
+        }
+    }
+
+    /// Finishes a change that was started. Where a word isn't the expected one it is given up with its
+    /// slot, and the answer is NO with the first such address and the word there. Else it is written, and
+    /// the answer YES, and its slot is given back. Where the tenant has faulted since, or the file fails
+    /// before the change is in it, the answer is FAULT; where the file fails later it is YES. In these three
+    /// cases the tenant has faulted from then on, with the slot in use.
+    pub fn finish(&mut self, ticket: Ticket) -> Reply
+        requires { IsOpen self.old ticket }
+        ensures one { ServesOne self.old self.new ticket.tenant }
+        ensures answers { (case : FinishCase) × FinishesAs D.facts case self.old self.new ticket result }
+    {
+        self.parts[ticket.tenant as usize].finish(ticket.place, &ticket.entries)
+    }
+
+    /// The reply to a job of a tenant: starts it, and finishes it where that is to be done.
+    pub fn ask(&mut self, tenant: u8, job: &Job) -> Reply
+        requires tenant { tenant < tenants self.old }
+        requires formed { IsTrue (is_well_formed (words_at self.old tenant) job.now) }
+        ensures one { ServesOne self.old self.new tenant }
+        ensures answers { (case : AskCase) × AsksAs D.facts case self.old self.new tenant job.now result }
+    {
+        match self.start(tenant, job) {
+            Start::Done(reply) => reply,
+            Start::Open(ticket) => self.finish(ticket),
+        }
+    }
+
+    /// The replies to these tasks, asked one after the other.
+    ///
+    /// # Errors
+    ///
+    /// [`AllocError`] for want of memory. Nothing was done.
+    pub fn run(&mut self, alloc: Global, tasks: &[Task]) -> Result<Vec<Reply>, AllocError>
+        requires { AreTasks self.old tasks.now }
+        ensures done { IfOk result (λ replies. AskedAll D.facts self.old tasks.now replies.items self.new) }
+        ensures serves { IfOk result (λ replies. ServesAll D.facts self.old self.new tasks.now replies.items) }
+        ensures refused { OnErr result (self.new ≡ self.old) }
+    {
+        let mut replies = Vec::with_capacity(alloc, tasks.len())?;
+        for task in tasks {
+            let reply = self.ask(task.tenant, &task.job);
+            replies.push(reply).unwrap();
+        }
+        Ok(replies)
+    }
+
+    /// The number of the first tenant with this name, and how many words it has; none where no tenant
+    /// has it.
+    pub fn find(&self, name: &Name) -> Option<(u8, u16)>
+        ensures { MatchOption result (HasNone self.now (tenants self.now) name.now.items) (IsFirst self.now name.now.items) }
+    {
+        for (tenant, part) in self.parts.iter().enumerate() {
+            if part.name.as_slice() == name.as_slice() {
+                return Some((tenant as u8, part.words));
+            }
+        }
+        None
+    }
+
+    /// The figures of every tenant, in order of number, and how many slots of the pool are free.
+    pub fn figures(&self) -> Figures
+        ensures within { AreWithinLimits result.tenants.items result.pool_free }
+        ensures each { result.tenants.items ≡ map figures_of self.now.parts.items }
+        ensures free { result.pool_free ≡ self.now.pool - used_by self.now.parts.items }
+    {
+        let mut tenants = ArrayVec::new();
+        let mut used: u16 = 0;
+        for part in &self.parts {
+            used += u16::from(part.used());
+            tenants.push(part.figures());
+        }
+        Figures {
+            tenants,
+            pool_free: self.pool - used,
+        }
+    }
+}

@@ -1,0 +1,2 @@
+pub mod MoveLaws
+pub mod Moves

@@ -1,0 +1,77 @@
+-- The moves of doors and gates. Each move has a relation, which says from what it goes to what, and a function, which
+-- gives what it goes to, if there is a move. A relation is read of doors and gates in range; one whose result would be
+-- out of range is no move, and there the function gives nothing.
+use Rattle.std.specs.Prelude.{◌≡◌, ℕ, ◌+◌, ◌-◌, ◌<◌, ◌≤◌, ◌==◌, ◌&&◌, true, false, not, cond, nat_lt, nat_le, Some, None}
+use Rattle.std.specs.declared.option.Option.{Option}
+use Rattle.mw_words.specs.declared.limits.TheConstants.{WORN_NUMBER, MAX_PINS}
+use Rattle.mw_words.specs.declared.doors.Door.{Door}
+use Rattle.mw_words.specs.declared.gates.Gate.{Gate}
+use Rattle.mw_words.specs.Patterns.{IsDoorInRange}
+use Rattle.mw_pool.specs.declared.doors.Admission.{Admission}
+use Rattle.mw_pool.specs.declared.doors.Admission.TheVariants.{Fault, Busy, To}
+
+-- A change is admitted: its tenant's file hasn't failed and uses fewer slots than its quota, and then uses one more.
+pub record Admits (quota : ℕ) (before after : Door) : Type 0 where
+  pub had_no_fault : before.fault ≡ false
+  pub was_below_quota : before.used < quota
+  pub has_no_fault : after.fault ≡ false
+  pub one_more : after.used ≡ before.used + 1
+
+-- What a door says: that the file has failed; that it hasn't, and that no slot of the quota is left; or the door that
+-- counts the change which is admitted.
+abbrev pub Says : Door → ℕ → Admission → Type 0
+Says door quota Fault = door.fault ≡ true
+Says door quota Busy = (door.fault ≡ false) × (quota ≤ door.used)
+Says door quota (To after) = Admits quota door after × IsDoorInRange after
+
+-- what a door says
+abbrev pub after_admit : Door → ℕ → Admission
+after_admit door quota = cond door.fault Fault (cond (nat_lt door.used quota) (To (record door { used = door.used + 1 })) Busy)
+
+-- A gate is claimed: it isn't taken and its number isn't worn, and then it is taken, with one pin, under the same
+-- number.
+pub record Claims (before after : Gate) : Type 0 where
+  pub was_not_taken : before.taken ≡ false
+  pub was_not_worn : before.seq < WORN_NUMBER
+  pub is_taken : after.taken ≡ true
+  pub has_one_pin : after.pins ≡ 1
+  pub same_number : after.seq ≡ before.seq
+
+-- the gate once it is claimed
+abbrev pub after_claim : Gate → Option Gate
+after_claim gate = cond (not gate.taken && nat_lt gate.seq WORN_NUMBER) (Some (record { taken = true; pins = 1; seq = gate.seq })) None
+
+-- A gate is pinned under a number: it is taken, has a pin and that number, and then has one pin more.
+pub record Pins (seq : ℕ) (before after : Gate) : Type 0 where
+  pub was_taken : before.taken ≡ true
+  pub was_pinned : 1 ≤ before.pins
+  pub had_that_number : before.seq ≡ seq
+  pub is_taken : after.taken ≡ true
+  pub one_more : after.pins ≡ before.pins + 1
+  pub same_number : after.seq ≡ before.seq
+
+-- the gate with one pin more; there is none past the most pins
+abbrev pub after_pin : Gate → ℕ → Option Gate
+after_pin gate seq = cond (gate.taken && nat_le 1 gate.pins && nat_lt gate.pins MAX_PINS && (gate.seq == seq)) (Some (record gate { pins = gate.pins + 1 })) None
+
+-- A gate loses a pin, and nothing else.
+pub record Unpins (before after : Gate) : Type 0 where
+  pub same_taken : after.taken ≡ before.taken
+  pub one_less : after.pins + 1 ≡ before.pins
+  pub same_number : after.seq ≡ before.seq
+
+-- the gate with one pin less
+abbrev pub after_unpin : Gate → Gate
+after_unpin gate = record gate { pins = gate.pins - 1 }
+
+-- A gate is freed: it is taken and has no pins, and then it isn't taken, has no pins, and has the next number.
+pub record Frees (before after : Gate) : Type 0 where
+  pub was_taken : before.taken ≡ true
+  pub had_no_pins : before.pins ≡ 0
+  pub is_not_taken : after.taken ≡ false
+  pub has_no_pins : after.pins ≡ 0
+  pub next_number : after.seq ≡ before.seq + 1
+
+-- the gate once it is freed; there is none past the worn number
+abbrev pub after_free : Gate → Option Gate
+after_free gate = cond (gate.taken && (gate.pins == 0) && nat_lt gate.seq WORN_NUMBER) (Some (record { taken = false; pins = 0; seq = gate.seq + 1 })) None

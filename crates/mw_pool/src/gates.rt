@@ -1,0 +1,78 @@
+//! The moves of a gate.
+ghost use Rattle.std.specs.Prelude.{◌≡◌, ◌≤◌, IfSome, None};
+ghost use Rattle.mw_words.specs.declared.gates.Gate.{Gate as GateModel};
+ghost use Rattle.mw_words.specs.Patterns.{IsGateInRange};
+ghost use Rattle.mw_pool.specs.Moves.{Claims, Pins, Unpins, Frees, after_claim, after_pin, after_unpin, after_free};
+
+use mw_words::{Gate, MAX_PINS, WORN_NUMBER};
+
+/// The gate once it is claimed: taken, with 1 pin, under the same number. `None` for a gate that is
+/// taken or whose number is worn. The gate's fields are in range.
+pub fn claim(gate: Gate) -> Option<Gate>
+    requires { IsGateInRange gate }
+    ensures is { result ≡ after_claim gate }
+    ensures some { IfSome result (λ next. Claims gate next × IsGateInRange next) }
+    ensures none { result ≡ None → (next : GateModel) → IsGateInRange next → Claims gate next → ⊥ }
+{
+    if gate.taken || gate.seq == WORN_NUMBER {
+        None
+    } else {
+        Some(Gate {
+            taken: true,
+            pins: 1,
+            ..gate
+        })
+    }
+}
+
+/// The gate with one pin more. `None` for a gate that isn't taken, that has no pin or [`MAX_PINS`] of
+/// them, or whose number isn't `seq`. The gate's fields are in range.
+pub fn pin(gate: Gate, seq: u64) -> Option<Gate>
+    requires { IsGateInRange gate }
+    ensures is { result ≡ after_pin gate seq }
+    ensures some { IfSome result (λ next. Pins seq gate next × IsGateInRange next) }
+    ensures none { result ≡ None → (next : GateModel) → IsGateInRange next → Pins seq gate next → ⊥ }
+{
+    if gate.taken && (1..MAX_PINS).contains(&gate.pins) && gate.seq == seq {
+        Some(Gate {
+            pins: gate.pins + 1,
+            ..gate
+        })
+    } else {
+        None
+    }
+}
+
+/// The gate with one pin less. It has at least 1, and its fields are in range.
+pub fn unpin(gate: Gate) -> Gate
+    requires in_range { IsGateInRange gate }
+    requires pinned { 1 ≤ gate.pins }
+    ensures is { result ≡ after_unpin gate }
+    ensures unpins { Unpins gate result }
+    ensures stays_in_range { IsGateInRange result }
+{
+    Gate {
+        pins: gate.pins - 1,
+        ..gate
+    }
+}
+
+/// The gate once it is free for another change: not taken, without pins, under the next number. `None`
+/// for a gate that isn't taken or has a pin, and at [`WORN_NUMBER`], which no number follows. The
+/// gate's fields are in range.
+pub fn free(gate: Gate) -> Option<Gate>
+    requires { IsGateInRange gate }
+    ensures is { result ≡ after_free gate }
+    ensures some { IfSome result (λ next. Frees gate next × IsGateInRange next) }
+    ensures none { result ≡ None → (next : GateModel) → IsGateInRange next → Frees gate next → ⊥ }
+{
+    if gate.taken && gate.pins == 0 && gate.seq < WORN_NUMBER {
+        Some(Gate {
+            taken: false,
+            pins: 0,
+            seq: gate.seq + 1,
+        })
+    } else {
+        None
+    }
+}

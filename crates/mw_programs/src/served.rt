@@ -1,0 +1,33 @@
+//! What a session asks of a worker: the engine answers, with the worker's pass.
+use crate::worker::Worker;
+use mw_disk::Disk;
+use mw_engine::{Engine, Hold, Room};
+use mw_report::Figures;
+use mw_session::Service;
+use mw_words::{Job, Name, Reply};
+use std::sync::Wait;
+
+impl<J: Room, D: Disk + Drop, H: Hold + Drop, R: Wait> Service for Worker<'_, J, D, H, R> {
+    ghost use Rattle.std.specs.Prelude.{false, None, []};
+    ghost use Rattle.mw_engine.specs.Identity.{HasWords};
+
+    ghost tells = { λ _. false };
+
+    ghost noted = { λ _. [] };
+
+    ghost found = { λ _ _. None };
+
+    ghost has_words = { λ _. HasWords J.identity };
+
+    fn find(&self, name: &Name) -> Option<(u8, u16)> {
+        self.engine.find(name)
+    }
+
+    fn ask(&mut self, tenant: u8, job: &Job) -> Reply {
+        self.engine.serve(self.rt, &mut self.pass, tenant, job)
+    }
+
+    fn figures(&mut self) -> Figures {
+        self.engine.figures(self.rt, &mut self.pass)
+    }
+}

@@ -1,0 +1,6 @@
+use Rattle.std.proofs.Common.{◌≡◌, vec_len}
+use Rattle.mw_workers.proofs.tests.serve.Given as goal
+
+-- a service a round
+abbrev pub invariant-loop : goal.invariant-loop
+invariant-loop g l = vec_len l.services ≡ l.counter

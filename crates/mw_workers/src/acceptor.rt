@@ -1,0 +1,65 @@
+//! What the acceptor does.
+ghost use Rattle.mw_workers.specs.Asked.{ArePut, EndsPut, IsPut};
+
+use crate::peer::{Intake, Listener};
+use std::sync::Wait;
+use std::thread;
+
+/// Takes connections to where they wait for a worker.
+///
+/// With a number of connections, it asks the listener for just so many, each that fails counted too.
+/// Without a number it doesn't return. Nobody may come, so this may wait for ever.
+pub fn accept_all<L: Listener, W: Intake<L::Connection>, R: Wait>(
+    rt: &R,
+    listener: &mut L,
+    waiting: &mut W,
+    connections: Option<u32>,
+)
+    ensures { EndsPut L.accepts W.puts listener.old waiting.old connections listener.new waiting.new }
+{
+    match connections {
+        Some(count) => accept_some(rt, listener, waiting, count),
+        None => accept_for_ever(rt, listener, waiting),
+    }
+}
+
+fn accept_some<L: Listener, W: Intake<L::Connection>, R: Wait>(
+    rt: &R,
+    listener: &mut L,
+    waiting: &mut W,
+    count: u32,
+)
+    ensures { ArePut L.accepts W.puts listener.old waiting.old count listener.new waiting.new }
+{
+    for _ in 0..count {
+        accept_one(rt, listener, waiting);
+    }
+}
+
+fn accept_for_ever<L: Listener, W: Intake<L::Connection>, R: Wait>(
+    rt: &R,
+    listener: &mut L,
+    waiting: &mut W,
+)
+    ensures { ⊥ }
+{
+    for _ in rt.forever() {
+        accept_one(rt, listener, waiting);
+    }
+    unreachable!()
+}
+
+/// Asks the listener once, and puts the connection where it waits for a worker.
+fn accept_one<L: Listener, W: Intake<L::Connection>, R: Wait>(
+    rt: &R,
+    listener: &mut L,
+    waiting: &mut W,
+)
+    ensures { (answer : _) × L.accepts listener.old answer listener.new × IsPut W.puts waiting.old answer waiting.new }
+{
+    match listener.accept() {
+        Ok(connection) => waiting.put(rt, connection),
+        // Where the system has no room for a connection, a worker may be about to make some.
+        Err(_) => thread::yield_now(),
+    }
+}

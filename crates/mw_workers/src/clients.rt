@@ -1,0 +1,77 @@
+//! Clients over loopback for the tests. What they wait for comes within a limit.
+use std::io;
+use std::io::{Read, Write};
+use std::net::{Net, TcpListener, TcpStream};
+use std::time::Duration;
+
+/// How long a client waits for an answer, in seconds.
+const PATIENCE: u64 = 10;
+
+/// A client's end of a connection.
+#[derive(Drop)]
+pub struct Caller {
+    stream: TcpStream,
+}
+
+impl Caller {
+    /// A client of the server at this port.
+    pub fn new<R: Net<Listener = TcpListener, Stream = TcpStream>>(
+        rt: &R,
+        port: u16,
+    ) -> io::Result<Self> {
+        let stream = TcpStream::connect(rt, ("127.0.0.1", port))?;
+        stream.set_read_timeout(Some(Duration::from_secs(PATIENCE)))?;
+        stream.set_write_timeout(Some(Duration::from_millis(100)))?;
+        Ok(Caller { stream })
+    }
+
+    /// Says this over and over, so many times at most, and never listens. True if at last no more was
+    /// taken.
+    pub fn insists(&mut self, text: &[u8], times: usize) -> bool {
+        for _ in 0..times {
+            if !self.says(text) {
+                return true;
+            }
+        }
+        false
+    }
+
+    /// Says this. True if all of it was taken in time.
+    pub fn says(&mut self, text: &[u8]) -> bool {
+        self.stream.write_all(text).is_ok()
+    }
+
+    /// True if just this is heard next.
+    pub fn hears(&mut self, text: &[u8]) -> bool {
+        let mut heard = [0; 64];
+        match heard.get_mut(..text.len()) {
+            Some(room) => self.stream.read_exact(room).is_ok() && *room == *text,
+            None => false,
+        }
+    }
+
+    /// True if the server closes the connection and says no more.
+    pub fn hears_the_end(&mut self) -> bool {
+        let mut heard = [0; 1];
+        self.stream.read(&mut heard).is_ok_and(|count| count == 0)
+    }
+
+    /// Says this and hears that.
+    pub fn asks(&mut self, text: &[u8], answer: &[u8]) -> bool {
+        self.says(text) && self.hears(answer)
+    }
+}
+
+/// Comes and goes so many times, so that a server that still waits for clients has them.
+pub fn come_and_go<R: Net<Listener = TcpListener, Stream = TcpStream>>(
+    rt: &R,
+    port: u16,
+    times: usize,
+) {
+    for _ in 0..times {
+        // Nobody listens any more where the server has ended.
+        if Caller::new(rt, port).is_err() {
+            return;
+        }
+    }
+}

@@ -1,0 +1,130 @@
+//! Clients in memory for the tests.
+ghost use Rattle.std.specs.Prelude.{None, Some};
+
+use crate::peer::{Connection, Listener};
+use arrayvec::ArrayVec;
+use mw_session::{Ended, Service, Session};
+use std::alloc::Global;
+use std::io;
+use std::io::{ErrorKind, Write};
+use std::sync::{Mutex, Wait};
+
+/// What a client says, and what it is told.
+#[derive(Clone, Copy, Drop)]
+pub struct Script {
+    /// With no words the listener fails in its place.
+    pub says: Option<&'static [u8]>,
+    /// How many bytes it takes of what it is told before it goes away.
+    pub takes: usize,
+    pub told: &'static [u8],
+    pub ends: Option<Ended>,
+}
+
+/// What a client was told, how its last session ended, and how many it had.
+#[derive(Drop)]
+pub struct Heard {
+    pub text: ArrayVec<u8, 256>,
+    pub ended: Option<Ended>,
+    pub sessions: usize,
+}
+
+impl Heard {
+    pub fn new() -> Self {
+        Heard {
+            text: ArrayVec::new(),
+            ended: None,
+            sessions: 0,
+        }
+    }
+
+    /// True if this is what the script tells of.
+    pub fn suits(&self, script: &Script) -> bool {
+        self.text.as_slice() == script.told
+            && self.ended == script.ends
+            && self.sessions == usize::from(script.ends.is_some())
+    }
+
+    fn note(&mut self, text: &[u8], ended: Ended) {
+        // Where there is no room, the test sees that something is missing.
+        let _ = self.text.try_extend_from_slice(text);
+        self.ended = Some(ended);
+        self.sessions = self.sessions.saturating_add(1);
+    }
+}
+
+/// A client's page, which takes so many bytes and then fails.
+#[derive(Drop)]
+struct Page {
+    text: ArrayVec<u8, 256>,
+    room: usize,
+}
+
+impl Write for Page {
+    fn write(&mut self, buf: &[u8]) -> io::Result<usize> {
+        let count = buf.len().min(self.room.saturating_sub(self.text.len()));
+        match self.text.try_extend_from_slice(&buf[..count]) {
+            Ok(()) if count > 0 => Ok(count),
+            _ => Err(io::Error::from(ErrorKind::BrokenPipe)),
+        }
+    }
+
+    fn flush(&mut self) -> io::Result<()> {
+        Ok(())
+    }
+}
+
+/// One client.
+#[derive(Drop)]
+pub struct Client<'a> {
+    says: &'a [u8],
+    takes: usize,
+    heard: &'a Mutex<Heard>,
+}
+
+impl<'a> Connection for Client<'a> {
+    ghost left = { λ c. Some c.says.now };
+
+    ghost sent = { λ _. None };
+
+    fn serve<S: Service, R: Wait>(self, rt: &R, alloc: Global, service: &mut S) -> Ended {
+        let mut page = Page {
+            text: ArrayVec::new(),
+            room: self.takes,
+        };
+        let mut says = self.says;
+        let ended = Session::run(alloc, rt, &mut says, &mut page, service);
+        self.heard.lock(rt).note(&page.text, ended);
+        ended
+    }
+}
+
+/// Clients who come one after the other.
+#[derive(Drop)]
+pub struct Crowd<'a> {
+    pub scripts: &'a [Script],
+    pub heard: &'a [Mutex<Heard>],
+    /// How many connections were asked for.
+    pub asked: usize,
+}
+
+impl<'a> Listener for Crowd<'a> {
+    type Connection = Client<'a>;
+
+    ghost accepts = { λ _ _ _. Unit {0} };
+
+    fn accept(&mut self) -> io::Result<Client<'a>> {
+        let now = self.asked;
+        self.asked = now.saturating_add(1);
+        let (Some(script), Some(heard)) = (self.scripts.get(now), self.heard.get(now)) else {
+            return Err(io::Error::from(ErrorKind::NotFound));
+        };
+        match script.says {
+            Some(says) => Ok(Client {
+                says,
+                takes: script.takes,
+                heard,
+            }),
+            None => Err(io::Error::from(ErrorKind::ConnectionAborted)),
+        }
+    }
+}

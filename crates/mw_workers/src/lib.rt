@@ -1,0 +1,37 @@
+//! Many clients at once: an acceptor, a queue of connections, and the workers that serve them.
+//!
+//! [`serve_all`] takes connections from a [`Listener`] and puts each into a queue of [`QUEUE`]. Each
+//! worker has a service of its own, takes one connection at a time out of the queue, and serves it by
+//! one session, [`mw_session::Session::run`], until that ends. So a client who is slow, or says
+//! nothing, or doesn't read its answers holds its own worker and nobody else, as long as another
+//! worker is free. However a session ends, its connection is closed then, and the worker takes the
+//! next.
+//!
+//! [`accept_all`] is what the acceptor does, and [`serve_each`] what each worker does. Of both it is
+//! proved that they pass over no connection and change no order. The queue between them is
+//! [`crossbeam_channel`]'s: that a connection comes out of it once is tested.
+//!
+//! Each reply is sent at once: a TCP connection is told not to hold back what is written to it. Where
+//! the system refuses that, the client is served all the same.
+#![tactic(auto)]
+
+mod acceptor;
+mod peer;
+mod serving;
+mod sockets;
+mod worker;
+
+pub use acceptor::accept_all;
+pub use peer::{Connection, Intake, Listener};
+pub use serving::{QUEUE, ServeEnd, serve_all};
+pub use sockets::{listen_at, port_of};
+pub use worker::serve_each;
+
+#[cfg(test)]
+mod clients;
+#[cfg(test)]
+mod crowd;
+#[cfg(test)]
+mod shelf;
+#[cfg(test)]
+mod tests;

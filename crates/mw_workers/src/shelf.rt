@@ -1,0 +1,98 @@
+//! A service in memory for the tests: one tenant, `t`, whose words lie under a lock.
+ghost use Rattle.std.specs.Prelude.{None, []};
+
+use arrayvec::ArrayVec;
+use mw_report::Figures;
+use mw_session::Service;
+use mw_words::{Entries, Entry, Job, Name, Reply};
+use std::sync::{Mutex, Wait};
+
+/// The tenant's words.
+#[derive(Drop)]
+pub struct Shelf {
+    words: [u64; 32],
+    /// How many of the words the tenant has.
+    len: u16,
+}
+
+impl Shelf {
+    pub fn new(len: u16) -> Self {
+        Shelf {
+            words: [0; 32],
+            len,
+        }
+    }
+
+    fn word(&self, addr: u16) -> u64 {
+        self.words.get(usize::from(addr)).copied().unwrap_or(0)
+    }
+
+    fn first_miss(&self, entries: &Entries) -> Option<Entry> {
+        for entry in entries {
+            if self.word(entry.addr) != entry.expected {
+                return Some(*entry);
+            }
+        }
+        None
+    }
+
+    fn put(&mut self, entries: &Entries) {
+        for entry in entries {
+            if let Some(word) = self.words.get_mut(usize::from(entry.addr)) {
+                *word = entry.new;
+            }
+        }
+    }
+
+    fn answer(&mut self, job: &Job) -> Reply {
+        match job {
+            Job::Get(addr) => Reply::Val(self.word(*addr)),
+            Job::Cas(entries) => match self.first_miss(entries) {
+                Some(entry) => Reply::No(entry.addr, self.word(entry.addr)),
+                None => {
+                    self.put(entries);
+                    Reply::Yes
+                }
+            },
+        }
+    }
+}
+
+/// One worker's way to the words.
+#[derive(Drop)]
+pub struct Clerk<'a, R: Wait> {
+    pub rt: &'a R,
+    pub shelf: &'a Mutex<Shelf>,
+}
+
+impl<'a, R: Wait> Service for Clerk<'a, R> {
+    ghost use Rattle.std.specs.Prelude.{false};
+
+    ghost tells = { λ _. false };
+
+    ghost noted = { λ _. [] };
+
+    ghost found = { λ _ _. None };
+
+    ghost has_words = { λ _ _ _. Unit {0} };
+
+    fn find(&self, name: &Name) -> Option<(u8, u16)> {
+        if name.as_slice() == b"t".as_slice() {
+            Some((0, self.shelf.lock(self.rt).len))
+        } else {
+            None
+        }
+    }
+
+    fn ask(&mut self, _: u8, job: &Job) -> Reply {
+        self.shelf.lock(self.rt).answer(job)
+    }
+
+    #[tactic(auto, using(crate::proofs::Figured::none_within))]
+    fn figures(&mut self) -> Figures {
+        Figures {
+            tenants: ArrayVec::new(),
+            pool_free: 0,
+        }
+    }
+}

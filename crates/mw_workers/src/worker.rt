@@ -1,0 +1,28 @@
+//! What one worker does.
+ghost use Rattle.std.specs.Prelude.{List};
+ghost use Rattle.std.specs.Iterator.{Drains, IsFinite};
+ghost use Rattle.mw_session.specs.Serving.{Tells};
+ghost use Rattle.mw_workers.specs.Sessions.{AreServed};
+
+use crate::peer::Connection;
+use mw_session::Service;
+use std::alloc::Global;
+use std::sync::Wait;
+
+/// Serves each connection by one session, one after the other in the order in which they come, until
+/// no more come. However a session ends, the next connection is served.
+pub fn serve_each<C: Connection + Drop, I: Iterator<Item = C> + Drop, S: Service, R: Wait>(
+    rt: &R,
+    alloc: Global,
+    connections: I,
+    service: &mut S,
+)
+    requires can { I.can_next connections }
+    requires ends { IsFinite (I.remaining connections) }
+    ensures { (all : List C) × Drains I.next_gives connections all
+        × AreServed C.left C.sent (Tells S.tells S.noted S.found) service.old all service.new }
+{
+    for connection in connections {
+        connection.serve(rt, alloc, service);
+    }
+}
