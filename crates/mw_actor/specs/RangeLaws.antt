@@ -299,6 +299,7 @@ tells_in_range actor news next is saw = record {
   worker = is.worker;
   quota = is.quota;
   pool = is.pool;
+  formed = is.formed;
   job = is.job;
   others = others_in_range actor.others actor.point news is.others is.point;
   point = goes_in_range actor next actor.point news (record { worker = is.worker; quota = is.quota; own = is.job.0; read = is.others.0 }) is.point saw;

@@ -1,7 +1,10 @@
 -- At each point the numbers that a request is to store are in range.
-use Rattle.std.specs.Prelude.{ℕ, ◌<◌, ◌≤◌, ◌^◌, List, length, All}
+use Rattle.std.specs.Prelude.{ℕ, ◌≡◌, true, ◌<◌, ◌≤◌, ◌^◌, List, length, All}
 use Rattle.mw_words.specs.declared.limits.TheConstants.{MAX_ENTRIES, MAX_POOL, MAX_VALUE, MAX_WORDS, MAX_WORKERS, WORN_NUMBER}
 use Rattle.mw_words.specs.declared.jobs.Entry.{Entry}
+use Rattle.mw_words.specs.declared.jobs.Job.{Job}
+use Rattle.mw_words.specs.declared.jobs.Job.TheVariants.{Get, Cas}
+use Rattle.mw_words.specs.Change.{is_change}
 use Rattle.mw_words.specs.Patterns.{IsDoorInRange, IsGateInRange}
 use Rattle.mw_actor.specs.declared.points.Task.{Task}
 use Rattle.mw_actor.specs.declared.points.Attempt.{Attempt}
@@ -18,6 +21,11 @@ IsEntryInRange entry = (entry.addr < MAX_WORDS) × (entry.expected ≤ MAX_VALUE
 -- They are no more than a change has, each in range.
 abbrev pub AreEntriesInRange : List Entry → Type 0
 AreEntriesInRange entries = (length entries ≤ MAX_ENTRIES) × All IsEntryInRange entries
+
+-- A job is a read, or a well-formed change of a tenant that has as many words as one may have.
+abbrev pub IsFormed : Job → Type 0
+IsFormed (Get address) = Unit {0}
+IsFormed (Cas entries) = is_change MAX_WORDS entries.items ≡ true
 
 -- the sequence numbers of both changes have a next one
 abbrev pub IsTaskInRange : Task → Type 0
@@ -79,11 +87,12 @@ IsPointInRange others (LowerDoor after) = IsAfterInRange after
 IsPointInRange others point = Unit {0}
 
 -- A request is in range: its worker, its quota and its pool are ones that a server has, and so are its entries, those that were read,
--- and its point.
+-- and its point. Its own entries are a well-formed change.
 pub record IsInRange (actor : Acting) : Type 0 where
   pub worker : actor.worker < MAX_WORKERS
   pub quota : actor.quota < 2 ^ 8
   pub pool : (1 ≤ actor.pool) × (actor.pool ≤ MAX_POOL)
+  pub formed : IsFormed actor.job
   pub job : AreEntriesInRange (own_entries actor)
   pub others : AreEntriesInRange actor.others
   pub point : IsPointInRange actor.others actor.point

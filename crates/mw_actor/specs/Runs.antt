@@ -1,20 +1,20 @@
 -- Whole runs of a request: what it asked for and was told, and what holds of every run, whatever it is told.
-use Rattle.std.specs.Prelude.{ℕ, ◌≡◌, ◌==◌, false, Some, None, List, [], ◌∷◌}
+use Rattle.std.specs.Prelude.{ℕ, ◌≡◌, ◌+◌, ◌<◌, ◌==◌, false, Some, None, List, [], ◌∷◌, ◌⊎◌}
+use Rattle.arrayvec.specs.ArrayVec.{ArrayVec}
 use Rattle.mw_words.specs.declared.places.At.{At}
 use Rattle.mw_words.specs.declared.places.At.TheVariants.{Door as AtDoor, Gate as AtGate, Data, Status as AtStatus}
 use Rattle.mw_words.specs.declared.jobs.Entry.{Entry}
 use Rattle.mw_words.specs.declared.jobs.Job.{Job}
 use Rattle.mw_words.specs.declared.jobs.Job.TheVariants.{Cas}
 use Rattle.mw_words.specs.declared.replies.Reply.{Reply}
-use Rattle.mw_look.specs.declared.steps.Kind.TheVariants.{Claim as ClaimKind, Pin as PinKind, Unpin as UnpinKind, Drop as DropKind}
+use Rattle.mw_pool.specs.Moves.{Claims, Pins}
+use Rattle.mw_look.specs.declared.steps.Kind.TheVariants.{Admit as AdmitKind, Claim as ClaimKind, Pin as PinKind, Unpin as UnpinKind, Free as FreeKind, Drop as DropKind}
 use Rattle.mw_look.specs.declared.news.News.{News}
 use Rattle.mw_look.specs.declared.news.News.TheVariants.{SawGate, Won}
-use Rattle.mw_look.specs.Steps.{Step, Load, Change, File}
+use Rattle.mw_look.specs.Steps.{Step, Load, Change, File, place, fetch, store}
+use Rattle.mw_look.specs.Program.{freed}
+use Rattle.mw_look.specs.Runs.{Event, times, if_same, takes_back, takes_last, frees, frees_any, lowers}
 use Rattle.mw_actor.specs.declared.points.Slot.{Slot}
-use Rattle.std.specs.Prelude.{◌⊎◌}
-use Rattle.arrayvec.specs.ArrayVec.{ArrayVec}
-use Rattle.mw_pool.specs.Moves.{Claims, Pins}
-use Rattle.mw_look.specs.Steps.{place}
 use Rattle.mw_actor.specs.Acting.{Acting, first}
 use Rattle.mw_actor.specs.Asks.{asks}
 use Rattle.mw_actor.specs.Program.{tells, replied}
@@ -23,11 +23,6 @@ use Rattle.mw_actor.specs.Program.{tells, replied}
 pub record Heard : Type 0 where
   pub news : News
   pub next : ℕ
-
--- A step that was made: what was asked for, and what it found.
-pub record Event : Type 0 where
-  pub asked : Step
-  pub told : News
 
 -- a request once it was told these, the latest first
 abbrev pub after : Acting → List Heard → Acting
@@ -38,6 +33,10 @@ after actor (latest ∷ earlier) = tells (after actor earlier) latest.news lates
 abbrev pub past : Acting → List Heard → List Event
 past actor [] = []
 past actor (latest ∷ earlier) = record { asked = asks (after actor earlier); told = latest.news } ∷ past actor earlier
+
+-- the step that a request makes next, if it finds this
+abbrev pub made : Acting → News → Event
+made actor news = record { asked = asks actor; told = news }
 
 -- The place is no door and no word of another tenant.
 abbrev pub IsPlaceFor : ℕ → At → Type 0
@@ -60,28 +59,105 @@ abbrev pub WasWon : List Event → Slot → Type 0
 WasWon [] slot = ⊥
 WasWon (latest ∷ earlier) slot = WinsSlot slot latest.asked latest.told ⊎ WasWon earlier slot
 
--- A call on the file is for a slot that one of these steps won, under some number.
-abbrev pub IsOfWonSlot : List Event → Step → Type 0
-IsOfWonSlot events (File call slot) = (seq : ℕ) × WasWon events (record { slot = slot; seq = seq })
-IsOfWonSlot events step = Unit {0}
+-- The step claims the slot under its number.
+abbrev pub ClaimsSlot : Slot → Step → News → Type 0
+ClaimsSlot slot (Change ClaimKind (AtGate other) from to) Won = (other ≡ slot.slot) × (from.seq ≡ slot.seq) × Claims from to
+ClaimsSlot slot step told = ⊥
 
--- every call on the file, of every request, is for a slot that it has claimed or pinned before
-abbrev pub FileCallsAreOfWonSlots : Type 0
-FileCallsAreOfWonSlots = (worker tenant quota pool : ℕ) (job : Job) (heard : List Heard) →
+-- One of these steps claimed the slot under its number: the slot is the change's own.
+abbrev pub WasClaimed : List Event → Slot → Type 0
+WasClaimed [] slot = ⊥
+WasClaimed (latest ∷ earlier) slot = ClaimsSlot slot latest.asked latest.told ⊎ WasClaimed earlier slot
+
+-- 1 for a pin of the slot that is won: its gate is claimed, with the first pin, or gets a pin more
+abbrev pub wins_pin : ℕ → Step → News → ℕ
+wins_pin slot (Change ClaimKind (AtGate other) from to) Won = if_same other slot
+wins_pin slot (Change PinKind (AtGate other) from to) Won = if_same other slot
+wins_pin slot step told = 0
+
+-- 1 for a change that is admitted: its tenant's door counts a slot more
+abbrev pub admits : Step → News → ℕ
+admits (Change AdmitKind (AtDoor tenant) from to) Won = 1
+admits step told = 0
+
+-- 1 for any slot that is claimed
+abbrev pub claims : Step → News → ℕ
+claims (Change ClaimKind (AtGate slot) from to) Won = 1
+claims step told = 0
+
+-- A pin of the slot is held: more of its pins were won than were taken back.
+abbrev pub IsPinned : List Event → ℕ → Type 0
+IsPinned events slot = times (takes_back slot) events < times (wins_pin slot) events
+
+-- A call on the file is for a slot of which a pin is held.
+abbrev pub IsOfPinnedSlot : List Event → Step → Type 0
+IsOfPinnedSlot events (File call slot) = IsPinned events slot
+IsOfPinnedSlot events step = Unit {0}
+
+-- every call on the file, of every request, is for a slot of which it holds a pin then
+abbrev pub FileCallsAreOfPinnedSlots : Type 0
+FileCallsAreOfPinnedSlots = (worker tenant quota pool : ℕ) (job : Job) (heard : List Heard) →
     let actor = first worker tenant quota pool job in
-    IsOfWonSlot (past actor heard) (asks (after actor heard))
+    IsOfPinnedSlot (past actor heard) (asks (after actor heard))
 
--- The step may be the last one of a change: the door is loaded before anything is taken; a pin is given back, and others
--- are left; a slot is counted off the door; or a status is loaded, by a request that gives up.
-abbrev pub EndsBy : Step → News → Type 0
-EndsBy (Load (AtDoor tenant)) told = Unit {0}
-EndsBy (Change UnpinKind at from to) (SawGate gate) = (gate.pins == 1) ≡ false
-EndsBy (Change DropKind at from to) told = Unit {0}
-EndsBy (Load (AtStatus slot)) told = Unit {0}
-EndsBy step told = ⊥
+-- An exchange of a gate is one of those that gates allow: one that claims, or one that pins under the gate's number.
+abbrev pub IsGateMove : Step → Type 0
+IsGateMove (Change ClaimKind (AtGate slot) from to) = Claims from to
+IsGateMove (Change PinKind (AtGate slot) from to) = Pins from.seq from to
+IsGateMove step = Unit {0}
 
--- where a reply to a change comes to stand, its latest step is one that may be the last one
-abbrev pub RepliesComeLast : Type 0
-RepliesComeLast = (worker tenant quota pool : ℕ) (entries : ArrayVec Entry) (heard : List Heard) (news : News) (next : ℕ) (reply : Reply) →
-    let actor = after (first worker tenant quota pool (Cas entries)) heard in
-    replied actor ≡ None → replied (tells actor news next) ≡ Some reply → EndsBy (asks actor) news
+-- a change exchanges gates in no other way
+abbrev pub GatesAreMovedByTheRules : Type 0
+GatesAreMovedByTheRules = (worker tenant quota pool : ℕ) (entries : ArrayVec Entry) (heard : List Heard) →
+    IsGateMove (asks (after (first worker tenant quota pool (Cas entries)) heard))
+
+-- A slot whose last pin was taken back is freed next, under the number after one that its pin was won under; and after it
+-- was freed it is counted off the tenant's door next.
+abbrev pub IsFollowed : ℕ → List Event → Step → News → Step → Type 0
+IsFollowed tenant events (Change UnpinKind (AtGate slot) from to) (SawGate gate) next = gate.pins ≡ 1 → (seq : ℕ) × WasWon events (record { slot = slot; seq = seq }) × (next ≡ store FreeKind (AtGate slot) (freed seq))
+IsFollowed tenant events (Change FreeKind at from to) Won next = next ≡ fetch DropKind (AtDoor tenant)
+IsFollowed tenant events step told next = Unit {0}
+
+-- every change frees each slot whose last pin it took back, and counts it off the door
+abbrev pub LastPinsAreFreed : Type 0
+LastPinsAreFreed = (worker tenant quota pool : ℕ) (entries : ArrayVec Entry) (heard : List Heard) (news : News) (next : ℕ) →
+    let begun = first worker tenant quota pool (Cas entries) in
+    let actor = after begun heard in
+    IsFollowed tenant (past begun heard) (asks actor) news (asks (tells actor news next))
+
+-- All is given back but so many pins of each slot: the other pins that were won were taken back; a slot was freed as often
+-- as a pin that was taken back was its last; and the door, which counts a slot more for a change that is admitted, was
+-- lowered as often as a slot was freed, and once more for a change that was admitted and claimed none.
+pub record GivesBack (kept : ℕ → ℕ) (events : List Event) : Type 0 where
+  pub pins : (slot : ℕ) → times (wins_pin slot) events ≡ times (takes_back slot) events + kept slot
+  pub slots : (slot : ℕ) → times (takes_last slot) events ≡ times (frees slot) events
+  pub door : times admits events + times frees_any events ≡ times claims events + times lowers events
+
+-- no pin of any slot
+abbrev pub none : ℕ → ℕ
+none slot = 0
+
+-- one pin of this slot
+abbrev pub one_of : ℕ → ℕ → ℕ
+one_of slot other = if_same slot other
+
+-- the slot is the change's own: it claimed it, under some number
+abbrev pub IsItsOwn : List Event → ℕ → Type 0
+IsItsOwn events slot = (seq : ℕ) × WasClaimed events (record { slot = slot; seq = seq })
+
+-- The step may be the last one of a change, and by then all is given back: at the load of the door, before anything is
+-- taken; at a pin that is taken back, where others are left; or where a slot is counted off the door. At the load of a
+-- status the request gives up: that slot is its own, which it claimed, and it keeps one pin of it.
+abbrev pub EndsBy : Step → News → List Event → Type 0
+EndsBy (Load (AtDoor tenant)) told events = GivesBack none events
+EndsBy (Change UnpinKind at from to) (SawGate gate) events = ((gate.pins == 1) ≡ false) × GivesBack none events
+EndsBy (Change DropKind at from to) told events = GivesBack none events
+EndsBy (Load (AtStatus slot)) told events = GivesBack (one_of slot) events × IsItsOwn events slot
+EndsBy step told events = ⊥
+
+-- where a reply to a change comes to stand, its latest step is one that may be the last one, and all is given back
+abbrev pub RepliesGiveBack : Type 0
+RepliesGiveBack = (worker tenant quota pool : ℕ) (entries : ArrayVec Entry) (heard : List Heard) (news : News) (next : ℕ) (reply : Reply) →
+    let begun = first worker tenant quota pool (Cas entries) in
+    let actor = after begun heard in
+    replied actor ≡ None → replied (tells actor news next) ≡ Some reply → EndsBy (asks actor) news (made actor news ∷ past begun heard)

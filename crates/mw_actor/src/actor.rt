@@ -4,10 +4,10 @@ ghost use Rattle.mw_words.specs.declared.limits.TheConstants.{MAX_POOL, MAX_WORK
 ghost use Rattle.mw_look.specs.Steps.{place};
 ghost use Rattle.mw_look.specs.News.{IsNewsInRange, news_of};
 ghost use Rattle.mw_look.specs.Program.{tells as read_tells, asks as read_asks};
-ghost use Rattle.mw_actor.specs.Acting.{first, first_point, entries_of, entries_of_job, entry_at, entry_of, own_entries};
+ghost use Rattle.mw_actor.specs.Acting.{first, first_point, entries_of, entry_at, entry_of, own_entries};
 ghost use Rattle.mw_actor.specs.Asks.{asks};
 ghost use Rattle.mw_actor.specs.Program.{goes, replied, tells};
-ghost use Rattle.mw_actor.specs.Ranges.{AreEntriesInRange, IsEntryInRange, IsPointInRange};
+ghost use Rattle.mw_actor.specs.Ranges.{AreEntriesInRange, IsEntryInRange, IsFormed, IsPointInRange};
 ghost use Rattle.mw_actor.specs.Helping as helping;
 
 mod asks;
@@ -46,14 +46,16 @@ impl Model for Actor {
 impl Actor {
     /// A request at its first step: this worker, below [`MAX_WORKERS`], works on this job for this
     /// tenant, which may use `quota` of the `pool` slots, of which there are from 1 to [`MAX_POOL`].
-    /// A change's addresses and values are ones that a tenant's words may have.
+    /// A change has 1 to [`MAX_ENTRIES`] entries at strictly rising addresses, which are ones, and have
+    /// values, that a tenant's words may have.
     ///
     /// [`MAX_WORKERS`]: mw_words::MAX_WORKERS
     /// [`MAX_POOL`]: mw_words::MAX_POOL
+    /// [`MAX_ENTRIES`]: mw_words::MAX_ENTRIES
     pub fn new(worker: u8, tenant: u8, quota: u8, pool: u16, job: Job) -> Actor
         requires is_worker { worker < MAX_WORKERS }
         requires is_pool { (1 ≤ pool) × (pool ≤ MAX_POOL) }
-        requires is_change { AreEntriesInRange (entries_of_job job) }
+        requires is_change { IsFormed job }
         ensures { result ≡ first worker tenant quota pool job }
     {
         let point = first_point(tenant, &job);

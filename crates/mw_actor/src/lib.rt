@@ -12,7 +12,10 @@ mod points;
 mod tasks;
 
 pub use actor::Actor;
-pub use laws::{file_calls_are_of_won_slots, replies_come_last, requests_stay_with_their_tenant};
+pub use laws::{
+    file_calls_are_of_pinned_slots, gates_are_moved_by_the_rules, last_pins_are_freed, plants_rise,
+    replies_give_back, requests_stay_with_their_tenant, steps_come_in_turn,
+};
 pub use points::{After, Attempt, Point, Slot, Sweep, Task};
 
 #[cfg(test)]

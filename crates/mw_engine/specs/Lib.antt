@@ -1,4 +1,5 @@
 pub mod Identity
 pub mod Lines
 pub mod Passes
+pub mod Replies
 pub mod Starting

@@ -2,6 +2,7 @@
 ghost use Rattle.std.specs.Prelude.{◌≡◌, ◌-◌, map, is_some, IfOk};
 ghost use Rattle.mw_engine.specs.Identity.{IsFor};
 ghost use Rattle.mw_engine.specs.Lines.{line_shown, used_in_all};
+ghost use Rattle.mw_engine.specs.Replies.{IsReplyTo};
 ghost use Rattle.mw_plain.specs.Cases.{AskCase};
 ghost use Rattle.mw_plain.specs.Answers.{AsksAs};
 ghost use Rattle.mw_plain.specs.Parts.{ServesOne};
@@ -22,6 +23,7 @@ impl<J: Room, D: Disk + Drop> Store<J, D> {
         requires { IsFor J.identity tenant job.now }
         ensures one { ServesOne self.old.plain self.new.plain tenant }
         ensures answers { (case : AskCase) × AsksAs D.facts case self.old.plain self.new.plain tenant job.now result }
+        ensures possible { IsReplyTo job.now result }
     {
         self.plain.ask(tenant, job)
     }

@@ -29,12 +29,15 @@ impl<J: Room, D: Disk + Drop, H: Hold + Drop> Engine<J, D, H> {
     ghost use Rattle.mw_engine.specs.Lines.{line_shown, used_in_all};
     ghost use Rattle.mw_engine.specs.Passes.{IsIdle};
     ghost use Rattle.mw_engine.specs.Identity.{HasWords, HasNone, IsFirst, IsFor};
+    ghost use Rattle.mw_engine.specs.Replies.{IsReplyTo};
 
     /// The reply to a tenant's job. It waits for the lock, and answers as [`mw_plain::Plain::ask`] does
-    /// at that moment.
+    /// at that moment: a `Get` by `Val` or `Fault`, a `Cas` by `Yes`, `Busy`, `Fault` or `No`, which
+    /// tells the address of one of its entries and a value that this entry doesn't expect.
     pub fn serve(&self, rt: &impl Wait, pass: &mut Pass, tenant: u8, job: &Job) -> Reply
         requires formed { IsFor J.identity tenant job.now }
         requires idle { IsIdle pass.old }
+        ensures answers { IsReplyTo job.now result }
         ensures worker { pass.new.worker ≡ pass.old.worker }
         ensures idle { IsIdle pass.new }
     {

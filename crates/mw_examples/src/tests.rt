@@ -1,12 +1,15 @@
+use crate::clients::{Caller, Notice, come_and_go, port_of_server};
 use mw_programs::{init, serve};
 use std::alloc::{AllocError, Global};
 use std::net::{Net, TcpListener, TcpStream};
 use std::os::unix::fs::FileExt;
 use std::rt::Files;
 use std::sync::Wait;
+use std::sync::atomic::AtomicU16;
 use std::test::Fail;
 use std::thread::Threads;
-use std::{env, fs, process};
+use std::time::Clock;
+use std::{env, fs, io, process, thread};
 
 /// What a program gave: its exit status, and what it wrote to its two outputs.
 #[derive(Debug, PartialEq, Eq, Drop)]
@@ -380,6 +383,87 @@ fn a_tenant_without_a_file(rt: HostRuntime) -> Result<(), Fail> {
         "OK ADMIN\nt                   3  1  0 down\nu                   2  2  0 down\nv                   2  2  0 up\nfree 256\n";
     let ran = run_script(&rt, folder.as_str(), tenants, "ADMIN\nREPORT\n")?;
     assert_eq!(rt; ran, Outcome::new(rt.alloc(), 0, report, notes)?);
+    fs::remove_dir_all(&rt, folder.as_str())?;
+    Ok(())
+}
+
+/// Serves the tenants of a folder's tenants file over loopback by two workers, until two clients are
+/// served. Gives the exit status.
+fn serve_two_clients<R>(rt: &R, folder: &str, port: &AtomicU16) -> io::Result<u8>
+where
+    R: Files
+        + AllocGlobal
+        + Net<Listener = TcpListener, Stream = TcpStream>
+        + Threads
+        + Wait
+        + Sync,
+    R::File: FileExt + Send,
+{
+    let tenants = format!(in rt.alloc(); "{folder}/tenants")?;
+    let words = strings(
+        rt.alloc(),
+        &[
+            "mwserve",
+            "--tenants",
+            tenants.as_str(),
+            "--listen",
+            "127.0.0.1:0",
+            "--workers",
+            "2",
+            "--connections",
+            "2",
+        ],
+    )?;
+    let mut notice = Notice::new(rt.alloc(), port);
+    let mut err = Vec::new(rt.alloc());
+    Ok(serve(rt, &words, &mut notice, &mut err))
+}
+
+/// Two clients of the server, of whom the second begins once the first has ended. True if they hear
+/// what they should.
+fn call_in_turn<R: Net<Listener = TcpListener, Stream = TcpStream>>(
+    rt: &R,
+    port: u16,
+) -> io::Result<bool> {
+    let mut first = Caller::new(rt, port)?;
+    if !first.asks(b"TENANT t\n", b"OK 2\n") {
+        return Ok(false);
+    }
+    if !first.asks(b"CAS 0:0:1\nQUIT\n", b"YES\nBYE\n") || !first.hears_the_end() {
+        return Ok(false);
+    }
+    let mut second = Caller::new(rt, port)?;
+    let answered = second.asks(b"TENANT t\nGET 0\nQUIT\n", b"OK 2\nVAL 1\nBYE\n");
+    Ok(answered && second.hears_the_end())
+}
+
+/// Waits until the server is ready, and calls it.
+fn call_once_ready<R: Net<Listener = TcpListener, Stream = TcpStream> + Clock>(
+    rt: &R,
+    port: &AtomicU16,
+) -> io::Result<bool> {
+    let port = port_of_server(rt, port)?;
+    let heard = call_in_turn(rt, port);
+    come_and_go(rt, port, 2);
+    heard
+}
+
+#[test]
+fn two_clients(rt: HostRuntime) -> Result<(), Fail> {
+    let folder = new_folder(&rt, "two-clients")?;
+    let tenants = "t 2 2 DIR/t.mw\n";
+    make_file(&rt, folder.as_str(), "t.mw", "2", "2")?;
+    write_files(&rt, folder.as_str(), tenants, "")?;
+    let port = AtomicU16::new(0);
+    let (heard, status) = thread::join(
+        &rt,
+        || call_once_ready(&rt, &port),
+        || serve_two_clients(&rt, folder.as_str(), &port),
+    );
+    assert!(rt; heard?, "a client heard something else");
+    assert_eq!(rt; status?, 0);
+    let ran = run_script(&rt, folder.as_str(), tenants, "TENANT t\nGET 0\n")?;
+    assert_eq!(rt; ran, Outcome::new(rt.alloc(), 0, "OK 2\nVAL 1\n", "")?);
     fs::remove_dir_all(&rt, folder.as_str())?;
     Ok(())
 }

@@ -43,7 +43,7 @@ impl Caller {
 
     /// True if just this is heard next.
     pub fn hears(&mut self, text: &[u8]) -> bool {
-        let mut heard = [0; 64];
+        let mut heard = [0; 128];
         match heard.get_mut(..text.len()) {
             Some(room) => self.stream.read_exact(room).is_ok() && *room == *text,
             None => false,

@@ -7,6 +7,10 @@
 //! worker is free. However a session ends, its connection is closed then, and the worker takes the
 //! next.
 //!
+//! A TCP connection is closed so that the client can read all that it was told: what it sends behind
+//! the end of its session is read and dropped until it closes its side, within narrow limits of time
+//! and size, for which the worker is held.
+//!
 //! [`accept_all`] is what the acceptor does, and [`serve_each`] what each worker does. Of both it is
 //! proved that they pass over no connection and change no order. The queue between them is
 //! [`crossbeam_channel`]'s: that a connection comes out of it once is tested.

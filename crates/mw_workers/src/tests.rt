@@ -9,6 +9,7 @@ use std::alloc::{AllocError, Global};
 use std::net::{Net, TcpListener, TcpStream};
 use std::sync::{Mutex, Wait};
 use std::thread::Threads;
+use std::time::{Clock, Duration};
 use std::{io, thread};
 
 /// Serves so many connections by so many workers over these words.
@@ -125,7 +126,8 @@ fn each_client_is_served_once(rt: HostRuntime) -> Result<(), AllocError> {
     Ok(())
 }
 
-/// Two clients, of whom the second begins once the first has ended.
+/// Two clients, of whom the second begins once the session of the first has ended. The first doesn't
+/// close its side before the second was served.
 fn two_clients<R: Net<Listener = TcpListener, Stream = TcpStream>>(
     rt: &R,
     port: u16,
@@ -154,7 +156,7 @@ fn one_client_after_the_other(rt: HostRuntime) -> io::Result<()> {
             come_and_go(&rt, port, 2);
             heard
         },
-        || serve(&rt, rt.alloc(), listener, &shelf, 2, 2),
+        || serve(&rt, rt.alloc(), listener, &shelf, 1, 2),
     );
     assert!(rt; heard?, "a client heard something else");
     let (end, _) = end?;
@@ -185,12 +187,49 @@ fn has_its_word<R: Net<Listener = TcpListener, Stream = TcpStream>>(
     Ok(client.asks(b"QUIT\n", b"BYE\n") && client.hears_the_end())
 }
 
+/// How many bytes a hasty client says behind the end of its session.
+const TOO_MUCH: usize = 20_000;
+
+/// A client who says this and far more in one write, listens only when its session has long ended, and
+/// hears just that to the end.
+fn hears_in_the_end<R: Net<Listener = TcpListener, Stream = TcpStream> + Clock>(
+    rt: &R,
+    alloc: Global,
+    port: u16,
+    says: &str,
+    told: &str,
+) -> io::Result<bool> {
+    let mut client = Caller::new(rt, port)?;
+    let more = "x".repeat(alloc, TOO_MUCH)?;
+    let all = format!(in alloc; "{says}{more}")?;
+    let said = client.says(all.as_bytes());
+    thread::sleep(rt, Duration::from_millis(200));
+    Ok(said && client.hears(told.as_bytes()) && client.hears_the_end())
+}
+
+/// Clients who say more than their session looks at, behind `QUIT` and without a line feed, and yet
+/// hear every reply.
+fn hasty_ones<R: Net<Listener = TcpListener, Stream = TcpStream> + Clock>(
+    rt: &R,
+    alloc: Global,
+    port: u16,
+) -> io::Result<bool> {
+    let changes = "CAS 29:0:1\nCAS 29:1:0\n".repeat(alloc, 10)?;
+    let replies = "YES\n".repeat(alloc, 20)?;
+    let says = format!(in alloc; "TENANT t\n{changes}QUIT\n")?;
+    let told = format!(in alloc; "OK 32\n{replies}BYE\n")?;
+    let quit = hears_in_the_end(rt, alloc, port, says.as_str(), told.as_str())?;
+    let endless = "x".repeat(alloc, 400)?;
+    let too_long = hears_in_the_end(rt, alloc, port, endless.as_str(), "ERR 1\n")?;
+    Ok(quit && too_long)
+}
+
 /// How many clients with a word of their own there are.
 const MANY: usize = 16;
 
-/// Clients who say nothing, cut a line, don't end it and never listen, and beside them one who is
-/// served on and many with a word of their own.
-fn all_kinds<R: Net<Listener = TcpListener, Stream = TcpStream> + Threads + Sync>(
+/// Clients who say nothing, cut a line, don't end it, never listen and say too much, and beside them
+/// one who is served on and many with a word of their own.
+fn all_kinds<R: Net<Listener = TcpListener, Stream = TcpStream> + Threads + Clock + Sync>(
     rt: &R,
     alloc: Global,
     port: u16,
@@ -204,6 +243,7 @@ fn all_kinds<R: Net<Listener = TcpListener, Stream = TcpStream> + Threads + Sync
     let cuts = cut.says(b"TENANT t\nCAS 30:0:1");
     let too_long = endless.asks(&[b'x'; 400], b"ERR 1\n") && endless.hears_the_end();
     let held = deaf.insists(b"TENANT t\nGET 0\nGET 0\nGET 0\n", 4_000_000);
+    let hasty = hasty_ones(rt, alloc, port)?;
     let many = thread::map_indices(
         rt,
         alloc,
@@ -215,7 +255,7 @@ fn all_kinds<R: Net<Listener = TcpListener, Stream = TcpStream> + Threads + Sync
         b"GET 31\nGET 30\nGET 0\nQUIT\n",
         b"VAL 1\nVAL 0\nVAL 20\nBYE\n",
     );
-    Ok(bound && cuts && too_long && held && each && steadily)
+    Ok(bound && cuts && too_long && held && hasty && each && steadily)
 }
 
 #[test]
@@ -227,10 +267,10 @@ fn clients_of_all_kinds_at_once(rt: HostRuntime) -> io::Result<()> {
         &rt,
         || {
             let heard = all_kinds(&rt, rt.alloc(), port);
-            come_and_go(&rt, port, 21);
+            come_and_go(&rt, port, 23);
             heard
         },
-        || serve(&rt, rt.alloc(), listener, &shelf, 24, 21),
+        || serve(&rt, rt.alloc(), listener, &shelf, 24, 23),
     );
     assert!(rt; heard?, "a client heard something else");
     let (end, _) = end?;

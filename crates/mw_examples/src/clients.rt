@@ -1,0 +1,118 @@
+//! Clients over loopback for the tests, and how they learn where the server listens. What they wait
+//! for comes within a limit.
+use std::alloc::Global;
+use std::io::{ErrorKind, Read, Write};
+use std::net::{Net, TcpListener, TcpStream};
+use std::sync::atomic::{AtomicU16, Ordering};
+use std::time::{Clock, Duration};
+use std::{io, str, thread};
+
+/// How long a client waits for an answer, in seconds.
+const PATIENCE: u64 = 10;
+
+/// How often a client looks whether the server is ready, and how many milliseconds it waits between.
+const LOOKS: u32 = 1000;
+
+const PAUSE: u64 = 10;
+
+/// What a server writes, whose port stands at 0 until the server has said that it is ready.
+#[derive(Drop)]
+pub struct Notice<'a> {
+    text: Vec<u8>,
+    port: &'a AtomicU16,
+}
+
+impl<'a> Notice<'a> {
+    pub fn new(alloc: Global, port: &'a AtomicU16) -> Self {
+        Notice {
+            text: Vec::new(alloc),
+            port,
+        }
+    }
+}
+
+impl Write for Notice<'_> {
+    fn write(&mut self, buf: &[u8]) -> io::Result<usize> {
+        self.text.write(buf)
+    }
+
+    fn flush(&mut self) -> io::Result<()> {
+        if let Some(port) = port_in(&self.text) {
+            self.port.store(port, Ordering::SeqCst);
+        }
+        Ok(())
+    }
+}
+
+/// The port that the line `ready PORT` tells.
+fn port_in(text: &[u8]) -> Option<u16> {
+    let line = str::from_utf8(text).ok()?;
+    line.strip_prefix("ready ")?
+        .strip_suffix("\n")?
+        .parse()
+        .ok()
+}
+
+/// The server's port, once the server is ready.
+pub fn port_of_server<R: Clock>(rt: &R, port: &AtomicU16) -> io::Result<u16> {
+    for _ in 0..LOOKS {
+        let told = port.load(Ordering::SeqCst);
+        if told > 0 {
+            return Ok(told);
+        }
+        thread::sleep(rt, Duration::from_millis(PAUSE));
+    }
+    Err(io::Error::from(ErrorKind::TimedOut))
+}
+
+/// A client's end of a connection.
+#[derive(Drop)]
+pub struct Caller {
+    stream: TcpStream,
+}
+
+impl Caller {
+    /// A client of the server at this port.
+    pub fn new<R: Net<Listener = TcpListener, Stream = TcpStream>>(
+        rt: &R,
+        port: u16,
+    ) -> io::Result<Self> {
+        let stream = TcpStream::connect(rt, ("127.0.0.1", port))?;
+        stream.set_read_timeout(Some(Duration::from_secs(PATIENCE)))?;
+        stream.set_write_timeout(Some(Duration::from_secs(PATIENCE)))?;
+        Ok(Caller { stream })
+    }
+
+    /// True if just that is heard once this is said.
+    pub fn asks(&mut self, text: &[u8], answer: &[u8]) -> bool {
+        let mut heard = [0; 64];
+        match heard.get_mut(..answer.len()) {
+            Some(room) => {
+                self.stream.write_all(text).is_ok()
+                    && self.stream.read_exact(room).is_ok()
+                    && *room == *answer
+            }
+            None => false,
+        }
+    }
+
+    /// True if the server closes the connection and says no more.
+    pub fn hears_the_end(&mut self) -> bool {
+        let mut heard = [0; 1];
+        self.stream.read(&mut heard).is_ok_and(|count| count == 0)
+    }
+}
+
+/// Comes and goes so many times, so that a server that still waits for clients has them.
+pub fn come_and_go<R: Net<Listener = TcpListener, Stream = TcpStream>>(
+    rt: &R,
+    port: u16,
+    times: usize,
+) {
+    for _ in 0..times {
+        // Nobody listens any more where the server has ended.
+        if Caller::new(rt, port).is_err() {
+            return;
+        }
+    }
+}
