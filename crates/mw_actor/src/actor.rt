@@ -117,6 +117,33 @@ impl Actor {
         }
     }
 
+    /// Where the request is in its program.
+    pub fn point(&self) -> Point
+        ensures { result ≡ self.now.point }
+    {
+        self.point
+    }
+
+    /// The entries of the request's own change. A read has none.
+    pub fn own_entries(&self) -> &[Entry]
+        ensures is { result.now ≡ own_entries self.now }
+        ensures in_range { AreEntriesInRange result.now }
+    {
+        match &self.job {
+            Job::Get(_) => &[],
+            Job::Cas(entries) => entries,
+        }
+    }
+
+    /// The entry at an index of the change that is worked on, the `target` of `task`. Past the last
+    /// one, where no program comes to, an entry of zeros.
+    pub fn entry(&self, task: Task, index: u8) -> Entry
+        ensures is { result ≡ entry_of self.now task index }
+        ensures in_range { IsEntryInRange result }
+    {
+        entry_at(self.entries(task), index)
+    }
+
     /// Takes in what the step that was asked for found, and the worker's next attempt number.
     pub fn tell(&mut self, told: Told)
         ensures { self.new ≡ tells self.old (news_of (place (asks self.old)) told.got) told.next }
@@ -139,17 +166,6 @@ impl Actor {
         }
     }
 
-    // The entries of one's own change. A read has none.
-    pub(crate) fn own_entries(&self) -> &[Entry]
-        ensures is { result.now ≡ own_entries self.now }
-        ensures in_range { AreEntriesInRange result.now }
-    {
-        match &self.job {
-            Job::Get(_) => &[],
-            Job::Cas(entries) => entries,
-        }
-    }
-
     // The entries of the change that is worked on.
     pub(crate) fn entries(&self, task: Task) -> &[Entry]
         ensures is { result.now ≡ entries_of self.now task }
@@ -167,13 +183,6 @@ impl Actor {
         ensures in_range { IsEntryInRange result }
     {
         entry_at(self.own_entries(), index)
-    }
-
-    pub(crate) fn entry(&self, task: Task, index: u8) -> Entry
-        ensures is { result ≡ entry_of self.now task index }
-        ensures in_range { IsEntryInRange result }
-    {
-        entry_at(self.entries(task), index)
     }
 
     // An attempt of the request's own worker.

@@ -91,6 +91,13 @@ impl Look {
         }
     }
 
+    /// Where the read is in its program.
+    pub fn point(&self) -> Point
+        ensures { result ≡ self.now.point }
+    {
+        self.point
+    }
+
     // The place of the next step.
     fn place(&self) -> At
         ensures { result ≡ place (asks self.now) }
