@@ -119,7 +119,8 @@ impl Actor {
 
     /// Where the request is in its program.
     pub fn point(&self) -> Point
-        ensures { result ≡ self.now.point }
+        ensures is { result ≡ self.now.point }
+        ensures in_range { IsPointInRange self.now.others result }
     {
         self.point
     }
