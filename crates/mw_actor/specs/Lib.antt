@@ -8,6 +8,7 @@ pub mod Inspecting
 pub mod JobLaws
 pub mod Order
 pub mod OrderLaws
+pub mod Parts
 pub mod Program
 pub mod RangeLaws
 pub mod Ranges

@@ -2,6 +2,7 @@
 ghost use Rattle.std.specs.Prelude.{◌≡◌};
 ghost use Rattle.mw_words.specs.Patterns.{IsGateInRange};
 ghost use Rattle.mw_words.specs.declared.words.Word.TheVariants.{Dirty};
+ghost use Rattle.mw_actor.specs.declared.points.Point.TheVariants.{CheckThenResolve, Plant};
 ghost use Rattle.mw_actor.specs.Acting as acting;
 ghost use Rattle.mw_actor.specs.Finishing as spec;
 ghost use Rattle.mw_actor.specs.Helping as helping;
@@ -20,6 +21,16 @@ impl Slot {
         Slot {
             slot: row.slot,
             seq: row.seq,
+        }
+    }
+
+    /// The change of a slot whose gate this is.
+    pub(crate) fn of_gate(slot: u8, gate: Gate) -> Slot
+        ensures { result ≡ record { slot = slot; seq = gate.seq } }
+    {
+        Slot {
+            slot,
+            seq: gate.seq,
         }
     }
 
@@ -284,6 +295,29 @@ impl Task {
         }
     }
 
+    /// Where the request goes once its row names the entry: to the attempt of this number.
+    pub(crate) fn plants(self, entry: u8, number: u64) -> Point
+        ensures { result ≡ Plant self entry number }
+    {
+        Point::Plant {
+            task: self,
+            entry,
+            number,
+        }
+    }
+
+    /// Where the request goes from a word that is an attempt for its target: to the target's status, on
+    /// which it rests what becomes of the attempt.
+    pub(crate) fn checks(self, entry: u8, attempt: Attempt) -> Point
+        ensures { result ≡ CheckThenResolve self entry attempt }
+    {
+        Point::CheckThenResolve {
+            task: self,
+            entry,
+            attempt,
+        }
+    }
+
     /// Where the request goes from a word that has its expected value from a change that is made, which
     /// this slot names.
     pub fn dirty_seen(self, entry: u8, slot: u8, value: u64) -> Point
@@ -311,11 +345,7 @@ impl Task {
         if word != attempt.word() {
             Point::ReadTargetStatus(self)
         } else if other == self.target {
-            Point::CheckThenResolve {
-                task: self,
-                entry,
-                attempt,
-            }
+            self.checks(entry, attempt)
         } else {
             self.helps(other)
         }
@@ -330,10 +360,7 @@ impl Task {
             Point::ConfirmDirty {
                 task: self,
                 entry,
-                other: Slot {
-                    slot,
-                    seq: gate.seq,
-                },
+                other: Slot::of_gate(slot, gate),
                 value,
             }
         } else {

@@ -8,7 +8,7 @@ use Rattle.mw_words.specs.PatternLaws.{packed_door_bound, packed_gate_bound, pac
 use Rattle.mw_look.specs.declared.news.News.TheVariants.{SawDoor, SawGate, SawRow, SawWord, SawStatus, Junk}
 use Rattle.mw_look.specs.Places.{Val, Fits, pack, unpack, nil}
 use Rattle.mw_look.specs.News.{news_of_bits, seen}
-use Rattle.mw_look.specs.Steps.{Step, Load, Change, File}
+use Rattle.mw_look.specs.Steps.{Step, Load, Change, File, StepFits, op_of, place, place_of}
 use Rattle.mw_look.specs.Program.{asks_at, IsPointInRange}
 use Rattle.mw_look.specs.declared.points.Point.{Point}
 use Rattle.mw_look.specs.declared.points.Point.TheVariants.{Pin, Unpin, FreeSlot, LowerDoor}
@@ -88,14 +88,14 @@ nil_is_zero (Addr slot entry) = (omega arith, refl)
 nil_is_zero (Expected slot entry) = (omega arith, refl)
 nil_is_zero (New slot entry) = (omega arith, refl)
 
--- what a step expects and leaves is in range
-abbrev pub IsStepInRange : Step → Type 0
-IsStepInRange (Load at) = Unit {0}
-IsStepInRange (Change kind at from to) = Fits at from × Fits at to
-IsStepInRange (File call slot) = Unit {0}
+-- a step in bits is at the step's place
+pub place_of_bits : (step : Step) → place_of (op_of step) ≡ place step
+place_of_bits (Load at) = refl
+place_of_bits (Change kind at from to) = refl
+place_of_bits (File call slot) = refl
 
 -- a read whose numbers are in range asks for steps in range
-pub asks_in_range : (tenant address : ℕ) (point : Point) → IsPointInRange point → IsStepInRange (asks_at tenant address point)
+pub asks_in_range : (tenant address : ℕ) (point : Point) → IsPointInRange point → StepFits (asks_at tenant address point)
 asks_in_range tenant address (Pin trail from to) fits = (fits.1, fits.2)
 asks_in_range tenant address (Unpin slot seq next) fits = ((nil_is_zero (AtGate slot)).0, (nil_is_zero (AtGate slot)).0)
 asks_in_range tenant address (FreeSlot slot seq next) fits = ((nil_is_zero (AtGate slot)).0, (omega arith, omega (arith, fits), λ e. refl))

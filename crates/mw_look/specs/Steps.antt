@@ -6,7 +6,7 @@ use Rattle.mw_look.specs.declared.steps.Kind.{Kind}
 use Rattle.mw_look.specs.declared.steps.Call.{Call}
 use Rattle.mw_look.specs.declared.steps.Op.{Op}
 use Rattle.mw_look.specs.declared.steps.Op.TheVariants.{Load as LoadBits, Change as ChangeBits, File as FileCall}
-use Rattle.mw_look.specs.Places.{Val, pack, nil}
+use Rattle.mw_look.specs.Places.{Val, Fits, pack, nil}
 
 -- A step: a place is read; what stands at a place is changed, in a kind of way, from what an exchange expects there to
 -- what an exchange or a store leaves; or a call is made on the file, for the change of a slot.
@@ -20,6 +20,12 @@ abbrev pub op_of : Step → Op
 op_of (Load at) = LoadBits at
 op_of (Change kind at from to) = ChangeBits kind at (pack at from) (pack at to)
 op_of (File call slot) = FileCall call slot
+
+-- what a step expects at its place, and what it leaves there, is in range
+abbrev pub StepFits : Step → Type 0
+StepFits (Load at) = Unit {0}
+StepFits (Change kind at from to) = Fits at from × Fits at to
+StepFits (File call slot) = Unit {0}
 
 -- a change that takes nothing from its machine
 abbrev pub fetch : Kind → At → Step

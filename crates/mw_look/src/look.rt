@@ -1,6 +1,6 @@
 //! The machine of a read: the value of one word of a tenant, whatever others do to it meanwhile.
 ghost use Rattle.std.specs.Prelude.{◌≡◌, ◌<◌};
-ghost use Rattle.mw_look.specs.Steps.{op_of, place};
+ghost use Rattle.mw_look.specs.Steps.{StepFits, op_of, place};
 ghost use Rattle.mw_look.specs.News.{IsNewsInRange, news_of};
 ghost use Rattle.mw_look.specs.Program.{first, asks, freed, goes, tells, replied, word_seen};
 ghost use Rattle.mw_words.specs.Patterns.{IsGateInRange};
@@ -48,9 +48,10 @@ impl Look {
         }
     }
 
-    /// The next step.
+    /// The next step. What it expects at its place, and what it leaves there, is in range.
     pub fn ask(&self) -> Op
-        ensures { result ≡ op_of (asks self.now) }
+        ensures is { result ≡ op_of (asks self.now) }
+        ensures fits { StepFits (asks self.now) }
     {
         match self.point {
             Point::Pin { from, to, .. } => Op::Change {

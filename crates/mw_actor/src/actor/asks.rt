@@ -1,40 +1,106 @@
 //! What a request asks for at each of its points.
-ghost use Rattle.std.specs.Prelude.{◌≡◌, ◌<◌};
+ghost use Rattle.std.specs.Prelude.{IfSome, ◌≡◌, ◌<◌};
 ghost use Rattle.mw_words.specs.declared.limits.TheConstants.{WORN_NUMBER};
-ghost use Rattle.mw_words.specs.Patterns.{IsWordInRange, packed_word};
+ghost use Rattle.mw_words.specs.declared.places.At.TheVariants.{Door as AtDoor, Gate as AtGate, Status as AtStatus, Count, Addr, Expected, New};
+ghost use Rattle.mw_words.specs.declared.statuses.Status.TheVariants.{Open};
 ghost use Rattle.mw_words.specs.declared.words.Word.TheVariants.{Plain};
-ghost use Rattle.mw_look.specs.Steps.{op_of, place};
+ghost use Rattle.mw_words.specs.Patterns.{IsStatusInRange, IsWordInRange};
+ghost use Rattle.mw_look.specs.Steps.{Change, StepFits, op_of, place};
 ghost use Rattle.mw_look.specs.Program.{freed};
+ghost use Rattle.mw_look.specs.declared.steps.Kind.TheVariants.{Fill as FillKind, Resolve as ResolveKind};
 ghost use Rattle.mw_look.specs.declared.steps.Op.TheVariants.{Change as ChangeBits, File as FileCall};
-ghost use Rattle.mw_actor.specs.Acting.{entry_of};
+ghost use Rattle.mw_actor.specs.Acting.{entry_of, planted};
 ghost use Rattle.mw_actor.specs.Asks.{asks, released, resolved, row_of, word_place};
+ghost use Rattle.mw_actor.specs.Parts.{Admitting, Deciding, Helping, Holding, Leaving, Sweeping, step_in};
+ghost use Rattle.mw_actor.specs.Ranges.{IsAttemptInRange};
 
 use crate::actor::Actor;
-use crate::points::{Point, Slot, Sweep, Task};
+use crate::points::{Attempt, Point, Slot, Sweep, Task};
 use mw_look::{Call, Kind, Op};
 use mw_words::{At, Gate, Row, Status, Word};
 
 impl Actor {
-    /// The next step.
+    /// The next step. What it expects at its place, and what it leaves there, is in range.
     pub fn ask(&self) -> Op
-        ensures { result ≡ op_of (asks self.now) }
+        ensures is { result ≡ op_of (asks self.now) }
+        ensures fits { StepFits (asks self.now) }
     {
-        match self.point {
-            Point::Read(look) => look.ask(),
-            Point::Admit { from, to } => self.change(Kind::Admit, from.pack(), to.pack()),
-            Point::Claim { from, to, .. } => self.change(Kind::Claim, from.pack(), to.pack()),
-            Point::FillStatus(_) => self.change(Kind::Fill, 0, Status::Draft.pack()),
-            Point::FillCount(_) => self.change(Kind::Fill, 0, self.own_entries().len() as u64),
-            Point::FillAddr { entry, .. } => {
-                self.change(Kind::Fill, 0, u64::from(self.own_entry(entry).addr))
+        if let Point::Read(look) = self.point {
+            return look.ask();
+        }
+        if let Some(step) = self.step_admitting() {
+            return step;
+        }
+        if let Some(step) = self.step_holding() {
+            return step;
+        }
+        if let Some(step) = self.step_deciding() {
+            return step;
+        }
+        if let Some(step) = self.step_helping() {
+            return step;
+        }
+        if let Some(step) = self.step_sweeping() {
+            return step;
+        }
+        if let Some(step) = self.step_leaving() {
+            return step;
+        }
+        unreachable!()
+    }
+
+    // The place of the next step.
+    pub(crate) fn place(&self) -> At
+        ensures { result ≡ place (asks self.now) }
+    {
+        self.ask().place()
+    }
+
+    // The next step while a slot is found and written. None in the other parts of the program.
+    fn step_admitting(&self) -> Option<Op>
+        ensures is { result ≡ step_in Admitting self.now }
+        ensures fits { IfSome result (λ step. StepFits (asks self.now)) }
+    {
+        let step = match self.point {
+            Point::ReadDoor => Op::Load(self.door()),
+            Point::Admit { from, to } => change(Kind::Admit, self.door(), from.pack(), to.pack()),
+            Point::ScanGate { slot, .. } => Op::Load(At::Gate(slot)),
+            Point::Claim { slot, from, to, .. } => {
+                change(Kind::Claim, At::Gate(slot), from.pack(), to.pack())
             }
-            Point::FillExpected { entry, .. } => {
-                self.change(Kind::Fill, 0, self.own_entry(entry).expected)
+            Point::FillStatus(own) => fill(own.status_place(), Status::Draft.pack()),
+            Point::FillCount(own) => fill(own.count_place(), self.own_entries().len() as u64),
+            Point::FillAddr { own, entry } => {
+                fill(own.addr_place(entry), u64::from(self.own_entry(entry).addr))
             }
-            Point::FillNew { entry, .. } => self.change(Kind::Fill, 0, self.own_entry(entry).new),
+            Point::FillExpected { own, entry } => {
+                fill(own.expected_place(entry), self.own_entry(entry).expected)
+            }
+            Point::FillNew { own, entry } => {
+                fill(own.new_place(entry), self.own_entry(entry).new)
+            }
             Point::Prepare(own) => file(Call::Prepare, own),
+            _ => return None,
+        };
+        Some(step)
+    }
+
+    // The next step while the words of an open change are looked at and held. None in the other parts
+    // of the program.
+    fn step_holding(&self) -> Option<Op>
+        ensures is { result ≡ step_in Holding self.now }
+        ensures fits { IfSome result (λ step. StepFits (asks self.now)) }
+    {
+        let step = match self.point {
+            Point::Inspect { task, entry }
+            | Point::ConfirmAttempt { task, entry, .. }
+            | Point::ConfirmDirty { task, entry, .. } => Op::Load(self.word_place(task, entry)),
             Point::AnnounceRow { task, entry, .. } => {
-                self.change(Kind::Row, 0, row(task.target, entry).pack())
+                store(
+                    Kind::Row,
+                    At::Row(self.worker),
+                    row(task.target, entry).pack(),
+                )
             }
             Point::Plant {
                 task,
@@ -42,164 +108,147 @@ impl Actor {
                 number,
             } => self.exchange(
                 Kind::Plant,
+                task,
+                entry,
                 self.expected(task, entry),
                 self.attempt(number).word(),
             ),
-            Point::DecideYes(_) => {
-                self.change(
-                    Kind::DecideYes,
-                    Status::Open.pack(),
-                    Status::YesDirty.pack(),
-                )
-            }
-            Point::DecideNo { entry, value, .. } => self.change(
-                Kind::DecideNo,
-                Status::Open.pack(),
-                Status::No { entry, value }.pack(),
-            ),
+            Point::ReadOtherRow { attempt, .. } => Op::Load(At::Row(attempt.worker)),
+            Point::ReadDirtyGate { slot, .. } => Op::Load(At::Gate(slot)),
+            Point::CheckThenResolve { task, .. } => Op::Load(task.target.status_place()),
             Point::Resolve {
                 task,
                 entry,
                 attempt,
                 was_open,
-            } => self.exchange(
-                Kind::Resolve,
-                attempt.word(),
-                self.resolved(was_open, task, entry),
-            ),
-            Point::PinOther { from, to, .. } => self.change(Kind::Pin, from.pack(), to.pack()),
+            } => self.resolve(task, entry, attempt, self.resolved(was_open, task, entry)),
+            _ => return None,
+        };
+        Some(step)
+    }
+
+    // The next step while a change goes on by its status and its file. None in the other parts of the
+    // program.
+    fn step_deciding(&self) -> Option<Op>
+        ensures is { result ≡ step_in Deciding self.now }
+        ensures fits { IfSome result (λ step. StepFits (asks self.now)) }
+    {
+        let step = match self.point {
+            Point::ReadTargetStatus(task) => Op::Load(task.target.status_place()),
+            Point::DecideYes(task) => decide(Kind::DecideYes, task, Status::YesDirty),
+            Point::DecideNo { task, entry, value } => {
+                decide(Kind::DecideNo, task, Status::No { entry, value })
+            }
             Point::Seal(task) => file(Call::Seal, task.target),
+            Point::Settle(task) => file(Call::Settle, task.target),
+            Point::Cancel(task) => file(Call::Cancel, task.target),
+            _ => return None,
+        };
+        Some(step)
+    }
+
+    // The next step while another's change is pinned and read. None in the other parts of the program.
+    fn step_helping(&self) -> Option<Op>
+        ensures is { result ≡ step_in Helping self.now }
+        ensures fits { IfSome result (λ step. StepFits (asks self.now)) }
+    {
+        let entry = self.others.len() as u8;
+        let step = match self.point {
+            Point::ReadOtherGate { other, .. } => Op::Load(other.gate_place()),
+            Point::PinOther {
+                other,
+                from,
+                to,
+                ..
+            } => { change(Kind::Pin, other.gate_place(), from.pack(), to.pack()) }
+            Point::ReadCount(task) => Op::Load(task.target.count_place()),
+            Point::ReadAddr { task, .. } => Op::Load(task.target.addr_place(entry)),
+            Point::ReadExpected { task, .. } => Op::Load(task.target.expected_place(entry)),
+            Point::ReadNew { task, .. } => Op::Load(task.target.new_place(entry)),
+            _ => return None,
+        };
+        Some(step)
+    }
+
+    // The next step while the words of a decided change are let go. None in the other parts of the
+    // program.
+    fn step_sweeping(&self) -> Option<Op>
+        ensures is { result ≡ step_in Sweeping self.now }
+        ensures fits { IfSome result (λ step. StepFits (asks self.now)) }
+    {
+        let step = match self.point {
+            Point::SweepWord { task, entry, .. } | Point::SweepConfirm { task, entry, .. } => {
+                Op::Load(self.word_place(task, entry))
+            }
             Point::Release { task, sweep, entry } => self.exchange(
                 Kind::Release,
+                task,
+                entry,
                 task.target.held(),
                 self.released(sweep, task, entry),
             ),
-            Point::Clean { task, value, .. } => self.exchange(
+            Point::Clean { task, entry, value } => self.exchange(
                 Kind::Clean,
+                task,
+                entry,
                 task.target.dirty(value),
                 Word::Plain(value),
             ),
+            Point::SweepRow { attempt, .. } => Op::Load(At::Row(attempt.worker)),
             Point::SweepResolve {
                 task,
                 entry,
                 attempt,
                 ..
-            } => self.exchange(Kind::Resolve, attempt.word(), self.expected(task, entry)),
-            Point::Settle(task) => file(Call::Settle, task.target),
-            Point::Cancel(task) => file(Call::Cancel, task.target),
-            Point::Unpin { .. } => self.change(Kind::Unpin, 0, 0),
-            Point::FreeSlot { slot, .. } => self.change(Kind::Free, 0, free_gate(slot).pack()),
-            Point::LowerDoor(_) => self.change(Kind::Drop, 0, 0),
-            Point::ReadDoor
-            | Point::ScanGate { .. }
-            | Point::ReadTargetStatus(_)
-            | Point::Inspect { .. }
-            | Point::ReadOtherRow { .. }
-            | Point::ConfirmAttempt { .. }
-            | Point::ReadDirtyGate { .. }
-            | Point::ConfirmDirty { .. }
-            | Point::CheckThenResolve { .. }
-            | Point::ReadOtherGate { .. }
-            | Point::ReadCount(_)
-            | Point::ReadAddr { .. }
-            | Point::ReadExpected { .. }
-            | Point::ReadNew { .. }
-            | Point::SweepWord { .. }
-            | Point::SweepRow { .. }
-            | Point::SweepConfirm { .. }
-            | Point::GiveUp { .. }
-            | Point::Replied(_) => Op::Load(self.place()),
-        }
+            } => self.resolve(task, entry, attempt, self.expected(task, entry)),
+            _ => return None,
+        };
+        Some(step)
     }
 
-    // A change of the word at the place of the next step.
-    fn change(&self, kind: Kind, from: u64, to: u64) -> Op
-        ensures { result ≡ ChangeBits kind (place (asks self.now)) from to }
+    // The next step while a slot is let go and the request ends. None in the other parts of the program.
+    fn step_leaving(&self) -> Option<Op>
+        ensures is { result ≡ step_in Leaving self.now }
+        ensures fits { IfSome result (λ step. StepFits (asks self.now)) }
     {
-        Op::Change {
-            kind,
-            at: self.place(),
-            from,
-            to,
-        }
+        let step = match self.point {
+            Point::Unpin { slot, .. } => change(Kind::Unpin, slot.gate_place(), 0, 0),
+            Point::FreeSlot { slot, .. } => store(
+                Kind::Free,
+                slot.gate_place(),
+                free_gate(slot).pack(),
+            ),
+            Point::LowerDoor(_) => change(Kind::Drop, self.door(), 0, 0),
+            Point::GiveUp { own, .. } => Op::Load(own.status_place()),
+            Point::Replied(_) => Op::Load(self.door()),
+            _ => return None,
+        };
+        Some(step)
     }
 
-    // An exchange of the tenant's word at the place of the next step. Both words are in range.
-    fn exchange(&self, kind: Kind, from: Word, to: Word) -> Op
+    // The tenant's door.
+    fn door(&self) -> At
+        ensures { result ≡ AtDoor self.now.tenant }
+    {
+        At::Door(self.tenant)
+    }
+
+    // An exchange of the word of an entry, of the change that is worked on. Both words are in range.
+    fn exchange(&self, kind: Kind, task: Task, entry: u8, from: Word, to: Word) -> Op
         requires from { IsWordInRange from }
         requires to { IsWordInRange to }
-        ensures { result ≡ ChangeBits kind (place (asks self.now)) (packed_word from) (packed_word to) }
+        ensures { result ≡ op_of (Change kind (word_place self.now task entry) from to) }
     {
-        self.change(kind, from.pack(), to.pack())
+        change(kind, self.word_place(task, entry), from.pack(), to.pack())
     }
 
-    // The place of the next step.
-    pub(crate) fn place(&self) -> At
-        ensures { result ≡ place (asks self.now) }
+    // The exchange of an attempt for what it becomes. Both are in range.
+    fn resolve(&self, task: Task, entry: u8, attempt: Attempt, to: Word) -> Op
+        requires from { IsAttemptInRange attempt }
+        requires to { IsWordInRange to }
+        ensures { result ≡ op_of (Change ResolveKind (word_place self.now task entry) (planted attempt) to) }
     {
-        match self.point {
-            Point::Read(look) => look.ask().place(),
-            Point::ReadDoor | Point::Admit { .. } | Point::LowerDoor(_) | Point::Replied(_) => {
-                At::Door(self.tenant)
-            }
-            Point::ScanGate { slot, .. }
-            | Point::Claim { slot, .. }
-            | Point::ReadDirtyGate { slot, .. } => At::Gate(slot),
-            Point::ReadOtherGate { other, .. } | Point::PinOther { other, .. } => {
-                At::Gate(other.slot)
-            }
-            Point::Unpin { slot, .. } | Point::FreeSlot { slot, .. } => At::Gate(slot.slot),
-            Point::FillStatus(own) | Point::Prepare(own) | Point::GiveUp { own, .. } => {
-                At::Status(own.slot)
-            }
-            Point::FillCount(own) => At::Count(own.slot),
-            Point::FillAddr { own, entry } => At::Addr {
-                slot: own.slot,
-                entry,
-            },
-            Point::FillExpected { own, entry } => At::Expected {
-                slot: own.slot,
-                entry,
-            },
-            Point::FillNew { own, entry } => At::New {
-                slot: own.slot,
-                entry,
-            },
-            Point::ReadTargetStatus(task)
-            | Point::DecideYes(task)
-            | Point::DecideNo { task, .. }
-            | Point::CheckThenResolve { task, .. }
-            | Point::Seal(task)
-            | Point::Settle(task)
-            | Point::Cancel(task) => At::Status(task.target.slot),
-            Point::Inspect { task, entry }
-            | Point::Plant { task, entry, .. }
-            | Point::ConfirmAttempt { task, entry, .. }
-            | Point::ConfirmDirty { task, entry, .. }
-            | Point::Resolve { task, entry, .. }
-            | Point::SweepWord { task, entry, .. }
-            | Point::Release { task, entry, .. }
-            | Point::Clean { task, entry, .. }
-            | Point::SweepConfirm { task, entry, .. }
-            | Point::SweepResolve { task, entry, .. } => self.word_place(task, entry),
-            Point::AnnounceRow { .. } => At::Row(self.worker),
-            Point::ReadOtherRow { attempt, .. } | Point::SweepRow { attempt, .. } => {
-                At::Row(attempt.worker)
-            }
-            Point::ReadCount(task) => At::Count(task.target.slot),
-            Point::ReadAddr { task, .. } => At::Addr {
-                slot: task.target.slot,
-                entry: self.others.len() as u8,
-            },
-            Point::ReadExpected { task, .. } => At::Expected {
-                slot: task.target.slot,
-                entry: self.others.len() as u8,
-            },
-            Point::ReadNew { task, .. } => At::New {
-                slot: task.target.slot,
-                entry: self.others.len() as u8,
-            },
-        }
+        self.exchange(Kind::Resolve, task, entry, attempt.word(), to)
     }
 
     // The place of an entry's word, of the change that is worked on.
@@ -243,6 +292,93 @@ impl Actor {
             _ => self.expected(task, entry),
         }
     }
+}
+
+impl Slot {
+    // The place of the slot's gate.
+    fn gate_place(self) -> At
+        ensures { result ≡ AtGate self.slot }
+    {
+        At::Gate(self.slot)
+    }
+
+    // The place of the slot's status.
+    fn status_place(self) -> At
+        ensures { result ≡ AtStatus self.slot }
+    {
+        At::Status(self.slot)
+    }
+
+    // The place of the slot's number of entries.
+    fn count_place(self) -> At
+        ensures { result ≡ Count self.slot }
+    {
+        At::Count(self.slot)
+    }
+
+    // The place of an entry's address.
+    fn addr_place(self, entry: u8) -> At
+        ensures { result ≡ Addr self.slot entry }
+    {
+        At::Addr {
+            slot: self.slot,
+            entry,
+        }
+    }
+
+    // The place of the value that an entry expects.
+    fn expected_place(self, entry: u8) -> At
+        ensures { result ≡ Expected self.slot entry }
+    {
+        At::Expected {
+            slot: self.slot,
+            entry,
+        }
+    }
+
+    // The place of the value that an entry is to write.
+    fn new_place(self, entry: u8) -> At
+        ensures { result ≡ New self.slot entry }
+    {
+        At::New {
+            slot: self.slot,
+            entry,
+        }
+    }
+}
+
+// A change of the word at a place.
+fn change(kind: Kind, at: At, from: u64, to: u64) -> Op
+    ensures { result ≡ ChangeBits kind at from to }
+{
+    Op::Change { kind, at, from, to }
+}
+
+// A change that leaves this at a place, whatever stands there.
+fn store(kind: Kind, at: At, to: u64) -> Op
+    ensures { result ≡ ChangeBits kind at 0 to }
+{
+    change(kind, at, 0, to)
+}
+
+// A word of one's own slot that is written.
+fn fill(at: At, to: u64) -> Op
+    ensures { result ≡ ChangeBits FillKind at 0 to }
+{
+    store(Kind::Fill, at, to)
+}
+
+// The exchange of the open status of the change that is worked on. The new status is in range.
+fn decide(kind: Kind, task: Task, to: Status) -> Op
+    requires { IsStatusInRange to }
+    ensures { result ≡ op_of (Change kind (AtStatus task.target.slot) Open to) }
+{
+    change(
+        kind,
+        task.target.status_place(),
+        Status::Open.pack(),
+        to.pack(),
+    )
 }
 
 // A call on the file for a change.

@@ -165,10 +165,7 @@ impl Actor {
                 slot: 0,
                 saw_worn: false,
             },
-            Point::Claim { slot, from, .. } => Point::FillStatus(Slot {
-                slot,
-                seq: from.seq,
-            }),
+            Point::Claim { slot, from, .. } => Point::FillStatus(Slot::of_gate(slot, from)),
             Point::FillStatus(own) => Point::FillCount(own),
             Point::FillCount(own) => Point::FillAddr { own, entry: 0 },
             Point::FillAddr { own, entry } => Point::FillExpected { own, entry },
@@ -178,20 +175,12 @@ impl Actor {
                 task,
                 entry,
                 number,
-            } => Point::Plant {
-                task,
-                entry,
-                number,
-            },
+            } => task.plants(entry, number),
             Point::Plant {
                 task,
                 entry,
                 number,
-            } => Point::CheckThenResolve {
-                task,
-                entry,
-                attempt: self.attempt(number),
-            },
+            } => task.checks(entry, self.attempt(number)),
             Point::PinOther { task, other, .. } => task.turns_to(other),
             Point::FreeSlot { after, .. } => Point::LowerDoor(after),
             Point::DecideYes(task) | Point::DecideNo { task, .. } | Point::Resolve { task, .. } =>
