@@ -1,0 +1,12 @@
+pub mod ApartPlaces
+pub mod Calling
+pub mod Coming
+pub mod Entering
+pub mod FirstBits
+pub mod Frames
+pub mod KeptPlaces
+pub mod MadeSteps
+pub mod SealedFiles
+pub mod Turning
+pub mod Tying
+pub mod WorkedFiles

@@ -1,0 +1,8 @@
+use Rattle.mw_world.specs.CellLaws.{read-same, read-other}
+use Rattle.mw_world.proofs.laws.places_are_apart.Goals as goal
+
+pub returns-clause-same : goal.returns-clause-same
+returns-clause-same c = read-same
+
+pub returns-clause-other : goal.returns-clause-other
+returns-clause-other c = read-other

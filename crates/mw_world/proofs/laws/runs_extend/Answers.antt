@@ -1,0 +1,5 @@
+use Rattle.mw_world.specs.RunLaws.{run-extends}
+use Rattle.mw_world.proofs.laws.runs_extend.Goals as goal
+
+pub returns : goal.returns
+returns c = run-extends

@@ -1,0 +1,15 @@
+//! Tenants in memory.
+
+use crate::books::Book;
+use crate::lines::Lines;
+
+/// A tenant, but for its words and its door.
+#[derive(Drop)]
+pub(crate) struct Account {
+    /// Its file.
+    pub(crate) book: Book,
+    /// Its marks.
+    pub(crate) lines: Lines,
+    /// The number of its next request.
+    pub(crate) asked: u64,
+}

@@ -1,0 +1,31 @@
+//! What a world is made of.
+
+use arrayvec::ArrayVec;
+use mw_words::{MAX_TENANTS, Name};
+
+/// A tenant's requests have numbers below this one.
+pub const MOST_REQUESTS: u64 = u64::MAX;
+
+/// A tenant of a world.
+#[derive(Debug, Drop)]
+pub struct Tenant {
+    /// Its name.
+    pub name: Name,
+    /// How many words it has, 1 to `MAX_WORDS`.
+    pub words: u16,
+    /// How many slots it may use at a time, 1 to `MAX_QUOTA`. Its file has as many places for changes.
+    pub quota: u8,
+}
+
+/// What a world is made of. The sum of the quotas is at most `pool`.
+#[derive(Debug, Drop)]
+pub struct Config {
+    /// How many slots there are, 1 to `MAX_POOL`.
+    pub pool: u16,
+    /// How many workers there are, 1 to `MAX_WORKERS`.
+    pub workers: u8,
+    /// The number under which each slot is used first, below `WORN_NUMBER`.
+    pub seq: u64,
+    /// The tenants, at least one. A tenant's number is its index, from 0.
+    pub tenants: ArrayVec<Tenant, MAX_TENANTS>,
+}

@@ -1,0 +1,53 @@
+//! What may happen to a world.
+
+use mw_words::Job;
+
+/// How the device takes a call on a file.
+#[derive(Clone, Copy, Debug, PartialEq, Eq)]
+pub enum Outcome {
+    /// No device call fails.
+    Good,
+    /// The device call with this number fails, counted from 1 in the call on the file.
+    Fail(u64),
+}
+
+/// A call on a file that never came to its end.
+#[derive(Clone, Copy, Debug, PartialEq, Eq)]
+pub struct Interrupted {
+    /// The worker whose next step the call is.
+    pub worker: u8,
+    /// How many of the call's device calls were made.
+    pub made: u64,
+}
+
+/// How a tenant's file was stopped and opened again.
+#[derive(Drop)]
+pub struct Stop {
+    /// The tenant.
+    pub tenant: u8,
+    /// The call that was under way.
+    pub interrupted: Option<Interrupted>,
+    /// The bytes that stand, once all has stopped, where bytes were written and not synced, in rising
+    /// order of offset. Where there are none left, the bytes stand that a read gives. What is left of
+    /// them is not looked at.
+    pub torn: Vec<u8>,
+    /// The device call of the opening that fails, counted from 1.
+    pub fails_at: Option<u64>,
+}
+
+/// What happens to a world. An event that can't happen where the world is, is refused.
+#[derive(Drop)]
+pub enum Event {
+    /// A worker that has no request begins one: the worker, the tenant that asks, and what it asks
+    /// for, which is well formed for that tenant.
+    Come(u8, u8, Job),
+    /// A worker makes the next step of its request, which is no call on a file.
+    Step(u8),
+    /// A worker makes the next step of its request, a call on its tenant's file.
+    File(u8, Outcome),
+    /// A worker hands out the reply to its request, and has none afterwards.
+    Hand(u8),
+    /// All stops and starts again. A tenant that isn't named had no call under way and no torn bytes,
+    /// and its file opens. No tenant is named twice.
+    Restart(Vec<Stop>),
+}

@@ -1,0 +1,30 @@
+//! A world in memory.
+ghost use Rattle.std.specs.Prelude.{◌≡◌, length};
+ghost use Rattle.mw_world.specs.State.{IsConfig};
+ghost use Rattle.mw_world.specs.BitPlaces.{HasPlacesOf};
+
+use crate::accounts::Account;
+use crate::cells::Cells;
+use crate::claims::Claims;
+use crate::config::Config;
+use crate::seats::Seat;
+use std::alloc::Global;
+
+mod calls;
+mod turns;
+
+/// A server with its tenants, workers and files, which events change one at a time. What an event does
+/// is told by the event alone: two worlds of one configuration to which the same happens are the same.
+#[derive(Drop)]
+pub struct World {
+    pub(crate) alloc: Global,
+    pub(crate) config: Config,
+    pub(crate) cells: Cells,
+    pub(crate) seats: Vec<Seat>,
+    pub(crate) accounts: Vec<Account>,
+    pub(crate) claims: Claims,
+    ghost configured: { IsConfig config },
+    ghost workers: { length seats.items ≡ config.workers },
+    ghost tenants: { length accounts.items ≡ length config.tenants.items },
+    ghost places: { HasPlacesOf config cells },
+}
