@@ -1,7 +1,9 @@
 -- A file after a call on a place that has a change, and the book that shows it.
-use Rattle.std.proofs.Common.{◌≡◌, ℕ, ◌&&◌, Bool, true, false, List, [], length, None, Result, Ok, Err, is_err, is_ok, slice_set, nat_lt, nat_le, refl, sym, ap, subst, ◌∙◌, arith}
+use Rattle.std.proofs.Common.{◌≡◌, ℕ, ◌<◌, ◌&&◌, Bool, true, false, List, [], length, None, Result, Ok, Err, is_err, is_ok, slice_set, get_or, nat_lt, nat_le, refl, sym, ap, subst, ◌∙◌, inl, inr, arith}
 use Rattle.std.specs.List.{list_all}
-use Rattle.std.proofs.lemmas.Bool.{and_parts, leb-true, lt-ltb}
+use Rattle.std.proofs.lemmas.List.{length-map}
+use Rattle.std.proofs.lemmas.Bool.{and_parts, and_left, and_right, cases_lt, leb-true, lt-ltb, le-ltb}
+use Rattle.mw_words.specs.declared.limits.TheConstants.{MAX_POOL}
 use Rattle.mw_words.specs.declared.jobs.Entry.{Entry}
 use Rattle.mw_words.specs.Change.{put}
 use Rattle.arrayvec.specs.ArrayVec.{ArrayVec}
@@ -179,8 +181,27 @@ module _ (old : Book) (slot number : ℕ) (entries : ArrayVec Entry) (is : IsAt 
             let both = and_parts (nat_le 1 n) (nat_le n 0) may in
             absurd (let e : ⊥ = omega (arith, leb-true 1 n both.0, leb-true n 0 both.1) in e)
 
+-- a slot whose place has no sealed change
+pub unsettled : (old : Book) (slot : ℕ) (xs : List KeptPlace) → is_sealed (place_in xs (get_or old.place_of slot 0)) ≡ false → xs ≡ old.places.items → slot < MAX_POOL → (file : File) → Shows old file
+    → suits SettleCall file (quota_of old) (file.place_of slot) ≡ false
+unsettled old slot xs isnt are within file shows = elim (cases_lt (file.place_of slot) (quota_of old)) [
+  | inl lt ↦ and_right (nat_lt (file.place_of slot) (quota_of old)) (is_sealed (file.places (file.place_of slot)))
+      (ap is_sealed (shows.same_places (file.place_of slot) lt ∙ ap (place_in old.places.items) (shows.same_place_of slot within) ∙ ap (λ l. place_in l (get_or old.place_of slot 0)) (sym are)) ∙ isnt)
+  | inr past ↦ and_left (nat_lt (file.place_of slot) (quota_of old)) (is_sealed (file.places (file.place_of slot))) (le-ltb (file.place_of slot) (quota_of old) past)
+]
+
 -- A sealed change of a slot.
 module _ (old : Book) (slot number : ℕ) (entries : ArrayVec Entry) (is : IsAt old slot number (KeptSealed entries)) where
+  -- a copy of the file has as many entries for it
+  pub sealed_writes : (held : TenantFile Memory) → old.device ≡ Open held → (before : TenantFile Memory) → slots_of before ≡ slots_of held
+      → length (writes_of_place (slots_of before) number) ≡ length entries.items
+  sealed_writes held device before same =
+      let there : place_in old.places.items number ≡ Sealed entries.items = ap told_at is.there in
+      ap (λ ss. length (writes_of_place ss number)) same
+      ∙ ap length ((kept_open old held device).writes number (ap is_empty there))
+      ∙ ap (λ q. length (pairs_of (entries_in q))) there
+      ∙ length-map entries.items (λ e. (e.addr, e.new))
+
   pub settle_suits : (file : File) → Shows old file → suits SettleCall file (quota_of old) (file.place_of slot) ≡ true
   settle_suits file shows =
       let there : file.places (file.place_of slot) ≡ Sealed entries.items = told_there old slot number (KeptSealed entries) is file shows in

@@ -2,7 +2,7 @@
 use Rattle.std.proofs.Common.{◌≡◌, ℕ, ◌+◌, ◌<◌, ◌≤◌, Bool, true, false, List, [], ◌∷◌, length, Option, Some, None, Result, Ok, Err, slice_get, slice_set, get_or, nat_lt, is_some, IsErrAnd, refl, sym, ap, subst, ◌∙◌, inl, inr, arith}
 use Rattle.std.proofs.lemmas.Bool.{cases_Bool, cond-true, cond-false, lt-ltb, le-ltb, ltb-true}
 use Rattle.std.proofs.lemmas.List.{length-set}
-use Rattle.std.proofs.lemmas.Option.{slice_get_read}
+use Rattle.std.proofs.lemmas.Option.{slice_get_read, slice_get_within}
 use Rattle.mw_words.specs.declared.limits.TheConstants.{MAX_POOL}
 use Rattle.mw_words.specs.declared.jobs.Entry.{Entry}
 use Rattle.arrayvec.specs.ArrayVec.{ArrayVec}
@@ -166,6 +166,15 @@ is_at old slot p x xs same within read are slot_within =
       slot_within = slot_within;
     }
 
+pub is_there : (old : Book) (slot : ℕ) (p : KeptPlace) (xs : List KeptPlace) → slice_get xs (get_or old.place_of slot 0) ≡ Some p → xs ≡ old.places.items → slot < MAX_POOL
+    → IsAt old slot (get_or old.place_of slot 0) p
+is_there old slot p xs there are slot_within = record {
+  at = refl;
+  there = ap (λ l. slice_get l (get_or old.place_of slot 0)) (sym are) ∙ there;
+  within = subst (λ l. get_or old.place_of slot 0 < length l) are (slice_get_within xs (get_or old.place_of slot 0) p there);
+  slot_within = slot_within;
+}
+
 module _ (old : Book) (slot number : ℕ) (p : KeptPlace) (is : IsAt old slot number p) (file : File) (shows : Shows old file) where
   -- the file says the same place, and the same of it
   pub place_is : file.place_of slot ≡ number
@@ -211,13 +220,16 @@ module _ (old : Book) (held : TenantFile Memory) (slot : ℕ) (entries : ArrayVe
   lowest_in file shows found at =
       subst (λ f. Lowest file 0 (quota_of old) f) at (lowest (slots_of held) old.places.items file (counted old held is) (kept_open old held is) shows.same_places)
 
-  pub none_empty : (outcome : Outcome) → is_some (free_place (slots_of held)) ≡ false → (file : File) → Shows old file → worked PrepareCall file (quota_of old) slot entries.items outcome ≡ None
-  none_empty outcome none file shows = by (free_place (slots_of held)) refl where
-    by : (found : Option ℕ) → free_place (slots_of held) ≡ found → worked PrepareCall file (quota_of old) slot entries.items outcome ≡ None
+  pub none_suits : is_some (free_place (slots_of held)) ≡ false → (file : File) → Shows old file → nat_lt (empty_from file 0 (quota_of old)) (quota_of old) ≡ false
+  none_suits none file shows = by (free_place (slots_of held)) refl where
+    by : (found : Option ℕ) → free_place (slots_of held) ≡ found → nat_lt (empty_from file 0 (quota_of old)) (quota_of old) ≡ false
     by None at =
         let past : empty_from file 0 (quota_of old) ≡ 0 + quota_of old = lowest_in file shows None at in
-        unsuited PrepareCall file (quota_of old) slot (empty_from file 0 (quota_of old)) entries.items outcome (le-ltb (empty_from file 0 (quota_of old)) (quota_of old) (omega (arith, past)))
+        le-ltb (empty_from file 0 (quota_of old)) (quota_of old) (omega (arith, past))
     by (Some place) at = absurd (let e : true ≡ false = sym (ap is_some at) ∙ none in cc)
+
+  pub none_empty : (outcome : Outcome) → is_some (free_place (slots_of held)) ≡ false → (file : File) → Shows old file → worked PrepareCall file (quota_of old) slot entries.items outcome ≡ None
+  none_empty outcome none file shows = unsuited PrepareCall file (quota_of old) slot (empty_from file 0 (quota_of old)) entries.items outcome (none_suits none file shows)
 
   module _ (before : TenantFile Memory) (same : slots_of before ≡ slots_of held) where
     pub place_within : (place : ℕ) → free_place (slots_of before) ≡ Some place → place < length old.places.items
@@ -227,7 +239,7 @@ module _ (old : Book) (held : TenantFile Memory) (slot : ℕ) (entries : ArrayVe
         let n = counted old held is in
         omega (arith, lt, e, n)
 
-    some_empty : is_some (free_place (slots_of held)) ≡ true → (file : File) → Shows old file → nat_lt (empty_from file 0 (quota_of old)) (quota_of old) ≡ true
+    pub some_empty : is_some (free_place (slots_of held)) ≡ true → (file : File) → Shows old file → nat_lt (empty_from file 0 (quota_of old)) (quota_of old) ≡ true
     some_empty some file shows = by (free_place (slots_of held)) refl where
       by : (found : Option ℕ) → free_place (slots_of held) ≡ found → nat_lt (empty_from file 0 (quota_of old)) (quota_of old) ≡ true
       by None at = absurd (let e : false ≡ true = sym (ap is_some at) ∙ some in cc)

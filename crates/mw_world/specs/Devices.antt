@@ -67,6 +67,11 @@ abbrev pub disk_under : Device → Memory
 disk_under (Open file) = disk_of file
 disk_under (Shut disk) = disk
 
+-- No device call to come is told to fail, and none so far was refused memory.
+pub record IsReady (disk : Memory) : Type 0 where
+  pub plan : (k : ℕ) → (memory_facts disk).plan k ≡ Some true
+  pub granted : disk.refused ≡ 0
+
 -- The file's own places are as far as these say, with their entries.
 pub record AreKept (slots : List Slot) (places : List KeptPlace) : Type 0 where
   pub stages : (place : ℕ) → stage_of slots place ≡ stage_told (place_in places place)

@@ -24,20 +24,20 @@ pub data Arm : Type 0 where
   Idle : Arm
   Armed : (tenant address worker number slot seq : ℕ) → Arm
 
--- The history. A slot under its sequence number names one change for ever, so what is known by both is never written over by a
--- later use of the slot.
+-- The history. A slot under its sequence number names one change until the next start, so what is known by both is never written over
+-- by a later use of the slot.
 pub record History : Type 0 where
   -- by slot and number: the slot was claimed under it; for which tenant, which of the tenant's requests, by which worker
   pub is_born : ℕ → ℕ → Bool
   pub tenant : ℕ → ℕ → ℕ
   pub request : ℕ → ℕ → ℕ
   pub owner : ℕ → ℕ → ℕ
-  -- by slot and number: the entries of the change, and how far it is; once it is done with, that stays
+  -- by slot and number: the entries of the change, and how far it is; once it is done with, that stays until the next start
   pub change : ℕ → ℕ → List Entry
   pub fate : ℕ → ℕ → Status
   -- by slot, number and address: what has become of the word
   pub phase : ℕ → ℕ → ℕ → Phase
-  -- by slot and number: its worker gave up and left its pin behind, so that the slot is never freed
+  -- by slot and number: its worker gave up and left its pin behind, so that the slot isn't freed until the next start
   pub stays : ℕ → ℕ → Bool
   -- by slot and number: the reply FAULT was decided for its request, by a seal that failed or by its worker when it gave up
   pub is_spoiled : ℕ → ℕ → Bool

@@ -9,13 +9,14 @@ use Rattle.mw_look.specs.declared.steps.Call.TheVariants.{Seal as SealCall}
 use Rattle.mw_actor.specs.Acting.{Acting, own_entries}
 use Rattle.mw_world.specs.declared.config.Config.{Config}
 use Rattle.mw_world.specs.declared.events.Interrupted.{Interrupted}
+use Rattle.mw_world.specs.Extent.{has_slot}
 use Rattle.mw_world.specs.Happenings.{Found}
 use Rattle.mw_world.specs.Files.{File, entries_at, file_of, broken}
 use Rattle.mw_world.specs.State.{State, Account, tenant_at, tenants_of, marks_in, started}
 use Rattle.mw_world.specs.Calls.{Called, called_at, calls_made, can_be_made, place_for, is_made}
 
 -- A call on a tenant's file that was under way: the call, the request and the entries of its change, how many of its device calls were
--- made, and how many it makes. One that can't be made makes none.
+-- made, and how many it makes. One that can't be made, or for a slot that isn't there, makes none.
 pub record UnderWay : Type 0 where
   pub tenant : ℕ
   pub call : Call
@@ -36,7 +37,7 @@ stopped_call config state actor made called =
       request = state.history.request slot called.change.seq;
       entries = entries_at file place;
       made = made;
-      calls = if can_be_made called.call file places place (own_entries actor) then calls_made called.call (state.cells.statuses slot) file place else 0;
+      calls = if has_slot config slot && can_be_made called.call file places place (own_entries actor) then calls_made called.call (state.cells.statuses slot) file place else 0;
     }
 
 -- the call to which a worker's request has come, once so many of its device calls were made
@@ -94,9 +95,9 @@ abbrev pub takes : List ℕ → List Entry → List ℕ → Bool
 takes before [] words = false
 takes before (entry ∷ entries) words = bytes_eq words (put before (entry ∷ entries))
 
--- words that may be found: those before with the change in doubt, or, unless that was sealed to the end, those before
+-- words that may be found: those before with the change in doubt put over them, or, unless that was sealed to the end, those before
 abbrev pub may_find : Bool → List ℕ → List Entry → List ℕ → Bool
-may_find true before doubt words = takes before doubt words
+may_find true before doubt words = bytes_eq words (put before doubt)
 may_find false before doubt words = bytes_eq words before || takes before doubt words
 
 -- one of so many device calls fails

@@ -12,7 +12,8 @@ use Rattle.mw_world.specs.Seats.{seat_of}
 use Rattle.mw_world.specs.State.{State, Account, tenant_at, tenants_of}
 use Rattle.mw_world.specs.Ties.{Tie, AllFit}
 
--- A tenant in memory, which has so many words and such a quota, is this tenant.
+-- A tenant in memory, which has so many words and such a quota, is this tenant. Whether its file opened at the last start isn't kept in memory:
+-- it is told by the run alone.
 pub record ShowsAccount (words quota : ℕ) (shown : AccountInMemory) (account : Account) : Type 0 where
   pub book : ShowsFile shown.book account.file
   pub places : quota_of shown.book ≡ quota

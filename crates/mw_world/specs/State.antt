@@ -22,7 +22,8 @@ pub record Seat : Type 0 where
   pub request : ℕ
   -- the number of its next attempt to hold a word
   pub attempt : ℕ
-  -- Of its history: the place that it kept last among its tenant's lines, and the request whose slot it freed last, at first its own.
+  -- Of its history: the place that it kept last among its tenant's lines, and the request whose slot it freed last. That is at first its own,
+  -- which matters only in a round over the gates that ends with WORN, where the door is lowered and no slot was freed.
   pub kept : ℕ
   pub retiring : ℕ
 

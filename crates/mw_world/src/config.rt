@@ -7,7 +7,7 @@ use mw_words::{MAX_TENANTS, Name};
 pub const MOST_REQUESTS: u64 = u64::MAX;
 
 /// A tenant of a world.
-#[derive(Debug, Drop)]
+#[derive(Debug, Default, Drop)]
 pub struct Tenant {
     /// Its name.
     pub name: Name,

@@ -1,7 +1,11 @@
 //! What holds of the definitions of the world: facts for proofs to cite. The functions do nothing.
 ghost use Rattle.mw_world.specs.CellLaws.{ReadSame, ReadOther};
 ghost use Rattle.mw_world.specs.Examples.{ComeOut};
+ghost use Rattle.mw_world.specs.Headline.{EqualMarksHaveEqualReplies, EveryImageIsOfStore, EveryRunServesAlone};
+ghost use Rattle.mw_world.specs.Invariant.{Invariant};
 ghost use Rattle.mw_world.specs.RunLaws.{RunExtends};
+ghost use Rattle.mw_world.specs.State.{new_world};
+ghost use Rattle.mw_world.specs.declared.config.Config.{Config};
 
 /// What was written at a place stands there, and all other places are as they were.
 pub fn places_are_apart()
@@ -17,4 +21,16 @@ pub fn runs_extend()
 /// Some short runs of the world come out as one would expect.
 pub fn runs_come_out()
     ensures { ComeOut }
+{}
+
+/// What is to hold at every moment of a run holds of a new world.
+pub fn new_worlds_keep_the_invariant()
+    ensures { (config : Config) → Invariant config (new_world config) }
+{}
+
+/// If every run serves each tenant as its store alone would, equal marks have equal replies, and each image
+/// that a crash may leave has the store's words, with the change in doubt or without.
+pub fn what_serving_alone_gives()
+    ensures replies { EveryRunServesAlone → EqualMarksHaveEqualReplies }
+    ensures images { EveryRunServesAlone → EveryImageIsOfStore }
 {}

@@ -2,6 +2,7 @@
 ghost use Rattle.std.specs.Prelude.{◌≡◌, length};
 ghost use Rattle.mw_world.specs.State.{IsConfig};
 ghost use Rattle.mw_world.specs.BitPlaces.{HasPlacesOf};
+ghost use Rattle.mw_world.specs.TenantBooks.{AreSound};
 
 use crate::accounts::Account;
 use crate::cells::Cells;
@@ -11,6 +12,11 @@ use crate::seats::Seat;
 use std::alloc::Global;
 
 mod calls;
+mod halts;
+mod making;
+mod restarts;
+mod running;
+mod stopping;
 mod turns;
 
 /// A server with its tenants, workers and files, which events change one at a time. What an event does
@@ -27,4 +33,5 @@ pub struct World {
     ghost workers: { length seats.items ≡ config.workers },
     ghost tenants: { length accounts.items ≡ length config.tenants.items },
     ghost places: { HasPlacesOf config cells },
+    ghost books: { AreSound config accounts.items },
 }

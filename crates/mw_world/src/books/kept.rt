@@ -1,6 +1,6 @@
 //! A tenant's file, and what the world knows of it.
-ghost use Rattle.std.specs.Prelude.{◌≡◌, true, length};
-ghost use Rattle.mw_world.specs.Devices.{is_open, words_on, slots_on, has_failed_on, AreKept};
+ghost use Rattle.std.specs.Prelude.{◌≡◌, true, false, length};
+ghost use Rattle.mw_world.specs.Devices.{disk_under, is_open, words_on, slots_on, has_failed_on, AreKept, IsReady};
 
 use crate::books::device::Device;
 use crate::books::places::Place;
@@ -24,4 +24,5 @@ pub(crate) struct Book {
     ghost count: { is_open device ≡ true → length (slots_on device) ≡ length places.items },
     ghost kept: { AreKept (slots_on device) places.items },
     ghost failed: { has_failed_on device ≡ has_failed },
+    ghost ready: { has_failed ≡ false → IsReady (disk_under device) },
 }

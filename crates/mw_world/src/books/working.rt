@@ -3,10 +3,10 @@ ghost use Rattle.std.specs.Prelude.{◌≡◌, ◌<◌, ℕ, List, length, true,
 ghost use Rattle.mw_words.specs.Change.{is_change};
 ghost use Rattle.mw_disk.specs.Memory.{memory_facts};
 ghost use Rattle.mw_record.specs.Records.{Pairs};
-ghost use Rattle.mw_file.specs.File.{words_of, slots_of, has_failed};
+ghost use Rattle.mw_file.specs.File.{disk_of, words_of, slots_of, has_failed};
 ghost use Rattle.mw_file.specs.Keeps.{Keeps};
 ghost use Rattle.mw_world.specs.declared.books.device.Device.TheVariants.{Open};
-ghost use Rattle.mw_world.specs.Devices.{told, is_clear, AreKept};
+ghost use Rattle.mw_world.specs.Devices.{told, is_clear, AreKept, IsReady};
 ghost use Rattle.std.specs.List.{list_all};
 ghost use Rattle.mw_world.specs.Books.{HasParts};
 ghost use Rattle.mw_world.specs.Working as spec;
@@ -25,7 +25,7 @@ use mw_words::{Entries, Entry, copy_of};
 use std::alloc::{AllocError, Global};
 
 /// How many device calls a call makes, for a change of these entries.
-fn device_calls(call: Call, entries: &[Entry]) -> u64
+pub(crate) fn device_calls(call: Call, entries: &[Entry]) -> u64
     requires { length entries.now < 256 }
     ensures { result ≡ counts.device_calls call entries.now }
 {
@@ -62,6 +62,7 @@ fn copy_for(
     ensures slots { IfOk result (λ copy. slots_of copy ≡ slots_of file.now) }
     ensures words { IfOk result (λ copy. words_of copy ≡ words_of file.now) }
     ensures failed { IfOk result (λ copy. has_failed copy ≡ has_failed file.now) }
+    ensures disk { IfOk result (λ copy. outcome ≡ Outcome.Good → disk_of copy ≡ disk_of file.now) }
     ensures keeps { IfOk result (λ copy. (contents : List ℕ) (doubt : Pairs) → Keeps memory_facts file.now contents doubt
         → Keeps memory_facts copy contents doubt) }
 {
@@ -74,7 +75,7 @@ fn copy_for(
 }
 
 /// Whether no sealed change among these places has an entry of a word of these.
-fn is_apart(places: &[Place], entries: &[Entry]) -> bool
+pub(crate) fn is_apart(places: &[Place], entries: &[Entry]) -> bool
     ensures { result ≡ list_all (λ place. is_clear entries.now (told place)) places.now }
 {
     places.iter().all(|place| is_clear(place, entries))
@@ -172,6 +173,7 @@ impl Book {
         requires count { length (slots_of file) ≡ length self.now.places.items }
         requires kept { AreKept (slots_of file) (slice_set self.now.places.items place (Place.Prepared entries.now)) }
         requires failed { has_failed file ≡ self.now.has_failed }
+        requires ready { self.now.has_failed ≡ false → IsReady (disk_of file) }
         ensures { IfOk result (λ book. HasParts book (Open file) self.now.contents.items
             (slice_set self.now.places.items place (Place.Prepared entries.now)) (slice_set self.now.place_of slot place)
             self.now.has_failed self.now.doubt.items) }
@@ -293,6 +295,7 @@ impl Book {
         requires count { length (slots_of file) ≡ length self.now.places.items }
         requires kept { AreKept (slots_of file) (slice_set self.now.places.items number Place.Empty) }
         requires failed { has_failed file ≡ self.now.has_failed }
+        requires ready { self.now.has_failed ≡ false → IsReady (disk_of file) }
         ensures { IfOk result (λ book. HasParts book (Open file) self.now.contents.items (slice_set self.now.places.items number Place.Empty)
             self.now.place_of self.now.has_failed self.now.doubt.items) }
     {
@@ -314,6 +317,7 @@ impl Book {
         requires count { length (slots_of file) ≡ length self.now.places.items }
         requires kept { AreKept (slots_of file) (slice_set self.now.places.items number place) }
         requires failed { has_failed file ≡ self.now.has_failed }
+        requires ready { self.now.has_failed ≡ false → IsReady (disk_of file) }
         ensures { IfOk result (λ book. HasParts book (Open file) contents.items (slice_set self.now.places.items number place)
             self.now.place_of self.now.has_failed self.now.doubt.items) }
     {

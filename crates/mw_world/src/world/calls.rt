@@ -11,8 +11,9 @@ ghost use Rattle.mw_world.specs.Ending as ending;
 ghost use Rattle.mw_world.specs.Extent.{has_slot};
 ghost use Rattle.mw_world.specs.Files.{File};
 ghost use Rattle.mw_world.specs.Shows.{Ends, Shows};
-ghost use Rattle.mw_world.specs.State.{State};
+ghost use Rattle.mw_world.specs.State.{State, tenant_at};
 ghost use Rattle.mw_world.specs.Stepping as stepping;
+ghost use Rattle.mw_world.specs.TenantBooks.{HasSound};
 
 use crate::books::Book;
 use crate::events::Outcome;
@@ -71,7 +72,7 @@ impl World {
     }
 
     /// The status of a slot, or `None` where there is no such slot.
-    fn status(&self, slot: u8) -> Option<Status>
+    pub(crate) fn status(&self, slot: u8) -> Option<Status>
         ensures in_range { IfSome result IsStatusInRange }
         ensures shown { (state : State) → Shows self.now state
             → result ≡ (if has_slot self.now.config slot then Some (state.cells.statuses slot) else None) }
@@ -190,6 +191,7 @@ impl World {
     /// A tenant's file is the one of this book from now on.
     fn file(&mut self, tenant: u8, book: Book)
         requires tenant { tenant < length self.old.accounts.items }
+        requires sound { HasSound (tenant_at self.old.config tenant).words book }
         ensures rest { ending.SameButFiles self.old self.new }
         ensures shows { (state : State) (file : File) → Shows self.old state → ending.IsBookOf self.old.config tenant book file
             → Shows self.new (stepping.with_file state tenant file) }
@@ -282,7 +284,7 @@ fn fails_on(call: Call, has_failed: bool) -> bool
 }
 
 /// The entries of a request's own change. A read has none.
-fn entries_of(job: &Job) -> Entries
+pub(crate) fn entries_of(job: &Job) -> Entries
     ensures { result.items ≡ entries_of_job job.now }
 {
     match job {
@@ -293,7 +295,7 @@ fn entries_of(job: &Job) -> Entries
 
 /// Whether what a call writes down is a well-formed change of a file with so many words. Only one call
 /// writes a change down.
-fn is_formed(call: Call, words: usize, entries: &Entries) -> bool
+pub(crate) fn is_formed(call: Call, words: usize, entries: &Entries) -> bool
     ensures is { (file : File) → length file.contents ≡ words → result ≡ calls.is_formed call file entries.now.items }
     ensures formed { result ≡ true → call ≡ Call.Prepare → IsTrue (is_change words entries.now.items) }
 {

@@ -1,12 +1,15 @@
 -- A call that can be made leaves its tenant the file after it, and ends by what the device did.
-use Rattle.std.proofs.Common.{refl, ap, subst, ◌∙◌, ◌≡◌, true, false, Ok, Err, length, arith}
+use Rattle.std.proofs.Common.{refl, ap, subst, sym, ◌∙◌, ◌≡◌, true, false, Ok, Err, length, arith}
 use Rattle.mw_actor.specs.Acting.{entries_of_job, own_entries}
 use Rattle.mw_world.specs.Ending.{IsBookOf, called_of, cells_closed}
 use Rattle.mw_world.specs.Files.{File}
 use Rattle.mw_world.specs.Shows.{Shows}
+use Rattle.mw_world.specs.State.{tenant_at}
 use Rattle.mw_world.specs.Stepping.{with_cells, with_file}
+use Rattle.mw_world.specs.TenantBooks.{HasSound}
 use Rattle.mw_world.specs.Working.{Works}
 use Rattle.mw_world.proofs.Calling.{both_same, call_fails, call_unformed, call_works, formed_is, found_at, shown_at, why_failed}
+use Rattle.mw_world.proofs.SoundBooks.{sound_after}
 use Rattle.mw_world.proofs.world.World.work.Goals as goal
 
 pub returns-then-not-is_formed-clause-ends : goal.returns-then-not-is_formed-clause-ends
@@ -23,6 +26,15 @@ pub work-requires-clause-sound : goal.work-requires-clause-sound
 work-requires-clause-sound c other =
     c.requires.sound other c.index-2.result.now
     (found_at c.args.self.now.accounts.items c.from-tenant.result c.args.actor.now.tenant c.index-2.result.now (c.from-tenant.ensures ∙ c.tenant.ensures) c.requires.tenant c.index-2.ensures)
+
+pub file-requires-clause-sound : goal.file-requires-clause-sound
+file-requires-clause-sound c =
+    let config = c.args.self.now.config in
+    let tenant = c.args.actor.now.tenant in
+    let shown = c.index-2.result.now in
+    let here = found_at c.args.self.now.accounts.items c.from-tenant.result tenant shown (c.from-tenant.ensures ∙ c.tenant.ensures) c.requires.tenant c.index-2.ensures in
+    subst (λ t. HasSound (tenant_at config t).words c.in-Ok.book) (sym c.tenant-2.ensures)
+    (sound_after (tenant_at config tenant).words shown.book c.in-Ok.book _ (c.args.self.now.books tenant shown here) c.in-Ok.ensures)
 
 pub returns-in-Err-clause-ends : goal.returns-in-Err-clause-ends
 returns-in-Err-clause-ends c state shows same starts fails =

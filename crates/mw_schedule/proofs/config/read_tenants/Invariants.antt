@@ -1,0 +1,12 @@
+use Rattle.std.proofs.Common.{◌≡◌, ◌+◌, ◌≤◌, length}
+use Rattle.std.specs.Prelude.{sum_by}
+use Rattle.mw_schedule.specs.Playing.{AreTenants}
+use Rattle.mw_schedule.proofs.config.read_tenants.Given as goal
+
+-- the tenants so far are within their limits, and what their quotas leave of the pool is free
+abbrev pub invariant-loop : goal.invariant-loop
+invariant-loop l = record {
+  within : AreTenants l.pool l.tenants.items;
+  free : sum_by (λ tenant. tenant.quota) l.tenants.items + l.free ≡ l.pool;
+  count : length l.tenants.items ≤ l.counter;
+}

@@ -1,0 +1,33 @@
+//! The lines of a text, one after the other.
+ghost use Rattle.std.specs.Prelude.{◌≡◌, IfSome};
+ghost use Rattle.mw_schedule.specs.Lines.{IsFurther};
+
+use crate::fields::cut;
+use crate::rest::Lines;
+
+impl<'a> Lines<'a> {
+    /// The lines of a text.
+    pub fn new(text: &'a [u8]) -> Self
+        ensures { result.rest.now ≡ text.now }
+    {
+        Lines {
+            rest: text,
+            number: 1,
+        }
+    }
+
+    /// The line in front, without its LF, and the lines behind it. None where there is no line, or its
+    /// LF is missing.
+    pub fn split(self) -> Option<(&'a [u8], Lines<'a>)>
+        ensures { IfSome result (λ x. IsFurther self.entry x.1) }
+    {
+        let Some((line, rest)) = cut(b'\n', self.rest) else {
+            return None;
+        };
+        let after = Lines {
+            rest,
+            number: self.number + 1,
+        };
+        Some((line, after))
+    }
+}

@@ -1,0 +1,125 @@
+//! How each tenant's file is stopped and opened again, as a schedule tells it.
+ghost use Rattle.std.specs.Prelude.{◌≡◌, ◌==◌, ◌<◌, ◌≤◌, length, IfOk, IfSome};
+ghost use Rattle.std.specs.List.{list_any};
+ghost use Rattle.mw_world.specs.State.{tenants_of};
+ghost use Rattle.mw_schedule.specs.Playing.{AreStops};
+
+use crate::commands::{tenant_of, worker_of};
+use crate::fields::{behind, cut, number};
+use mw_world::{Config, Interrupted, Stop};
+use std::alloc::{AllocError, Global};
+
+/// The stops that are all of the text, each with a space before it. None where it isn't that, or one
+/// tenant is named twice.
+///
+/// # Errors
+///
+/// Memory was refused.
+pub fn read_stops(
+    alloc: Global,
+    text: &[u8],
+    config: &Config,
+) -> Result<Option<Vec<Stop>>, AllocError>
+    ensures { IfOk result (λ read. IfSome read (λ stops. AreStops (tenants_of config.now) stops.items)) }
+{
+    let mut stops = Vec::new(alloc);
+    let mut rest = text;
+    while !rest.is_empty() {
+        let Some(items) = behind(b" ", rest) else {
+            return Ok(None);
+        };
+        let (item, after) = item_at(items);
+        let Some(stop) = read_stop(alloc, item, config)? else {
+            return Ok(None);
+        };
+        if is_named(&stops, stop.tenant) {
+            return Ok(None);
+        }
+        stops.push(stop)?;
+        rest = after;
+    }
+    Ok(Some(stops))
+}
+
+// The bytes up to a space or the end, and those from there on.
+fn item_at(text: &[u8]) -> (&[u8], &[u8])
+    ensures { length result.1.now ≤ length text.now }
+{
+    let end = text
+        .iter()
+        .position(|byte| *byte == b' ')
+        .unwrap_or(text.len());
+    (&text[..end], &text[end..])
+}
+
+fn is_named(stops: &[Stop], tenant: u8) -> bool
+    ensures { result ≡ list_any (λ stop. stop.tenant == tenant) stops.now }
+{
+    stops.iter().any(|stop| stop.tenant == tenant)
+}
+
+// The stop `NAME=W,K,HEX` or `NAME=W,K,HEX,F`. None where the text is none of these.
+fn read_stop(alloc: Global, text: &[u8], config: &Config) -> Result<Option<Stop>, AllocError>
+    ensures { IfOk result (λ read. IfSome read (λ stop. stop.tenant < tenants_of config.now)) }
+{
+    let Some((tenant, interrupted, torn, fails_at)) = stop_parts(text, config) else {
+        return Ok(None);
+    };
+    let Some(torn) = bytes_of(alloc, torn)? else {
+        return Ok(None);
+    };
+    Ok(Some(Stop {
+        tenant,
+        interrupted,
+        torn,
+        fails_at,
+    }))
+}
+
+// The parts of a stop, with its torn bytes as they are written.
+fn stop_parts<'a>(
+    text: &'a [u8],
+    config: &Config,
+) -> Option<(u8, Option<Interrupted>, &'a [u8], Option<u64>)>
+    ensures { IfSome result (λ read. read.0 < tenants_of config.now) }
+{
+    let (name, rest) = cut(b'=', text)?;
+    let (worker, rest) = cut(b',', rest)?;
+    let (calls, rest) = cut(b',', rest)?;
+    let tenant = tenant_of(config, name)?;
+    let interrupted = match (worker, calls) {
+        (b"-", b"-") => None,
+        _ => Some(Interrupted {
+            worker: worker_of(worker)?,
+            made: number(calls)?,
+        }),
+    };
+    match cut(b',', rest) {
+        Some((torn, call)) => Some((tenant, interrupted, torn, Some(number(call)?))),
+        None => Some((tenant, interrupted, rest, None)),
+    }
+}
+
+// The bytes that are written as pairs of the digits 0 to 9 and a to f. None where the text isn't that.
+fn bytes_of(alloc: Global, text: &[u8]) -> Result<Option<Vec<u8>>, AllocError> {
+    let mut bytes = Vec::with_capacity(alloc, text.len() / 2)?;
+    let mut rest = text;
+    while let [high, low, after @ ..] = rest {
+        let (Some(high), Some(low)) = (digit(*high), digit(*low)) else {
+            return Ok(None);
+        };
+        bytes.push(high * 16 + low)?;
+        rest = after;
+    }
+    Ok(if rest.is_empty() { Some(bytes) } else { None })
+}
+
+fn digit(byte: u8) -> Option<u8>
+    ensures { IfSome result (λ value. value < 16) }
+{
+    match byte {
+        b'0'..=b'9' => Some(byte - b'0'),
+        b'a'..=b'f' => Some(byte - b'a' + 10),
+        _ => None,
+    }
+}

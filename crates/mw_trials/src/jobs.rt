@@ -1,0 +1,113 @@
+//! Random jobs, stops and worlds.
+ghost use Rattle.std.specs.Prelude.{◌≤◌};
+ghost use Rattle.mw_world.specs.State.{IsConfig};
+
+use crate::dice::Dice;
+use arrayvec::ArrayVec;
+use mw_words::{Entries, Entry, Job, Name};
+use mw_world::{Config, Interrupted, Stop, Tenant};
+use std::alloc::{AllocError, Global};
+
+/// The values that words have.
+const VALUES: u64 = 3;
+
+/// A small world: two to four workers, one or two tenants of one to three words.
+pub(crate) fn small_world(dice: &mut Dice) -> Config
+    ensures { IsConfig result }
+{
+    let mut tenants = ArrayVec::new();
+    let first = small_tenant(dice);
+    let second = small_tenant(dice);
+    let pool = u16::from(first.quota) + u16::from(second.quota);
+    tenants.push(first);
+    if dice.once_in(2) {
+        tenants.push(second);
+    }
+    Config {
+        pool,
+        workers: 2 + dice.small(3),
+        seq: 0,
+        tenants,
+    }
+}
+
+fn small_tenant(dice: &mut Dice) -> Tenant
+    ensures words { (1 ≤ result.words) × (result.words ≤ 3) }
+    ensures quota { (1 ≤ result.quota) × (result.quota ≤ 3) }
+{
+    Tenant {
+        name: Name::new(),
+        words: 1 + u16::from(dice.small(3)),
+        quota: 1 + dice.small(3),
+    }
+}
+
+/// A read or a change of a tenant's words.
+pub(crate) fn job(dice: &mut Dice, words: u16) -> Job
+    requires { 1 ≤ words }
+{
+    if dice.once_in(3) {
+        return Job::Get(dice.below(u64::from(words)) as u16);
+    }
+    let mut entries = Entries::new();
+    for addr in 0..words {
+        if dice.once_in(2) && !entries.is_full() {
+            entries.push(Entry {
+                addr,
+                expected: dice.below(VALUES),
+                new: dice.below(VALUES),
+            });
+        }
+    }
+    Job::Cas(entries)
+}
+
+/// A way to stop a tenant's file, and to open it again.
+pub(crate) fn stop(
+    alloc: Global,
+    dice: &mut Dice,
+    tenant: u8,
+    workers: u8,
+) -> Result<Stop, AllocError>
+    requires { 1 ≤ workers }
+{
+    let mut torn = Vec::new(alloc);
+    for _ in 0..dice.below(24) {
+        torn.push(torn_byte(dice))?;
+    }
+    Ok(Stop {
+        tenant,
+        interrupted: interrupted(dice, workers),
+        torn,
+        fails_at: failing(dice),
+    })
+}
+
+/// A byte that opens a gate, one that shuts it, and one that does neither by itself.
+fn torn_byte(dice: &mut Dice) -> u8 {
+    match dice.small(3) {
+        0 => 0xa5,
+        1 => 0,
+        _ => 0xff,
+    }
+}
+
+fn interrupted(dice: &mut Dice, workers: u8) -> Option<Interrupted>
+    requires { 1 ≤ workers }
+{
+    if dice.once_in(3) {
+        return None;
+    }
+    Some(Interrupted {
+        worker: dice.small(workers),
+        made: dice.below(7),
+    })
+}
+
+fn failing(dice: &mut Dice) -> Option<u64> {
+    if dice.once_in(4) {
+        Some(1 + dice.below(9))
+    } else {
+        None
+    }
+}

@@ -1,0 +1,155 @@
+//! A tenant's store alone, given the tenant's marks.
+ghost use Rattle.std.specs.Prelude.{◌<◌, length};
+
+use mw_lone::{Lone, LoneFault, Mark};
+use mw_words::{At, Job, Reply, Word};
+use mw_world::World;
+use std::alloc::{AllocError, Global};
+
+/// How a world and a store alone disagree.
+#[derive(Clone, Copy, Debug, PartialEq, Eq)]
+pub enum Disagreement {
+    /// A worker's next step was refused.
+    Stuck,
+    /// The store refuses a mark.
+    Mark,
+    /// A reply is another one.
+    Reply,
+    /// More replies were handed out, or fewer.
+    Replies,
+    /// A word has another value after a start.
+    Word,
+}
+
+/// Why a trial came to no good end.
+#[derive(Clone, Copy, Debug, PartialEq, Eq)]
+pub enum TrialFault {
+    /// Want of memory.
+    Memory,
+    /// The world and a store alone disagree.
+    Disagreement(Disagreement),
+}
+
+impl From<AllocError> for TrialFault {
+    fn from(_: AllocError) -> TrialFault {
+        TrialFault::Memory
+    }
+}
+
+impl From<LoneFault> for TrialFault {
+    fn from(fault: LoneFault) -> TrialFault {
+        match fault {
+            LoneFault::Illegal => TrialFault::Disagreement(Disagreement::Mark),
+            LoneFault::Memory => TrialFault::Memory,
+        }
+    }
+}
+
+/// A reply that was handed out to a tenant.
+#[derive(Clone, Copy, Debug)]
+pub(crate) struct Handed {
+    /// The tenant.
+    pub(crate) tenant: u8,
+    /// The reply.
+    pub(crate) reply: Reply,
+}
+
+/// The store alone of a tenant after the tenant's marks.
+#[derive(Drop)]
+struct Alone {
+    lone: Lone,
+    /// How many requests were asked.
+    asked: u64,
+}
+
+/// Gives a tenant's marks to a new store of its words alone, which has to take them, and to hand out what
+/// the tenant was handed out.
+pub(crate) fn judge(
+    alloc: Global,
+    world: &World,
+    tenant: u8,
+    handed: &[Handed],
+) -> Result<(), TrialFault>
+    requires { tenant < length world.now.config.tenants.items }
+{
+    after_marks(alloc, world, tenant, handed)?;
+    Ok(())
+}
+
+/// The same, and the words that the world has are those of the store.
+pub(crate) fn judge_start(
+    alloc: Global,
+    world: &World,
+    tenant: u8,
+    handed: &[Handed],
+) -> Result<(), TrialFault>
+    requires { tenant < length world.now.config.tenants.items }
+{
+    let mut judge = after_marks(alloc, world, tenant, handed)?;
+    let words = world.config().tenants[usize::from(tenant)].words;
+    for address in 0..words {
+        let word = Word::unpack(world.word(At::Data { tenant, address }));
+        if word != Some(Word::Plain(judge.value(address)?)) {
+            return Err(TrialFault::Disagreement(Disagreement::Word));
+        }
+    }
+    Ok(())
+}
+
+fn after_marks(
+    alloc: Global,
+    world: &World,
+    tenant: u8,
+    handed: &[Handed],
+) -> Result<Alone, TrialFault>
+    requires { tenant < length world.now.config.tenants.items }
+{
+    let its = &world.config().tenants[usize::from(tenant)];
+    let zeros = zeros(alloc, its.words)?;
+    let mut judge = Alone {
+        lone: Lone::new(alloc, &zeros, its.quota)?,
+        asked: 0,
+    };
+    let mut replies = handed.iter().filter(|handed| handed.tenant == tenant);
+    for mark in world.marks(tenant)? {
+        if let Some(reply) = judge.mark(mark)? {
+            match replies.next() {
+                Some(handed) if handed.reply == reply => {}
+                Some(_) => return Err(TrialFault::Disagreement(Disagreement::Reply)),
+                None => return Err(TrialFault::Disagreement(Disagreement::Replies)),
+            }
+        }
+    }
+    if replies.next().is_some() {
+        return Err(TrialFault::Disagreement(Disagreement::Replies));
+    }
+    Ok(judge)
+}
+
+impl Alone {
+    fn mark(&mut self, mark: Mark) -> Result<Option<Reply>, TrialFault> {
+        if let Mark::Ask(request, _) = &mark {
+            self.asked = request.saturating_add(1);
+        }
+        Ok(self.lone.mark(mark)?)
+    }
+
+    /// The store's word at an address, as a read of it tells.
+    fn value(&mut self, address: u16) -> Result<u64, TrialFault> {
+        let request = self.asked;
+        self.mark(Mark::Ask(request, Job::Get(address)))?;
+        self.mark(Mark::Look(request))?;
+        match self.mark(Mark::Reply(request))? {
+            Some(Reply::Val(value)) => Ok(value),
+            _ => Err(TrialFault::Disagreement(Disagreement::Reply)),
+        }
+    }
+}
+
+fn zeros(alloc: Global, words: u16) -> Result<Vec<u64>, AllocError> {
+    let mut zeros = Vec::new(alloc);
+    for _ in 0..words {
+        zeros.push(0)?;
+    }
+    Ok(zeros)
+}

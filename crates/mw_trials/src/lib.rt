@@ -1,0 +1,18 @@
+//! Trials: random runs of a small world, compared with the stores alone. In a run workers take turns in
+//! any order, device calls fail, and all stops and starts again. Then each tenant's marks are given to a
+//! new store of its words alone: it has to take each of them, hand out the replies that the world
+//! handed out, and have the words that the world has after each start.
+#![tactic(auto)]
+
+mod dice;
+mod jobs;
+mod judge;
+mod trial;
+
+pub use judge::{Disagreement, TrialFault};
+pub use trial::{Tally, play};
+
+#[cfg(test)]
+mod late_finisher;
+#[cfg(test)]
+mod tests;

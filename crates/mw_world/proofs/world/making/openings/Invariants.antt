@@ -1,0 +1,9 @@
+use Rattle.std.proofs.Common.{◌≡◌, length}
+use Rattle.mw_world.specs.Starts.{EachOf, IsGiven}
+use Rattle.mw_world.proofs.world.making.openings.Given as goal
+
+abbrev pub invariant-loop-account : goal.invariant-loop-account
+invariant-loop-account l = record {
+  count : length l.openings.items ≡ l.account-index;
+  each : EachOf (λ tenant shown opening. IsGiven shown.book opening) l.accounts l.openings.items;
+}
