@@ -1,11 +1,12 @@
 -- Which schedules can be played.
-use Rattle.std.specs.Prelude.{ℕ, ◌≢◌, ◌≤◌, ◌<◌, All, IsTrue, List, sum_by}
+use Rattle.std.specs.Prelude.{ℕ, ◌≢◌, ◌≤◌, ◌<◌, All, IfSome, IsTrue, List, Option, sum_by}
 use Rattle.std.specs.List.{AllPairs}
 use Rattle.mw_words.specs.declared.limits.TheConstants.{MAX_QUOTA, MAX_WORDS, MAX_WORKERS}
 use Rattle.mw_words.specs.Change.{is_well_formed}
 use Rattle.mw_words.specs.Name.{is_name}
 use Rattle.mw_world.specs.declared.config.Config.{Config}
 use Rattle.mw_world.specs.declared.config.Tenant.{Tenant}
+use Rattle.mw_world.specs.declared.events.Interrupted.{Interrupted}
 use Rattle.mw_world.specs.declared.events.Stop.{Stop}
 use Rattle.mw_world.specs.State.{IsConfig, tenant_at, tenants_of}
 use Rattle.mw_schedule.specs.declared.schedule.Command.{Command}
@@ -37,10 +38,15 @@ pub record AreTenants (pool : ℕ) (tenants : List Tenant) : Type 0 where
   pub quotas : All (λ tenant. (1 ≤ tenant.quota) × (tenant.quota ≤ MAX_QUOTA)) tenants
   pub slots : sum_by (λ tenant. tenant.quota) tenants ≤ pool
 
--- each tenant whose file is stopped is there, and none is named twice
+-- the call that was cut off, if one was, is of a worker that some world has
+abbrev pub IsOfWorker : Option Interrupted → Type 0
+IsOfWorker interrupted = IfSome interrupted (λ call. call.worker < MAX_WORKERS)
+
+-- each tenant whose file is stopped is there, and none is named twice; each call that was cut off is of a worker that some world has
 pub record AreStops (tenants : ℕ) (stops : List Stop) : Type 0 where
   pub named : All (λ stop. stop.tenant < tenants) stops
   pub once : AllPairs (λ earlier later. earlier.tenant ≢ later.tenant) stops
+  pub workers : All (λ stop. IsOfWorker stop.interrupted) stops
 
 -- A command names tenants of the world and workers that some world has, and a request is one that its tenant may make.
 abbrev pub IsPlayable : Config → Command → Type 0

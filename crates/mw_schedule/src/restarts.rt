@@ -2,7 +2,7 @@
 ghost use Rattle.std.specs.Prelude.{◌≡◌, ◌==◌, ◌<◌, ◌≤◌, length, IfOk, IfSome};
 ghost use Rattle.std.specs.List.{list_any};
 ghost use Rattle.mw_world.specs.State.{tenants_of};
-ghost use Rattle.mw_schedule.specs.Playing.{AreStops};
+ghost use Rattle.mw_schedule.specs.Playing.{AreStops, IsOfWorker};
 
 use crate::commands::{tenant_of, worker_of};
 use crate::fields::{behind, cut, number};
@@ -60,7 +60,8 @@ fn is_named(stops: &[Stop], tenant: u8) -> bool
 
 // The stop `NAME=W,K,HEX` or `NAME=W,K,HEX,F`. None where the text is none of these.
 fn read_stop(alloc: Global, text: &[u8], config: &Config) -> Result<Option<Stop>, AllocError>
-    ensures { IfOk result (λ read. IfSome read (λ stop. stop.tenant < tenants_of config.now)) }
+    ensures tenant { IfOk result (λ read. IfSome read (λ stop. stop.tenant < tenants_of config.now)) }
+    ensures worker { IfOk result (λ read. IfSome read (λ stop. IsOfWorker stop.interrupted)) }
 {
     let Some((tenant, interrupted, torn, fails_at)) = stop_parts(text, config) else {
         return Ok(None);
@@ -81,7 +82,8 @@ fn stop_parts<'a>(
     text: &'a [u8],
     config: &Config,
 ) -> Option<(u8, Option<Interrupted>, &'a [u8], Option<u64>)>
-    ensures { IfSome result (λ read. read.0 < tenants_of config.now) }
+    ensures tenant { IfSome result (λ read. read.0 < tenants_of config.now) }
+    ensures worker { IfSome result (λ read. IsOfWorker read.1) }
 {
     let (name, rest) = cut(b'=', text)?;
     let (worker, rest) = cut(b',', rest)?;

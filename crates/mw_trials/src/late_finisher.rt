@@ -19,6 +19,7 @@ const MOST_STEPS: u64 = 200;
 fn world_of_three() -> Config
     ensures config { IsConfig result }
     ensures tenants { length result.tenants.items ≡ 1 }
+    ensures workers { result.workers ≡ 3 }
 {
     let mut tenants = ArrayVec::new();
     tenants.push(Tenant {
@@ -187,6 +188,8 @@ fn late_finisher(rt: HostRuntime) -> Result<(), Fail> {
     };
     let mut world = World::new(rt.alloc(), world_of_three())?;
     assert_eq!(rt; world.run(&events), Ok(()));
+    let attempts = [world.attempt(0), world.attempt(1), world.attempt(2)];
+    assert_eq!(rt; attempts, [2, 1, 1]);
     let replies = replies_of(rt.alloc(), &world);
     assert!(rt; replies.is_ok());
     if let Ok(replies) = replies {

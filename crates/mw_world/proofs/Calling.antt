@@ -17,22 +17,23 @@ use Rattle.mw_words.specs.declared.jobs.Entry.{Entry}
 use Rattle.mw_look.specs.declared.news.News.TheVariants.{Filed}
 use Rattle.mw_actor.specs.Acting.{Acting, own_entries}
 use Rattle.mw_actor.specs.Program.{tells}
+use Rattle.mw_book.specs.declared.kept.Book.{Book}
+use Rattle.mw_book.specs.declared.faults.BookFault.{BookFault as WorldFault}
+use Rattle.mw_book.specs.declared.faults.BookFault.TheVariants.{NotEnabled, Memory}
+use Rattle.mw_book.specs.declared.outcomes.Outcome.{Outcome}
+use Rattle.mw_book.specs.declared.outcomes.Outcome.TheVariants.{Good, Fail}
+use Rattle.mw_book.specs.Books.{Shows as ShowsFile, quota_of}
+use Rattle.mw_book.specs.Files.{File, entries_at}
+use Rattle.mw_book.specs.Working.{Works, worked, may_end, left_by}
+use Rattle.mw_book.specs.Maps.{upd}
 use Rattle.mw_world.specs.declared.accounts.Account.{Account as AccountInMemory}
-use Rattle.mw_world.specs.declared.books.kept.Book.{Book}
-use Rattle.mw_world.specs.declared.faults.WorldFault.{WorldFault}
-use Rattle.mw_world.specs.declared.faults.WorldFault.TheVariants.{NotEnabled, Memory}
 use Rattle.mw_world.specs.declared.notes.Note.TheVariants.{Nothing}
 use Rattle.mw_world.specs.declared.world.calls.Ended.{Ended}
 use Rattle.mw_world.specs.declared.config.Config.{Config}
-use Rattle.mw_world.specs.declared.events.Outcome.{Outcome}
-use Rattle.mw_world.specs.declared.events.Outcome.TheVariants.{Good, Fail}
 use Rattle.mw_world.specs.declared.world.World.{World}
 use Rattle.mw_world.specs.Bits.{bits_at}
-use Rattle.mw_world.specs.Books.{Shows as ShowsFile, quota_of}
 use Rattle.mw_world.specs.Calls.{Called, calling, ends, starts_from, fails_on, is_formed, suits, place_for, device_calls, is_made, status_after, skips, called_at, call_if, moved_if}
 use Rattle.mw_world.specs.Calls as calls
-use Rattle.mw_world.specs.Files.{File, entries_at}
-use Rattle.mw_world.specs.Working.{Works, worked, may_end, left_by}
 use Rattle.mw_world.specs.Cells.{Cells, write}
 use Rattle.mw_world.specs.Ending.{called as called_then, Closed, Closes, IsBookOf, SameButFiles, cells_closed, note_closed, ended, is_good, faulted, skipped, refused, makes_none}
 use Rattle.mw_world.specs.Extent.{has_slot}
@@ -44,7 +45,6 @@ use Rattle.mw_world.specs.Making.{Makes, is_step_there}
 use Rattle.mw_world.specs.Shows.{Leads, Shows}
 use Rattle.mw_world.specs.State.{State, Account, Seat, tenant_at, tenants_of}
 use Rattle.mw_world.specs.Stepping.{HasRoom, told, with_cells, with_file}
-use Rattle.mw_world.specs.Maps.{upd}
 use Rattle.mw_world.specs.Turns.{Made, goes_on, moved, next_attempt}
 use Rattle.mw_world.specs.Ties.{Tie}
 use Rattle.mw_world.proofs.Entering.{IsHome, ShowsAccounts, ShowsSeats, set_keeps_at, ShowsOne, accounts_set, element, recelled, upd_here, upd_else}

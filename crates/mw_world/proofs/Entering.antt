@@ -8,6 +8,7 @@ use Rattle.mw_words.specs.declared.jobs.Job.{Job}
 use Rattle.mw_lone.specs.declared.marks.Mark.{Mark}
 use Rattle.mw_lone.specs.declared.marks.Mark.TheVariants.{Ask, Reply as HandOut}
 use Rattle.mw_actor.specs.Acting.{Acting, first}
+use Rattle.mw_book.specs.Maps.{upd}
 use Rattle.mw_world.specs.declared.accounts.Account.{Account as AccountInMemory}
 use Rattle.mw_world.specs.declared.claims.Claims.{Claims}
 use Rattle.mw_world.specs.declared.config.Config.{Config}
@@ -21,7 +22,6 @@ use Rattle.mw_world.specs.Cells.{Cells}
 use Rattle.mw_world.specs.Claims.{HasRoomForNote, Recalls}
 use Rattle.mw_world.specs.History.{History}
 use Rattle.mw_world.specs.Lines.{HasRoomForLine, SameLines}
-use Rattle.mw_world.specs.Maps.{upd}
 use Rattle.mw_world.specs.Seats.{seat_of}
 use Rattle.mw_world.specs.Shows.{Shows, ShowsAccount}
 use Rattle.mw_world.specs.State.{State, Seat, Account, no_tenant, tenant_at, tenants_of}

@@ -8,8 +8,9 @@ use Rattle.std.proofs.lemmas.List.Elements.{All-replicate}
 use Rattle.std.proofs.lemmas.Option.{get_or_from_slice_get, slice_get-get_or, slice_get_cases, slice_get_within}
 use Rattle.mw_words.specs.Change.{AreWords}
 use Rattle.mw_words.specs.declared.limits.TheConstants.{MAX_VALUE}
+use Rattle.mw_book.specs.declared.kept.Book.{Book}
+use Rattle.mw_book.specs.Giving.{IsGiven}
 use Rattle.mw_world.specs.declared.accounts.Account.{Account as AccountInMemory}
-use Rattle.mw_world.specs.declared.books.kept.Book.{Book}
 use Rattle.mw_world.specs.declared.config.Config.{Config}
 use Rattle.mw_world.specs.declared.seats.Seat.{Seat}
 use Rattle.mw_world.specs.declared.world.World.{World}
@@ -18,7 +19,7 @@ use Rattle.mw_world.specs.History.{no_history}
 use Rattle.mw_world.specs.Openings.{AreOpenings, Gave, Openings, opening_at}
 use Rattle.mw_world.specs.Seats.{seat_of}
 use Rattle.mw_world.specs.Shows.{Shows, ShowsAccount}
-use Rattle.mw_world.specs.Starts.{AreFresh, AreGiven, AreIdle, AreTenants, Each, EachOf, HaveWords, IsGiven}
+use Rattle.mw_world.specs.Starts.{AreFresh, AreGiven, AreIdle, AreTenants, Each, EachOf, HaveWords}
 use Rattle.mw_world.specs.State.{Account, first_account, first_cells, idle_seat, no_tenant, started, tenant_at, tenants_of}
 use Rattle.mw_world.specs.Ties.{Tie}
 use Rattle.mw_world.proofs.FirstBits.{first_cells_fit}

@@ -1,20 +1,20 @@
 -- A world in memory to which one event more happens.
-use Rattle.std.specs.Prelude.{ℕ, ◌≡◌, ◌<◌, ◌==◌, ◌&&◌, ◌+◌, Bool, if◌then◌else◌, List, [], ◌∷◌, ◌++◌, length, take, slice_get, Some, None, Ok, Err}
+use Rattle.std.specs.Prelude.{ℕ, ◌≡◌, ◌<◌, ◌==◌, ◌&&◌, ◌+◌, Bool, if◌then◌else◌, List, [], ◌∷◌, ◌++◌, length, take, slice_get, Some, None, Result, Ok, Err}
 use Rattle.std.specs.Option.{option_and_then}
 use Rattle.std.proofs.Common.{refl, sym, ap, subst, ◌∙◌, inl, inr, arith, get_or, append_assoc}
 use Rattle.std.proofs.lemmas.Bool.Decides.{nat_tests}
 use Rattle.std.proofs.lemmas.List.{append-nil, take_more}
 use Rattle.std.proofs.lemmas.Option.{slice_get_cases, slice_get_read}
+use Rattle.mw_book.specs.declared.faults.BookFault.{BookFault as WorldFault}
+use Rattle.mw_book.specs.declared.faults.BookFault.TheVariants.{NotEnabled, Memory}
 use Rattle.mw_world.specs.declared.config.Config.{Config}
 use Rattle.mw_world.specs.declared.events.Event.{Event}
 use Rattle.mw_world.specs.declared.events.Event.TheVariants.{Come as IsCome, Step as IsStep, File as IsFile, Hand as IsHand, Restart as IsRestart}
 use Rattle.mw_world.specs.declared.events.Stop.{Stop}
-use Rattle.mw_world.specs.declared.faults.WorldFault.{WorldFault}
-use Rattle.mw_world.specs.declared.faults.WorldFault.TheVariants.{NotEnabled, Memory}
 use Rattle.mw_world.specs.declared.world.World.{World}
 use Rattle.mw_world.specs.Happenings.{Happening, Come, Step, File, Hand, Restart}
 use Rattle.mw_world.specs.Restarts.{may_all_be_found, restarted}
-use Rattle.mw_world.specs.Running.{AllStep, AllTell, AreTold, Cannot, CannotRestart, GoesOn, Happens, IsRefused, Stands, Started, Steps, StopsAt, Tells}
+use Rattle.mw_world.specs.Running.{AllStep, AllTell, AreTold, Cannot, CannotRestart, GoesOn, Happens, IsRefused, Stands, StandsAfter, Started, Steps, StopsAt, Tells}
 use Rattle.mw_world.specs.RunLaws.{run-extends}
 use Rattle.mw_world.specs.Shows.{Leads, Shows}
 use Rattle.mw_world.specs.State.{State, new_world, tenants_of}
@@ -136,6 +136,16 @@ stops_at old new happened events index event fault same here lt happens goes = r
       runs = subst (λ config. run config (new_world config) (happened ++ goes.more) ≡ Some goes.stands.state) (sym same) goes.stands.runs;
       shows = shown_still old new goes.stands.state event fault goes.stands.shows ends;
     }
+
+-- The world is the one after what had happened and an event, or is still the one after what had happened.
+pub stands_after : (old new : World) (happened : List Happening) (event : Event) (result : Result (Unit {0}) WorldFault) → new.config ≡ old.config
+    → ((state : State) → Shows old state → Happens old new state event result) → Stands old happened → StandsAfter new happened event result
+stands_after old new happened event (Ok x) same happens stands = goes_on_more old new happened [] event x same happens (goes_nowhere old happened stands)
+stands_after old new happened event (Err fault) same happens stands = record {
+  state = stands.state;
+  runs = subst (λ config. run config (new_world config) happened ≡ Some stands.state) (sym same) stands.runs;
+  shows = shown_still old new stands.state event fault stands.shows (happens stands.state stands.shows);
+}
 
 -- the first so many events and the next
 pub one_event_more : (world : World) (happened : List Happening) (events : List Event) (index : ℕ) (event : Event) → index < length events → event ≡ get_or events index event

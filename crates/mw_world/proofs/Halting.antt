@@ -8,10 +8,10 @@ use Rattle.mw_words.specs.declared.statuses.Status.{Status}
 use Rattle.mw_look.specs.declared.steps.Call.{Call}
 use Rattle.mw_look.specs.declared.steps.Call.TheVariants.{Prepare as PrepareCall, Seal as SealCall, Settle as SettleCall, Cancel as CancelCall}
 use Rattle.mw_actor.specs.Acting.{Acting, own_entries}
+use Rattle.mw_book.specs.Files.{entries_at}
 use Rattle.mw_world.specs.declared.config.Config.{Config}
 use Rattle.mw_world.specs.Calls.{Called, device_calls, fails_on, is_formed, place_for, starts_from, suits}
 use Rattle.mw_world.specs.Extent.{has_slot}
-use Rattle.mw_world.specs.Files.{entries_at}
 use Rattle.mw_world.specs.Restarts.{is_whole_seal, sealing, stopped_call}
 use Rattle.mw_world.specs.State.{State, tenant_at}
 use Rattle.mw_world.specs.Stops.{IsCut, sealed_request}

@@ -1,4 +1,3 @@
-pub mod ApartPlaces
 pub mod Calling
 pub mod Coming
 pub mod Entering
@@ -9,18 +8,11 @@ pub mod Following
 pub mod Frames
 pub mod GoingOn
 pub mod Halting
-pub mod KeptPlaces
 pub mod MadeSteps
-pub mod NewFiles
-pub mod OpenedFiles
 pub mod Reopened
 pub mod Restarted
-pub mod RestartedFiles
-pub mod SealedFiles
 pub mod ShownAccounts
-pub mod ShutFiles
 pub mod SoundBooks
-pub mod StoppedFiles
 pub mod Turning
 pub mod Tying
-pub mod WorkedFiles
+pub mod Unchanged

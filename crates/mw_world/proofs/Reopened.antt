@@ -4,17 +4,17 @@ use Rattle.std.proofs.Common.{refl, sym, ap, subst, ◌∙◌, inl, inr, arith}
 use Rattle.std.proofs.lemmas.Option.{slice_get_within}
 use Rattle.mw_lone.specs.declared.marks.Mark.TheVariants.{Restart as IsRestart}
 use Rattle.mw_file.specs.Opening.{open_calls}
+use Rattle.mw_book.specs.declared.faults.BookFault.{BookFault as WorldFault}
+use Rattle.mw_book.specs.declared.faults.BookFault.TheVariants.{NotEnabled, Memory}
+use Rattle.mw_book.specs.Books.{quota_of}
+use Rattle.mw_book.specs.Devices.{disk_under}
+use Rattle.mw_book.specs.Reopening.{IsLeft, IsLeftOf, IsRestarted, Restarts, doubt_left, is_sealed_left, may_be_made}
 use Rattle.mw_world.specs.declared.accounts.Account.{Account as AccountInMemory}
 use Rattle.mw_world.specs.declared.config.Config.{Config}
 use Rattle.mw_world.specs.declared.events.Interrupted.{Interrupted}
 use Rattle.mw_world.specs.declared.events.Stop.{Stop}
-use Rattle.mw_world.specs.declared.faults.WorldFault.{WorldFault}
-use Rattle.mw_world.specs.declared.faults.WorldFault.TheVariants.{NotEnabled, Memory}
 use Rattle.mw_world.specs.declared.world.halts.Halt.{Halt}
 use Rattle.mw_world.specs.declared.world.World.{World}
-use Rattle.mw_world.specs.Books.{quota_of}
-use Rattle.mw_world.specs.Devices.{disk_under}
-use Rattle.mw_world.specs.Reopening.{IsLeft, IsLeftOf, IsRestarted, Restarts, doubt_left, is_sealed_left, may_be_made}
 use Rattle.mw_world.specs.Restarts.{doubt_then, interrupted_request, is_sealed_then, may_fail, may_find, may_interrupt, takes, under_way}
 use Rattle.mw_world.specs.Running.{IsFoundBy, fails_in, interrupted_in, stop_of, torn_in}
 use Rattle.mw_world.specs.Shows.{Shows, ShowsAccount}

@@ -32,6 +32,11 @@ pub record Recalls (known : Claims) (past : History) : Type 0 where
   pub requests : (slot seq : ℕ) → request_in known slot seq ≡ past.request slot seq
   pub spoiled : (slot seq : ℕ) → is_spoiled_in known slot seq ≡ past.is_spoiled slot seq
 
+-- the same is known
+pub record SameClaims (old new : Claims) : Type 0 where
+  pub claims : new.claims.items ≡ old.claims.items
+  pub spoiled : new.spoiled.items ≡ old.spoiled.items
+
 -- there is room for one note more, of any slot
 pub record HasRoomForNote (known : Claims) : Type 0 where
   pub claims : vec_len known.claims + 1 ≤ vec_capacity known.claims

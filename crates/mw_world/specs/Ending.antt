@@ -6,19 +6,19 @@ use Rattle.mw_look.specs.declared.steps.Call.{Call}
 use Rattle.mw_look.specs.declared.steps.Kind.TheVariants.{Fault as FaultKind}
 use Rattle.mw_look.specs.declared.news.News.TheVariants.{Filed}
 use Rattle.mw_actor.specs.declared.points.Slot.{Slot}
-use Rattle.mw_world.specs.declared.events.Outcome.{Outcome}
-use Rattle.mw_world.specs.declared.events.Outcome.TheVariants.{Good, Fail}
-use Rattle.mw_world.specs.declared.faults.WorldFault.{WorldFault}
-use Rattle.mw_world.specs.declared.faults.WorldFault.TheVariants.{NotEnabled, Memory}
+use Rattle.mw_book.specs.declared.outcomes.Outcome.{Outcome}
+use Rattle.mw_book.specs.declared.outcomes.Outcome.TheVariants.{Good, Fail}
+use Rattle.mw_book.specs.declared.faults.BookFault.{BookFault as WorldFault}
+use Rattle.mw_book.specs.declared.faults.BookFault.TheVariants.{NotEnabled, Memory}
+use Rattle.mw_book.specs.declared.kept.Book.{Book}
+use Rattle.mw_book.specs.Books.{Shows as ShowsFile, quota_of}
+use Rattle.mw_book.specs.Files.{File}
 use Rattle.mw_world.specs.declared.notes.Note.{Note}
 use Rattle.mw_world.specs.declared.notes.Note.TheVariants.{Nothing}
 use Rattle.mw_world.specs.declared.world.World.{World}
-use Rattle.mw_world.specs.declared.books.kept.Book.{Book}
 use Rattle.mw_world.specs.declared.config.Config.{Config}
 use Rattle.mw_world.specs.declared.world.calls.Called.{Called as CalledInMemory}
 use Rattle.mw_world.specs.declared.world.calls.Ended.{Ended}
-use Rattle.mw_world.specs.Books.{Shows as ShowsFile, quota_of}
-use Rattle.mw_world.specs.Files.{File}
 use Rattle.mw_world.specs.Calls.{Called, good_note, fault_note, status_after}
 use Rattle.mw_world.specs.Cells.{Cells, write}
 use Rattle.mw_world.specs.Changes.{fetched}

@@ -10,11 +10,11 @@ use Rattle.mw_words.specs.declared.words.Word.{Word}
 use Rattle.mw_words.specs.declared.words.Word.TheVariants.{Plain, Planted, Held}
 use Rattle.mw_lone.specs.declared.marks.Mark.{Mark}
 use Rattle.mw_lone.specs.declared.marks.Mark.TheVariants.{Ask, Admit, Look, Miss, Seal, SealFail, FileFail, GiveUp, Retire, Reply as HandOut, Restart as IsRestart}
+use Rattle.mw_book.specs.declared.outcomes.Outcome.TheVariants.{Fail}
 use Rattle.mw_world.specs.declared.config.Config.{Config}
 use Rattle.mw_world.specs.declared.config.Tenant.{Tenant}
 use Rattle.mw_world.specs.declared.events.Interrupted.{Interrupted}
 use Rattle.mw_world.specs.Happenings.{Found, Happening, Come, Step, File, Hand, Restart}
-use Rattle.mw_world.specs.declared.events.Outcome.TheVariants.{Fail}
 use Rattle.mw_world.specs.Logical.{logical}
 use Rattle.mw_world.specs.State.{new_world, marks_of}
 use Rattle.mw_world.specs.World.{step, replies_to}

@@ -11,15 +11,15 @@ use Rattle.mw_lone.specs.Store.{Store, entries_in_doubt, replies as replies_of_m
 use Rattle.mw_actor.specs.Acting.{Acting, own_entries}
 use Rattle.mw_actor.specs.Asks.{asks}
 use Rattle.mw_actor.specs.Program.{replied}
+use Rattle.mw_book.specs.Devices.{disk_under}
+use Rattle.mw_book.specs.Files.{File}
 use Rattle.mw_world.specs.declared.accounts.Account.{Account as AccountInMemory}
 use Rattle.mw_world.specs.declared.config.Config.{Config}
 use Rattle.mw_world.specs.declared.events.Interrupted.{Interrupted}
 use Rattle.mw_world.specs.declared.world.World.{World}
 use Rattle.mw_world.specs.Calls.{Called, called_at, starts_from, fails_on, place_for, can_be_made}
 use Rattle.mw_world.specs.Counting.{waits_at, taken_slots, used_slots}
-use Rattle.mw_world.specs.Devices.{disk_under}
 use Rattle.mw_world.specs.Extent.{has_slot}
-use Rattle.mw_world.specs.Files.{File}
 use Rattle.mw_world.specs.Happenings.{Happening}
 use Rattle.mw_world.specs.Invariant.{Invariant}
 use Rattle.mw_world.specs.Logical.{logical}
@@ -97,8 +97,8 @@ pub record CanBeFound (config : Config) (state : State) (tenant : ℕ) (interrup
   pub words : List ℕ
   pub found : may_find (is_sealed_then (under_way config state interrupted)) file.contents (doubt_then file (under_way config state interrupted)) words ≡ true
 
--- `step` tests more than which event comes when: whether the place of a step is there, whether a call can be made, whether words may be found. None
--- of these tests is ever false where a request asks for the event, so they refuse nothing.
+-- `step` tests more than which event comes when: whether the place of a step is there, whether a call can be made, whether words may be found.
+-- Where this holds none of these tests is false where a request asks for the event, so they refuse nothing.
 pub record IsEnabled (config : Config) (state : State) : Type 0 where
   -- a request without a reply that has come to no call on its file asks for a step at a place that is there
   pub steps : (worker : ℕ) (actor : Acting) → (state.seats worker).actor ≡ Some actor → replied actor ≡ None → called_at actor.point ≡ None

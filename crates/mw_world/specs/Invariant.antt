@@ -9,12 +9,12 @@ use Rattle.mw_words.specs.declared.statuses.Status.TheVariants.{Draft, Open, Yes
 use Rattle.mw_words.specs.declared.words.Word.TheVariants.{Planted, Held, Dirty}
 use Rattle.mw_words.specs.Change.{word_at, is_change, is_well_formed}
 use Rattle.mw_actor.specs.Acting.{Acting, entry_at}
+use Rattle.mw_book.specs.Files.{File, Place, Empty, Prepared, Sealed, is_empty, is_sealed, entries_at, share_a_word}
 use Rattle.mw_world.specs.declared.config.Config.{Config}
 use Rattle.mw_world.specs.declared.notes.Phase.{Phase}
 use Rattle.mw_world.specs.declared.notes.Phase.TheVariants.{Fresh, Keeping, Inked, Gone}
 use Rattle.mw_world.specs.Cells.{Cells}
 use Rattle.mw_world.specs.Counting.{pins_held, frees_at, waits_for, over_workers, slots_taken_for}
-use Rattle.mw_world.specs.Files.{File, Place, Empty, Prepared, Sealed, is_empty, is_sealed, entries_at, share_a_word}
 use Rattle.mw_world.specs.History.{History, Resting, Stands, Idle, Armed, has, new, standing_at, arm_at}
 use Rattle.mw_world.specs.Logical.{logical}
 use Rattle.mw_world.specs.Owing.{IsEntryAt, IsOwed, IsOwner, IsCleaner}
@@ -132,7 +132,8 @@ pub record AttemptsAreTheirWorkers (state : State) : Type 0 where
 -- What becomes of a change's words.
 
 -- What may have become of a change's word, by the change's status: it is held until the change is decided to be made, then it gets its new
--- value, then it is let go; the words of a change that is not made are let go, and may be held anew by late workers, who let go of them again.
+-- value, then it is let go; the words of a change that is not made are let go, and one that was never held for it may still be held by a late
+-- worker, who lets go of it again.
 abbrev pub MayBe : Status → Phase → Type 0
 MayBe Draft Fresh = Unit {0}
 MayBe Open Fresh = Unit {0}

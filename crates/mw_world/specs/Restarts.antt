@@ -1,19 +1,20 @@
 -- All stops and starts again: which calls may have been under way, what may be found of each file, and the world after it.
-use Rattle.std.specs.Prelude.{ℕ, zero, suc, ◌==◌, ◌&&◌, ◌||◌, Bool, true, false, if◌then◌else◌, List, [], ◌∷◌, ◌++◌, nat_le, is_none, bytes_eq, length, slice_index_or, Option, Some, None}
+use Rattle.std.specs.Prelude.{ℕ, zero, suc, ◌==◌, ◌&&◌, Bool, true, false, if◌then◌else◌, List, [], ◌∷◌, ◌++◌, nat_le, is_none, length, slice_index_or, Option, Some, None}
 use Rattle.std.specs.Option.{option_map}
 use Rattle.mw_words.specs.declared.jobs.Entry.{Entry}
-use Rattle.mw_words.specs.Change.{put}
 use Rattle.mw_lone.specs.declared.marks.Mark.TheVariants.{Restart as IsRestart}
 use Rattle.mw_look.specs.declared.steps.Call.{Call}
 use Rattle.mw_look.specs.declared.steps.Call.TheVariants.{Seal as SealCall}
 use Rattle.mw_actor.specs.Acting.{Acting, own_entries}
+use Rattle.mw_book.specs.Files.{File, entries_at}
 use Rattle.mw_world.specs.declared.config.Config.{Config}
 use Rattle.mw_world.specs.declared.events.Interrupted.{Interrupted}
 use Rattle.mw_world.specs.Extent.{has_slot}
 use Rattle.mw_world.specs.Happenings.{Found}
-use Rattle.mw_world.specs.Files.{File, entries_at, file_of, broken}
 use Rattle.mw_world.specs.State.{State, Account, tenant_at, tenants_of, marks_in, started}
-use Rattle.mw_world.specs.Calls.{Called, called_at, calls_made, can_be_made, place_for, is_made}
+use Rattle.mw_world.specs.Calls.{Called, called_at, calls_made, can_be_made, place_for}
+-- what may be found of the file alone
+pub use Rattle.mw_book.specs.Restarts.{doubt_if, is_whole_seal, takes, may_find, may_fail, opened_file}
 
 -- A call on a tenant's file that was under way: the call, the request and the entries of its change, how many of its device calls were
 -- made, and how many it makes. One that can't be made, or for a slot that isn't there, makes none.
@@ -63,19 +64,9 @@ abbrev pub may_interrupt : Config → State → ℕ → Option Interrupted → B
 may_interrupt config state tenant None = true
 may_interrupt config state tenant (Some interrupted) = may_be_cut tenant (call_of config state interrupted)
 
--- the change in doubt when all has stopped: the one that was being sealed, if a device call of that was made, else the one that was before
-abbrev pub doubt_if : Call → List Entry → ℕ → List Entry → List Entry
-doubt_if SealCall doubt made entries = if made == 0 then doubt else entries
-doubt_if call doubt made entries = doubt
-
 abbrev pub doubt_then : File → Option UnderWay → List Entry
 doubt_then file None = file.doubt
 doubt_then file (Some call) = doubt_if call.call file.doubt call.made call.entries
-
--- a change was sealed to the end of the call, which nobody was told
-abbrev pub is_whole_seal : Call → ℕ → ℕ → Bool
-is_whole_seal SealCall made calls = nat_le 1 made && (made == calls)
-is_whole_seal call made calls = false
 
 abbrev pub is_sealed_then : Option UnderWay → Bool
 is_sealed_then None = false
@@ -89,21 +80,6 @@ sealing call made request = None
 abbrev pub interrupted_request : Option UnderWay → Option ℕ
 interrupted_request None = None
 interrupted_request (Some call) = sealing call.call call.made call.request
-
--- the change in doubt is found: there is one, and the words are those before with it put over them
-abbrev pub takes : List ℕ → List Entry → List ℕ → Bool
-takes before [] words = false
-takes before (entry ∷ entries) words = bytes_eq words (put before (entry ∷ entries))
-
--- words that may be found: those before with the change in doubt put over them, or, unless that was sealed to the end, those before
-abbrev pub may_find : Bool → List ℕ → List Entry → List ℕ → Bool
-may_find true before doubt words = bytes_eq words (put before doubt)
-may_find false before doubt words = bytes_eq words before || takes before doubt words
-
--- one of so many device calls fails
-abbrev pub may_fail : ℕ → Option ℕ → Bool
-may_fail calls None = true
-may_fail calls (Some number) = is_made calls number
 
 -- this may be found of a tenant's file
 abbrev pub may_be_found : Config → State → ℕ → Found → Bool
@@ -124,11 +100,6 @@ found_of founds tenant = slice_index_or founds tenant nothing_found
 abbrev pub may_all_be_found : Config → State → List Found → ℕ → Bool
 may_all_be_found config state founds zero = true
 may_all_be_found config state founds (suc tenant) = may_all_be_found config state founds tenant && may_be_found config state tenant (found_of founds tenant)
-
--- the file after an opening of these words, one of whose device calls may have failed
-abbrev pub opened_file : List ℕ → Option ℕ → File
-opened_file words None = file_of words
-opened_file words (Some number) = broken (file_of words) []
 
 -- a tenant's account after a start at which this was found of its file, with this call under way
 abbrev pub reopened : Account → Found → Option UnderWay → Account

@@ -3,22 +3,23 @@ use Rattle.std.specs.Prelude.{ℕ, ◌≡◌, ◌<◌, ◌==◌, ◌&&◌, ◌�
 use Rattle.std.specs.List.{list_any, find}
 use Rattle.mw_record.specs.Damages.{file_words}
 use Rattle.mw_file.specs.Opening.{open_calls}
+use Rattle.mw_book.specs.declared.faults.BookFault.{BookFault as WorldFault}
+use Rattle.mw_book.specs.declared.faults.BookFault.TheVariants.{NotEnabled, Memory}
+use Rattle.mw_book.specs.Devices.{disk_under}
+use Rattle.mw_book.specs.Files.{File}
+use Rattle.mw_book.specs.Reopening.{IsLeftOf}
 use Rattle.mw_world.specs.declared.accounts.Account.{Account as AccountInMemory}
 use Rattle.mw_world.specs.declared.events.Event.{Event}
 use Rattle.mw_world.specs.declared.events.Event.TheVariants.{Come as IsCome, Step as IsStep, File as IsFile, Hand as IsHand, Restart as IsRestart}
 use Rattle.mw_world.specs.declared.events.Interrupted.{Interrupted}
 use Rattle.mw_world.specs.declared.events.Stop.{Stop}
-use Rattle.mw_world.specs.declared.faults.WorldFault.{WorldFault}
-use Rattle.mw_world.specs.declared.faults.WorldFault.TheVariants.{NotEnabled, Memory}
 use Rattle.mw_world.specs.declared.world.World.{World}
 use Rattle.mw_world.specs.Calls.{call}
-use Rattle.mw_world.specs.Devices.{disk_under}
-use Rattle.mw_world.specs.Files.{File}
 use Rattle.mw_world.specs.Happenings.{Found, Happening, Come, Step, File as FileCall, Hand, Restart}
-use Rattle.mw_world.specs.Reopening.{IsLeftOf}
 use Rattle.mw_world.specs.Restarts.{UnderWay, doubt_then, found_of, is_sealed_then, may_fail, may_find, may_interrupt, restart, under_way}
 use Rattle.mw_world.specs.Shows.{Shows, Ends, Leads}
 use Rattle.mw_world.specs.State.{State, new_world, tenants_of}
+use Rattle.mw_world.specs.Staying.{IsUnchanged, LeavesFiles}
 use Rattle.mw_world.specs.Turns.{turn}
 use Rattle.mw_world.specs.World.{come, hand, step, run}
 
@@ -140,6 +141,11 @@ pub record GoesOn (world : World) (happened : List Happening) (events : List Eve
   pub tell : AllTell events more
   pub stands : Stands world (happened ++ more)
 
+-- It is the one after these and what the event says; after an error the one after these.
+abbrev pub StandsAfter : World → List Happening → Event → Result (Unit {0}) WorldFault → Type 0
+StandsAfter new happened event (Ok x) = GoesOn new happened (event ∷ [])
+StandsAfter new happened event (Err fault) = Stands new happened
+
 -- An event can't happen where the world is: no start as it says, or nothing else that it says.
 abbrev pub Cannot : World → State → Event → Type 0
 Cannot world state (IsRestart stops) = CannotRestart world state stops.items
@@ -162,21 +168,25 @@ Runs new happened events (Ok x) = GoesOn new happened events
 Runs new happened events (Err stop) = StopsAt new happened events stop.0 stop.1
 
 -- A world in memory, and the one that it is after an event.
-abbrev pub Steps : World → Event → World → Type 0
-Steps old event new = (state : State) → Shows old state → Happens old new state event (Ok tt)
+pub record Steps (old : World) (event : Event) (new : World) : Type 0 where
+  pub config : new.config ≡ old.config
+  pub happens : (state : State) → Shows old state → Happens old new state event (Ok tt)
+  pub files : LeavesFiles old new event
 
 -- the same, after these events, one by one
 abbrev pub AllStep : World → List Event → World → Type 0
 AllStep old [] new = new ≡ old
 AllStep old (event ∷ events) new = (next : World) × Steps old event next × AllStep next events new
 
--- The events before the one with this index were made one by one, and that one was refused in the world that they led to.
+-- The events before the one with this index were made one by one, and that one was refused in the world that they led to, which is unchanged
+-- but for room.
 pub record StepsUpTo (old new : World) (events : List Event) (index : ℕ) (fault : WorldFault) : Type 0 where
   pub last : World
   pub steps : AllStep old (take index events) last
   pub event : Event
   pub there : slice_get events index ≡ Some event
   pub refused : (state : State) → Shows last state → Happens last new state event (Err fault)
+  pub unchanged : IsUnchanged last new
 
 -- A run of events is one event after the other.
 abbrev pub RunsBySteps : World → World → List Event → Result (Unit {0}) (ℕ × WorldFault) → Type 0

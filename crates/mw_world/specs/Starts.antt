@@ -1,13 +1,11 @@
 -- The workers and the tenants of a world in memory at a start.
-use Rattle.std.specs.Prelude.{ℕ, ◌≡◌, Bool, true, false, not, List, [], Vec, length, replicate, slice_get, MatchOption, Some}
-use Rattle.std.specs.declared.option.Option.{Option}
-use Rattle.std.specs.declared.alloc.Global.{Global}
+use Rattle.std.specs.Prelude.{ℕ, ◌≡◌, Bool, true, not, List, [], length, replicate, slice_get, Some}
+use Rattle.mw_book.specs.Files.{file_of}
+use Rattle.mw_book.specs.Giving.{IsGiven}
 use Rattle.mw_world.specs.declared.accounts.Account.{Account as AccountInMemory}
-use Rattle.mw_world.specs.declared.books.kept.Book.{Book}
 use Rattle.mw_world.specs.declared.config.Config.{Config}
 use Rattle.mw_world.specs.declared.config.Tenant.{Tenant}
 use Rattle.mw_world.specs.declared.seats.Seat.{Seat as SeatInMemory}
-use Rattle.mw_world.specs.Files.{file_of}
 use Rattle.mw_world.specs.Openings.{Openings}
 use Rattle.mw_world.specs.Seats.{seat_of}
 use Rattle.mw_world.specs.Shows.{ShowsAccount}
@@ -38,10 +36,6 @@ IsFresh tenant shown = ShowsAccount tenant.words tenant.quota shown (fresh tenan
 pub record AreFresh (tenants : List Tenant) (accounts : List AccountInMemory) : Type 0 where
   pub count : length accounts ≡ length tenants
   pub each : EachOf (λ tenant of shown. IsFresh of shown) tenants accounts
-
--- what a file gives at a start: its words, or none if it has failed
-abbrev pub IsGiven : Book → Option (Vec ℕ Global) → Type 0
-IsGiven book opening = MatchOption opening (book.has_failed ≡ true) (λ given. (book.has_failed ≡ false) × (given.items ≡ book.contents.items))
 
 -- the file of each tenant gave this
 pub record AreGiven (accounts : List AccountInMemory) (openings : Openings) : Type 0 where

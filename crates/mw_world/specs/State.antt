@@ -9,11 +9,11 @@ use Rattle.mw_words.specs.declared.limits.TheConstants.{MAX_POOL, MAX_QUOTA, MAX
 use Rattle.mw_lone.specs.declared.marks.Mark.{Mark}
 use Rattle.mw_lone.specs.Store.{Store, new_store, run as run_of_store}
 use Rattle.mw_actor.specs.Acting.{Acting}
+use Rattle.mw_book.specs.Files.{File, file_of}
 use Rattle.mw_world.specs.declared.config.Config.{Config}
 use Rattle.mw_world.specs.declared.config.Tenant.{Tenant}
 use Rattle.mw_world.specs.Cells.{Cells}
 use Rattle.mw_world.specs.History.{History, no_history}
-use Rattle.mw_world.specs.Files.{File, file_of}
 
 -- A worker.
 pub record Seat : Type 0 where

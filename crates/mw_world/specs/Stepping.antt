@@ -6,6 +6,8 @@ use Rattle.mw_lone.specs.declared.marks.Mark.TheVariants.{Reply as HandOut}
 use Rattle.mw_look.specs.declared.news.News.{News}
 use Rattle.mw_actor.specs.Acting.{Acting, first}
 use Rattle.mw_actor.specs.Program.{tells}
+use Rattle.mw_book.specs.Files.{File}
+use Rattle.mw_book.specs.Maps.{upd}
 use Rattle.mw_world.specs.declared.accounts.Account.{Account as AccountInMemory}
 use Rattle.mw_world.specs.declared.claims.Claims.{Claims}
 use Rattle.mw_world.specs.declared.config.Config.{Config}
@@ -13,9 +15,7 @@ use Rattle.mw_world.specs.declared.config.TheConstants.{MOST_REQUESTS}
 use Rattle.mw_world.specs.declared.notes.Note.{Note}
 use Rattle.mw_world.specs.Cells.{Cells}
 use Rattle.mw_world.specs.Claims.{HasRoomForNote}
-use Rattle.mw_world.specs.Files.{File}
 use Rattle.mw_world.specs.Lines.{HasRoomForLine}
-use Rattle.mw_world.specs.Maps.{upd}
 use Rattle.mw_world.specs.Notes.{note_of}
 use Rattle.mw_world.specs.Noting.{more, noted, marked, seated, poised}
 use Rattle.mw_world.specs.State.{State, tenant_at, tenants_of}

@@ -4,18 +4,18 @@ use Rattle.std.specs.declared.alloc.Global.{Global}
 use Rattle.mw_look.specs.declared.steps.Call.{Call}
 use Rattle.mw_look.specs.declared.steps.Call.TheVariants.{Seal as SealCall}
 use Rattle.mw_actor.specs.Acting.{Acting}
+use Rattle.mw_book.specs.declared.faults.BookFault.{BookFault as WorldFault}
+use Rattle.mw_book.specs.declared.faults.BookFault.TheVariants.{NotEnabled, Memory}
+use Rattle.mw_book.specs.Files.{File}
+use Rattle.mw_book.specs.Reopening.{doubt_left, is_sealed_left, made_of, may_be_made}
 use Rattle.mw_world.specs.declared.accounts.Account.{Account as AccountInMemory}
 use Rattle.mw_world.specs.declared.config.Config.{Config}
 use Rattle.mw_world.specs.declared.events.Interrupted.{Interrupted}
 use Rattle.mw_world.specs.declared.events.Stop.{Stop}
-use Rattle.mw_world.specs.declared.faults.WorldFault.{WorldFault}
-use Rattle.mw_world.specs.declared.faults.WorldFault.TheVariants.{NotEnabled, Memory}
 use Rattle.mw_world.specs.declared.world.halts.Halt.{Halt}
 use Rattle.mw_world.specs.declared.world.World.{World}
 use Rattle.mw_world.specs.Calls.{Called}
-use Rattle.mw_world.specs.Files.{File}
 use Rattle.mw_world.specs.Happenings.{Found}
-use Rattle.mw_world.specs.Reopening.{doubt_left, is_sealed_left, made_of, may_be_made}
 use Rattle.mw_world.specs.Restarts.{UnderWay, doubt_then, interrupted_request, is_sealed_then, may_be_found, may_interrupt, reopened, stopped_call, under_way}
 use Rattle.mw_world.specs.Running.{CannotStop, IsFoundBy, fails_in, interrupted_in, made_in, stop_of, torn_in}
 use Rattle.mw_world.specs.Shows.{Shows, ShowsAccount}

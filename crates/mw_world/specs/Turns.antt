@@ -7,12 +7,12 @@ use Rattle.mw_actor.specs.declared.points.Point.TheVariants.{Plant}
 use Rattle.mw_actor.specs.Acting.{Acting}
 use Rattle.mw_actor.specs.Asks.{asks}
 use Rattle.mw_actor.specs.Program.{tells, replied}
+use Rattle.mw_book.specs.Maps.{upd}
+use Rattle.mw_book.specs.Files.{File}
 use Rattle.mw_world.specs.declared.config.Config.{Config}
-use Rattle.mw_world.specs.Maps.{upd}
 use Rattle.mw_world.specs.Cells.{Cells}
 use Rattle.mw_world.specs.Changes.{done}
 use Rattle.mw_world.specs.Extent.{has_place}
-use Rattle.mw_world.specs.Files.{File}
 use Rattle.mw_world.specs.declared.notes.Note.{Note}
 use Rattle.mw_world.specs.Notes.{note_of}
 use Rattle.mw_world.specs.Noting.{noted, marked, seated, poised}

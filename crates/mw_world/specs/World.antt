@@ -7,10 +7,10 @@ use Rattle.mw_words.specs.Change.{is_well_formed}
 use Rattle.mw_lone.specs.declared.marks.Mark.TheVariants.{Ask, Reply as HandOut}
 use Rattle.mw_actor.specs.Acting.{Acting, first}
 use Rattle.mw_actor.specs.Program.{replied}
+use Rattle.mw_book.specs.Maps.{upd}
 use Rattle.mw_world.specs.declared.config.Config.{Config}
 use Rattle.mw_world.specs.declared.config.TheConstants.{MOST_REQUESTS}
 use Rattle.mw_world.specs.Happenings.{Happening, Come, Step, File, Hand, Restart}
-use Rattle.mw_world.specs.Maps.{upd}
 use Rattle.mw_world.specs.State.{State, Seat, Account, tenant_at, tenants_of}
 use Rattle.mw_world.specs.Noting.{more}
 use Rattle.mw_world.specs.Turns.{turn}

@@ -1,7 +1,7 @@
 //! Tenants in memory.
 
-use crate::books::Book;
 use crate::lines::Lines;
+use mw_book::Book;
 
 /// A tenant, but for its words and its door.
 #[derive(Drop)]

@@ -3,7 +3,7 @@ ghost use Rattle.std.specs.Prelude.{◌≡◌, ℕ, OnOk};
 ghost use Rattle.mw_actor.specs.Acting.{Acting};
 ghost use Rattle.mw_world.specs.History.{History, no_history};
 ghost use Rattle.mw_world.specs.Noting.{noted};
-ghost use Rattle.mw_world.specs.Claims.{HasRoomForNote, Recalls, is_spoiled_in, latest, request_in};
+ghost use Rattle.mw_world.specs.Claims.{HasRoomForNote, Recalls, SameClaims, is_spoiled_in, latest, request_in};
 
 use crate::notes::Note;
 use mw_actor::Slot;
@@ -44,6 +44,7 @@ impl Claims {
     /// Makes room for one note more. Where there is no memory for it, what is known stays known.
     pub(crate) fn reserve(&mut self) -> Result<(), AllocError>
         ensures room { OnOk result (HasRoomForNote self.new) }
+        ensures same { SameClaims self.old self.new }
         ensures keeps { (past : History) → Recalls self.old past → Recalls self.new past }
     {
         self.claims.reserve(1)?;

@@ -1,15 +1,7 @@
 //! What may happen to a world.
 
+pub use mw_book::Outcome;
 use mw_words::Job;
-
-/// How the device takes a call on a file.
-#[derive(Clone, Copy, Debug, PartialEq, Eq)]
-pub enum Outcome {
-    /// No device call fails.
-    Good,
-    /// The device call with this number fails, counted from 1 in the call on the file.
-    Fail(u64),
-}
 
 /// A call on a file that never came to its end.
 #[derive(Clone, Copy, Debug, PartialEq, Eq)]

@@ -1,23 +1,5 @@
 //! Why an event is refused.
 
-use std::alloc::AllocError;
-
-/// Why an event is refused. The world is then what it was.
-#[derive(Clone, Copy, Debug, PartialEq, Eq)]
-pub enum WorldFault {
-    /// The event can't happen where the world is.
-    NotEnabled,
-    /// Want of memory.
-    Memory,
-}
-
-impl From<AllocError> for WorldFault {
-    ghost use Rattle.std.specs.Prelude.{◌≡◌};
-    ghost use Rattle.mw_world.specs.declared.faults.WorldFault.TheVariants.{Memory};
-
-    ghost from_gives = { λ _ e. e ≡ Memory };
-
-    fn from(_: AllocError) -> Self {
-        WorldFault::Memory
-    }
-}
+/// Why an event is refused. The world is then unchanged, but for the room that it keeps for further marks
+/// and claims.
+pub use mw_book::BookFault as WorldFault;

@@ -4,7 +4,6 @@
 #![tactic(auto)]
 
 mod accounts;
-mod books;
 mod cells;
 mod claims;
 mod config;
@@ -19,7 +18,11 @@ mod world;
 pub use config::{Config, Tenant};
 pub use events::{Event, Interrupted, Outcome, Stop};
 pub use faults::WorldFault;
-pub use laws::{places_are_apart, runs_come_out, runs_extend};
+pub use laws::{
+    new_worlds_keep_the_invariant, places_are_apart, runs_come_out, runs_extend,
+    what_serving_alone_gives,
+};
+pub use notes::{Note, Phase};
 pub use world::World;
 
 #[cfg(test)]

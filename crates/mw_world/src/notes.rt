@@ -9,7 +9,7 @@ use mw_words::{Reply, Status};
 /// What has become of a word as far as one change goes. A word goes through these in order, and may
 /// leave some out.
 #[derive(Clone, Copy, Debug)]
-pub(crate) enum Phase {
+pub enum Phase {
     /// It was never held for the change.
     Fresh,
     /// It is held for it.
@@ -23,7 +23,7 @@ pub(crate) enum Phase {
 /// What a step means. A request's marks are those of its tenant's store: see the marks themselves for
 /// their meaning.
 #[derive(Clone, Copy, Debug)]
-pub(crate) enum Note {
+pub enum Note {
     /// Nothing.
     Nothing,
     /// The request is admitted.

@@ -19,8 +19,9 @@ mod running;
 mod stopping;
 mod turns;
 
-/// A server with its tenants, workers and files, which events change one at a time. What an event does
-/// is told by the event alone: two worlds of one configuration to which the same happens are the same.
+/// A server with its tenants, workers and files, which events change one at a time. Two worlds of one
+/// configuration to which the same happens, with the same found of their files at each start, are in one
+/// state.
 #[derive(Drop)]
 pub struct World {
     pub(crate) alloc: Global,

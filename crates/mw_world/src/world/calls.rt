@@ -1,27 +1,28 @@
 //! Calls on a tenant's file.
 ghost use Rattle.std.specs.Option.{option_map};
-ghost use Rattle.std.specs.Prelude.{◌≡◌, ◌<◌, ℕ, true, false, if◌then◌else◌, IfSome, IsTrue, Option, Some, None, length, slice_get};
+ghost use Rattle.std.specs.Prelude.{◌≡◌, ◌≢◌, ◌<◌, ℕ, true, false, if◌then◌else◌, IfSome, IsTrue, OnErr, Option, Some, None, length, slice_get};
 ghost use Rattle.mw_words.specs.Change.{is_change};
 ghost use Rattle.mw_words.specs.Patterns.{IsStatusInRange};
 ghost use Rattle.mw_look.specs.declared.news.News.TheVariants.{Filed};
 ghost use Rattle.mw_actor.specs.Acting.{entries_of_job};
+ghost use Rattle.mw_book.specs.Files.{File};
+ghost use Rattle.mw_book.specs.SoundBooks.{HasSound};
 ghost use Rattle.mw_world.specs.declared.accounts.Account.{Account};
 ghost use Rattle.mw_world.specs.Calls as calls;
 ghost use Rattle.mw_world.specs.Ending as ending;
 ghost use Rattle.mw_world.specs.Extent.{has_slot};
-ghost use Rattle.mw_world.specs.Files.{File};
 ghost use Rattle.mw_world.specs.Shows.{Ends, Shows};
 ghost use Rattle.mw_world.specs.State.{State, tenant_at};
+ghost use Rattle.mw_world.specs.Staying.{IsUnchanged, SameBooks, SameBooksBut, book_at, served_by};
 ghost use Rattle.mw_world.specs.Stepping as stepping;
-ghost use Rattle.mw_world.specs.TenantBooks.{HasSound};
 
-use crate::books::Book;
 use crate::events::Outcome;
 use crate::faults::WorldFault;
 use crate::notes::Note;
 use crate::world::World;
 use crate::world::turns::next_attempt;
 use mw_actor::{Actor, Point, Slot};
+use mw_book::Book;
 use mw_look::{Call, Got, Kind, Op, Told};
 use mw_words::{At, Entries, Job, Status, copy_of, is_change};
 
@@ -49,6 +50,8 @@ impl World {
         ensures config { self.new.config ≡ self.old.config }
         ensures ends { (state : State) → Shows self.old state
             → Ends self.new state (calls.call self.old.config state worker (state.seats worker).actor outcome) result }
+        ensures unchanged { OnErr result (IsUnchanged self.old self.new) }
+        ensures files { (tenant : ℕ) → served_by self.old worker ≢ Some tenant → book_at self.new tenant ≡ book_at self.old tenant }
     {
         let Some(actor) = self.actor_of(worker) else {
             return Err(WorldFault::NotEnabled);
@@ -91,6 +94,7 @@ impl World {
         ensures config { self.new.config ≡ self.old.config }
         ensures shows { (state : State) → Shows self.old state
             → Shows self.new (stepping.told state worker actor.now (Filed ended.went_well) ended.note) }
+        ensures files { SameBooks self.old self.new }
     {
         let attempt = next_attempt(actor, self.seats[usize::from(worker)].attempt);
         let mut next = actor.copy();
@@ -113,6 +117,8 @@ impl World {
         requires tenant { actor.now.tenant < length self.old.accounts.items }
         requires in_range { IsStatusInRange status }
         ensures rest { ending.SameButFiles self.old self.new }
+        ensures unchanged { OnErr result (self.new ≡ self.old) }
+        ensures files { SameBooksBut actor.now.tenant self.old self.new }
         ensures ends { (state : State) → Shows self.old state → state.cells.statuses called.change.slot ≡ status
             → ending.Closes self.new state actor.now.tenant (calls.calling self.old.config state actor.now (ending.called_of called) outcome) result }
     {
@@ -121,7 +127,7 @@ impl World {
         }
         if fails_on(
             called.call,
-            self.accounts[usize::from(actor.tenant())].book.has_failed,
+            self.accounts[usize::from(actor.tenant())].book.has_failed(),
         ) {
             return self.refuse(actor.tenant(), outcome);
         }
@@ -133,6 +139,8 @@ impl World {
         requires tenant { tenant < length self.old.accounts.items }
         ensures rest { ending.SameButFiles self.old self.new }
         ensures is { result ≡ ending.makes_none ending.refused outcome }
+        ensures files { SameBooks self.old self.new }
+        ensures unchanged { OnErr result (self.new ≡ self.old) }
         ensures good { outcome ≡ Outcome.Good → (state : State) → Shows self.old state
             → Shows self.new (stepping.with_cells state (ending.faulted state.cells tenant)) }
         ensures other { (outcome ≡ Outcome.Good → ⊥) → self.new ≡ self.old }
@@ -161,17 +169,15 @@ impl World {
         requires in_range { IsStatusInRange status }
         requires sound { (called.call ≡ Call.Cancel → ⊥) → (account : Account) → slice_get self.old.accounts.items actor.now.tenant ≡ Some account → account.book.has_failed ≡ false }
         ensures rest { ending.SameButFiles self.old self.new }
+        ensures unchanged { OnErr result (self.new ≡ self.old) }
+        ensures files { SameBooksBut actor.now.tenant self.old self.new }
         ensures ends { (state : State) → Shows self.old state → state.cells.statuses called.change.slot ≡ status
             → calls.starts_from called.call status ≡ true → calls.fails_on called.call (state.accounts actor.now.tenant).file ≡ false
             → ending.Closes self.new state actor.now.tenant (calls.calling self.old.config state actor.now (ending.called_of called) outcome) result }
     {
         let tenant = usize::from(actor.tenant());
         let entries = entries_of(actor.job());
-        if !is_formed(
-            called.call,
-            self.accounts[tenant].book.contents.len(),
-            &entries,
-        ) {
+        if !is_formed(called.call, self.accounts[tenant].book.words(), &entries) {
             return Err(WorldFault::NotEnabled);
         }
         let book = match self.accounts[tenant].book.work(
@@ -193,6 +199,7 @@ impl World {
         requires tenant { tenant < length self.old.accounts.items }
         requires sound { HasSound (tenant_at self.old.config tenant).words book }
         ensures rest { ending.SameButFiles self.old self.new }
+        ensures others { SameBooksBut tenant self.old self.new }
         ensures shows { (state : State) (file : File) → Shows self.old state → ending.IsBookOf self.old.config tenant book file
             → Shows self.new (stepping.with_file state tenant file) }
     {
@@ -205,6 +212,7 @@ impl World {
         requires in_range { IsStatusInRange status }
         ensures rest { ending.SameButFiles self.old self.new }
         ensures is { result ≡ ending.ended called.call called.change status outcome }
+        ensures files { SameBooks self.old self.new }
         ensures shows { (state : State) → Shows self.old state → state.cells.statuses called.change.slot ≡ status
             → Shows self.new (stepping.with_cells state (ending.cells_closed state.cells tenant called.call called.change.slot status outcome)) }
     {

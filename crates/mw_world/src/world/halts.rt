@@ -1,6 +1,6 @@
 //! What was under way on a tenant's file when all stopped.
 
-use crate::books::Cut;
+use mw_book::Cut;
 
 /// What was under way on a tenant's file when all stopped.
 #[derive(Drop)]

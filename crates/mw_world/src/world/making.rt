@@ -8,13 +8,13 @@ ghost use Rattle.mw_world.specs.State.{IsConfig};
 ghost use Rattle.mw_world.specs.Ties.{Tie};
 
 use crate::accounts::Account;
-use crate::books::Book;
 use crate::cells::Cells;
 use crate::claims::Claims;
 use crate::config::{Config, Tenant};
 use crate::lines::Lines;
 use crate::seats::Seat;
 use crate::world::World;
+use mw_book::Book;
 use mw_words::{MAX_QUOTA, MAX_WORDS};
 use std::alloc::{AllocError, Global};
 

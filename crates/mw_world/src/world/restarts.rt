@@ -1,12 +1,14 @@
 //! All stops and starts again.
-ghost use Rattle.std.specs.Prelude.{◌≡◌, IfOk, Some, None, MatchOption, slice_get};
+ghost use Rattle.std.specs.Prelude.{◌≡◌, IfOk, OnErr, Some, None, MatchOption, slice_get};
 ghost use Rattle.std.specs.List.{list_any};
+ghost use Rattle.mw_book.specs.SoundBooks.{HasSound};
 ghost use Rattle.mw_world.specs.Running as spec;
 ghost use Rattle.mw_world.specs.Running.{Restarts};
 ghost use Rattle.mw_world.specs.Shows.{Shows};
 ghost use Rattle.mw_world.specs.State.{State, tenant_at};
+ghost use Rattle.mw_world.specs.Staying.{IsUnchanged};
 ghost use Rattle.mw_world.specs.Stops.{AllReopen, Reopens};
-ghost use Rattle.mw_world.specs.TenantBooks.{AreSound, HasSound};
+ghost use Rattle.mw_world.specs.TenantBooks.{AreSound};
 
 use crate::accounts::Account;
 use crate::events::{Interrupted, Stop};
@@ -20,6 +22,7 @@ impl World {
     /// All stops, and starts again.
     pub(crate) fn restart(&mut self, stops: &[Stop]) -> Result<(), WorldFault>
         ensures config { self.new.config ≡ self.old.config }
+        ensures unchanged { OnErr result (IsUnchanged self.old self.new) }
         ensures ends { (state : State) → Shows self.old state → Restarts self.old self.new state stops.now result }
     {
         if !are_named(self.accounts.len(), stops) {

@@ -1,12 +1,13 @@
 //! What can be asked of a world, and the events that change it.
-ghost use Rattle.std.specs.Prelude.{◌≡◌, ◌<◌, ◌++◌, List, Some, None, IfOk, IsTrue, MatchOption, slice_get, length};
+ghost use Rattle.std.specs.Prelude.{◌≡◌, ◌<◌, ◌++◌, List, Some, None, IfOk, IsTrue, MatchOption, OnErr, slice_get, length};
 ghost use Rattle.std.specs.Option.{option_and_then};
 ghost use Rattle.mw_world.specs.Bits.{bits_at};
 ghost use Rattle.mw_world.specs.Extent.{has_place};
 ghost use Rattle.mw_world.specs.Happenings.{Happening};
-ghost use Rattle.mw_world.specs.Running.{Happens, Runs, RunsBySteps, Stands};
+ghost use Rattle.mw_world.specs.Running.{Happens, Runs, RunsBySteps, Stands, StandsAfter};
 ghost use Rattle.mw_world.specs.Shows.{Shows};
 ghost use Rattle.mw_world.specs.State.{State, marks_of};
+ghost use Rattle.mw_world.specs.Staying.{IsUnchanged, LeavesFiles};
 ghost use Rattle.mw_look.specs.Places.{pack};
 ghost use Rattle.mw_world.specs.Cells.{read};
 
@@ -63,17 +64,23 @@ impl World {
         self.accounts[usize::from(tenant)].lines.marks(self.alloc)
     }
 
-    /// One event. [`WorldFault::NotEnabled`]: it can't happen where the world is. After an error the
-    /// world is what it was.
+    /// One event. [`WorldFault::NotEnabled`]: it can't happen where the world is. [`WorldFault::Memory`]:
+    /// there is no memory for what it means. After an error the world is unchanged, but for the room that
+    /// it keeps for further marks and claims. No event but a call on a tenant's file, and a start, touches
+    /// that file.
     pub fn step(&mut self, event: Event) -> Result<(), WorldFault>
         ensures config { self.new.config ≡ self.old.config }
         ensures happens { (state : State) → Shows self.old state → Happens self.old self.new state event result }
+        ensures stands { (happened : List Happening) → Stands self.old happened → StandsAfter self.new happened event result }
+        ensures unchanged { OnErr result (IsUnchanged self.old self.new) }
+        ensures files { LeavesFiles self.old self.new event }
     {
         self.apply(&event)
     }
 
     /// One event after the other. At an error this stops, with the index of the event that was refused;
-    /// the events before it have happened.
+    /// the events before it have happened, and the world is as they left it, but for the room that it keeps
+    /// for further marks and claims.
     pub fn run(&mut self, events: &[Event]) -> Result<(), (usize, WorldFault)>
         ensures config { self.new.config ≡ self.old.config }
         ensures steps { RunsBySteps self.old self.new events.now result }
@@ -90,6 +97,8 @@ impl World {
     fn apply(&mut self, event: &Event) -> Result<(), WorldFault>
         ensures config { self.new.config ≡ self.old.config }
         ensures happens { (state : State) → Shows self.old state → Happens self.old self.new state event.now result }
+        ensures unchanged { OnErr result (IsUnchanged self.old self.new) }
+        ensures files { LeavesFiles self.old self.new event.now }
     {
         match event {
             Event::Come(worker, tenant, job) => self.come(*worker, *tenant, job),

@@ -1,18 +1,18 @@
 //! Which calls on the tenants' files may have been under way when all stopped.
 ghost use Rattle.std.specs.Prelude.{◌≡◌, ◌≤◌, IfSome, Some, None, length, slice_get};
+ghost use Rattle.mw_book.specs.Reopening.{PreparesChange};
 ghost use Rattle.mw_world.specs.Ending.{called_of};
-ghost use Rattle.mw_world.specs.Reopening.{PreparesChange};
 ghost use Rattle.mw_world.specs.Shows.{Shows};
 ghost use Rattle.mw_world.specs.State.{State};
 ghost use Rattle.mw_world.specs.Stops as spec;
 
 use crate::accounts::Account;
-use crate::books::Cut;
 use crate::events::Interrupted;
 use crate::world::World;
 use crate::world::calls::{Called, called_at, entries_of, is_formed, starts_from};
 use crate::world::halts::Halt;
 use mw_actor::Actor;
+use mw_book::Cut;
 use mw_look::Call;
 
 impl World {
@@ -60,7 +60,7 @@ impl World {
             return None;
         }
         let entries = entries_of(actor.job());
-        if !is_formed(called.call, account.book.contents.len(), &entries) {
+        if !is_formed(called.call, account.book.words(), &entries) {
             return None;
         }
         Some(Halt {

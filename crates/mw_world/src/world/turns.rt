@@ -1,5 +1,5 @@
 //! Requests that come, make their steps and hand out their replies.
-ghost use Rattle.std.specs.Prelude.{◌≡◌, ◌<◌, true, IfSome, OnOk, length};
+ghost use Rattle.std.specs.Prelude.{◌≡◌, ◌<◌, true, IfSome, OnErr, OnOk, length};
 ghost use Rattle.mw_look.specs.News.{news_of};
 ghost use Rattle.mw_look.specs.Steps.{place};
 ghost use Rattle.mw_actor.specs.Asks.{asks};
@@ -8,6 +8,7 @@ ghost use Rattle.mw_actor.specs.Ranges.{IsFormed};
 ghost use Rattle.mw_world.specs.declared.config.TheConstants.{MOST_REQUESTS};
 ghost use Rattle.mw_world.specs.Shows.{Ends, Shows};
 ghost use Rattle.mw_world.specs.State.{State};
+ghost use Rattle.mw_world.specs.Staying.{IsUnchanged, SameBooks, served_by};
 ghost use Rattle.mw_world.specs.Stepping as stepping;
 ghost use Rattle.mw_world.specs.Turns as turns;
 ghost use Rattle.mw_world.specs.World as spec;
@@ -28,6 +29,8 @@ impl World {
         ensures config { self.new.config ≡ self.old.config }
         ensures ends { (state : State) → Shows self.old state
             → Ends self.new state (spec.come self.old.config state worker tenant job.now) result }
+        ensures unchanged { OnErr result (IsUnchanged self.old self.new) }
+        ensures files { SameBooks self.old self.new }
     {
         if !self.is_free(worker) {
             return Err(WorldFault::NotEnabled);
@@ -84,6 +87,7 @@ impl World {
         ensures config { self.new.config ≡ self.old.config }
         ensures shows { (state : State) → Shows self.old state → request ≡ (state.accounts tenant).asked
             → Shows self.new (stepping.came self.old.config state worker tenant job.now) }
+        ensures files { SameBooks self.old self.new }
     {
         let quota = self.config.tenants[usize::from(tenant)].quota;
         let actor = Actor::new(worker, tenant, quota, self.config.pool, job.copy());
@@ -101,6 +105,8 @@ impl World {
         ensures config { self.new.config ≡ self.old.config }
         ensures ends { (state : State) → Shows self.old state
             → Ends self.new state (turns.turn self.old.config state worker (state.seats worker).actor) result }
+        ensures unchanged { OnErr result (IsUnchanged self.old self.new) }
+        ensures files { SameBooks self.old self.new }
     {
         let Some(actor) = self.actor_of(worker) else {
             return Err(WorldFault::NotEnabled);
@@ -123,6 +129,7 @@ impl World {
     pub(crate) fn actor_of(&self, worker: u8) -> Option<Actor>
         ensures worker { IfSome result (λ actor. worker < length self.now.seats.items) }
         ensures tenant { IfSome result (λ actor. actor.tenant < length self.now.accounts.items) }
+        ensures served { IfSome result (λ actor. served_by self.now worker ≡ Some actor.tenant) }
         ensures shown { (state : State) → Shows self.now state → result ≡ (state.seats worker).actor }
     {
         let Some(seat) = self.seats.get(usize::from(worker)) else {
@@ -137,8 +144,8 @@ impl World {
         Some(actor.copy())
     }
 
-    /// Makes room for what a step of a tenant's request may mean. Where there is no memory for it, the
-    /// world is what it was.
+    /// Makes room for what a step of a tenant's request may mean. Whether there is memory for it or not,
+    /// nothing else changes.
     pub(crate) fn reserve(&mut self, tenant: u8) -> Result<(), AllocError>
         requires tenant { tenant < length self.old.accounts.items }
         ensures config { self.new.config ≡ self.old.config }
@@ -146,6 +153,7 @@ impl World {
         ensures seats { self.new.seats ≡ self.old.seats }
         ensures count { length self.new.accounts.items ≡ length self.old.accounts.items }
         ensures shows { (state : State) → Shows self.old state → Shows self.new state }
+        ensures unchanged { IsUnchanged self.old self.new }
         ensures room { OnOk result (stepping.HasRoom self.new.claims self.new.accounts.items tenant) }
     {
         self.accounts[usize::from(tenant)].lines.reserve()?;
@@ -160,6 +168,7 @@ impl World {
         ensures config { self.new.config ≡ self.old.config }
         ensures shows { (state : State) → Shows self.old state → at ≡ place (asks actor.now)
             → Shows self.new (stepping.told state worker actor.now (news_of at got) (stepping.meaning state worker actor.now (news_of at got))) }
+        ensures files { SameBooks self.old self.new }
     {
         let attempt = next_attempt(actor, self.seats[usize::from(worker)].attempt);
         let mut next = actor.copy();
@@ -175,6 +184,7 @@ impl World {
         requires room { stepping.HasRoom self.old.claims self.old.accounts.items next.tenant }
         ensures config { self.new.config ≡ self.old.config }
         ensures shows { (state : State) (actor : Acting) → Shows self.old state → Shows self.new (stepping.entered state worker actor next note attempt) }
+        ensures files { SameBooks self.old self.new }
     {
         let lines = &mut self.accounts[usize::from(next.tenant())].lines;
         let seat = &mut self.seats[usize::from(worker)];
@@ -191,6 +201,8 @@ impl World {
         ensures config { self.new.config ≡ self.old.config }
         ensures ends { (state : State) → Shows self.old state
             → Ends self.new state (spec.hand state worker (state.seats worker).actor) result }
+        ensures unchanged { OnErr result (IsUnchanged self.old self.new) }
+        ensures files { SameBooks self.old self.new }
     {
         let Some(actor) = self.actor_of(worker) else {
             return Err(WorldFault::NotEnabled);
@@ -212,6 +224,7 @@ impl World {
         requires room { stepping.HasRoom self.old.claims self.old.accounts.items tenant }
         ensures config { self.new.config ≡ self.old.config }
         ensures shows { (state : State) → Shows self.old state → Shows self.new (stepping.gave state worker tenant) }
+        ensures files { SameBooks self.old self.new }
     {
         let seat = &mut self.seats[usize::from(worker)];
         let lines = &mut self.accounts[usize::from(tenant)].lines;

@@ -1,11 +1,11 @@
 use Rattle.std.specs.Prelude.{◌≡◌, false, true, length, Some}
-use Rattle.std.proofs.Common.{ap, arith, subst, sym, ◌∙◌}
+use Rattle.std.proofs.Common.{ap, subst, sym, ◌∙◌}
 use Rattle.mw_actor.specs.Acting.{entries_of_job, own_entries}
+use Rattle.mw_book.specs.declared.cut.Cut.{Cut}
 use Rattle.mw_world.specs.Calls.{Called, is_formed, starts_from}
 use Rattle.mw_world.specs.Ending.{called_of}
 use Rattle.mw_world.specs.Extent.{has_slot}
 use Rattle.mw_world.specs.Stops.{IsCut}
-use Rattle.mw_world.specs.declared.books.cut.Cut.{Cut}
 use Rattle.mw_world.proofs.Halting.{cut_is, in_slot, not_formed}
 use Rattle.mw_world.proofs.world.World.cut.Goals as goal
 
@@ -16,9 +16,8 @@ returns-then-not-is_formed-clause-shown c state shows =
     let made = c.args.made in
     let called : Called = called_of c.args.called in
     let file = (state.accounts actor.tenant).file in
-    let contents = c.args.account.now.book.contents in
     let same = (shows.accounts actor.tenant c.args.account.now c.requires.there).book.same_contents in
-    let long : length file.contents ≡ c.len.result = omega (arith, ap length same, c.len.ensures, contents.ok.0) in
+    let long : length file.contents ≡ c.words.result = ap length same ∙ sym c.words.ensures in
     let own = c.entries_of-entries.ensures ∙ ap entries_of_job c.job.ensures in
     let formed : is_formed called.call file (own_entries actor) ≡ false =
     ap (is_formed called.call file) (sym own) ∙ sym (c.is_formed.ensures.is file long) ∙ c.if-not-is_formed.true in
@@ -33,9 +32,8 @@ returns-clause-shown c state shows =
     let slot = c.args.called.change.slot in
     let seq = c.args.called.change.seq in
     let file = (state.accounts actor.tenant).file in
-    let contents = c.args.account.now.book.contents in
     let same = (shows.accounts actor.tenant c.args.account.now c.requires.there).book.same_contents in
-    let long : length file.contents ≡ c.len.result = omega (arith, ap length same, c.len.ensures, contents.ok.0) in
+    let long : length file.contents ≡ c.words.result = ap length same ∙ sym c.words.ensures in
     let own = c.entries_of-entries.ensures ∙ ap entries_of_job c.job.ensures in
     let formed : is_formed called.call file (own_entries actor) ≡ true =
     ap (is_formed called.call file) (sym own) ∙ sym (c.is_formed.ensures.is file long) ∙ c.if-not-is_formed.false in

@@ -16,7 +16,7 @@ returns-then-fails_on-clause-ends c state shows same =
     let actor = c.args.actor.now in
     let one = shown_at c.args.self.now state c.from.result actor.tenant c.index.result.now shows (c.from.ensures ∙ c.tenant.ensures) c.requires.tenant c.index.ensures in
     call_refuses c.args.self.now.config state actor (called_of c.args.called) c.args.status c.args.outcome same c.args.self.now c.refuse.new.self c.refuse.result
-    (sym c.starts_from.ensures ∙ c.if-not-starts_from.false) (sym (c.fails_on.ensures.is (state.accounts actor.tenant).file one.book.same_failed) ∙ c.if-fails_on.true) c.refuse.ensures.is
+    (sym c.starts_from.ensures ∙ c.if-not-starts_from.false) (sym (c.fails_on.ensures.is (state.accounts actor.tenant).file (one.book.same_failed ∙ sym c.has_failed.ensures)) ∙ c.if-fails_on.true) c.refuse.ensures.is
     (λ good. subst (λ t. Shows c.refuse.new.self (with_cells state (faulted state.cells t))) c.tenant-then-fails_on.ensures (c.refuse.ensures.good good state shows))
     (λ bad. subst (λ w. Shows w state) (sym (c.refuse.ensures.other bad)) shows)
 
@@ -25,11 +25,11 @@ work-requires-clause-sound c other account is =
     ap (λ shown. shown.book.has_failed)
     (same_found c.args.self.now.accounts.items c.args.actor.now.tenant account c.index.result.now is
     (found_at c.args.self.now.accounts.items c.from.result c.args.actor.now.tenant c.index.result.now (c.from.ensures ∙ c.tenant.ensures) c.requires.tenant c.index.ensures))
-    ∙ c.fails_on.ensures.unless c.if-fails_on.false other
+    ∙ sym c.has_failed.ensures ∙ c.fails_on.ensures.unless c.if-fails_on.false other
 
 pub returns-clause-ends : goal.returns-clause-ends
 returns-clause-ends c state shows same =
     let actor = c.args.actor.now in
     let one = shown_at c.args.self.now state c.from.result actor.tenant c.index.result.now shows (c.from.ensures ∙ c.tenant.ensures) c.requires.tenant c.index.ensures in
     c.work.ensures.ends state shows same (sym c.starts_from.ensures ∙ c.if-not-starts_from.false)
-    (sym (c.fails_on.ensures.is (state.accounts actor.tenant).file one.book.same_failed) ∙ c.if-fails_on.false)
+    (sym (c.fails_on.ensures.is (state.accounts actor.tenant).file (one.book.same_failed ∙ sym c.has_failed.ensures)) ∙ c.if-fails_on.false)

@@ -1,8 +1,8 @@
 use Rattle.std.proofs.Common.{refl, ap, ◌∙◌}
+use Rattle.mw_book.specs.SoundBooks.{sound_again}
 use Rattle.mw_world.specs.State.{tenant_at}
 use Rattle.mw_world.proofs.Reopened.{is_reopened, not_reopened}
 use Rattle.mw_world.proofs.Restarted.{none_is}
-use Rattle.mw_world.proofs.SoundBooks.{sound_again}
 use Rattle.mw_world.proofs.world.World.reopened.Goals as goal
 
 pub returns-in-Err-clause-reopens : goal.returns-in-Err-clause-reopens

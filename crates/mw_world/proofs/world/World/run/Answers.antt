@@ -17,7 +17,8 @@ loop-index-preserved c =
     let now = c.in_default.ensures in
     record {
       same = now.config ∙ c.loop-index.invariant.same;
-      steps = one_step_more c.args.self.now old new events index event c.loop-index-test.true c.index-events-index.is c.loop-index.invariant.steps now.happens;
+      steps = one_step_more c.args.self.now old new events index event c.loop-index-test.true c.index-events-index.is c.loop-index.invariant.steps
+          (record { config = now.config; happens = now.happens; files = now.files });
       goes = λ happened stands.
           one_event_more new happened events index event c.loop-index-test.true c.index-events-index.is
           (goes_on_more old new happened (take index events) event c.in_default.field-0 now.config now.happens (c.loop-index.invariant.goes happened stands));
@@ -44,6 +45,7 @@ returns-in-Err-clause-steps c =
       event = event;
       there = event_read c.args.events.now c.loop-index.index event c.loop-index-test.true c.index-events-index.is;
       refused = c.in-Err.ensures.happens;
+      unchanged = c.in-Err.ensures.unchanged;
     }
 
 pub returns-clause-steps : goal.returns-clause-steps

@@ -1,15 +1,15 @@
 -- A call that can be made leaves its tenant the file after it, and ends by what the device did.
-use Rattle.std.proofs.Common.{refl, ap, subst, sym, ◌∙◌, ◌≡◌, true, false, Ok, Err, length, arith}
+use Rattle.std.proofs.Common.{refl, ap, subst, sym, ◌∙◌, true, false, Ok, Err}
 use Rattle.mw_actor.specs.Acting.{entries_of_job, own_entries}
+use Rattle.mw_book.specs.Files.{File}
+use Rattle.mw_book.specs.SoundBooks.{HasSound}
+use Rattle.mw_book.specs.Working.{Works}
+use Rattle.mw_book.specs.SoundBooks.{sound_after}
 use Rattle.mw_world.specs.Ending.{IsBookOf, called_of, cells_closed}
-use Rattle.mw_world.specs.Files.{File}
 use Rattle.mw_world.specs.Shows.{Shows}
 use Rattle.mw_world.specs.State.{tenant_at}
 use Rattle.mw_world.specs.Stepping.{with_cells, with_file}
-use Rattle.mw_world.specs.TenantBooks.{HasSound}
-use Rattle.mw_world.specs.Working.{Works}
 use Rattle.mw_world.proofs.Calling.{both_same, call_fails, call_unformed, call_works, formed_is, found_at, shown_at, why_failed}
-use Rattle.mw_world.proofs.SoundBooks.{sound_after}
 use Rattle.mw_world.proofs.world.World.work.Goals as goal
 
 pub returns-then-not-is_formed-clause-ends : goal.returns-then-not-is_formed-clause-ends
@@ -17,9 +17,8 @@ returns-then-not-is_formed-clause-ends c state shows same starts fails =
     let actor = c.args.actor.now in
     let one = shown_at c.args.self.now state c.from-tenant.result actor.tenant c.index.result.now shows (c.from-tenant.ensures ∙ c.tenant.ensures) c.requires.tenant c.index.ensures in
     let own = c.entries_of-entries.ensures ∙ ap (λ job. entries_of_job job) c.job.ensures in
-    let counted : c.len.result ≡ length c.index.result.now.book.contents.items = omega (arith, c.len.ensures) in
-    let formed = formed_is c.args.called.call (state.accounts actor.tenant).file c.index.result.now.book.contents.items c.len.result c.entries_of-entries.result.items (own_entries actor) c.is_formed.result false
-    one.book.same_contents counted own c.is_formed.ensures.is c.if-not-is_formed.true in
+    let formed = formed_is c.args.called.call (state.accounts actor.tenant).file c.index.result.now.book.contents.items c.words.result c.entries_of-entries.result.items (own_entries actor) c.is_formed.result false
+    one.book.same_contents c.words.ensures own c.is_formed.ensures.is c.if-not-is_formed.true in
     (call_unformed c.args.self.now.config state actor (called_of c.args.called) c.args.status c.args.outcome same starts fails formed, shows)
 
 pub work-requires-clause-sound : goal.work-requires-clause-sound
@@ -43,9 +42,8 @@ returns-in-Err-clause-ends c state shows same starts fails =
     let one = shown_at c.args.self.now state c.from-tenant.result actor.tenant c.index.result.now shows (c.from-tenant.ensures ∙ c.tenant.ensures) c.requires.tenant c.index.ensures in
     let two = shown_at c.args.self.now state c.from-tenant.result actor.tenant c.index-2.result.now shows (c.from-tenant.ensures ∙ c.tenant.ensures) c.requires.tenant c.index-2.ensures in
     let own = c.entries_of-entries.ensures ∙ ap (λ job. entries_of_job job) c.job.ensures in
-    let counted : c.len.result ≡ length c.index.result.now.book.contents.items = omega (arith, c.len.ensures) in
-    let formed = formed_is c.args.called.call (state.accounts actor.tenant).file c.index.result.now.book.contents.items c.len.result c.entries_of-entries.result.items (own_entries actor) c.is_formed.result true
-    one.book.same_contents counted own c.is_formed.ensures.is c.if-not-is_formed.false in
+    let formed = formed_is c.args.called.call (state.accounts actor.tenant).file c.index.result.now.book.contents.items c.words.result c.entries_of-entries.result.items (own_entries actor) c.is_formed.result true
+    one.book.same_contents c.words.ensures own c.is_formed.ensures.is c.if-not-is_formed.false in
     let worked = subst (λ entries. Works book c.args.called.call c.args.called.change.slot entries c.args.outcome (Err c.in-Err.fault)) own c.in-Err.ensures in
     call_fails c.args.self.now.config state actor (called_of c.args.called) c.args.status c.args.outcome same starts fails formed _ two.places c.args.self.now book c.in-Err.fault shows refl
     (why_failed book c.args.called.call c.args.called.change.slot (own_entries actor) c.args.outcome c.in-Err.fault (state.accounts actor.tenant).file worked two.book)
@@ -57,9 +55,8 @@ returns-clause-ends c state shows same starts fails =
     let one = shown_at c.args.self.now state c.from-tenant.result actor.tenant c.index.result.now shows (c.from-tenant.ensures ∙ c.tenant.ensures) c.requires.tenant c.index.ensures in
     let two = shown_at c.args.self.now state c.from-tenant.result actor.tenant c.index-2.result.now shows (c.from-tenant.ensures ∙ c.tenant.ensures) c.requires.tenant c.index-2.ensures in
     let own = c.entries_of-entries.ensures ∙ ap (λ job. entries_of_job job) c.job.ensures in
-    let counted : c.len.result ≡ length c.index.result.now.book.contents.items = omega (arith, c.len.ensures) in
-    let formed = formed_is c.args.called.call (state.accounts actor.tenant).file c.index.result.now.book.contents.items c.len.result c.entries_of-entries.result.items (own_entries actor) c.is_formed.result true
-    one.book.same_contents counted own c.is_formed.ensures.is c.if-not-is_formed.false in
+    let formed = formed_is c.args.called.call (state.accounts actor.tenant).file c.index.result.now.book.contents.items c.words.result c.entries_of-entries.result.items (own_entries actor) c.is_formed.result true
+    one.book.same_contents c.words.ensures own c.is_formed.ensures.is c.if-not-is_formed.false in
     let turns = subst (λ entries. Works book c.args.called.call c.args.called.change.slot entries c.args.outcome (Ok c.in-Ok.book)) own c.in-Ok.ensures in
     let turned = turns.shows (state.accounts actor.tenant).file two.book in
     let filed = subst (λ t. (file : File) → IsBookOf c.args.self.now.config t c.in-Ok.book file → Shows c.file.new.self (with_file state t file)) c.tenant-2.ensures (λ file. c.file.ensures.shows state file shows) in

@@ -1,0 +1,9 @@
+pub mod ApartPlaces
+pub mod KeptPlaces
+pub mod NewFiles
+pub mod OpenedFiles
+pub mod RestartedFiles
+pub mod SealedFiles
+pub mod ShutFiles
+pub mod StoppedFiles
+pub mod WorkedFiles

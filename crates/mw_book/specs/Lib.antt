@@ -1,0 +1,11 @@
+pub mod Books
+pub mod Calls
+pub mod Devices
+pub mod Files
+pub mod Giving
+pub mod Maps
+pub mod Reopening
+pub mod Restarts
+pub mod SoundBooks
+pub mod Stopping
+pub mod Working

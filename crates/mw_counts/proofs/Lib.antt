@@ -1,0 +1,15 @@
+pub mod Balance
+pub mod Calling
+pub mod Effects
+pub mod Exact
+pub mod GateSteps
+pub mod Keeping
+pub mod Points
+pub mod QuietSteps
+pub mod ReadBalance
+pub mod ReadSteps
+pub mod Room
+pub mod Shifts
+pub mod Starting
+pub mod Sums
+pub mod Turning

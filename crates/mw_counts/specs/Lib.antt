@@ -1,0 +1,7 @@
+pub mod Alone
+pub mod Exact
+pub mod Laws
+pub mod Ready
+pub mod Sides
+pub mod Standing
+pub mod Then

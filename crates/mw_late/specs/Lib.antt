@@ -1,0 +1,4 @@
+pub mod Doing
+pub mod Examples
+pub mod Late
+pub mod Laws
