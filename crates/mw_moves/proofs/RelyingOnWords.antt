@@ -25,6 +25,7 @@ plant_lets_rely config state mover in_tenant in_address given guard memory =
       stood = λ tenant address worker number old is. grind (arith, nat_tests, guard.next, memory.references.planted tenant address worker number);
       births = λ slot seq is. grind (arith, nat_tests, guard.next);
       stays = λ slot seq is. grind (arith, nat_tests, guard.next);
+      stays_not = λ slot seq is apart. grind (arith, nat_tests, guard.next);
       spoiled = λ slot seq is. grind (arith, nat_tests, guard.next);
       ready = λ slot seq was is. grind (arith, nat_tests, guard.next);
       was_open = λ slot seq was is. grind (arith, nat_tests, guard.next);
@@ -55,6 +56,7 @@ take_back_lets_rely config state mover in_tenant in_address owner taken_back pla
       stood = λ tenant address worker number old is. grind (arith, nat_tests, memory.references.planted tenant address worker number);
       births = λ slot seq is. grind (arith, nat_tests);
       stays = λ slot seq is. grind (arith, nat_tests);
+      stays_not = λ slot seq is apart. grind (arith, nat_tests);
       spoiled = λ slot seq is. grind (arith, nat_tests);
       ready = λ slot seq was is. grind (arith, nat_tests);
       was_open = λ slot seq was is. grind (arith, nat_tests);
@@ -86,6 +88,7 @@ hold_lets_rely config state mover in_tenant in_address owner held_by target guar
       stood = λ tenant address worker number old is. grind (arith, nat_tests, finds.fresh);
       births = λ slot seq is. grind (arith, nat_tests, finds.fresh);
       stays = λ slot seq is. grind (arith, nat_tests, finds.fresh);
+      stays_not = λ slot seq is apart. grind (arith, nat_tests, finds.fresh);
       spoiled = λ slot seq is. grind (arith, nat_tests, finds.fresh);
       ready = λ slot seq was is. grind (arith, nat_tests, finds.fresh);
       was_open = λ slot seq was is. grind (arith, nat_tests, finds.fresh);
@@ -117,6 +120,7 @@ ink_lets_rely config state mover in_tenant in_address target written_value guard
       stood = λ tenant address worker number old is. grind (arith, nat_tests, held.keeping, guard.is_made);
       births = λ slot seq is. grind (arith, nat_tests, held.keeping, guard.is_made);
       stays = λ slot seq is. grind (arith, nat_tests, held.keeping, guard.is_made);
+      stays_not = λ slot seq is apart. grind (arith, nat_tests, held.keeping, guard.is_made);
       spoiled = λ slot seq is. grind (arith, nat_tests, held.keeping, guard.is_made);
       ready = λ slot seq was is. grind (arith, nat_tests, held.keeping, guard.is_made);
       was_open = λ slot seq was is. grind (arith, nat_tests, held.keeping, guard.is_made);
@@ -149,6 +153,7 @@ let_go_lets_rely config state mover in_tenant in_address target plain_value guar
       stood = λ tenant address worker number old is. grind (arith, nat_tests, held.keeping);
       births = λ slot seq is. grind (arith, nat_tests, held.keeping);
       stays = λ slot seq is. grind (arith, nat_tests, held.keeping);
+      stays_not = λ slot seq is apart. grind (arith, nat_tests, held.keeping);
       spoiled = λ slot seq is. grind (arith, nat_tests, held.keeping);
       ready = λ slot seq was is. grind (arith, nat_tests, held.keeping);
       was_open = λ slot seq was is. grind (arith, nat_tests, held.keeping);
@@ -180,6 +185,7 @@ clean_lets_rely config state mover in_tenant in_address target plain_value guard
       stood = λ tenant address worker number old is. grind (arith, nat_tests, dirty.inked, guard.seq);
       births = λ slot seq is. grind (arith, nat_tests, dirty.inked, guard.seq);
       stays = λ slot seq is. grind (arith, nat_tests, dirty.inked, guard.seq);
+      stays_not = λ slot seq is apart. grind (arith, nat_tests, dirty.inked, guard.seq);
       spoiled = λ slot seq is. grind (arith, nat_tests, dirty.inked, guard.seq);
       ready = λ slot seq was is. grind (arith, nat_tests, dirty.inked, guard.seq);
       was_open = λ slot seq was is. grind (arith, nat_tests, dirty.inked, guard.seq);

@@ -68,6 +68,7 @@ module _ (state : State) (seats : ℕ → Seat) (accounts : ℕ → Account) (sa
     stood = λ tenant address worker number old is. grind (arith, nat_tests, later.stood tenant address worker number, same worker);
     births = λ slot seq is. grind (arith, nat_tests, later.births slot seq);
     stays = λ slot seq is. grind (arith, nat_tests, later.stays slot seq);
+    stays_not = λ slot seq is apart. grind (arith, nat_tests, later.stays_not slot seq);
     spoiled = λ slot seq is. grind (arith, nat_tests, later.spoiled slot seq);
     ready = λ slot seq was is. grind (arith, nat_tests, later.ready slot seq);
     was_open = λ slot seq was is. grind (arith, nat_tests, later.was_open slot seq);

@@ -180,8 +180,8 @@ pub record MayPose (state : State) (by : ℕ) (standing : Standing) (arm : Arm) 
   pub arms : (tenant address other number slot seq : ℕ) → arm ≡ Armed tenant address other number slot seq
       → MayArm state tenant address other number (record { slot = slot; seq = seq })
 
--- What a move of a worker asks for. An attempt's number is given up only where no lower one is next. A pin is left behind, and a reply decided,
--- without asking for anything, since nothing that is to hold of memory speaks of these.
+-- What a move of a worker asks for. An attempt's number is given up only where no lower one is next. A pin is left behind by the worker that
+-- claimed its slot. A reply is decided without asking for anything, since nothing that is to hold of memory speaks of it.
 abbrev pub Guard : Config → State → ℕ → Move → Type 0
 Guard config state by (SetDoor tenant door) = MaySetDoor state tenant door
 Guard config state by (FillStatus slot) = IsDraftOf state by slot
@@ -207,7 +207,7 @@ Guard config state by (Hold tenant address worker number target) = MayHold state
 Guard config state by (Ink tenant address target value) = MayInk state tenant address target value
 Guard config state by (LetGo tenant address target value) = MayLetGo state tenant address target value
 Guard config state by (Clean tenant address target value) = MayClean state tenant address target value
-Guard config state by (LeavePin target) = Unit {0}
+Guard config state by (LeavePin target) = state.history.owner target.slot target.seq ≡ by
 Guard config state by (Spoil target) = Unit {0}
 Guard config state by (Pose standing arm) = MayPose state by standing arm
 

@@ -51,6 +51,8 @@ pub record Later (by : ℕ) (old new : State) : Type 0 where
   -- what was claimed stays so
   pub births : (slot seq : ℕ) → old.history.is_born slot seq ≡ true → SameBirth old new slot seq
   pub stays : (slot seq : ℕ) → old.history.stays slot seq ≡ true → new.history.stays slot seq ≡ true
+  -- another's pin isn't left behind
+  pub stays_not : (slot seq : ℕ) → old.history.is_born slot seq ≡ true → old.history.owner slot seq ≢ by → new.history.stays slot seq ≡ old.history.stays slot seq
   pub spoiled : (slot seq : ℕ) → old.history.is_spoiled slot seq ≡ true → new.history.is_spoiled slot seq ≡ true
   -- a status only goes on
   pub ready : (slot seq : ℕ) → old.history.fate slot seq ≢ Draft → new.history.fate slot seq ≢ Draft

@@ -1,0 +1,4 @@
+pub mod GoingOn
+pub mod Living
+pub mod Staying
+pub mod StayingFacts

@@ -1,0 +1,14 @@
+pub mod Apart
+pub mod Calling
+pub mod Changing
+pub mod Cleaners
+pub mod Cleaning
+pub mod Keeping
+pub mod Knowing
+pub mod Leaving
+pub mod Owing
+pub mod Owners
+pub mod Pins
+pub mod Refusing
+pub mod Rounds
+pub mod Stepping
