@@ -17,15 +17,15 @@ use Rattle.mw_words.specs.declared.jobs.Entry.{Entry}
 use Rattle.mw_look.specs.declared.news.News.TheVariants.{Filed}
 use Rattle.mw_actor.specs.Acting.{Acting, own_entries}
 use Rattle.mw_actor.specs.Program.{tells}
-use Rattle.mw_book.specs.declared.kept.Book.{Book}
-use Rattle.mw_book.specs.declared.faults.BookFault.{BookFault as WorldFault}
-use Rattle.mw_book.specs.declared.faults.BookFault.TheVariants.{NotEnabled, Memory}
-use Rattle.mw_book.specs.declared.outcomes.Outcome.{Outcome}
-use Rattle.mw_book.specs.declared.outcomes.Outcome.TheVariants.{Good, Fail}
-use Rattle.mw_book.specs.Books.{Shows as ShowsFile, quota_of}
-use Rattle.mw_book.specs.Files.{File, entries_at}
-use Rattle.mw_book.specs.Working.{Works, worked, may_end, left_by}
-use Rattle.mw_book.specs.Maps.{upd}
+use Rattle.mw_world_file.specs.declared.kept.Book.{Book}
+use Rattle.mw_world_file.specs.declared.faults.BookFault.{BookFault as WorldFault}
+use Rattle.mw_world_file.specs.declared.faults.BookFault.TheVariants.{NotEnabled, Memory}
+use Rattle.mw_world_file.specs.declared.outcomes.Outcome.{Outcome}
+use Rattle.mw_world_file.specs.declared.outcomes.Outcome.TheVariants.{Good, Fail}
+use Rattle.mw_world_file.specs.Books.{Shows as ShowsFile, quota_of}
+use Rattle.mw_world_file.specs.Files.{File, entries_at}
+use Rattle.mw_world_file.specs.Working.{Works, worked, may_end, left_by}
+use Rattle.mw_world_file.specs.Maps.{upd}
 use Rattle.mw_world.specs.declared.accounts.Account.{Account as AccountInMemory}
 use Rattle.mw_world.specs.declared.notes.Note.TheVariants.{Nothing}
 use Rattle.mw_world.specs.declared.world.calls.Ended.{Ended}

@@ -8,7 +8,7 @@ use Rattle.mw_words.specs.declared.jobs.Job.{Job}
 use Rattle.mw_lone.specs.declared.marks.Mark.{Mark}
 use Rattle.mw_lone.specs.declared.marks.Mark.TheVariants.{Ask, Reply as HandOut}
 use Rattle.mw_actor.specs.Acting.{Acting, first}
-use Rattle.mw_book.specs.Maps.{upd}
+use Rattle.mw_world_file.specs.Maps.{upd}
 use Rattle.mw_world.specs.declared.accounts.Account.{Account as AccountInMemory}
 use Rattle.mw_world.specs.declared.claims.Claims.{Claims}
 use Rattle.mw_world.specs.declared.config.Config.{Config}

@@ -8,7 +8,7 @@ use Rattle.mw_words.specs.declared.statuses.Status.{Status}
 use Rattle.mw_look.specs.declared.steps.Call.{Call}
 use Rattle.mw_look.specs.declared.steps.Call.TheVariants.{Prepare as PrepareCall, Seal as SealCall, Settle as SettleCall, Cancel as CancelCall}
 use Rattle.mw_actor.specs.Acting.{Acting, own_entries}
-use Rattle.mw_book.specs.Files.{entries_at}
+use Rattle.mw_world_file.specs.Files.{entries_at}
 use Rattle.mw_world.specs.declared.config.Config.{Config}
 use Rattle.mw_world.specs.Calls.{Called, device_calls, fails_on, is_formed, place_for, starts_from, suits}
 use Rattle.mw_world.specs.Extent.{has_slot}

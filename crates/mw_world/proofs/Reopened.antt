@@ -4,11 +4,11 @@ use Rattle.std.proofs.Common.{refl, sym, ap, subst, ◌∙◌, inl, inr, arith}
 use Rattle.std.proofs.lemmas.Option.{slice_get_within}
 use Rattle.mw_lone.specs.declared.marks.Mark.TheVariants.{Restart as IsRestart}
 use Rattle.mw_file.specs.Opening.{open_calls}
-use Rattle.mw_book.specs.declared.faults.BookFault.{BookFault as WorldFault}
-use Rattle.mw_book.specs.declared.faults.BookFault.TheVariants.{NotEnabled, Memory}
-use Rattle.mw_book.specs.Books.{quota_of}
-use Rattle.mw_book.specs.Devices.{disk_under}
-use Rattle.mw_book.specs.Reopening.{IsLeft, IsLeftOf, IsRestarted, Restarts, doubt_left, is_sealed_left, may_be_made}
+use Rattle.mw_world_file.specs.declared.faults.BookFault.{BookFault as WorldFault}
+use Rattle.mw_world_file.specs.declared.faults.BookFault.TheVariants.{NotEnabled, Memory}
+use Rattle.mw_world_file.specs.Books.{quota_of}
+use Rattle.mw_world_file.specs.Devices.{disk_under}
+use Rattle.mw_world_file.specs.Reopening.{IsLeft, IsLeftOf, IsRestarted, Restarts, doubt_left, is_sealed_left, may_be_made}
 use Rattle.mw_world.specs.declared.accounts.Account.{Account as AccountInMemory}
 use Rattle.mw_world.specs.declared.config.Config.{Config}
 use Rattle.mw_world.specs.declared.events.Interrupted.{Interrupted}

@@ -11,9 +11,9 @@ use Rattle.mw_actor.specs.declared.points.Slot.{Slot}
 use Rattle.mw_actor.specs.declared.points.Point.{Point}
 use Rattle.mw_actor.specs.declared.points.Point.TheVariants.{Prepare, Seal, Settle, Cancel}
 use Rattle.mw_actor.specs.Acting.{Acting, own_entries}
-use Rattle.mw_book.specs.declared.outcomes.Outcome.{Outcome}
-use Rattle.mw_book.specs.declared.outcomes.Outcome.TheVariants.{Good, Fail}
-use Rattle.mw_book.specs.Files.{File, entries_at, broken}
+use Rattle.mw_world_file.specs.declared.outcomes.Outcome.{Outcome}
+use Rattle.mw_world_file.specs.declared.outcomes.Outcome.TheVariants.{Good, Fail}
+use Rattle.mw_world_file.specs.Files.{File, entries_at, broken}
 use Rattle.mw_world.specs.declared.config.Config.{Config}
 use Rattle.mw_world.specs.Cells.{write}
 use Rattle.mw_world.specs.Changes.{fetched}
@@ -23,7 +23,7 @@ use Rattle.mw_world.specs.declared.notes.Note.TheVariants.{Nothing, Decided, Sea
 use Rattle.mw_world.specs.State.{State, tenant_at}
 use Rattle.mw_world.specs.Turns.{Made, moved}
 -- what a call makes of the file alone
-pub use Rattle.mw_book.specs.Calls.{fails_on, place_for, suits, is_formed, can_be_made, device_calls, is_made, filed, doubt_of}
+pub use Rattle.mw_world_file.specs.Calls.{fails_on, place_for, suits, is_formed, can_be_made, device_calls, is_made, filed, doubt_of}
 
 -- A call on a file, for a change.
 pub record Called : Type 0 where

@@ -5,7 +5,7 @@ use Rattle.std.proofs.lemmas.Bool.Decides.{nat_tests}
 use Rattle.mw_words.specs.declared.places.At.{At}
 use Rattle.mw_words.specs.declared.places.At.TheVariants.{Door as AtDoor, Gate as AtGate, Row as AtRow, Data, Status as AtStatus, Count, Addr, Expected, New}
 use Rattle.mw_look.specs.Places.{Val}
-use Rattle.mw_book.specs.Maps.{upd, upd_two}
+use Rattle.mw_world_file.specs.Maps.{upd, upd_two}
 use Rattle.mw_world.specs.Cells.{Cells, read, write}
 
 -- what was written at a place is read there

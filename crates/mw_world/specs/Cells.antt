@@ -8,7 +8,7 @@ use Rattle.mw_words.specs.declared.rows.Row.{Row}
 use Rattle.mw_words.specs.declared.statuses.Status.{Status}
 use Rattle.mw_words.specs.declared.words.Word.{Word}
 use Rattle.mw_look.specs.Places.{Val}
-use Rattle.mw_book.specs.Maps.{upd, upd_two}
+use Rattle.mw_world_file.specs.Maps.{upd, upd_two}
 
 -- What stands at each place. Past the last tenant, slot or worker stands what stands there at first, and nothing changes it.
 pub record Cells : Type 0 where

@@ -6,13 +6,13 @@ use Rattle.mw_look.specs.declared.steps.Call.{Call}
 use Rattle.mw_look.specs.declared.steps.Kind.TheVariants.{Fault as FaultKind}
 use Rattle.mw_look.specs.declared.news.News.TheVariants.{Filed}
 use Rattle.mw_actor.specs.declared.points.Slot.{Slot}
-use Rattle.mw_book.specs.declared.outcomes.Outcome.{Outcome}
-use Rattle.mw_book.specs.declared.outcomes.Outcome.TheVariants.{Good, Fail}
-use Rattle.mw_book.specs.declared.faults.BookFault.{BookFault as WorldFault}
-use Rattle.mw_book.specs.declared.faults.BookFault.TheVariants.{NotEnabled, Memory}
-use Rattle.mw_book.specs.declared.kept.Book.{Book}
-use Rattle.mw_book.specs.Books.{Shows as ShowsFile, quota_of}
-use Rattle.mw_book.specs.Files.{File}
+use Rattle.mw_world_file.specs.declared.outcomes.Outcome.{Outcome}
+use Rattle.mw_world_file.specs.declared.outcomes.Outcome.TheVariants.{Good, Fail}
+use Rattle.mw_world_file.specs.declared.faults.BookFault.{BookFault as WorldFault}
+use Rattle.mw_world_file.specs.declared.faults.BookFault.TheVariants.{NotEnabled, Memory}
+use Rattle.mw_world_file.specs.declared.kept.Book.{Book}
+use Rattle.mw_world_file.specs.Books.{Shows as ShowsFile, quota_of}
+use Rattle.mw_world_file.specs.Files.{File}
 use Rattle.mw_world.specs.declared.notes.Note.{Note}
 use Rattle.mw_world.specs.declared.notes.Note.TheVariants.{Nothing}
 use Rattle.mw_world.specs.declared.world.World.{World}

@@ -1,7 +1,7 @@
 -- What happens to a world.
 use Rattle.std.specs.Prelude.{ℕ, List, Option}
 use Rattle.mw_words.specs.declared.jobs.Job.{Job}
-use Rattle.mw_book.specs.declared.outcomes.Outcome.{Outcome}
+use Rattle.mw_world_file.specs.declared.outcomes.Outcome.{Outcome}
 use Rattle.mw_world.specs.declared.events.Interrupted.{Interrupted}
 
 -- What is found of a tenant's file when all has stopped: the call on it that was under way, if one was; the words for which the bytes

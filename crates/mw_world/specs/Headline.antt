@@ -11,8 +11,8 @@ use Rattle.mw_lone.specs.Store.{Store, entries_in_doubt, replies as replies_of_m
 use Rattle.mw_actor.specs.Acting.{Acting, own_entries}
 use Rattle.mw_actor.specs.Asks.{asks}
 use Rattle.mw_actor.specs.Program.{replied}
-use Rattle.mw_book.specs.Devices.{disk_under}
-use Rattle.mw_book.specs.Files.{File}
+use Rattle.mw_world_file.specs.Devices.{disk_under}
+use Rattle.mw_world_file.specs.Files.{File}
 use Rattle.mw_world.specs.declared.accounts.Account.{Account as AccountInMemory}
 use Rattle.mw_world.specs.declared.config.Config.{Config}
 use Rattle.mw_world.specs.declared.events.Interrupted.{Interrupted}

@@ -9,7 +9,7 @@ use Rattle.mw_words.specs.declared.statuses.Status.TheVariants.{Draft, Open, Yes
 use Rattle.mw_words.specs.declared.words.Word.TheVariants.{Planted, Held, Dirty}
 use Rattle.mw_words.specs.Change.{word_at, is_change, is_well_formed}
 use Rattle.mw_actor.specs.Acting.{Acting, entry_at}
-use Rattle.mw_book.specs.Files.{File, Place, Empty, Prepared, Sealed, is_empty, is_sealed, entries_at, share_a_word}
+use Rattle.mw_world_file.specs.Files.{File, Place, Empty, Prepared, Sealed, is_empty, is_sealed, entries_at, share_a_word}
 use Rattle.mw_world.specs.declared.config.Config.{Config}
 use Rattle.mw_world.specs.declared.notes.Phase.{Phase}
 use Rattle.mw_world.specs.declared.notes.Phase.TheVariants.{Fresh, Keeping, Inked, Gone}

@@ -1,8 +1,8 @@
-pub use Rattle.mw_book.specs.Books
-pub use Rattle.mw_book.specs.Devices
-pub use Rattle.mw_book.specs.Files
-pub use Rattle.mw_book.specs.Maps
-pub use Rattle.mw_book.specs.Reopening
+pub use Rattle.mw_world_file.specs.Books
+pub use Rattle.mw_world_file.specs.Devices
+pub use Rattle.mw_world_file.specs.Files
+pub use Rattle.mw_world_file.specs.Maps
+pub use Rattle.mw_world_file.specs.Reopening
 pub mod BitPlaces
 pub mod Bits
 pub mod Calls

@@ -7,7 +7,7 @@ use Rattle.mw_lone.specs.declared.marks.Mark.{Mark}
 use Rattle.mw_lone.specs.declared.marks.Mark.TheVariants.{Admit as IsAdmitted, Busy as IsBusy, Look as Looks, Miss, Seal as Seals, SealFail, FileFail, GiveUp as GivesUp, Retire}
 use Rattle.mw_actor.specs.declared.points.Slot.{Slot}
 use Rattle.mw_actor.specs.Acting.{Acting, own_entries}
-use Rattle.mw_book.specs.Maps.{upd, upd_two, upd_three}
+use Rattle.mw_world_file.specs.Maps.{upd, upd_two, upd_three}
 use Rattle.mw_world.specs.History.{History, standing_at, arm_at}
 use Rattle.mw_world.specs.declared.notes.Note.{Note}
 use Rattle.mw_world.specs.declared.notes.Note.TheVariants.{Admitted, FoundBusy, FoundFault, Looked, Kept, LookedBefore, Claimed, Decided, Refused, Moved, Freed, Lowered, GaveUp, SealedIt, FailedToSeal, FailedFile}

@@ -6,7 +6,7 @@ use Rattle.mw_lone.specs.declared.marks.Mark.TheVariants.{Restart as IsRestart}
 use Rattle.mw_look.specs.declared.steps.Call.{Call}
 use Rattle.mw_look.specs.declared.steps.Call.TheVariants.{Seal as SealCall}
 use Rattle.mw_actor.specs.Acting.{Acting, own_entries}
-use Rattle.mw_book.specs.Files.{File, entries_at}
+use Rattle.mw_world_file.specs.Files.{File, entries_at}
 use Rattle.mw_world.specs.declared.config.Config.{Config}
 use Rattle.mw_world.specs.declared.events.Interrupted.{Interrupted}
 use Rattle.mw_world.specs.Extent.{has_slot}
@@ -14,7 +14,7 @@ use Rattle.mw_world.specs.Happenings.{Found}
 use Rattle.mw_world.specs.State.{State, Account, tenant_at, tenants_of, marks_in, started}
 use Rattle.mw_world.specs.Calls.{Called, called_at, calls_made, can_be_made, place_for}
 -- what may be found of the file alone
-pub use Rattle.mw_book.specs.Restarts.{doubt_if, is_whole_seal, takes, may_find, may_fail, opened_file}
+pub use Rattle.mw_world_file.specs.Restarts.{doubt_if, is_whole_seal, takes, may_find, may_fail, opened_file}
 
 -- A call on a tenant's file that was under way: the call, the request and the entries of its change, how many of its device calls were
 -- made, and how many it makes. One that can't be made, or for a slot that isn't there, makes none.

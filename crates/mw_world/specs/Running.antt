@@ -3,11 +3,11 @@ use Rattle.std.specs.Prelude.{ℕ, ◌≡◌, ◌<◌, ◌==◌, ◌&&◌, ◌�
 use Rattle.std.specs.List.{list_any, find}
 use Rattle.mw_record.specs.Damages.{file_words}
 use Rattle.mw_file.specs.Opening.{open_calls}
-use Rattle.mw_book.specs.declared.faults.BookFault.{BookFault as WorldFault}
-use Rattle.mw_book.specs.declared.faults.BookFault.TheVariants.{NotEnabled, Memory}
-use Rattle.mw_book.specs.Devices.{disk_under}
-use Rattle.mw_book.specs.Files.{File}
-use Rattle.mw_book.specs.Reopening.{IsLeftOf}
+use Rattle.mw_world_file.specs.declared.faults.BookFault.{BookFault as WorldFault}
+use Rattle.mw_world_file.specs.declared.faults.BookFault.TheVariants.{NotEnabled, Memory}
+use Rattle.mw_world_file.specs.Devices.{disk_under}
+use Rattle.mw_world_file.specs.Files.{File}
+use Rattle.mw_world_file.specs.Reopening.{IsLeftOf}
 use Rattle.mw_world.specs.declared.accounts.Account.{Account as AccountInMemory}
 use Rattle.mw_world.specs.declared.events.Event.{Event}
 use Rattle.mw_world.specs.declared.events.Event.TheVariants.{Come as IsCome, Step as IsStep, File as IsFile, Hand as IsHand, Restart as IsRestart}

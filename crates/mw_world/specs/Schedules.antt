@@ -8,7 +8,7 @@ use Rattle.mw_look.specs.Steps.{Step as Asked, Change, File as FileStep}
 use Rattle.mw_actor.specs.Acting.{Acting}
 use Rattle.mw_actor.specs.Asks.{asks}
 use Rattle.mw_actor.specs.Program.{replied}
-use Rattle.mw_book.specs.declared.outcomes.Outcome.TheVariants.{Good, Fail}
+use Rattle.mw_world_file.specs.declared.outcomes.Outcome.TheVariants.{Good, Fail}
 use Rattle.mw_world.specs.declared.config.Config.{Config}
 use Rattle.mw_world.specs.Happenings.{Found, Happening, Come, Step, File, Hand, Restart}
 use Rattle.mw_world.specs.State.{State}

@@ -1,7 +1,7 @@
 -- The workers and the tenants of a world in memory at a start.
 use Rattle.std.specs.Prelude.{ℕ, ◌≡◌, Bool, true, not, List, [], length, replicate, slice_get, Some}
-use Rattle.mw_book.specs.Files.{file_of}
-use Rattle.mw_book.specs.Giving.{IsGiven}
+use Rattle.mw_world_file.specs.Files.{file_of}
+use Rattle.mw_world_file.specs.Giving.{IsGiven}
 use Rattle.mw_world.specs.declared.accounts.Account.{Account as AccountInMemory}
 use Rattle.mw_world.specs.declared.config.Config.{Config}
 use Rattle.mw_world.specs.declared.config.Tenant.{Tenant}

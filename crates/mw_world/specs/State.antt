@@ -9,7 +9,7 @@ use Rattle.mw_words.specs.declared.limits.TheConstants.{MAX_POOL, MAX_QUOTA, MAX
 use Rattle.mw_lone.specs.declared.marks.Mark.{Mark}
 use Rattle.mw_lone.specs.Store.{Store, new_store, run as run_of_store}
 use Rattle.mw_actor.specs.Acting.{Acting}
-use Rattle.mw_book.specs.Files.{File, file_of}
+use Rattle.mw_world_file.specs.Files.{File, file_of}
 use Rattle.mw_world.specs.declared.config.Config.{Config}
 use Rattle.mw_world.specs.declared.config.Tenant.{Tenant}
 use Rattle.mw_world.specs.Cells.{Cells}

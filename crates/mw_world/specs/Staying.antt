@@ -4,7 +4,7 @@ use Rattle.std.specs.Option.{option_and_then, option_map}
 use Rattle.mw_lone.specs.declared.marks.Mark.{Mark}
 use Rattle.mw_actor.specs.Acting.{Acting}
 use Rattle.mw_world.specs.declared.accounts.Account.{Account as AccountInMemory}
-use Rattle.mw_book.specs.declared.kept.Book.{Book}
+use Rattle.mw_world_file.specs.declared.kept.Book.{Book}
 use Rattle.mw_world.specs.declared.events.Event.{Event}
 use Rattle.mw_world.specs.declared.events.Event.TheVariants.{Come as IsCome, Step as IsStep, File as IsFile, Hand as IsHand, Restart as IsRestart}
 use Rattle.mw_world.specs.declared.world.World.{World}

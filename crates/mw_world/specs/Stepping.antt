@@ -6,8 +6,8 @@ use Rattle.mw_lone.specs.declared.marks.Mark.TheVariants.{Reply as HandOut}
 use Rattle.mw_look.specs.declared.news.News.{News}
 use Rattle.mw_actor.specs.Acting.{Acting, first}
 use Rattle.mw_actor.specs.Program.{tells}
-use Rattle.mw_book.specs.Files.{File}
-use Rattle.mw_book.specs.Maps.{upd}
+use Rattle.mw_world_file.specs.Files.{File}
+use Rattle.mw_world_file.specs.Maps.{upd}
 use Rattle.mw_world.specs.declared.accounts.Account.{Account as AccountInMemory}
 use Rattle.mw_world.specs.declared.claims.Claims.{Claims}
 use Rattle.mw_world.specs.declared.config.Config.{Config}

@@ -1,6 +1,6 @@
 -- What is known of the tenants' files in memory, whatever the world is.
 use Rattle.std.specs.Prelude.{ℕ, ◌≡◌, List, slice_get, Some}
-use Rattle.mw_book.specs.SoundBooks.{HasSound}
+use Rattle.mw_world_file.specs.SoundBooks.{HasSound}
 use Rattle.mw_world.specs.declared.accounts.Account.{Account as AccountInMemory}
 use Rattle.mw_world.specs.declared.config.Config.{Config}
 use Rattle.mw_world.specs.State.{tenant_at}

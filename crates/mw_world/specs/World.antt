@@ -7,7 +7,7 @@ use Rattle.mw_words.specs.Change.{is_well_formed}
 use Rattle.mw_lone.specs.declared.marks.Mark.TheVariants.{Ask, Reply as HandOut}
 use Rattle.mw_actor.specs.Acting.{Acting, first}
 use Rattle.mw_actor.specs.Program.{replied}
-use Rattle.mw_book.specs.Maps.{upd}
+use Rattle.mw_world_file.specs.Maps.{upd}
 use Rattle.mw_world.specs.declared.config.Config.{Config}
 use Rattle.mw_world.specs.declared.config.TheConstants.{MOST_REQUESTS}
 use Rattle.mw_world.specs.Happenings.{Happening, Come, Step, File, Hand, Restart}

@@ -1,7 +1,7 @@
 //! Tenants in memory.
 
 use crate::lines::Lines;
-use mw_book::Book;
+use mw_world_file::Book;
 
 /// A tenant, but for its words and its door.
 #[derive(Drop)]

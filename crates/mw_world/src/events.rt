@@ -1,7 +1,7 @@
 //! What may happen to a world.
 
-pub use mw_book::Outcome;
 use mw_words::Job;
+pub use mw_world_file::Outcome;
 
 /// A call on a file that never came to its end.
 #[derive(Clone, Copy, Debug, PartialEq, Eq)]

@@ -2,4 +2,4 @@
 
 /// Why an event is refused. The world is then unchanged, but for the room that it keeps for further marks
 /// and claims.
-pub use mw_book::BookFault as WorldFault;
+pub use mw_world_file::BookFault as WorldFault;

@@ -5,8 +5,8 @@ ghost use Rattle.mw_words.specs.Change.{is_change};
 ghost use Rattle.mw_words.specs.Patterns.{IsStatusInRange};
 ghost use Rattle.mw_look.specs.declared.news.News.TheVariants.{Filed};
 ghost use Rattle.mw_actor.specs.Acting.{entries_of_job};
-ghost use Rattle.mw_book.specs.Files.{File};
-ghost use Rattle.mw_book.specs.SoundBooks.{HasSound};
+ghost use Rattle.mw_world_file.specs.Files.{File};
+ghost use Rattle.mw_world_file.specs.SoundBooks.{HasSound};
 ghost use Rattle.mw_world.specs.declared.accounts.Account.{Account};
 ghost use Rattle.mw_world.specs.Calls as calls;
 ghost use Rattle.mw_world.specs.Ending as ending;
@@ -22,9 +22,9 @@ use crate::notes::Note;
 use crate::world::World;
 use crate::world::turns::next_attempt;
 use mw_actor::{Actor, Point, Slot};
-use mw_book::Book;
 use mw_look::{Call, Got, Kind, Op, Told};
 use mw_words::{At, Entries, Job, Status, copy_of, is_change};
+use mw_world_file::Book;
 
 /// A call on a tenant's file, for a change.
 #[derive(Clone, Copy, Debug)]

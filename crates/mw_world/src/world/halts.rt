@@ -1,6 +1,6 @@
 //! What was under way on a tenant's file when all stopped.
 
-use mw_book::Cut;
+use mw_world_file::Cut;
 
 /// What was under way on a tenant's file when all stopped.
 #[derive(Drop)]

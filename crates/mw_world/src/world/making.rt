@@ -14,8 +14,8 @@ use crate::config::{Config, Tenant};
 use crate::lines::Lines;
 use crate::seats::Seat;
 use crate::world::World;
-use mw_book::Book;
 use mw_words::{MAX_QUOTA, MAX_WORDS};
+use mw_world_file::Book;
 use std::alloc::{AllocError, Global};
 
 impl World {

@@ -1,7 +1,7 @@
 //! All stops and starts again.
 ghost use Rattle.std.specs.Prelude.{◌≡◌, IfOk, OnErr, Some, None, MatchOption, slice_get};
 ghost use Rattle.std.specs.List.{list_any};
-ghost use Rattle.mw_book.specs.SoundBooks.{HasSound};
+ghost use Rattle.mw_world_file.specs.SoundBooks.{HasSound};
 ghost use Rattle.mw_world.specs.Running as spec;
 ghost use Rattle.mw_world.specs.Running.{Restarts};
 ghost use Rattle.mw_world.specs.Shows.{Shows};

@@ -1,6 +1,6 @@
 //! Which calls on the tenants' files may have been under way when all stopped.
 ghost use Rattle.std.specs.Prelude.{◌≡◌, ◌≤◌, IfSome, Some, None, length, slice_get};
-ghost use Rattle.mw_book.specs.Reopening.{PreparesChange};
+ghost use Rattle.mw_world_file.specs.Reopening.{PreparesChange};
 ghost use Rattle.mw_world.specs.Ending.{called_of};
 ghost use Rattle.mw_world.specs.Shows.{Shows};
 ghost use Rattle.mw_world.specs.State.{State};
@@ -12,8 +12,8 @@ use crate::world::World;
 use crate::world::calls::{Called, called_at, entries_of, is_formed, starts_from};
 use crate::world::halts::Halt;
 use mw_actor::Actor;
-use mw_book::Cut;
 use mw_look::Call;
+use mw_world_file::Cut;
 
 impl World {
     /// What was under way on a tenant's file, or `None` where that can't have been.

@@ -1,6 +1,6 @@
 use Rattle.std.proofs.Common.{◌≡◌, ℕ, ap, length, get_or, subst, sym, ◌∙◌, ◌+◌, arith}
 use Rattle.std.proofs.lemmas.List.{length_push}
-use Rattle.mw_book.specs.SoundBooks.{HasSound}
+use Rattle.mw_world_file.specs.SoundBooks.{HasSound}
 use Rattle.mw_world.specs.declared.accounts.Account.{Account}
 use Rattle.mw_world.specs.Running.{fails_in, interrupted_in, stop_of, torn_in}
 use Rattle.mw_world.specs.Shows.{Shows}

@@ -1,10 +1,10 @@
 -- A call that can be made leaves its tenant the file after it, and ends by what the device did.
 use Rattle.std.proofs.Common.{refl, ap, subst, sym, ◌∙◌, true, false, Ok, Err}
 use Rattle.mw_actor.specs.Acting.{entries_of_job, own_entries}
-use Rattle.mw_book.specs.Files.{File}
-use Rattle.mw_book.specs.SoundBooks.{HasSound}
-use Rattle.mw_book.specs.Working.{Works}
-use Rattle.mw_book.specs.SoundBooks.{sound_after}
+use Rattle.mw_world_file.specs.Files.{File}
+use Rattle.mw_world_file.specs.SoundBooks.{HasSound}
+use Rattle.mw_world_file.specs.Working.{Works}
+use Rattle.mw_world_file.specs.SoundBooks.{sound_after}
 use Rattle.mw_world.specs.Ending.{IsBookOf, called_of, cells_closed}
 use Rattle.mw_world.specs.Shows.{Shows}
 use Rattle.mw_world.specs.State.{tenant_at}

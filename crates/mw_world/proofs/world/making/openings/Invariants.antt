@@ -1,5 +1,5 @@
 use Rattle.std.proofs.Common.{◌≡◌, length}
-use Rattle.mw_book.specs.Giving.{IsGiven}
+use Rattle.mw_world_file.specs.Giving.{IsGiven}
 use Rattle.mw_world.specs.Starts.{EachOf}
 use Rattle.mw_world.proofs.world.making.openings.Given as goal
 

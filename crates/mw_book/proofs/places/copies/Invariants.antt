@@ -1,6 +1,0 @@
-use Rattle.std.proofs.Common.{◌≡◌, take}
-use Rattle.mw_book.proofs.places.copies.Given as goal
-
--- the places so far
-abbrev pub invariant-loop-place : goal.invariant-loop-place
-invariant-loop-place l = l.copies.items ≡ take l.place-index l.places

@@ -1,5 +1,0 @@
-use Rattle.mw_counts.proofs.Keeping.{step_keeps}
-use Rattle.mw_counts.proofs.laws.events_keep_counts.Goals as goal
-
-pub returns : goal.returns
-returns c = step_keeps

@@ -1,5 +1,0 @@
-use Rattle.mw_counts.proofs.Exact.{exchanges-are-exact}
-use Rattle.mw_counts.proofs.laws.exchanges_are_exact.Goals as goal
-
-pub returns : goal.returns
-returns c = exchanges-are-exact

@@ -1,5 +1,0 @@
-use Rattle.mw_counts.proofs.Keeping.{run_keeps, run_leaves_room}
-use Rattle.mw_counts.proofs.laws.runs_keep_counts.Goals as goal
-
-pub returns : goal.returns
-returns c = record { counts = run_keeps; room = run_leaves_room }

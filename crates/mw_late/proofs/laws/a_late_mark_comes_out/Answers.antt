@@ -1,5 +1,0 @@
-use Rattle.mw_late.proofs.Examples.{late-mark-comes-out}
-use Rattle.mw_late.proofs.laws.a_late_mark_comes_out.Goals as goal
-
-pub returns : goal.returns
-returns c = late-mark-comes-out

@@ -1,5 +1,0 @@
-use Rattle.mw_late.proofs.Deciding.{marks-do, doing-marks}
-use Rattle.mw_late.proofs.laws.marks_do.Goals as goal
-
-pub returns : goal.returns
-returns c = record { does = marks-do; legal = doing-marks }

@@ -1,5 +1,0 @@
-use Rattle.mw_late.proofs.Numbering.{runs-number}
-use Rattle.mw_late.proofs.laws.runs_number.Goals as goal
-
-pub returns : goal.returns
-returns c = runs-number

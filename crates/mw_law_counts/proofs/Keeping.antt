@@ -1,0 +1,63 @@
+-- Every event keeps the counts, and so does every run.
+use Rattle.std.specs.Prelude.{◌≡◌, List, [], ◌∷◌, ◌++◌, Option, Some, None}
+use Rattle.std.specs.Option.{option_and_then}
+use Rattle.std.proofs.Common.{refl, ap, subst, ◌∙◌}
+use Rattle.mw_world.specs.declared.config.Config.{Config}
+use Rattle.mw_world.specs.Happenings.{Happening, Come, Step, File, Hand, Restart}
+use Rattle.mw_world.specs.State.{State, new_world, first_account}
+use Rattle.mw_world.specs.World.{step, run}
+use Rattle.mw_law_counts.specs.Standing.{CountsStand, CountsRestOn}
+use Rattle.mw_law_counts.specs.Laws.{EventsKeepCounts, RunsKeepCounts, RunsLeaveRoom}
+use Rattle.mw_law_counts.proofs.Calling.{call_keeps}
+use Rattle.mw_law_counts.proofs.Room.{doors-count-the-taken, who-waits-has-room}
+use Rattle.mw_law_counts.proofs.Starting.{start_stands, come_keeps, hand_keeps, restart_keeps}
+use Rattle.mw_law_counts.proofs.Turning.{turn_keeps}
+
+pub new_world_stands : (config : Config) → CountsStand config (new_world config)
+new_world_stands config = start_stands config (first_account config)
+
+pub step_keeps : EventsKeepCounts
+step_keeps config state (Come worker tenant job) next stand rest e = come_keeps config state worker tenant job next stand e
+step_keeps config state (Step worker) next stand rest e = turn_keeps config state worker stand rest (state.seats worker).actor next refl e
+step_keeps config state (File worker outcome) next stand rest e = call_keeps config state worker stand (state.seats worker).actor outcome next refl e
+step_keeps config state (Hand worker) next stand rest e = hand_keeps config state worker (state.seats worker).actor next stand refl e
+step_keeps config state (Restart founds) next stand rest e = restart_keeps config state founds next e
+
+none_some : {A : Type 0} (x : A) → None ≡ Some x → ⊥
+none_some x e = cc
+
+same_some : {A : Type 0} (one other : A) → Some one ≡ Some other → one ≡ other
+same_some one other is = cc
+
+-- what a run keeps from its first event on, if it keeps it from there
+abbrev Keeps : Config → List Happening → State → State → Type 0
+Keeps config events state start = CountsStand config start
+    → ((first rest : List Happening) (between : State) → events ≡ first ++ rest → run config start first ≡ Some between → CountsRestOn between)
+    → run config start events ≡ Some state → CountsStand config state
+
+one_more : (config : Config) (start : State) (event : Happening) (events : List Happening) (state : State) (stepped : Option State) → ((next : State) → Keeps config events state next)
+    → CountsStand config start
+    → ((first rest : List Happening) (between : State) → event ∷ events ≡ first ++ rest → run config start first ≡ Some between → CountsRestOn between)
+    → step config start event ≡ stepped → option_and_then (λ next. run config next events) stepped ≡ Some state → CountsStand config state
+one_more config start event events state None more stand rests steps e = absurd (none_some state e)
+one_more config start event events state (Some next) more stand rests steps e =
+    more next (step_keeps config start event next stand (rests [] (event ∷ events) start refl refl) steps)
+    (λ first rest between splits runs. rests (event ∷ first) rest between (ap (λ l. event ∷ l) splits) (ap (λ o. option_and_then (λ after. run config after first) o) steps ∙ runs))
+    e
+
+-- a run from any world in which the counts stand
+from_here : (config : Config) (events : List Happening) (state start : State) → Keeps config events state start
+from_here config [] state start stand rests is = subst (CountsStand config) (same_some start state is) stand
+from_here config (event ∷ events) state start stand rests is =
+    one_more config start event events state (step config start event) (from_here config events state) stand rests refl is
+
+pub run_keeps : RunsKeepCounts
+run_keeps config events state rests is = from_here config events state (new_world config) (new_world_stands config) rests is
+
+pub run_leaves_room : RunsLeaveRoom
+run_leaves_room config events state rests played =
+    let stand : CountsStand config state = run_keeps config events state rests played.runs in
+    record {
+      room = doors-count-the-taken config state stand;
+      free = λ worker actor is waits. who-waits-has-room config state worker actor played.made stand is waits;
+    }

@@ -1,0 +1,174 @@
+-- There is room in the pool: the slots that are taken, summed by tenant, are no more than the doors count.
+use Rattle.std.specs.Prelude.{ℕ, zero, suc, ◌≡◌, ◌≢◌, ◌<◌, ◌≤◌, ◌+◌, ◌==◌, ◌&&◌, Bool, true, false, if◌then◌else◌, List, [], ◌∷◌, length, slice_index_or, sum_by, Some}
+use Rattle.std.proofs.Common.{refl, ap, ◌∙◌, inl, inr, arith}
+use Rattle.std.proofs.lemmas.Bool.{cases_eq}
+use Rattle.std.proofs.lemmas.Bool.Decides.{nat_tests}
+use Rattle.std.proofs.lemmas.List.Sums.{sum_by-cons}
+use Rattle.mw_actor.specs.Acting.{Acting}
+use Rattle.mw_world.specs.declared.config.Config.{Config}
+use Rattle.mw_world.specs.declared.config.Tenant.{Tenant}
+use Rattle.mw_world.specs.Counting.{pins_held, frees_at, waits_at, waits_for, counted, over_workers, slots_taken_for, taken_slots, used_slots}
+use Rattle.mw_world.specs.Headline.{FreeSlot}
+use Rattle.mw_world.specs.Invariant.{IsOfWorker}
+use Rattle.mw_world.specs.State.{State, no_tenant, tenants_of}
+use Rattle.mw_law_counts.specs.Alone.{WhoFreesIsAlone, DoorsCountTheTaken, WhoWaitsHasRoom}
+use Rattle.mw_law_counts.specs.Standing.{CountsStand}
+use Rattle.mw_law_counts.proofs.Effects.{none_left, taken_and_unpinned}
+use Rattle.mw_law_counts.specs.Sides.{idle}
+use Rattle.mw_law_counts.proofs.Sums.{over_at, over_two, of_actor, claimed}
+
+abbrev one_if : Bool → ℕ
+one_if b = if b then 1 else 0
+
+at_most_one : (b : Bool) → (if b then 1 else 0) ≤ 1
+at_most_one true = omega arith
+at_most_one false = omega arith
+
+pub who-frees-is-alone : WhoFreesIsAlone
+who-frees-is-alone config state worker slot actor stand is some =
+    let low : worker < config.workers = (stand.seats worker actor is).there in
+    let own : 1 ≤ over_workers (λ a. frees_at slot a.point) state.seats config.workers =
+    omega (arith, some, over_at (λ a. frees_at slot a.point) state.seats worker config.workers low, of_actor (λ a. frees_at slot a.point) (state.seats worker) actor is) in
+    let is_idle : idle state slot ≡ 1 = omega (arith, own, stand.counts.frees slot, at_most_one ((state.cells.gates slot).taken && ((state.cells.gates slot).pins == 0))) in
+    let gate : ((state.cells.gates slot).taken ≡ true) × ((state.cells.gates slot).pins ≡ 0) = taken_and_unpinned (state.cells.gates slot) is_idle in
+    record {
+      taken = gate.0;
+      unpinned = gate.1;
+      none_left = λ seq. none_left config state state stand 0 slot seq gate.1;
+      none_held = λ other request its.
+          omega (arith, gate.1, stand.counts.pins slot, over_at (λ a. pins_held slot a.point) state.seats other config.workers (stand.seats other request its).there, of_actor (λ a. pins_held slot a.point) (state.seats other) request its);
+      none_frees = λ other request apart its.
+          omega (
+            arith,
+            some,
+            is_idle,
+            stand.counts.frees slot,
+            over_two (λ a. frees_at slot a.point) state.seats other worker config.workers (stand.seats other request its).there low apart,
+            of_actor (λ a. frees_at slot a.point) (state.seats other) request its,
+            of_actor (λ a. frees_at slot a.point) (state.seats worker) actor is,
+          );
+    }
+
+-- the slots that are taken for the first so many tenants
+abbrev taken_for_all : State → ℕ → ℕ → ℕ
+taken_for_all state zero slots = 0
+taken_for_all state (suc tenant) slots = taken_for_all state tenant slots + slots_taken_for state tenant slots
+
+-- 1 for a slot that is taken for one of these
+abbrev claimed_for_all : State → ℕ → ℕ → ℕ
+claimed_for_all state zero slot = 0
+claimed_for_all state (suc tenant) slot = claimed_for_all state tenant slot + claimed state tenant slot
+
+one_slot_more : (state : State) (tenants slot : ℕ) → taken_for_all state tenants (suc slot) ≡ taken_for_all state tenants slot + claimed_for_all state tenants slot
+one_slot_more state zero slot = refl
+one_slot_more state (suc tenant) slot = omega (arith, one_slot_more state tenant slot)
+
+-- a slot that is taken for one of these is counted once among them
+one_of_them : (state : State) (tenants slot : ℕ) → (state.cells.gates slot).taken ≡ true → state.history.tenant slot (state.cells.gates slot).seq < tenants
+    → 1 ≤ claimed_for_all state tenants slot
+one_of_them state zero slot taken low = absurd (omega (arith, low))
+one_of_them state (suc tenant) slot taken low = elim (cases_eq (state.history.tenant slot (state.cells.gates slot).seq) tenant) [
+  | inl e ↦ omega (arith, it_is (state.cells.gates slot).taken (state.history.tenant slot (state.cells.gates slot).seq) tenant taken e)
+  | inr apart ↦ omega (arith, one_of_them state tenant slot taken (omega (arith, low, apart)))
+]
+  where
+    it_is : (b : Bool) (owner tenant : ℕ) → b ≡ true → owner ≡ tenant → one_if (b && (owner == tenant)) ≡ 1
+    it_is b owner tenant is same = grind (arith, nat_tests, is, same)
+
+taken_once : (state : State) (tenants slot : ℕ) (taken : Bool) → (state.cells.gates slot).taken ≡ taken → ((state.cells.gates slot).taken ≡ true → state.history.tenant slot (state.cells.gates slot).seq < tenants)
+    → one_if (state.cells.gates slot).taken ≤ claimed_for_all state tenants slot
+taken_once state tenants slot true is known = omega (arith, ap one_if is, one_of_them state tenants slot is (known is))
+taken_once state tenants slot false is known = omega (arith, ap one_if is)
+
+-- the slots that are taken are taken for the tenants
+taken_by_tenants : (state : State) (tenants slots : ℕ) → ((slot : ℕ) → (state.cells.gates slot).taken ≡ true → state.history.tenant slot (state.cells.gates slot).seq < tenants)
+    → taken_slots state slots ≤ taken_for_all state tenants slots
+taken_by_tenants state tenants zero known = omega arith
+taken_by_tenants state tenants (suc slot) known =
+    omega (arith, taken_by_tenants state tenants slot known, taken_once state tenants slot (state.cells.gates slot).taken refl (known slot), one_slot_more state tenants slot)
+
+-- 1 where this tenant is one of the first so many
+abbrev one_among : ℕ → ℕ → ℕ
+one_among tenant zero = 0
+one_among tenant (suc tenants) = one_among tenant tenants + (if tenants == tenant then 1 else 0)
+
+among : (tenant tenants : ℕ) → tenant < tenants → 1 ≤ one_among tenant tenants
+among tenant zero low = absurd (omega (arith, low))
+among tenant (suc tenants) low = elim (cases_eq tenants tenant) [
+  | inl e ↦ omega (arith, it_is tenants tenant e)
+  | inr apart ↦ omega (arith, among tenant tenants (omega (arith, low, apart)))
+]
+  where
+    it_is : (n m : ℕ) → n ≡ m → one_if (n == m) ≡ 1
+    it_is n m e = grind (arith, nat_tests, e)
+
+-- the doors count the slots that are taken, and one more for a request that waits
+module _ (config : Config) (state : State) (stand : CountsStand config state) where
+  taken_are_used : (tenants : ℕ) → tenants ≤ tenants_of config → taken_for_all state tenants config.pool ≤ used_slots state tenants
+  taken_are_used zero few = omega arith
+  taken_are_used (suc tenant) few = omega (arith, taken_are_used tenant (omega (arith, few)), stand.counts.doors tenant (omega (arith, few)))
+
+  module _ (worker : ℕ) (actor : Acting) (is : (state.seats worker).actor ≡ Some actor) (its : IsOfWorker config worker actor) (waits : waits_at actor.point ≡ 1) where
+    waited : (tenant : ℕ) → (if tenant == actor.tenant then 1 else 0) ≤ over_workers (waits_for tenant) state.seats config.workers
+    waited tenant = elim (cases_eq tenant actor.tenant) [
+      | inl e ↦
+          let counts : counted (waits_for tenant) (state.seats worker).actor ≡ 1 = of_actor (waits_for tenant) (state.seats worker) actor is ∙ waits_here actor.tenant tenant (waits_at actor.point) e ∙ waits in
+          omega (arith, at_most_one (tenant == actor.tenant), counts, over_at (waits_for tenant) state.seats worker config.workers its.there)
+      | inr apart ↦ omega (arith, it_isnt tenant actor.tenant apart)
+    ]
+      where
+        waits_here : (own tenant waits : ℕ) → tenant ≡ own → (if own == tenant then waits else 0) ≡ waits
+        waits_here own tenant waits e = grind (arith, nat_tests, e)
+
+        it_isnt : (n m : ℕ) → n ≢ m → one_if (n == m) ≡ 0
+        it_isnt n m apart = grind (arith, nat_tests, apart)
+
+    one_more_is_used : (tenants : ℕ) → tenants ≤ tenants_of config → taken_for_all state tenants config.pool + one_among actor.tenant tenants ≤ used_slots state tenants
+    one_more_is_used zero few = omega arith
+    one_more_is_used (suc tenant) few = omega (arith, one_more_is_used tenant (omega (arith, few)), stand.counts.doors tenant (omega (arith, few)), waited tenant)
+
+pub doors-count-the-taken : DoorsCountTheTaken
+doors-count-the-taken config state stand =
+    omega (arith, taken_by_tenants state (tenants_of config) config.pool stand.tenants, taken_are_used config state stand (tenants_of config) (omega arith))
+
+-- a sum of the first so many
+abbrev total : ℕ → (ℕ → ℕ) → ℕ
+total zero f = 0
+total (suc n) f = total n f + f n
+
+total_first : (n : ℕ) (f : ℕ → ℕ) → total (suc n) f ≡ f 0 + total n (λ k. f (suc k))
+total_first zero f = omega arith
+total_first (suc n) f = omega (arith, total_first n f)
+
+used_total : (state : State) (n : ℕ) → used_slots state n ≡ total n (λ tenant. (state.cells.doors tenant).used)
+used_total state zero = refl
+used_total state (suc n) = omega (arith, used_total state n)
+
+-- what is no more, for each of the list, is no more in all
+no_more : (tenants : List Tenant) (f : ℕ → ℕ) → ((k : ℕ) → k < length tenants → f k ≤ (slice_index_or tenants k no_tenant).quota) → total (length tenants) f ≤ sum_by (λ tenant. tenant.quota) tenants
+no_more [] f each = omega arith
+no_more (tenant ∷ tenants) f each =
+    omega (arith, sum_by-cons (λ t. t.quota) tenant tenants, total_first (length tenants) f, each 0 (omega arith), no_more tenants (λ k. f (suc k)) (λ k low. each (suc k) (omega (arith, low))))
+
+-- where fewer slots are taken than there are, there is one that isn't
+find_free : (config : Config) (state : State) (slots : ℕ) → slots ≤ config.pool → taken_slots state slots < slots → FreeSlot config state
+find_free config state zero few low = absurd (omega (arith, low))
+find_free config state (suc slot) few low = look (state.cells.gates slot).taken refl (find_free config state slot (omega (arith, few)))
+  where
+    look : (taken : Bool) → (state.cells.gates slot).taken ≡ taken → (taken_slots state slot < slot → FreeSlot config state) → FreeSlot config state
+    look false is before = record { slot = slot; within = omega (arith, few); free = is }
+    look true is before = before (omega (arith, low, ap one_if is))
+
+pub who-waits-has-room : WhoWaitsHasRoom
+who-waits-has-room config state worker actor made stand is waits =
+    let its : IsOfWorker config worker actor = stand.seats worker actor is in
+    find_free config state config.pool (omega arith)
+    (omega (
+      arith,
+      taken_by_tenants state (tenants_of config) config.pool stand.tenants,
+      one_more_is_used config state stand worker actor is its waits (tenants_of config) (omega arith),
+      among actor.tenant (tenants_of config) its.tenant,
+      used_total state (tenants_of config),
+      no_more config.tenants.items (λ tenant. (state.cells.doors tenant).used) stand.counts.quotas,
+      made.slots,
+    ))

@@ -1,0 +1,211 @@
+-- One worker goes on, and with it one gate or one door: the counts stay right where what changes on both sides of each count is the same.
+use Rattle.std.specs.Prelude.{ℕ, ◌≡◌, ◌≢◌, ◌<◌, ◌≤◌, ◌+◌, ◌==◌, ◌&&◌, true, false, if◌then◌else◌, Option, Some, None}
+use Rattle.std.proofs.Common.{refl, sym, ap, subst, ◌∙◌, inl, inr, arith}
+use Rattle.std.proofs.lemmas.Bool.{cases_eq}
+use Rattle.std.proofs.lemmas.Bool.Decides.{nat_tests}
+use Rattle.mw_actor.specs.Acting.{Acting}
+use Rattle.mw_world.specs.declared.config.Config.{Config}
+use Rattle.mw_world.specs.Counting.{pins_held, frees_at, waits_for, waits_at, counted, over_workers, slots_taken_for}
+use Rattle.mw_world.specs.Invariant.{IsPinnedAs, IsOfWorker}
+use Rattle.mw_world_file.specs.Maps.{upd}
+use Rattle.mw_world.specs.State.{State, Seat, tenant_at, tenants_of}
+use Rattle.mw_law_counts.specs.Ready.{IsReady}
+use Rattle.mw_law_counts.specs.Sides.{left_pin, idle}
+use Rattle.mw_law_counts.specs.Standing.{CountsStand}
+use Rattle.mw_law_counts.proofs.Points.{PointHolds}
+use Rattle.mw_law_counts.proofs.Sums.{over_update, claimed, slots_update, slots_same}
+
+-- So many, of this tenant alone.
+abbrev pub of_tenant : ℕ → ℕ → ℕ → ℕ
+of_tenant own waits tenant = if own == tenant then waits else 0
+
+-- What is counted of a worker.
+pub record Counts (own : ℕ) (pins frees : ℕ → ℕ) (waits : ℕ) (seat : Option Acting) : Type 0 where
+  pub pins_are : (slot : ℕ) → counted (λ actor. pins_held slot actor.point) seat ≡ pins slot
+  pub frees_are : (slot : ℕ) → counted (λ actor. frees_at slot actor.point) seat ≡ frees slot
+  pub waits_are : (tenant : ℕ) → counted (waits_for tenant) seat ≡ of_tenant own waits tenant
+
+pub of_point : (actor : Acting) (pins frees : ℕ → ℕ) (waits : ℕ) → PointHolds actor pins frees waits actor.point → Counts actor.tenant pins frees waits (Some actor)
+of_point actor pins frees waits on = record {
+  pins_are = on.pins_are;
+  frees_are = on.frees_are;
+  waits_are = λ tenant. ap (λ n. if actor.tenant == tenant then n else 0) on.waits_are;
+}
+
+-- what is counted of a request at its point
+pub of_request : (actor : Acting) → Counts actor.tenant (λ slot. pins_held slot actor.point) (λ slot. frees_at slot actor.point) (waits_at actor.point) (Some actor)
+of_request actor = record { pins_are = λ slot. refl; frees_are = λ slot. refl; waits_are = λ tenant. refl }
+
+none_of : (own tenant : ℕ) → 0 ≡ of_tenant own 0 tenant
+none_of own tenant = grind (arith, nat_tests)
+
+pub of_idle : (own : ℕ) → Counts own (λ slot. 0) (λ slot. 0) 0 None
+of_idle own = record { pins_are = λ slot. refl; frees_are = λ slot. refl; waits_are = λ tenant. none_of own tenant }
+
+module _ (config : Config) (state later : State) (own : ℕ) (had freed held frees : ℕ → ℕ) (waited waits : ℕ) where
+  -- One worker held so many pins of each slot, was to free so many and waited for so many, and now holds, frees and waits for others: both sides
+  -- of each count change by the same.
+  pub record Shifts : Type 0 where
+    pub pins : (slot : ℕ) → (later.cells.gates slot).pins + had slot + left_pin state slot ≡ (state.cells.gates slot).pins + held slot + left_pin later slot
+    pub left : (slot seq : ℕ) → later.history.stays slot seq ≡ true → IsPinnedAs seq (later.cells.gates slot)
+    pub frees_one : (slot : ℕ) → idle later slot + freed slot ≡ idle state slot + frees slot
+    pub doors : (tenant : ℕ) → tenant < tenants_of config
+        → (later.cells.doors tenant).used + of_tenant own waited tenant + slots_taken_for state tenant config.pool
+        ≡ (state.cells.doors tenant).used + of_tenant own waits tenant + slots_taken_for later tenant config.pool
+    pub quotas : (tenant : ℕ) → tenant < tenants_of config → (later.cells.doors tenant).used ≤ (tenant_at config tenant).quota
+    pub unpinned : (slot : ℕ) → (later.cells.gates slot).taken ≡ false → (later.cells.gates slot).pins ≡ 0
+    pub taken_for : (slot : ℕ) → (later.cells.gates slot).taken ≡ true → later.history.tenant slot (later.cells.gates slot).seq < tenants_of config
+
+  -- The same where one gate changes.
+  pub record GateShifts (slot : ℕ) : Type 0 where
+    pub there : slot < config.pool
+    pub gates : (other : ℕ) → other ≢ slot → later.cells.gates other ≡ state.cells.gates other
+    pub stays : (other seq : ℕ) → other ≢ slot → later.history.stays other seq ≡ state.history.stays other seq
+    pub tenants : (other seq : ℕ) → other ≢ slot → later.history.tenant other seq ≡ state.history.tenant other seq
+    pub other_pins : (other : ℕ) → other ≢ slot → held other ≡ had other
+    pub other_frees : (other : ℕ) → other ≢ slot → frees other ≡ freed other
+    pub pins : (later.cells.gates slot).pins + had slot + left_pin state slot ≡ (state.cells.gates slot).pins + held slot + left_pin later slot
+    pub left : (seq : ℕ) → later.history.stays slot seq ≡ true → IsPinnedAs seq (later.cells.gates slot)
+    pub frees_one : idle later slot + freed slot ≡ idle state slot + frees slot
+    pub doors : (tenant : ℕ) → tenant < tenants_of config
+        → (later.cells.doors tenant).used + of_tenant own waited tenant + claimed state tenant slot
+        ≡ (state.cells.doors tenant).used + of_tenant own waits tenant + claimed later tenant slot
+    pub quotas : (tenant : ℕ) → tenant < tenants_of config → (later.cells.doors tenant).used ≤ (tenant_at config tenant).quota
+    pub unpinned : (later.cells.gates slot).taken ≡ false → (later.cells.gates slot).pins ≡ 0
+    pub taken_for : (later.cells.gates slot).taken ≡ true → later.history.tenant slot (later.cells.gates slot).seq < tenants_of config
+
+  -- The same where no gate changes.
+  pub record DoorShifts : Type 0 where
+    pub gates : (slot : ℕ) → later.cells.gates slot ≡ state.cells.gates slot
+    pub stays : (slot seq : ℕ) → later.history.stays slot seq ≡ state.history.stays slot seq
+    pub tenants : (slot seq : ℕ) → later.history.tenant slot seq ≡ state.history.tenant slot seq
+    pub pins : (slot : ℕ) → held slot ≡ had slot
+    pub frees_one : (slot : ℕ) → frees slot ≡ freed slot
+    pub doors : (tenant : ℕ) → tenant < tenants_of config
+        → (later.cells.doors tenant).used + of_tenant own waited tenant ≡ (state.cells.doors tenant).used + of_tenant own waits tenant
+    pub quotas : (tenant : ℕ) → tenant < tenants_of config → (later.cells.doors tenant).used ≤ (tenant_at config tenant).quota
+
+-- a slot whose gate is as it was, and of whose changes nothing new is known
+same_left : (state later : State) (slot : ℕ) → later.cells.gates slot ≡ state.cells.gates slot → ((seq : ℕ) → later.history.stays slot seq ≡ state.history.stays slot seq)
+    → left_pin later slot ≡ left_pin state slot
+same_left state later slot gate stays =
+    ap (λ b. if b then 1 else 0) (stays (later.cells.gates slot).seq) ∙ ap (λ g. if state.history.stays slot g.seq then 1 else 0) gate
+
+same_idle : (state later : State) (slot : ℕ) → later.cells.gates slot ≡ state.cells.gates slot → idle later slot ≡ idle state slot
+same_idle state later slot gate = ap (λ g. if g.taken && (g.pins == 0) then 1 else 0) gate
+
+pub same_claimed : (state later : State) (tenant slot : ℕ) → later.cells.gates slot ≡ state.cells.gates slot
+    → ((seq : ℕ) → later.history.tenant slot seq ≡ state.history.tenant slot seq) → claimed later tenant slot ≡ claimed state tenant slot
+same_claimed state later tenant slot gate tenants =
+    ap (λ t. if (later.cells.gates slot).taken && (t == tenant) then 1 else 0) (tenants (later.cells.gates slot).seq)
+    ∙ ap (λ g. if g.taken && (state.history.tenant slot g.seq == tenant) then 1 else 0) gate
+
+still_pinned : (state later : State) (slot seq : ℕ) → later.cells.gates slot ≡ state.cells.gates slot → ((seq : ℕ) → later.history.stays slot seq ≡ state.history.stays slot seq)
+    → (state.history.stays slot seq ≡ true → IsPinnedAs seq (state.cells.gates slot)) → later.history.stays slot seq ≡ true → IsPinnedAs seq (later.cells.gates slot)
+still_pinned state later slot seq gate stays was is = subst (λ g. IsPinnedAs seq g) (sym gate) (was (sym (stays seq) ∙ is))
+
+still_taken_for : (config : Config) (state later : State) (slot : ℕ) → later.cells.gates slot ≡ state.cells.gates slot
+    → ((seq : ℕ) → later.history.tenant slot seq ≡ state.history.tenant slot seq)
+    → ((state.cells.gates slot).taken ≡ true → state.history.tenant slot (state.cells.gates slot).seq < tenants_of config)
+    → (later.cells.gates slot).taken ≡ true → later.history.tenant slot (later.cells.gates slot).seq < tenants_of config
+still_taken_for config state later slot gate tenants was is =
+    subst (λ g. later.history.tenant slot g.seq < tenants_of config) (sym gate)
+    (subst (λ t. t < tenants_of config) (sym (tenants (state.cells.gates slot).seq)) (was (ap (λ g. g.taken) (sym gate) ∙ is)))
+
+module _ (config : Config) (state later : State) (own : ℕ) (had freed held frees : ℕ → ℕ) (waited waits : ℕ) (stand : CountsStand config state) where
+  -- where one gate changes, the sum of the slots that are taken for a tenant changes by that slot
+  pub of_gate : (slot : ℕ) → GateShifts config state later own had freed held frees waited waits slot → Shifts config state later own had freed held frees waited waits
+  of_gate slot on = record {
+    pins = λ k. elim (cases_eq k slot) [
+      | inl e ↦ subst (λ j. (later.cells.gates j).pins + had j + left_pin state j ≡ (state.cells.gates j).pins + held j + left_pin later j) (sym e) on.pins
+      | inr apart ↦
+          omega (arith, ap (λ g. g.pins) (on.gates k apart), on.other_pins k apart, same_left state later k (on.gates k apart) (λ seq. on.stays k seq apart))
+    ];
+    left = λ k seq is. elim (cases_eq k slot) [
+      | inl e ↦ subst (λ j. later.history.stays j seq ≡ true → IsPinnedAs seq (later.cells.gates j)) (sym e) (on.left seq) is
+      | inr apart ↦ still_pinned state later k seq (on.gates k apart) (λ s. on.stays k s apart) (stand.counts.left k seq) is
+    ];
+    frees_one = λ k. elim (cases_eq k slot) [
+      | inl e ↦ subst (λ j. idle later j + freed j ≡ idle state j + frees j) (sym e) on.frees_one
+      | inr apart ↦ omega (arith, same_idle state later k (on.gates k apart), on.other_frees k apart)
+    ];
+    doors = λ tenant low.
+        let sums : slots_taken_for later tenant config.pool + claimed state tenant slot ≡ slots_taken_for state tenant config.pool + claimed later tenant slot =
+        slots_update state later tenant slot config.pool on.there (λ k apart. same_claimed state later tenant k (on.gates k apart) (λ s. on.tenants k s apart)) in
+        omega (arith, sums, on.doors tenant low);
+    quotas = on.quotas;
+    unpinned = λ k. elim (cases_eq k slot) [
+      | inl e ↦ subst (λ j. (later.cells.gates j).taken ≡ false → (later.cells.gates j).pins ≡ 0) (sym e) on.unpinned
+      | inr apart ↦ subst (λ g. g.taken ≡ false → g.pins ≡ 0) (sym (on.gates k apart)) (stand.unpinned k)
+    ];
+    taken_for = λ k. elim (cases_eq k slot) [
+      | inl e ↦ subst (λ j. (later.cells.gates j).taken ≡ true → later.history.tenant j (later.cells.gates j).seq < tenants_of config) (sym e) on.taken_for
+      | inr apart ↦ still_taken_for config state later k (on.gates k apart) (λ s. on.tenants k s apart) (stand.tenants k)
+    ];
+  }
+
+  -- where no gate changes, that sum is the same
+  pub of_door : DoorShifts config state later own had freed held frees waited waits → Shifts config state later own had freed held frees waited waits
+  of_door on = record {
+    pins = λ k. omega (arith, ap (λ g. g.pins) (on.gates k), on.pins k, same_left state later k (on.gates k) (on.stays k));
+    left = λ k seq is. still_pinned state later k seq (on.gates k) (on.stays k) (stand.counts.left k seq) is;
+    frees_one = λ k. omega (arith, same_idle state later k (on.gates k), on.frees_one k);
+    doors = λ tenant low.
+        let sums : slots_taken_for later tenant config.pool ≡ slots_taken_for state tenant config.pool =
+        slots_same state later tenant config.pool (λ k. same_claimed state later tenant k (on.gates k) (on.tenants k)) in
+        omega (arith, sums, on.doors tenant low);
+    quotas = on.quotas;
+    unpinned = λ k. subst (λ g. g.taken ≡ false → g.pins ≡ 0) (sym (on.gates k)) (stand.unpinned k);
+    taken_for = λ k. still_taken_for config state later k (on.gates k) (on.tenants k) (stand.tenants k);
+  }
+
+-- a sum over workers of whom one went on
+over_later : (counts : Acting → ℕ) (state later : State) (worker : ℕ) (seat : Seat) (was is n : ℕ) → worker < n → later.seats ≡ upd state.seats worker seat
+    → counted counts (state.seats worker).actor ≡ was → counted counts seat.actor ≡ is
+    → over_workers counts later.seats n + was ≡ over_workers counts state.seats n + is
+over_later counts state later worker seat was is n low seats old new =
+    let sums : over_workers counts (upd state.seats worker seat) n + counted counts (state.seats worker).actor ≡ over_workers counts state.seats n + counted counts seat.actor =
+    over_update counts state.seats worker seat n low in
+    let same : over_workers counts later.seats n ≡ over_workers counts (upd state.seats worker seat) n = ap (λ s. over_workers counts s n) seats in
+    omega (arith, sums, same, old, new)
+
+-- what was so of the others' requests is so
+still_so : (P : ℕ → Acting → Type 0) (state later : State) (worker : ℕ) (seat : Seat) → later.seats ≡ upd state.seats worker seat
+    → ((other : ℕ) (actor : Acting) → (state.seats other).actor ≡ Some actor → P other actor)
+    → ((actor : Acting) → seat.actor ≡ Some actor → P worker actor)
+    → (other : ℕ) (actor : Acting) → (later.seats other).actor ≡ Some actor → P other actor
+still_so P state later worker seat seats were here other actor is = elim (cases_eq other worker) [
+  | inl e ↦ subst (λ w. P w actor) (sym e) (here actor (sym (ap (λ s. s.actor) (set_here other e)) ∙ sym (ap (λ s. (s other).actor) seats) ∙ is))
+  | inr apart ↦ were other actor (sym (ap (λ s. s.actor) (set_else other apart)) ∙ sym (ap (λ s. (s other).actor) seats) ∙ is)
+]
+  where
+    set_here : (k : ℕ) → k ≡ worker → upd state.seats worker seat k ≡ seat
+    set_here k e = grind (arith, nat_tests, e)
+
+    set_else : (k : ℕ) → k ≢ worker → upd state.seats worker seat k ≡ state.seats k
+    set_else k apart = grind (arith, nat_tests, apart)
+
+-- The counts stand where one worker goes on and both sides of each count change by the same.
+pub shifted : (config : Config) (state later : State) (worker own : ℕ) (seat : Seat) (had freed held frees : ℕ → ℕ) (waited waits : ℕ)
+    → CountsStand config state → worker < config.workers → later.seats ≡ upd state.seats worker seat
+    → Counts own had freed waited (state.seats worker).actor → Counts own held frees waits seat.actor
+    → ((actor : Acting) → seat.actor ≡ Some actor → IsOfWorker config worker actor) → ((actor : Acting) → seat.actor ≡ Some actor → IsReady actor actor.point)
+    → Shifts config state later own had freed held frees waited waits → CountsStand config later
+shifted config state later worker own seat had freed held frees waited waits stand low seats old new its ready on = record {
+  counts = record {
+    pins = λ slot. omega (arith, stand.counts.pins slot, on.pins slot, over_later (λ actor. pins_held slot actor.point) state later worker seat (had slot) (held slot) config.workers low seats (old.pins_are slot) (new.pins_are slot));
+    left = on.left;
+    frees = λ slot. omega (arith, stand.counts.frees slot, on.frees_one slot, over_later (λ actor. frees_at slot actor.point) state later worker seat (freed slot) (frees slot) config.workers low seats (old.frees_are slot) (new.frees_are slot));
+    doors = λ tenant there. omega (
+      arith,
+      stand.counts.doors tenant there,
+      on.doors tenant there,
+      over_later (waits_for tenant) state later worker seat (of_tenant own waited tenant) (of_tenant own waits tenant) config.workers low seats (old.waits_are tenant) (new.waits_are tenant),
+    );
+    quotas = on.quotas;
+  };
+  unpinned = on.unpinned;
+  tenants = on.taken_for;
+  seats = still_so (IsOfWorker config) state later worker seat seats stand.seats its;
+  ready = still_so (λ other actor. IsReady actor actor.point) state later worker seat seats stand.ready ready;
+}

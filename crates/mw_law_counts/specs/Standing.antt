@@ -1,0 +1,46 @@
+-- That the counts are right, as it is kept from event to event, and what that rests on.
+use Rattle.std.specs.Prelude.{ℕ, ◌≡◌, ◌<◌, true, false, Some}
+use Rattle.mw_words.specs.declared.places.At.TheVariants.{Door as AtDoor, Gate as AtGate}
+use Rattle.mw_words.specs.Patterns.{packed_door, packed_gate}
+use Rattle.mw_look.specs.Steps.{Step, Change}
+use Rattle.mw_actor.specs.declared.points.Point.TheVariants.{GiveUp}
+use Rattle.mw_actor.specs.declared.points.Slot.{Slot}
+use Rattle.mw_words.specs.declared.replies.Reply.{Reply}
+use Rattle.mw_actor.specs.Acting.{Acting}
+use Rattle.mw_actor.specs.Asks.{asks}
+use Rattle.mw_world.specs.declared.config.Config.{Config}
+use Rattle.mw_world.specs.Cells.{Cells}
+use Rattle.mw_world.specs.Counting.{frees_at}
+use Rattle.mw_world.specs.Invariant.{CountsAreRight, IsOfWorker}
+use Rattle.mw_world.specs.State.{State, tenants_of}
+use Rattle.mw_law_counts.specs.Ready.{IsReady}
+
+-- The counts are right; a gate that isn't taken has no pins; a slot that is taken is taken for one of the tenants; and each request is its
+-- worker's, of one of the tenants, and ready for what it is about to do.
+pub record CountsStand (config : Config) (state : State) : Type 0 where
+  pub counts : CountsAreRight config state
+  pub unpinned : (slot : ℕ) → (state.cells.gates slot).taken ≡ false → (state.cells.gates slot).pins ≡ 0
+  pub tenants : (slot : ℕ) → (state.cells.gates slot).taken ≡ true → state.history.tenant slot (state.cells.gates slot).seq < tenants_of config
+  pub seats : (worker : ℕ) (actor : Acting) → (state.seats worker).actor ≡ Some actor → IsOfWorker config worker actor
+  pub ready : (worker : ℕ) (actor : Acting) → (state.seats worker).actor ≡ Some actor → IsReady actor actor.point
+
+-- An exchange compares bits. If the step changes a door or a gate, what stands there is what the step expects, where it has the bits of that.
+-- Of a store or a fetch, which expects nothing, this says nothing of use.
+abbrev pub IsExact : Cells → Step → Type 0
+IsExact cells (Change kind (AtDoor tenant) from to) = packed_door (cells.doors tenant) ≡ packed_door from → cells.doors tenant ≡ from
+IsExact cells (Change kind (AtGate slot) from to) = packed_gate (cells.gates slot) ≡ packed_gate from → cells.gates slot ≡ from
+IsExact cells step = Unit {0}
+
+-- The slot's gate has the number under which the request took the slot, and no pin was left behind under that number.
+pub record IsFirstToLeave (state : State) (own : Slot) : Type 0 where
+  pub number : (state.cells.gates own.slot).seq ≡ own.seq
+  pub stays_not : state.history.stays own.slot own.seq ≡ false
+
+-- What the counts rest on: exchanges of doors and gates find what they expect; a slot is freed by a request of the tenant that it is taken for;
+-- and a request that is about to leave its pin behind knows the slot by the gate's number, under which no pin was left behind before.
+pub record CountsRestOn (state : State) : Type 0 where
+  pub exact : (worker : ℕ) (actor : Acting) → (state.seats worker).actor ≡ Some actor → IsExact state.cells (asks actor)
+  pub freed : (worker slot : ℕ) (actor : Acting) → (state.seats worker).actor ≡ Some actor → frees_at slot actor.point ≡ 1
+      → state.history.tenant slot (state.cells.gates slot).seq ≡ actor.tenant
+  pub gives_up : (worker : ℕ) (actor : Acting) (own : Slot) (undecided : Reply) → (state.seats worker).actor ≡ Some actor → actor.point ≡ GiveUp own undecided
+      → IsFirstToLeave state own

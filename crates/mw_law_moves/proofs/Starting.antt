@@ -1,0 +1,42 @@
+-- What holds of memory holds at each start.
+use Rattle.std.specs.Prelude.{ℕ, ◌≤◌, replicate, slice_index}
+use Rattle.std.proofs.Common.{arith}
+use Rattle.std.proofs.lemmas.Bool.Decides.{nat_tests}
+use Rattle.std.proofs.lemmas.List.{get_or-replicate, get_or_past, length-replicate}
+use Rattle.mw_words.specs.declared.limits.TheConstants.{MAX_VALUE}
+use Rattle.mw_words.specs.declared.places.At.TheVariants.{Door as AtDoor, Gate as AtGate, Row as AtRow, Data, Status as AtStatus, Count, Addr, Expected, New}
+use Rattle.mw_words.specs.Change.{word_at}
+use Rattle.mw_world.specs.declared.config.Config.{Config}
+use Rattle.mw_world.specs.State.{Account, IsConfig, started, first_account, tenant_at}
+use Rattle.mw_world.specs.Ties.{AllFit}
+use Rattle.mw_law_moves.specs.Laws.{StartsHaveMemory, NewWorldsHaveMemory}
+
+first_fit : (config : Config) (accounts : ℕ → Account) → IsConfig config
+    → ((tenant address : ℕ) → word_at (accounts tenant).file.contents address ≤ MAX_VALUE) → AllFit (started config accounts).cells
+first_fit config accounts is fit (AtDoor tenant) = grind (arith, nat_tests)
+first_fit config accounts is fit (AtGate slot) = grind (arith, nat_tests, is.seq)
+first_fit config accounts is fit (AtRow worker) = grind (arith, nat_tests)
+first_fit config accounts is fit (Data tenant address) = grind (arith, nat_tests, fit tenant address)
+first_fit config accounts is fit (AtStatus slot) = tt
+first_fit config accounts is fit (Count slot) = grind (arith, nat_tests)
+first_fit config accounts is fit (Addr slot entry) = grind (arith, nat_tests)
+first_fit config accounts is fit (Expected slot entry) = grind (arith, nat_tests)
+first_fit config accounts is fit (New slot entry) = grind (arith, nat_tests)
+
+pub starts_have_memory : StartsHaveMemory
+starts_have_memory config accounts is fit = record {
+  claims = grind (arith, nat_tests);
+  slots = grind (arith, nat_tests);
+  references = grind (arith, nat_tests);
+  attempts = grind (arith, nat_tests);
+  words = grind (arith, nat_tests);
+  late = grind (arith, nat_tests);
+  written = λ slot seq address inked. grind (arith, nat_tests);
+  fits = first_fit config accounts is fit;
+}
+
+zeros : (many address : ℕ) → slice_index (replicate many 0) address ≤ MAX_VALUE
+zeros many address = grind (arith, nat_tests, get_or-replicate {A = ℕ} many address 0 0, get_or_past {X = ℕ} (replicate {A = ℕ} many 0) address 0, length-replicate {A = ℕ} many 0)
+
+pub new_worlds_have_memory : NewWorldsHaveMemory
+new_worlds_have_memory config is = starts_have_memory config (first_account config) is (λ tenant address. zeros (tenant_at config tenant).words address)

@@ -1,0 +1,133 @@
+-- No step that isn't a call on a file makes a change, so none gives a word another value.
+use Rattle.std.specs.Prelude.{ℕ, ◌≡◌, ◌==◌, ◌++◌, Bool, true, false, cond, List, [], ◌∷◌}
+use Rattle.std.proofs.Common.{refl, ap, ◌∙◌}
+use Rattle.mw_words.specs.declared.places.At.{At}
+use Rattle.mw_words.specs.declared.replies.Reply.{Reply}
+use Rattle.mw_words.specs.declared.replies.Reply.TheVariants.{Fault as SaysFault}
+use Rattle.mw_look.specs.declared.news.News.{News}
+use Rattle.mw_look.specs.declared.news.News.TheVariants.{Won, Lost}
+use Rattle.mw_look.specs.declared.steps.Kind.{Kind}
+use Rattle.mw_look.specs.declared.points.Point.{Point as ReadPoint}
+use Rattle.mw_look.specs.declared.points.Point.TheVariants as look
+use Rattle.mw_look.specs.News.{seen}
+use Rattle.mw_look.specs.Places.{Val, pack}
+use Rattle.mw_look.specs.Steps.{Step, Load, Change, File}
+use Rattle.mw_actor.specs.declared.points.Slot.{Slot}
+use Rattle.mw_actor.specs.declared.points.Sweep.{Sweep}
+use Rattle.mw_actor.specs.declared.points.Sweep.TheVariants.{Yes as SweepYes}
+use Rattle.mw_actor.specs.declared.points.Point.{Point}
+use Rattle.mw_actor.specs.declared.points.Point.TheVariants as points
+use Rattle.mw_actor.specs.Acting.{Acting, entry_of}
+use Rattle.mw_actor.specs.Asks.{asks}
+use Rattle.mw_world.specs.declared.config.Config.{Config}
+use Rattle.mw_world.specs.Cells.{Cells, read, write}
+use Rattle.mw_world.specs.Changes.{Shape, Exchange, Store, Fetch, changed, done, shape_of, fetched}
+use Rattle.mw_world.specs.Logical.{logical}
+use Rattle.mw_world.specs.State.{State}
+use Rattle.mw_law_moves.specs.Guards.{Guards}
+use Rattle.mw_law_moves.specs.Memory.{Memory}
+use Rattle.mw_law_moves.specs.Moves.{Move, made, made_all}
+use Rattle.mw_law_moves.specs.Stepped.{moves_at, read_moves, resolve_moves, release_moves, give_up_moves, moves_told, moves_of_turn, next_of, pose}
+use Rattle.mw_law_moves.specs.Values.{AreNoSeals, TurnsKeepValues}
+use Rattle.mw_law_moves.proofs.Keeping.{move_keeps}
+use Rattle.mw_law_moves.proofs.Revalued.{moves_keep_values}
+use Rattle.mw_law_moves.proofs.Turned.{turns_are_moves}
+
+-- several moves that make no change give no word another value
+all_keep : (config : Config) (state : State) (by : ℕ) (moves : List Move) (tenant address : ℕ) → AreNoSeals moves → Guards config state by moves → Memory config state
+    → logical (made_all state by moves).cells tenant address ≡ logical state.cells tenant address
+all_keep config state by [] tenant address none guards memory = refl
+all_keep config state by (move ∷ moves) tenant address none guards memory =
+    all_keep config (made state by move) by moves tenant address none.1 guards.1 (move_keeps config state by move guards.0 memory)
+    ∙ moves_keep_values config state by move tenant address none.0 guards.0 memory
+
+and_more : (moves : List Move) (actor : Acting) → AreNoSeals moves → AreNoSeals (moves ++ pose actor ∷ [])
+and_more [] actor none = (refl, tt)
+and_more (move ∷ moves) actor none = (none.0, and_more moves actor none.1)
+
+read_none : (state : State) (tenant : ℕ) (point : ReadPoint) (news : News) → AreNoSeals (read_moves state tenant point news)
+read_none state tenant (look.Pin trail from to) Won = (refl, tt)
+read_none state tenant (look.Pin trail from to) news = tt
+read_none state tenant (look.Unpin slot seq after) news = (refl, tt)
+read_none state tenant (look.FreeSlot slot seq after) news = (refl, tt)
+read_none state tenant (look.LowerDoor after) news = (refl, tt)
+read_none state tenant point news = tt
+
+resolve_none : (open_then : Bool) (tenant address worker number : ℕ) (target : Slot) (value : ℕ) → AreNoSeals (resolve_moves open_then tenant address worker number target value)
+resolve_none true tenant address worker number target value = (refl, tt)
+resolve_none false tenant address worker number target value = (refl, tt)
+
+release_none : (sweep : Sweep) (tenant address : ℕ) (target : Slot) (expected new : ℕ) → AreNoSeals (release_moves sweep tenant address target expected new)
+release_none SweepYes tenant address target expected new = (refl, tt)
+release_none sweep tenant address target expected new = (refl, tt)
+
+reply_none : (own : Slot) (reply : Reply) → AreNoSeals (give_up_moves own (points.Replied reply))
+reply_none own SaysFault = (refl, (refl, tt))
+reply_none own reply = (refl, tt)
+
+give_up_none : (own : Slot) (point : Point) → AreNoSeals (give_up_moves own point)
+give_up_none own (points.Replied reply) = reply_none own reply
+give_up_none own point = (refl, tt)
+
+none_at : (state : State) (worker : ℕ) (actor : Acting) (point : Point) (news : News) (after : Point) → AreNoSeals (moves_at state worker actor point news after)
+none_at state worker actor (points.Read look) news after = read_none state look.tenant look.point news
+none_at state worker actor (points.Resolve task entry attempt was_open) Won after =
+    resolve_none was_open actor.tenant (entry_of actor task entry).addr attempt.worker attempt.number task.target (entry_of actor task entry).expected
+none_at state worker actor (points.Resolve task entry attempt was_open) news after = tt
+none_at state worker actor (points.Release task sweep entry) Won after =
+    release_none sweep actor.tenant (entry_of actor task entry).addr task.target (entry_of actor task entry).expected (entry_of actor task entry).new
+none_at state worker actor (points.Release task sweep entry) news after = tt
+none_at state worker actor (points.GiveUp own undecided) news after = give_up_none own after
+none_at state worker actor (points.Plant task entry number) Won after = (refl, tt)
+none_at state worker actor (points.Plant task entry number) news after = (refl, tt)
+none_at state worker actor (points.Admit from to) Won after = (refl, tt)
+none_at state worker actor (points.Admit from to) news after = tt
+none_at state worker actor (points.Claim slot saw_worn from to) Won after = (refl, tt)
+none_at state worker actor (points.Claim slot saw_worn from to) news after = tt
+none_at state worker actor (points.DecideYes task) Won after = (refl, tt)
+none_at state worker actor (points.DecideYes task) news after = tt
+none_at state worker actor (points.DecideNo task entry value) Won after = (refl, tt)
+none_at state worker actor (points.DecideNo task entry value) news after = tt
+none_at state worker actor (points.PinOther task other from to) Won after = (refl, tt)
+none_at state worker actor (points.PinOther task other from to) news after = tt
+none_at state worker actor (points.Clean task entry value) Won after = (refl, tt)
+none_at state worker actor (points.Clean task entry value) news after = tt
+none_at state worker actor (points.SweepResolve task sweep entry attempt) Won after = (refl, tt)
+none_at state worker actor (points.SweepResolve task sweep entry attempt) news after = tt
+none_at state worker actor (points.FillStatus own) news after = (refl, tt)
+none_at state worker actor (points.FillCount own) news after = (refl, tt)
+none_at state worker actor (points.FillAddr own entry) news after = (refl, tt)
+none_at state worker actor (points.FillExpected own entry) news after = (refl, tt)
+none_at state worker actor (points.FillNew own entry) news after = (refl, tt)
+none_at state worker actor (points.AnnounceRow task entry number) news after = (refl, tt)
+none_at state worker actor (points.Unpin slot next) news after = (refl, tt)
+none_at state worker actor (points.FreeSlot slot next) news after = (refl, tt)
+none_at state worker actor (points.LowerDoor next) news after = (refl, tt)
+none_at state worker actor point news after = tt
+
+none_told : (state : State) (worker : ℕ) (actor : Acting) (news : News) → AreNoSeals (moves_told state worker actor news)
+none_told state worker actor news =
+    and_more (moves_at state worker actor actor.point news (next_of state worker actor news).point) (next_of state worker actor news)
+    (none_at state worker actor actor.point news (next_of state worker actor news).point)
+
+-- what holds of whatever may follow a step holds of what follows it
+either : (test : Bool) (one two : List Move) → AreNoSeals one → AreNoSeals two → AreNoSeals (cond test one two)
+either true one two here there = here
+either false one two here there = there
+
+follows_change : (gives : Cells → News → List Move) → ((cells : Cells) (news : News) → AreNoSeals (gives cells news)) → (shape : Shape) (kind : Kind) (at : At) (from to : Val at) (cells : Cells)
+    → AreNoSeals (changed shape kind at from to cells gives)
+follows_change gives all Exchange kind at from to cells = either (pack at (read cells at) == pack at from) (gives (write cells at to) Won) (gives cells Lost) (all (write cells at to) Won) (all cells Lost)
+follows_change gives all Store kind at from to cells = all (write cells at to) Won
+follows_change gives all Fetch kind at from to cells = all (write cells at (fetched kind at (read cells at))) (seen at (read cells at))
+
+follows : (gives : Cells → News → List Move) → ((cells : Cells) (news : News) → AreNoSeals (gives cells news)) → (step : Step) (cells : Cells) → AreNoSeals (done step cells gives)
+follows gives all (Load at) cells = all cells (seen at (read cells at))
+follows gives all (Change kind at from to) cells = follows_change gives all (shape_of kind) kind at from to cells
+follows gives all (File call slot) cells = all cells Won
+
+pub turns_keep_values : TurnsKeepValues
+turns_keep_values config state next worker actor tenant address is came guards memory =
+    ap (λ (cells : Cells). logical cells tenant address) (turns_are_moves config state next worker actor is came).cells
+    ∙ all_keep config state worker (moves_of_turn state worker actor) tenant address
+    (follows (λ (cells : Cells) (news : News). moves_told state worker actor news) (λ cells news. none_told state worker actor news) (asks actor) state.cells) guards memory

@@ -1,0 +1,11 @@
+use Rattle.mw_law_moves.proofs.Stepping.{calls_keep, restarts_have, turns_keep}
+use Rattle.mw_law_moves.proofs.laws.steps_keep_memory.Goals as goal
+
+pub returns-clause-turns : goal.returns-clause-turns
+returns-clause-turns c = turns_keep
+
+pub returns-clause-calls : goal.returns-clause-calls
+returns-clause-calls c = calls_keep
+
+pub returns-clause-restarts : goal.returns-clause-restarts
+returns-clause-restarts c = restarts_have

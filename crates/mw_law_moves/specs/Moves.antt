@@ -1,0 +1,128 @@
+-- The moves: each thing that a step may do to the shared words, to the history and to the numbers of the workers' attempts. No move rests
+-- on where a request is in its program, and none changes that.
+use Rattle.std.specs.Prelude.{ℕ, ◌+◌, List, [], ◌∷◌}
+use Rattle.mw_words.specs.declared.jobs.Entry.{Entry}
+use Rattle.mw_words.specs.declared.places.At.{At}
+use Rattle.mw_words.specs.declared.places.At.TheVariants.{Door as AtDoor, Gate as AtGate, Row as AtRow, Data, Status as AtStatus, Count, Addr, Expected, New}
+use Rattle.mw_words.specs.declared.doors.Door.{Door}
+use Rattle.mw_words.specs.declared.gates.Gate.{Gate}
+use Rattle.mw_words.specs.declared.rows.Row.{Row}
+use Rattle.mw_words.specs.declared.words.Word.{Word}
+use Rattle.mw_words.specs.declared.words.Word.TheVariants.{Plain, Planted, Held, Dirty}
+use Rattle.mw_words.specs.declared.statuses.Status.{Status}
+use Rattle.mw_words.specs.declared.statuses.Status.TheVariants.{Draft, Open, YesDirty, Yes, No, DoneYes, DoneNo}
+use Rattle.mw_pool.specs.Moves.{after_unpin}
+use Rattle.mw_look.specs.Places.{Val}
+use Rattle.mw_actor.specs.declared.points.Slot.{Slot}
+use Rattle.mw_world.specs.declared.notes.Phase.{Phase}
+use Rattle.mw_world.specs.declared.notes.Phase.TheVariants.{Keeping, Inked, Gone}
+use Rattle.mw_world.specs.Cells.{write}
+use Rattle.mw_world.specs.History.{Standing, Stands, Arm}
+use Rattle.mw_world_file.specs.Maps.{upd, upd_three}
+use Rattle.mw_world.specs.Noting.{born, fated, left, spoiled}
+use Rattle.mw_world.specs.State.{State, Seat}
+
+-- A move of a worker. A change, of a tenant's words, is named by its slot under its number.
+pub data Move : Type 0 where
+  -- a tenant's door is another one: it counts a slot more or less, or has the fault
+  SetDoor : (tenant : ℕ) (door : Door) → Move
+  -- a change is written down in its slot: its status as a draft, how many entries it has, and each part of an entry
+  FillStatus : (slot : ℕ) → Move
+  FillCount : (slot number : ℕ) → Move
+  FillAddr : (slot entry number : ℕ) → Move
+  FillExpected : (slot entry number : ℕ) → Move
+  FillNew : (slot entry number : ℕ) → Move
+  -- the worker's row names another entry
+  SetRow : (row : Row) → Move
+  -- the worker claims a slot for a tenant's request, with these entries
+  Claim : (own : Slot) (gate : Gate) (tenant request : ℕ) (entries : List Entry) → Move
+  -- a slot has a pin more, or less; it is freed
+  Pin : (slot : ℕ) (gate : Gate) → Move
+  Unpin : (slot : ℕ) → Move
+  Free : (slot : ℕ) (gate : Gate) → Move
+  -- a change is opened; decided to be made, or not to be; made; done with as made, or as not made
+  Prepare : (target : Slot) → Move
+  SayYes : (target : Slot) → Move
+  SayNo : (target : Slot) (entry value : ℕ) → Move
+  Seal : (target : Slot) → Move
+  Settle : (target : Slot) → Move
+  Cancel : (target : Slot) (entry value : ℕ) → Move
+  -- the worker's attempt stands in a word; its attempt's number is given up; an attempt is taken back, and the word has this value
+  Plant : (tenant address number : ℕ) → Move
+  Forgo : (number : ℕ) → Move
+  TakeBack : (tenant address worker number value : ℕ) → Move
+  -- the worker, which may hold a word for a change, does so in place of an attempt
+  Hold : (tenant address worker number : ℕ) (target : Slot) → Move
+  -- a held word gets the value that its change writes, or the one that its change expects; a written one no longer names its slot
+  Ink : (tenant address : ℕ) (target : Slot) (value : ℕ) → Move
+  LetGo : (tenant address : ℕ) (target : Slot) (value : ℕ) → Move
+  Clean : (tenant address : ℕ) (target : Slot) (value : ℕ) → Move
+  -- a request's pin stays behind; the reply FAULT is decided for a change's request
+  LeavePin : (target : Slot) → Move
+  Spoil : (target : Slot) → Move
+  -- the worker's attempt is this one or none, and it may hold this word or none
+  Pose : (standing : Standing) (arm : Arm) → Move
+
+module _ (state : State) where
+  -- the world once this stands at a place
+  abbrev pub put : (at : At) → Val at → State
+  put at x = record state { cells = write state.cells at x }
+
+  -- the world once a change has another status
+  abbrev pub decide : Slot → Status → State
+  decide target status = record state { cells = write state.cells (AtStatus target.slot) status; history = fated state.history target status }
+
+  -- the workers once one's next attempt has the number after this one
+  abbrev pub counted_on : ℕ → ℕ → ℕ → Seat
+  counted_on worker number = upd state.seats worker (record (state.seats worker) { attempt = number + 1 })
+
+  -- the world once another word stands at a tenant's address, and so much has become of the word for a change
+  abbrev pub exchange : ℕ → ℕ → Slot → Word → Phase → State
+  exchange tenant address target word phase = record state {
+    cells = write state.cells (Data tenant address) word;
+    history = record state.history { phase = upd_three state.history.phase target.slot target.seq address phase };
+  }
+
+  -- The world after a move of a worker.
+  abbrev pub made : ℕ → Move → State
+  made by (SetDoor tenant door) = put (AtDoor tenant) door
+  made by (FillStatus slot) = put (AtStatus slot) Draft
+  made by (FillCount slot number) = put (Count slot) number
+  made by (FillAddr slot entry number) = put (Addr slot entry) number
+  made by (FillExpected slot entry number) = put (Expected slot entry) number
+  made by (FillNew slot entry number) = put (New slot entry) number
+  made by (SetRow row) = put (AtRow by) row
+  made by (Claim own gate tenant request entries) = record state {
+    cells = write state.cells (AtGate own.slot) gate;
+    history = born state.history own.slot own.seq by tenant request entries;
+  }
+  made by (Pin slot gate) = put (AtGate slot) gate
+  made by (Unpin slot) = put (AtGate slot) (after_unpin (state.cells.gates slot))
+  made by (Free slot gate) = put (AtGate slot) gate
+  made by (Prepare target) = decide target Open
+  made by (SayYes target) = decide target YesDirty
+  made by (SayNo target entry value) = decide target (No entry value)
+  made by (Seal target) = decide target Yes
+  made by (Settle target) = decide target DoneYes
+  made by (Cancel target entry value) = decide target (DoneNo entry value)
+  made by (Plant tenant address number) = record state {
+    cells = write state.cells (Data tenant address) (Planted by number);
+    seats = counted_on by number;
+    history = record state.history { standing = upd state.history.standing by (Stands tenant address number) };
+  }
+  made by (Forgo number) = record state { seats = counted_on by number }
+  made by (TakeBack tenant address worker number value) = put (Data tenant address) (Plain value)
+  made by (Hold tenant address worker number target) = exchange tenant address target (Held target.slot target.seq) Keeping
+  made by (Ink tenant address target value) = exchange tenant address target (Dirty target.slot value) Inked
+  made by (LetGo tenant address target value) = exchange tenant address target (Plain value) Gone
+  made by (Clean tenant address target value) = exchange tenant address target (Plain value) Gone
+  made by (LeavePin target) = record state { history = left state.history target }
+  made by (Spoil target) = record state { history = spoiled state.history target }
+  made by (Pose standing arm) = record state {
+    history = record state.history { standing = upd state.history.standing by standing; arm = upd state.history.arm by arm };
+  }
+
+-- the world after these moves of a worker, in their order
+abbrev pub made_all : State → ℕ → List Move → State
+made_all state by [] = state
+made_all state by (move ∷ moves) = made_all (made state by move) by moves

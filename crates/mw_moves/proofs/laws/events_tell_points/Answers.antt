@@ -1,5 +1,0 @@
-use Rattle.mw_moves.proofs.Telling.{events_tell_points}
-use Rattle.mw_moves.proofs.laws.events_tell_points.Goals as goal
-
-pub returns : goal.returns
-returns c = events_tell_points

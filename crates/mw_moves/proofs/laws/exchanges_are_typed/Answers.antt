@@ -1,5 +1,0 @@
-use Rattle.mw_moves.proofs.Stepping.{exchanges_are_typed}
-use Rattle.mw_moves.proofs.laws.exchanges_are_typed.Goals as goal
-
-pub returns : goal.returns
-returns c = exchanges_are_typed

@@ -1,8 +1,0 @@
-use Rattle.mw_moves.proofs.Keeping.{move_keeps, moves_keep}
-use Rattle.mw_moves.proofs.laws.moves_keep_memory.Goals as goal
-
-pub returns-clause-one : goal.returns-clause-one
-returns-clause-one c = move_keeps
-
-pub returns-clause-all : goal.returns-clause-all
-returns-clause-all c = moves_keep

@@ -1,0 +1,126 @@
+-- The places of a file, as the file says and as the book keeps them.
+use Rattle.std.proofs.Common.{◌≡◌, ◌≢◌, ℕ, suc, ◌+◌, ◌<◌, ◌≤◌, Bool, true, false, List, [], ◌∷◌, length, Option, Some, None, slice_get, slice_set, get_or, if◌then◌else◌, refl, sym, ap, ◌∙◌, inl, inr, arith}
+use Rattle.std.proofs.lemmas.Bool.{cases_Bool, cases_eq, cond-true, cond-false, eq-eqb, ne_eqb}
+use Rattle.std.proofs.lemmas.Option.{slice_get_cases, slice_get_read, slice_get_past}
+use Rattle.std.proofs.lemmas.List.{get_or-set_same, get_or-set_other, length-set}
+use Rattle.mw_record.specs.Records.{Pairs}
+use Rattle.mw_record.specs.Layout.{pairs_of}
+use Rattle.mw_file.specs.declared.slots.Slot.{Slot}
+use Rattle.mw_file.specs.declared.slots.Stage.{Stage}
+use Rattle.mw_file.specs.Slots.{is_free_stage, is_free, free_from, free_place, stage_of, writes_of_place, IsStaged}
+use Rattle.mw_world_file.specs.declared.places.Place.{Place as KeptPlace}
+use Rattle.mw_world_file.specs.Maps.{upd}
+use Rattle.mw_world_file.specs.Files.{File, Place, Empty, Prepared, Sealed, is_empty, entries_in, empty_from}
+use Rattle.mw_world_file.specs.Devices.{told, told_at, place_in, stage_told, AreKept}
+
+-- what a list has after one element was written
+pub get_written : {X : Type 0} (xs : List X) (i : ℕ) (x : X) → i < length xs → slice_get (slice_set xs i x) i ≡ Some x
+get_written xs i x within = slice_get_read (slice_set xs i x) (length xs) i x (sym (length-set xs i x)) within (sym (get_or-set_same xs i x x within))
+
+pub get_others : {X : Type 0} (xs : List X) (i j : ℕ) (x : X) → j ≢ i → slice_get (slice_set xs i x) j ≡ slice_get xs j
+get_others xs i j x apart = elim ((slice_get_cases xs j).1) [
+  | inl there ↦
+      slice_get_read (slice_set xs i x) (length xs) j there.0 (sym (length-set xs i x)) there.1 (sym (get_or-set_other xs i j x there.0 apart ∙ there.3)) ∙ sym there.2
+  | inr past ↦ slice_get_past (slice_set xs i x) j (let e = length-set xs i x in let le = past.0 in omega arith) ∙ sym past.1
+]
+
+pub place_written : (places : List KeptPlace) (number : ℕ) (p : KeptPlace) → number < length places → place_in (slice_set places number p) number ≡ told p
+place_written places number p within = ap told_at (get_written places number p within)
+
+pub place_others : (places : List KeptPlace) (number k : ℕ) (p : KeptPlace) → k ≢ number → place_in (slice_set places number p) k ≡ place_in places k
+place_others places number k p apart = ap told_at (get_others places number k p apart)
+
+-- a map that was changed where a list was written
+pub upd_here : {A : Type 0} (f : ℕ → A) (i k : ℕ) (x : A) → k ≡ i → upd f i x k ≡ x
+upd_here f i k x same = cond-true _ x (f k) (eq-eqb k i same)
+
+pub upd_there : {A : Type 0} (f : ℕ → A) (i k : ℕ) (x : A) → k ≢ i → upd f i x k ≡ f k
+upd_there f i k x apart = cond-false _ x (f k) (ne_eqb k i apart)
+
+-- the places after one was written
+pub set_told : (at : ℕ → Place) (places : List KeptPlace) (number : ℕ) (p : KeptPlace) (place : Place) → place ≡ told p → number < length places
+    → ((k : ℕ) → k < length places → at k ≡ place_in places k)
+    → (k : ℕ) → k < length (slice_set places number p) → upd at number place k ≡ place_in (slice_set places number p) k
+set_told at places number p place is within same k lt = elim (cases_eq k number) [
+  | inl here ↦ upd_here at number k place here ∙ is ∙ sym (ap (place_in (slice_set places number p)) here ∙ place_written places number p within)
+  | inr apart ↦ upd_there at number k place apart ∙ same k (let e = length-set places number p in omega (arith, e, lt)) ∙ sym (place_others places number k p apart)
+]
+
+-- the numbers after one was written
+pub set_number : (at : ℕ → ℕ) (numbers : List ℕ) (i n most : ℕ) → most ≤ length numbers → i < most → ((k : ℕ) → k < most → at k ≡ get_or numbers k 0)
+    → (k : ℕ) → k < most → upd at i n k ≡ get_or (slice_set numbers i n) k 0
+set_number at numbers i n most long within same k lt = elim (cases_eq k i) [
+  | inl here ↦ upd_here at i k n here ∙ sym (ap (λ j. get_or (slice_set numbers i n) j 0) here ∙ get_or-set_same numbers i n 0 (omega (arith, long, within)))
+  | inr apart ↦ upd_there at i k n apart ∙ same k lt ∙ sym (get_or-set_other numbers i k n 0 apart)
+]
+
+-- the places are as the file says after a place of both has gone on
+pub kept_on : (old new : List Slot) (places : List KeptPlace) (number : ℕ) (p : KeptPlace) (stage : Stage) (w : Pairs) → number < length places → AreKept old places
+    → IsStaged old new number stage w → stage ≡ stage_told (told p) → (is_empty (told p) ≡ false → w ≡ pairs_of (entries_in (told p)))
+    → AreKept new (slice_set places number p)
+kept_on old new places number p stage w within kept staged is writes = record {
+  stages = λ k. elim (cases_eq k number) [
+    | inl here ↦ ap (stage_of new) here ∙ staged.stage_here ∙ is ∙ sym (ap stage_told (there k here))
+    | inr apart ↦ staged.stage_there k apart ∙ kept.stages k ∙ sym (ap stage_told (place_others places number k p apart))
+  ];
+  writes = λ k busy. elim (cases_eq k number) [
+    | inl here ↦ ap (writes_of_place new) here ∙ staged.writes_here ∙ writes (sym (ap is_empty (there k here)) ∙ busy) ∙ sym (ap (λ q. pairs_of (entries_in q)) (there k here))
+    | inr apart ↦
+        let same = place_others places number k p apart in
+        staged.writes_there k apart ∙ kept.writes k (sym (ap is_empty same) ∙ busy) ∙ sym (ap (λ q. pairs_of (entries_in q)) same)
+  ];
+} where
+  there : (k : ℕ) → k ≡ number → place_in (slice_set places number p) k ≡ told p
+  there k here = ap (place_in (slice_set places number p)) here ∙ place_written places number p within
+
+-- the lowest empty place, as the file finds it and as the book counts it
+abbrev pub Lowest : File → ℕ → ℕ → Option ℕ → Type 0
+Lowest file first left None = empty_from file first left ≡ first + left
+Lowest file first left (Some place) = (empty_from file first left ≡ place) × (place < first + left)
+
+one_more : (test : Bool) (file : File) (first left : ℕ) (rest : Option ℕ) → is_empty (file.places first) ≡ test → Lowest file (first + 1) left rest
+    → Lowest file first (suc left) (if test then Some first else rest)
+one_more true file first left rest is below = (cond-true (is_empty (file.places first)) first (empty_from file (first + 1) left) is, omega arith)
+one_more false file first left None is below = cond-false (is_empty (file.places first)) first (empty_from file (first + 1) left) is ∙ below ∙ omega arith
+one_more false file first left (Some place) is below =
+    (cond-false (is_empty (file.places first)) first (empty_from file (first + 1) left) is ∙ below.0, let lt = below.1 in omega (arith, lt))
+
+free_told : (place : Place) → is_free_stage (stage_told place) ≡ is_empty place
+free_told Empty = refl
+free_told (Prepared entries) = refl
+free_told (Sealed entries) = refl
+
+lowest_from : (slots : List Slot) (places : List KeptPlace) (file : File) (first : ℕ) → length slots ≡ length places
+    → ((k : ℕ) → stage_of slots k ≡ stage_told (place_in places k)) → ((k : ℕ) → k < length places → file.places (first + k) ≡ place_in places k)
+    → Lowest file first (length places) (free_from first slots)
+lowest_from [] [] file first count stages same = omega arith
+lowest_from [] (p ∷ places) file first count stages same = absurd (let e : ⊥ = omega (arith, count) in e)
+lowest_from (s ∷ slots) [] file first count stages same = absurd (let e : ⊥ = omega (arith, count) in e)
+lowest_from (s ∷ slots) (p ∷ places) file first count stages same =
+    let here : file.places first ≡ told p = ap file.places (let e : first ≡ first + 0 = omega arith in e) ∙ same 0 (omega arith) in
+    let free : is_free s ≡ is_empty (told p) = ap is_free_stage (stages 0) ∙ free_told (told p) in
+    one_more (is_free s) file first (length places) (free_from (first + 1) slots) (ap is_empty here ∙ sym free)
+    (lowest_from slots places file (first + 1) (omega (arith, count)) (λ k. stages (suc k))
+    (λ k lt. ap file.places (let e : (first + 1) + k ≡ first + suc k = omega arith in e) ∙ same (suc k) (omega (arith, lt))))
+
+pub lowest : (slots : List Slot) (places : List KeptPlace) (file : File) → length slots ≡ length places → AreKept slots places
+    → ((k : ℕ) → k < length places → file.places k ≡ place_in places k) → Lowest file 0 (length places) (free_place slots)
+lowest slots places file count kept same =
+    lowest_from slots places file 0 count kept.stages (λ k lt. ap file.places (let e : 0 + k ≡ k = omega arith in e) ∙ same k lt)
+
+-- a free place is one of the file's
+within_from : (first : ℕ) (slots : List Slot) (place : ℕ) → free_from first slots ≡ Some place → place < first + length slots
+within_from first [] place found = absurd (cc)
+within_from first (s ∷ slots) place found = elim (cases_Bool (is_free s)) [
+  | inl is ↦
+      let e : Some first ≡ Some place = sym (cond-true (is_free s) (Some first) (free_from (first + 1) slots) is) ∙ found in
+      let same : first ≡ place = cc in
+      omega (arith, same)
+  | inr other ↦
+      let e : free_from (first + 1) slots ≡ Some place = sym (cond-false (is_free s) (Some first) (free_from (first + 1) slots) other) ∙ found in
+      let lt = within_from (first + 1) slots place e in
+      omega (arith, lt)
+]
+
+pub found_within : (slots : List Slot) (place : ℕ) → free_place slots ≡ Some place → place < length slots
+found_within slots place found = let lt = within_from 0 slots place found in omega (arith, lt)

@@ -1,0 +1,80 @@
+-- The book of a file after a start.
+use Rattle.std.proofs.Common.{◌≡◌, ℕ, ◌∙◌, ◌||◌, Bool, true, false, List, [], ◌∷◌, length, Option, Some, None, Result, Ok, Err, IsErrAnd, refl, sym, ap, subst, inl, inr}
+use Rattle.std.specs.Str.{bytes_eq}
+use Rattle.std.proofs.lemmas.Slice.Eq.{bytes_eq-Decides}
+use Rattle.mw_words.specs.declared.jobs.Entry.{Entry}
+use Rattle.mw_words.specs.Change.{put}
+use Rattle.mw_lone.specs.Sound.{length-put}
+use Rattle.mw_file.specs.Keeps.{IsFile}
+use Rattle.mw_world_file.specs.declared.kept.Book.{Book}
+use Rattle.mw_world_file.specs.declared.cut.Cut.{Cut}
+use Rattle.mw_world_file.specs.declared.cut.Left.{Left}
+use Rattle.mw_world_file.specs.declared.faults.BookFault.{BookFault}
+use Rattle.mw_world_file.specs.declared.faults.BookFault.TheVariants.{NotEnabled, Memory as NoMemory}
+use Rattle.mw_world_file.specs.Files.{File}
+use Rattle.mw_world_file.specs.Restarts.{takes, may_find, opened_file}
+use Rattle.mw_world_file.specs.Books.{Shows, quota_of}
+use Rattle.mw_world_file.specs.Reopening.{doubt_left, is_sealed_left, IsRestarted, Restarts}
+use Rattle.mw_world_file.specs.Stopping.{IsStopped, Stops, IsReopened, ReopenEnds}
+
+-- the words of an opened file, whether or not a device call failed
+opened_words : (words : List ℕ) (fails_at : Option ℕ) → (opened_file words fails_at).contents ≡ words
+opened_words words None = refl
+opened_words words (Some number) = refl
+
+-- words that may be found are as many as those before
+same_length : (words found : List ℕ) → bytes_eq found words ≡ true → length found ≡ length words
+same_length words found same = ap length ((bytes_eq-Decides found words).0 same)
+
+taken_long : (before : List ℕ) (doubt : List Entry) (found : List ℕ) → takes before doubt found ≡ true → length found ≡ length before
+taken_long before [] found taken = absurd (cc)
+taken_long before (e ∷ doubt) found taken = same_length (put before (e ∷ doubt)) found taken ∙ length-put before (e ∷ doubt)
+
+as_long : (sealed : Bool) (before : List ℕ) (doubt : List Entry) (found : List ℕ) → may_find sealed before doubt found ≡ true → length found ≡ length before
+as_long true before doubt found may = same_length (put before doubt) found may ∙ length-put before doubt
+as_long false before doubt found may = by (bytes_eq found before) refl where
+  by : (b : Bool) → bytes_eq found before ≡ b → length found ≡ length before
+  by true same = same_length before found same
+  by false differ = taken_long before doubt found (sym (ap (λ b. b || takes before doubt found) differ) ∙ may)
+
+pub restarted : (old : Book) (file : File) → Shows old file → (cut : Option Cut) (torn : List ℕ) (fails_at : Option ℕ) (left : Left) (new : Book) (took : Bool) → IsStopped old file cut torn left
+    → ((words : List ℕ) (places : ℕ) → IsFile places words left.image.items → IsReopened left.image.items places words fails_at new)
+    → took ≡ takes old.contents.items left.doubt.items new.contents.items → IsRestarted old file cut torn fails_at new took
+restarted old file shows cut torn fails_at left new took stopped reopens taken = record {
+  image = left.image.items;
+  words = stopped.words;
+  left = stopped.is_left;
+  fails = reopened.fails;
+  count = reopened.count;
+  long = ap length are ∙ as_long (is_sealed_left file (quota_of old) cut) file.contents (doubt_left file (quota_of old) cut) stopped.words stopped.is_left.found ∙ ap length shows.same_contents;
+  shows = reopened.shows;
+  taken = taken ∙ ap (λ ws. takes ws left.doubt.items new.contents.items) (sym shows.same_contents) ∙ ap (λ doubt. takes file.contents doubt new.contents.items) stopped.in_doubt
+      ∙ ap (takes file.contents (doubt_left file (quota_of old) cut)) are;
+} where
+  reopened : IsReopened left.image.items (quota_of old) stopped.words fails_at new
+  reopened = reopens stopped.words (quota_of old) (record { words_are = stopped.is_left.has; places_are = stopped.places })
+
+  are : new.contents.items ≡ stopped.words
+  are = sym reopened.shows.same_contents ∙ opened_words stopped.words fails_at
+
+-- a file that wasn't opened again
+pub not_restarted : (old : Book) (cut : Option Cut) (torn : List ℕ) (fails_at : Option ℕ) (left : Left) (fault : BookFault) (r : Result (Book × Bool) BookFault) → IsErrAnd r (λ e. e ≡ fault)
+    → ((file : File) → Shows old file → IsStopped old file cut torn left) → ((words : List ℕ) (places : ℕ) → IsFile places words left.image.items → ReopenEnds left.image.items places words fails_at (Err fault))
+    → Restarts old cut torn fails_at r
+not_restarted old cut torn fails_at left fault (Ok started) is lefts ends = absurd is
+not_restarted old cut torn fails_at left fault (Err NoMemory) is lefts ends = tt
+not_restarted old cut torn fails_at left fault (Err NotEnabled) is lefts ends = λ file shows.
+    let stopped = lefts file shows in
+    inr (record {
+      image = left.image.items;
+      words = stopped.words;
+      left = stopped.is_left;
+      fails = subst (λ f. ReopenEnds left.image.items (quota_of old) stopped.words fails_at (Err f)) (sym is)
+          (ends stopped.words (quota_of old) (record { words_are = stopped.is_left.has; places_are = stopped.places }));
+    })
+
+-- a file that wasn't stopped so
+pub not_stopped : (old : Book) (cut : Option Cut) (torn : List ℕ) (fails_at : Option ℕ) (fault : BookFault) (r : Result (Book × Bool) BookFault) → IsErrAnd r (λ e. e ≡ fault) → Stops old cut torn (Err fault) → Restarts old cut torn fails_at r
+not_stopped old cut torn fails_at fault (Ok started) is ends = absurd is
+not_stopped old cut torn fails_at fault (Err NoMemory) is ends = tt
+not_stopped old cut torn fails_at fault (Err NotEnabled) is ends = λ file shows. inl (subst (λ f. Stops old cut torn (Err f)) (sym is) ends file shows)

@@ -1,0 +1,145 @@
+-- The opening of a tenant's file one device call of which is told to fail.
+use Rattle.std.proofs.Common.{◌≡◌, ℕ, zero, suc, ◌+◌, ◌<◌, ◌==◌, ◌&&◌, ◌||◌, ◌^◌, nat_le, nat_lt, min, Bool, true, false, if◌then◌else◌, List, [], ◌∷◌, length, take, replicate, Option, Some, None, is_none, Result, Ok, Err, IsSome, IsSomeAnd, MatchResult, refl, sym, ap, subst, ◌∙◌, inl, inr, arith}
+use Rattle.std.proofs.lemmas.Bool.{cases_lt, cond-true, cond-false, and_from, and_right, and_parts, eq-eqb, eqb-true, lt-ltb, le-leb, lt-leb}
+use Rattle.mw_disk.specs.Facts.{MayLeave, IsAtRest, most_counted}
+use Rattle.mw_disk.specs.Memory.{Memory, memory_facts, scripted}
+use Rattle.mw_disk.specs.Runs.{leaves_now}
+use Rattle.mw_record.specs.declared.layout.TheConstants.{MAX_FILE}
+use Rattle.mw_record.specs.Damages.{damage_of, places_of, words_in, file_words}
+use Rattle.mw_file.specs.declared.tenant_file.TenantFile.{TenantFile}
+use Rattle.mw_file.specs.File.{slots_of}
+use Rattle.mw_file.specs.Keeps.{IsFile}
+use Rattle.mw_file.specs.declared.opening.OpenFault.{OpenFault}
+use Rattle.mw_file.specs.declared.opening.OpenFault.TheVariants.{Disk}
+use Rattle.mw_file.specs.Opening.{IsOpened, DiskFailed, Fails, open_calls}
+use Rattle.mw_world_file.specs.declared.device.Device.TheVariants.{Shut}
+use Rattle.mw_world_file.specs.declared.kept.Book.{Book}
+use Rattle.mw_world_file.specs.declared.places.Place.TheVariants.{Empty as KeptEmpty}
+use Rattle.mw_world_file.specs.declared.faults.BookFault.{BookFault}
+use Rattle.mw_world_file.specs.declared.faults.BookFault.TheVariants.{NotEnabled, Memory as NoMemory}
+use Rattle.mw_world_file.specs.Books.{Shows, HasParts, quota_of}
+use Rattle.mw_world_file.specs.Calls.{is_made}
+use Rattle.mw_world_file.specs.Files.{broken, file_of}
+use Rattle.mw_world_file.specs.Restarts.{may_fail, opened_file}
+use Rattle.mw_world_file.specs.Stopping.{named, IsReopened, ReopenEnds}
+use Rattle.mw_world_file.proofs.OpenedFiles.{none_there, zero_there, same_calls, opened_words, opened_places}
+use Rattle.mw_world_file.proofs.WorkedFiles.{shows_parts}
+
+-- bytes that have words have no damage, and these are the words in them
+undamaged_by : (bytes words : List ℕ) (damage : Option _) → damage_of bytes ≡ damage → file_words bytes ≡ Some words → damage_of bytes ≡ None
+undamaged_by bytes words None is has = is
+undamaged_by bytes words (Some fault) is has =
+    absurd (let e : None ≡ Some words = sym (ap (λ d. if is_none d then Some (words_in bytes) else None) is) ∙ has in cc)
+
+pub undamaged : (bytes words : List ℕ) → file_words bytes ≡ Some words → damage_of bytes ≡ None
+undamaged bytes words has = undamaged_by bytes words (damage_of bytes) refl has
+
+pub words_found : (bytes words : List ℕ) → file_words bytes ≡ Some words → words_in bytes ≡ words
+words_found bytes words has =
+    let e : Some (words_in bytes) ≡ Some words = sym (ap (λ d. if is_none d then Some (words_in bytes) else None) (undamaged bytes words has)) ∙ has in
+    cc
+
+-- the call that a script names fails, and no other does
+named_fails : (number k : ℕ) → number ≡ k + 1 → k < most_counted → scripted (number ∷ []) k ≡ Some false
+named_fails number k is fits =
+    cond-true ((number == k + 1 || false) && nat_lt k most_counted) (Some false) (Some true)
+    (and_from (number == k + 1 || false) (nat_lt k most_counted) (ap (λ b. b || false) (eq-eqb number (k + 1) is)) (lt-ltb k most_counted fits))
+
+fails_named : (number k : ℕ) (b : Bool) → ((number == k + 1 || false) && nat_lt k most_counted) ≡ b → (scripted (number ∷ []) k ≡ Some true → ⊥) → number ≡ k + 1
+fails_named number k true is doomed = by (number == k + 1) refl (and_parts (number == k + 1 || false) (nat_lt k most_counted) is).0 where
+  by : (b : Bool) → (number == k + 1) ≡ b → (number == k + 1 || false) ≡ true → number ≡ k + 1
+  by true same is = eqb-true number (k + 1) same
+  by false same is = absurd (let e : false ≡ true = sym (ap (λ b. b || false) same) ∙ is in cc)
+fails_named number k false is doomed = absurd (doomed (cond-false ((number == k + 1 || false) && nat_lt k most_counted) (Some false) (Some true) is))
+
+-- A new disk, of bytes that are a file, on which the named call is to fail.
+module _ (disk : Memory) (bytes words : List ℕ) (places : ℕ) (fails_at : Option ℕ) (reads : (memory_facts disk).reads ≡ bytes) (rest : IsAtRest (memory_facts disk)) (is : IsFile places words bytes)
+    (plan : (k : ℕ) → (memory_facts disk).plan k ≡ scripted (named fails_at) k) where
+  plan_named : (number k : ℕ) → fails_at ≡ Some number → (memory_facts disk).plan k ≡ scripted (number ∷ []) k
+  plan_named number k at = plan k ∙ ap (λ f. scripted (named f) k) at
+
+  calls_as : (image : List ℕ) → image ≡ take MAX_FILE (memory_facts disk).reads → open_calls image ≡ open_calls bytes
+  calls_as image same = ap open_calls (same ∙ ap (take MAX_FILE) reads) ∙ same_calls bytes (undamaged bytes words is.words_are)
+
+  -- an opening that went well made no call with that number
+  well_made : (number : ℕ) → fails_at ≡ Some number → number < 2 ^ 64 → (file : TenantFile Memory) (contents : List ℕ) → IsOpened memory_facts disk file contents → is_made (open_calls bytes) number ≡ false
+  well_made zero at fits file contents opened = refl
+  well_made (suc m) at fits file contents opened = elim (cases_lt (open_calls bytes) (suc m)) [
+    | inl past ↦ and_right (nat_le 1 (suc m)) (nat_le (suc m) (open_calls bytes)) (lt-leb (suc m) (open_calls bytes) past)
+    | inr within ↦
+        let same = calls_as opened.image (opened.seen refl) in
+        absurd (opened.made.none_doomed m (omega (arith, same, within)) (plan_named (suc m) m at ∙ named_fails (suc m) m (omega arith) (omega (arith, fits))))
+  ]
+
+  pub not_failed : (file : TenantFile Memory) (contents : List ℕ) → IsOpened memory_facts disk file contents → IsSomeAnd fails_at (λ number. number < 2 ^ 64) → may_fail (open_calls bytes) fails_at ≡ false
+  not_failed file contents opened some = by fails_at refl some where
+    by : (f : Option ℕ) → fails_at ≡ f → IsSomeAnd f (λ number. number < 2 ^ 64) → may_fail (open_calls bytes) fails_at ≡ false
+    by None at some_so = absurd some_so
+    by (Some number) at fits = ap (may_fail (open_calls bytes)) at ∙ well_made number at fits file contents opened
+
+  -- an opening that failed, and was refused no memory, made that call
+  badly_made : (number : ℕ) → fails_at ≡ Some number → (after : Memory) → DiskFailed memory_facts disk after → disk.refused ≡ 0 → after.refused ≡ 0 → is_made (open_calls bytes) number ≡ true
+  badly_made number at after failed none_before none =
+      let well = failed.made.well in
+      let fewer = failed.made.fewer in
+      let within = failed.within refl in
+      let same = calls_as (take MAX_FILE (memory_facts disk).reads) refl in
+      let is_next : number ≡ well + 1 = fails_named number well _ refl (λ goes.
+      let e : after.refused ≡ min (disk.refused + 1) most_counted = failed.made.spared refl (plan_named number well at ∙ goes) in
+      omega (arith, e, none_before, none)) in
+      and_from (nat_le 1 number) (nat_le number (open_calls bytes)) (le-leb 1 number (omega (arith, is_next))) (le-leb number (open_calls bytes) (omega (arith, is_next, fewer, within, same)))
+
+  -- whatever a crash leaves then is still a file of the words
+  left_file : (after : Memory) → DiskFailed memory_facts disk after → (image : List ℕ) → MayLeave (memory_facts after) image → IsFile places words image
+  left_file after failed image may =
+      let as_before = leaves_now (memory_facts disk) (memory_facts after) (failed.unchanged refl rest).left image may in
+      record {
+        words_are = as_before.words ∙ ap file_words reads ∙ is.words_are;
+        places_are = as_before.places ∙ ap places_of reads ∙ is.places_are;
+      }
+
+  pub failed_so : (after : Memory) → DiskFailed memory_facts disk after → disk.refused ≡ 0 → (new : Book) (found : List ℕ) (quota slots : ℕ) → found ≡ words → quota ≡ places → IsSome fails_at → after.refused ≡ 0
+      → HasParts new (Shut after) found (replicate quota KeptEmpty) (replicate slots 0) true [] → IsReopened bytes places words fails_at new
+  failed_so after failed none_before new found quota slots are as_many some none parts = by fails_at refl some where
+    length_empty : (n : ℕ) → length (replicate n KeptEmpty) ≡ n
+    length_empty zero = refl
+    length_empty (suc n) = ap suc (length_empty n)
+
+    by : (f : Option ℕ) → fails_at ≡ f → IsSome f → IsReopened bytes places words fails_at new
+    by None at some_so = absurd (let e : false ≡ true = some_so in cc)
+    by (Some number) at some_so = record {
+      fails = ap (may_fail (open_calls bytes)) at ∙ badly_made number at after failed none_before none;
+      count = ap (λ ps. length ps) parts.is_places ∙ length_empty quota ∙ as_many;
+      shows = subst (λ f. Shows new (opened_file words f)) (sym at)
+          (shows_parts new (Shut after) found (replicate quota KeptEmpty) (replicate slots 0) true [] (broken (file_of words) []) parts (record {
+            same_contents = sym are;
+            same_places = λ place lt. sym (none_there quota place);
+            same_place_of = λ slot lt. sym (zero_there slots slot);
+            same_failed = refl;
+            same_doubt = refl;
+            stands = (refl, λ image may. subst (λ n. IsFile n found image) (sym (length_empty quota ∙ as_many)) (subst (λ ws. IsFile places ws image) (sym are) (left_file after failed image may)));
+          }));
+    }
+
+  -- how an opening ends that went well, and one that failed
+  pub opened_ends : (file : TenantFile Memory) (contents : List ℕ) → IsOpened memory_facts disk file contents → (r : Result Book BookFault)
+      → MatchResult r (λ book. (fails_at ≡ None) × Shows book (file_of contents) × (quota_of book ≡ length (slots_of file))) (λ fault. fault ≡ NotEnabled → IsSomeAnd fails_at (λ number. number < 2 ^ 64))
+      → ReopenEnds bytes places words fails_at r
+  opened_ends file contents opened (Ok new) ends =
+      let is_read : IsFile places words (memory_facts disk).reads = subst (λ image. IsFile places words image) (sym reads) is in
+      record {
+        fails = ap (may_fail (open_calls bytes)) ends.0;
+        count = ends.2 ∙ opened_places disk file contents places words opened is_read;
+        shows = subst (λ f. Shows new (opened_file words f)) (sym ends.0) (subst (λ ws. Shows new (file_of ws)) (opened_words disk file contents places words opened is_read) ends.1);
+      }
+  opened_ends file contents opened (Err NotEnabled) ends = not_failed file contents opened (ends refl)
+  opened_ends file contents opened (Err NoMemory) ends = tt
+
+  pub shut_ends : (after : Memory) (fault : OpenFault) → fault ≡ Disk → Fails memory_facts disk fault after → disk.refused ≡ 0 → (found : List ℕ) (quota slots : ℕ) → found ≡ words → quota ≡ places
+      → (r : Result Book BookFault)
+      → MatchResult r (λ book. IsSome fails_at × (after.refused ≡ 0) × HasParts book (Shut after) found (replicate quota KeptEmpty) (replicate slots 0) true []) (λ fault. fault ≡ NoMemory)
+      → ReopenEnds bytes places words fails_at r
+  shut_ends after fault at failed none_before found quota slots are as_many (Ok new) ends =
+      failed_so after (subst (λ f. Fails memory_facts disk f after) at failed) none_before new found quota slots are as_many ends.0 ends.1 ends.2
+  shut_ends after fault at failed none_before found quota slots are as_many (Err NotEnabled) ends = absurd (let e : NotEnabled ≡ NoMemory = ends in cc)
+  shut_ends after fault at failed none_before found quota slots are as_many (Err NoMemory) ends = tt

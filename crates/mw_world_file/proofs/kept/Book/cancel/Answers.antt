@@ -1,0 +1,40 @@
+use Rattle.std.proofs.Common.{◌∙◌, ◌≡◌, true, sym, ap, refl, arith, get_or}
+use Rattle.mw_world_file.specs.declared.places.Place.TheVariants.{Prepared as KeptPrepared}
+use Rattle.mw_world_file.specs.Working.{may_end}
+use Rattle.mw_world_file.proofs.WorkedFiles.{is_at, IsAt}
+use Rattle.mw_world_file.proofs.SealedFiles.{none_shut, is_prepared_in, emptied_kept, cancel_done}
+use Rattle.mw_world_file.proofs.kept.Book.cancel.Goals as goal
+
+pub cancel-requires : goal.cancel-requires
+cancel-requires c =
+    let old = c.args.self.now in let es = c.in-Some-Prepared.entries in
+    let at : IsAt old c.args.slot (get_or old.place_of c.args.slot 0) (KeptPrepared es) =
+    is_at old c.args.slot (KeptPrepared es) c.in-Some-Prepared.field-0.now c.deref.result.now c.in-Some-Prepared.field-0-is c.in-Some-Prepared.ensures.lookup.0 c.in-Some-Prepared.ensures.lookup.1
+    c.deref.ensures.value (omega (arith, c.ranges.slot.fits)) in
+    is_prepared_in old c.args.slot (get_or old.place_of c.args.slot 0) es at c.in-Open.held c.in-Open.is c.in_ok-file.file c.in_ok-file.ensures.same.slots
+
+pub unreachable-requires : goal.unreachable-requires
+unreachable-requires c =
+    let old = c.args.self.now in let es = c.in-Some-Prepared.entries in
+    let at : IsAt old c.args.slot (get_or old.place_of c.args.slot 0) (KeptPrepared es) =
+    is_at old c.args.slot (KeptPrepared es) c.in-Some-Prepared.field-0.now c.deref.result.now c.in-Some-Prepared.field-0-is c.in-Some-Prepared.ensures.lookup.0 c.in-Some-Prepared.ensures.lookup.1
+    c.deref.ensures.value (omega (arith, c.ranges.slot.fits)) in
+    none_shut old c.args.slot (get_or old.place_of c.args.slot 0) es at c.in_default-device.field-0 c.in_default-device.is
+
+pub emptied-requires-clause-kept : goal.emptied-requires-clause-kept
+emptied-requires-clause-kept c =
+    let old = c.args.self.now in let es = c.in-Some-Prepared.entries in
+    let at : IsAt old c.args.slot (get_or old.place_of c.args.slot 0) (KeptPrepared es) =
+    is_at old c.args.slot (KeptPrepared es) c.in-Some-Prepared.field-0.now c.deref.result.now c.in-Some-Prepared.field-0-is c.in-Some-Prepared.ensures.lookup.0 c.in-Some-Prepared.ensures.lookup.1
+    c.deref.ensures.value (omega (arith, c.ranges.slot.fits)) in
+    emptied_kept old c.args.slot (get_or old.place_of c.args.slot 0) (KeptPrepared es) at c.in-Open.held c.in-Open.is c.in_ok-file.file c.in_ok-file.ensures.same.slots c.cancel.new.self _ c.cancel.ensures.staged
+
+pub returns : goal.returns
+returns c others =
+    let old = c.args.self.now in let es = c.in-Some-Prepared.entries in
+    let at : IsAt old c.args.slot (get_or old.place_of c.args.slot 0) (KeptPrepared es) =
+    is_at old c.args.slot (KeptPrepared es) c.in-Some-Prepared.field-0.now c.deref.result.now c.in-Some-Prepared.field-0-is c.in-Some-Prepared.ensures.lookup.0 c.in-Some-Prepared.ensures.lookup.1
+    c.deref.ensures.value (omega (arith, c.ranges.slot.fits)) in
+    let may : may_end 0 c.args.outcome ≡ true = ap (λ n. may_end n c.args.outcome) (sym c.device_calls.ensures) ∙ sym c.may_end.ensures ∙ c.if-not-may_end.false in
+    cancel_done old c.args.slot (get_or old.place_of c.args.slot 0) es at c.in-Open.held c.in-Open.is c.cancel.new.self _ others c.args.outcome may
+    (λ contents doubt keeps. (c.cancel.ensures.safe refl contents doubt (c.in_ok-file.ensures.keeps contents doubt keeps)).after) c.in_ok-emptied.ensures

@@ -1,0 +1,9 @@
+use Rattle.mw_words.specs.declared.limits.TheConstants.{MAX_POOL}
+use Rattle.mw_world_file.proofs.OpenedFiles.{free_kept, tells_opened}
+use Rattle.mw_world_file.proofs.opened.open_book.Goals as goal
+
+pub invariant_of-result-clause-kept : goal.invariant_of-result-clause-kept
+invariant_of-result-clause-kept c = free_kept _ _ _ c.requires.free c.in_ok-places.ensures
+
+pub returns-clause-shows : goal.returns-clause-shows
+returns-clause-shows c = tells_opened c.args.file c.args.contents.items c.in_ok-places.places.items c.new.result.items _ MAX_POOL c.requires.keeps c.in_ok-places.ensures c.new.ensures

@@ -1,0 +1,36 @@
+-- A book, and the file that it shows.
+use Rattle.std.specs.Prelude.{◌≡◌, ◌<◌, ℕ, Bool, List, length, slice_index}
+use Rattle.mw_words.specs.declared.limits.TheConstants.{MAX_POOL}
+use Rattle.mw_words.specs.declared.jobs.Entry.{Entry}
+use Rattle.mw_world_file.specs.declared.device.Device.{Device}
+use Rattle.mw_world_file.specs.declared.places.Place.{Place as KeptPlace}
+use Rattle.mw_world_file.specs.declared.kept.Book.{Book}
+use Rattle.mw_world_file.specs.Devices.{place_in, StandsFor}
+use Rattle.mw_world_file.specs.Files.{File}
+
+-- These parts of a book tell of this file: each says what the file says, and the file in memory stands for its words, with its change
+-- in doubt.
+pub record Tells (device : Device) (contents : List ℕ) (places : List KeptPlace) (place_of : List ℕ) (failed : Bool) (doubt : List Entry) (file : File) : Type 0 where
+  pub same_contents : file.contents ≡ contents
+  pub same_places : (place : ℕ) → place < length places → file.places place ≡ place_in places place
+  pub same_place_of : (slot : ℕ) → slot < MAX_POOL → file.place_of slot ≡ slice_index place_of slot
+  pub same_failed : file.has_failed ≡ failed
+  pub same_doubt : file.doubt ≡ doubt
+  pub stands : StandsFor device (length places) contents doubt
+
+-- the book shows this file
+abbrev pub Shows : Book → File → Type 0
+Shows book file = Tells book.device book.contents.items book.places.items book.place_of book.has_failed book.doubt.items file
+
+-- how many places the book has
+abbrev pub quota_of : Book → ℕ
+quota_of book = length book.places.items
+
+-- These are the parts of a book.
+pub record HasParts (book : Book) (device : Device) (contents : List ℕ) (places : List KeptPlace) (place_of : List ℕ) (failed : Bool) (doubt : List Entry) : Type 0 where
+  pub is_device : book.device ≡ device
+  pub is_contents : book.contents.items ≡ contents
+  pub is_places : book.places.items ≡ places
+  pub is_place_of : book.place_of ≡ place_of
+  pub is_failed : book.has_failed ≡ failed
+  pub is_doubt : book.doubt.items ≡ doubt

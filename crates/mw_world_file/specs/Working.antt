@@ -1,0 +1,46 @@
+-- What a call makes of a tenant's file, and of the book of that file.
+use Rattle.std.specs.Prelude.{◌≡◌, ℕ, Bool, true, if◌then◌else◌, List, length, Option, Some, None, Result, Ok, Err}
+use Rattle.mw_words.specs.declared.jobs.Entry.{Entry}
+use Rattle.mw_look.specs.declared.steps.Call.{Call}
+use Rattle.mw_world_file.specs.declared.outcomes.Outcome.{Outcome}
+use Rattle.mw_world_file.specs.declared.outcomes.Outcome.TheVariants.{Good, Fail}
+use Rattle.mw_world_file.specs.declared.faults.BookFault.{BookFault}
+use Rattle.mw_world_file.specs.declared.faults.BookFault.TheVariants.{NotEnabled, Memory}
+use Rattle.mw_world_file.specs.declared.kept.Book.{Book}
+use Rattle.mw_world_file.specs.Files.{File, entries_at, broken}
+use Rattle.mw_world_file.specs.Calls.{place_for, suits, device_calls, is_made, filed, doubt_of}
+use Rattle.mw_world_file.specs.Books.{Shows, quota_of}
+
+-- a call of so many device calls may end so: one that fails is one of them
+abbrev pub may_end : ℕ → Outcome → Bool
+may_end calls Good = true
+may_end calls (Fail number) = is_made calls number
+
+-- the file after a call about a place, by what the device does
+abbrev pub left_by : Call → File → ℕ → ℕ → List Entry → Outcome → File
+left_by call file slot place entries Good = filed call file slot place entries
+left_by call file slot place entries (Fail number) = broken file (doubt_of call (entries_at file place))
+
+-- the same, where that place suits the call and it may end so
+abbrev pub worked_at : Call → File → ℕ → ℕ → ℕ → List Entry → Outcome → Option File
+worked_at call file places slot place entries outcome =
+    if suits call file places place
+    then (if may_end (device_calls call (entries_at file place)) outcome then Some (left_by call file slot place entries outcome) else None)
+    else None
+
+-- The file, of so many places, after a call for the change of a slot, which starts on a file that hasn't failed, or is one that can't
+-- fail. None: this can't be.
+abbrev pub worked : Call → File → ℕ → ℕ → List Entry → Outcome → Option File
+worked call file places slot entries outcome = worked_at call file places slot (place_for call file places slot) entries outcome
+
+-- The book of a file after something is that of the file after it, with as many places and words.
+pub record Turns (old new : Book) (turn : File → Option File) : Type 0 where
+  pub places : quota_of new ≡ quota_of old
+  pub words : length new.contents.items ≡ length old.contents.items
+  pub shows : (file : File) → Shows old file → (after : File) × (turn file ≡ Some after) × Shows new after
+
+-- How a call on a book ends: with the book of the file after it, or the call can't be so. Or memory was refused.
+abbrev pub Works : Book → Call → ℕ → List Entry → Outcome → Result Book BookFault → Type 0
+Works old call slot entries outcome (Ok new) = Turns old new (λ file. worked call file (quota_of old) slot entries outcome)
+Works old call slot entries outcome (Err NotEnabled) = (file : File) → Shows old file → worked call file (quota_of old) slot entries outcome ≡ None
+Works old call slot entries outcome (Err Memory) = Unit {0}

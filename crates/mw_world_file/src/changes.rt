@@ -1,0 +1,39 @@
+//! Changes and the words that they are of.
+ghost use Rattle.std.specs.Prelude.{◌≡◌, ◌==◌, IfOk};
+ghost use Rattle.std.specs.List.{list_any};
+ghost use Rattle.mw_words.specs.Change as change;
+ghost use Rattle.mw_world_file.specs.Files as spec;
+
+use mw_words::Entry;
+use std::alloc::{AllocError, Global};
+
+/// These words with every entry's new value at its address. Past the last word there is nothing to
+/// write to. The only error is want of memory.
+pub(crate) fn with_change(
+    alloc: Global,
+    words: &[u64],
+    entries: &[Entry],
+) -> Result<Vec<u64>, AllocError>
+    ensures { IfOk result (λ changed. changed.items ≡ change.put words.now entries.now) }
+{
+    let mut changed = words.to_vec(alloc)?;
+    for entry in entries {
+        if (entry.addr as usize) < changed.len() {
+            changed[entry.addr as usize] = entry.new;
+        }
+    }
+    Ok(changed)
+}
+
+/// Whether two changes have an entry of one word.
+pub(crate) fn share_a_word(these: &[Entry], those: &[Entry]) -> bool
+    ensures { result ≡ spec.share_a_word these.now those.now }
+{
+    these.iter().any(|one| has_word(those, one.addr))
+}
+
+fn has_word(entries: &[Entry], addr: u16) -> bool
+    ensures { result ≡ list_any (λ other. other.addr == addr) entries.now }
+{
+    entries.iter().any(|other| other.addr == addr)
+}

@@ -1,0 +1,54 @@
+//! The book of a file that was just opened.
+ghost use Rattle.std.specs.Prelude.{◌≡◌, [], false, length, replicate, IfOk, IsTrue};
+ghost use Rattle.mw_disk.specs.Memory.{memory_facts};
+ghost use Rattle.mw_file.specs.File.{disk_of, has_failed, slots_of};
+ghost use Rattle.mw_file.specs.Keeps.{Keeps};
+ghost use Rattle.mw_file.specs.Slots.{all_free};
+ghost use Rattle.mw_world_file.specs.Books.{Shows, quota_of};
+ghost use Rattle.mw_world_file.specs.Devices.{IsReady};
+ghost use Rattle.mw_world_file.specs.Files.{file_of};
+ghost use Rattle.mw_world_file.specs.declared.places.Place.TheVariants.{Empty};
+
+use crate::device::Device;
+use crate::kept::{Book, SLOTS};
+use crate::places::Place;
+use mw_disk::MemDisk;
+use mw_file::TenantFile;
+use mw_words::Entries;
+use std::alloc::{AllocError, Global};
+
+/// The book of a file that was just opened, with the words that it stands for. All its places are
+/// empty. The only error is want of memory.
+pub(crate) fn open_book(
+    alloc: Global,
+    file: TenantFile<MemDisk>,
+    contents: Vec<u64>,
+) -> Result<Book, AllocError>
+    requires free { IsTrue (all_free (slots_of file)) }
+    requires sound { has_failed file ≡ false }
+    requires keeps { Keeps memory_facts file contents.items [] }
+    requires ready { IsReady (disk_of file) }
+    ensures shows { IfOk result (λ book. Shows book (file_of contents.items)) }
+    ensures places { IfOk result (λ book. quota_of book ≡ length (slots_of file)) }
+{
+    let places = empty_places(alloc, usize::from(file.places()))?;
+    Ok(Book {
+        device: Device::Open(file),
+        contents,
+        places,
+        place_of: [0; SLOTS],
+        has_failed: false,
+        doubt: Entries::new(),
+    })
+}
+
+/// So many empty places. The only error is want of memory.
+pub(crate) fn empty_places(alloc: Global, count: usize) -> Result<Vec<Place>, AllocError>
+    ensures { IfOk result (λ places. places.items ≡ replicate count Empty) }
+{
+    let mut places = Vec::with_capacity(alloc, count)?;
+    for _ in 0..count {
+        places.push(Place::Empty)?;
+    }
+    Ok(places)
+}

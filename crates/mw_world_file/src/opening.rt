@@ -1,0 +1,133 @@
+//! The opening of a tenant's file.
+ghost use Rattle.std.specs.Prelude.{◌≡◌, ◌<◌, ◌^◌, ℕ, List, Some, None, [], length, replicate, true, false, IsTrue, IsSome, IsSomeAnd, IfOk, MatchResult};
+ghost use Rattle.mw_disk.specs.Memory.{memory_facts};
+ghost use Rattle.mw_file.specs.File.{disk_of, slots_of, has_failed};
+ghost use Rattle.mw_file.specs.Keeps.{IsFile, Keeps};
+ghost use Rattle.mw_file.specs.Slots.{all_free};
+ghost use Rattle.mw_record.specs.Damages.{words_in};
+ghost use Rattle.mw_world_file.specs.Books.{HasParts, Shows, quota_of};
+ghost use Rattle.mw_world_file.specs.Devices.{IsReady};
+ghost use Rattle.mw_world_file.specs.Files.{file_of};
+ghost use Rattle.mw_world_file.specs.Stopping.{named};
+ghost use Rattle.mw_world_file.specs.declared.device.Device.TheVariants.{Shut};
+
+use crate::device::Device;
+use crate::faults::BookFault;
+use crate::kept::{Book, SLOTS};
+use crate::opened::{empty_places, open_book};
+use crate::places::Place;
+use mw_disk::MemDisk;
+use mw_file::{OpenFault, TenantFile};
+use mw_record::{Image, decode};
+use mw_words::Entries;
+use std::alloc::{AllocError, Global};
+
+/// The words of a file without damage.
+fn words_of(alloc: Global, image: &Image<'_>) -> Result<Vec<u64>, AllocError>
+    ensures { IfOk result (λ words. words.items ≡ words_in image.now) }
+{
+    let mut words = Vec::new(alloc);
+    for addr in 0..image.words() {
+        words.push(image.word(addr))?;
+    }
+    Ok(words)
+}
+
+/// A script that names this call.
+fn script_of(alloc: Global, fails_at: Option<u64>) -> Result<Vec<u64>, AllocError>
+    ensures { IfOk result (λ script. script.items ≡ named fails_at) }
+{
+    let mut script = Vec::new(alloc);
+    if let Some(number) = fails_at {
+        script.push(number)?;
+    }
+    Ok(script)
+}
+
+impl Book {
+    ghost use Rattle.mw_world_file.specs.Stopping.{ReopenEnds};
+
+    /// The book of a file that was opened, if no device call was to fail.
+    fn opened(
+        alloc: Global,
+        file: TenantFile<MemDisk>,
+        words: Vec<u64>,
+        fails_at: Option<u64>,
+    ) -> Result<Book, BookFault>
+        requires free { IsTrue (all_free (slots_of file)) }
+        requires sound { has_failed file ≡ false }
+        requires keeps { Keeps memory_facts file words.items [] }
+        requires ready { fails_at ≡ None → IsReady (disk_of file) }
+        ensures { MatchResult result
+            (λ book. (fails_at ≡ None) × Shows book (file_of words.items) × (quota_of book ≡ length (slots_of file)))
+            (λ fault. fault ≡ BookFault.NotEnabled → IsSomeAnd fails_at (λ number. number < 2 ^ 64)) }
+    {
+        if fails_at.is_some() {
+            return Err(BookFault::NotEnabled);
+        }
+        Ok(open_book(alloc, file, words)?)
+    }
+
+    /// The book of a file whose opening failed, if a device call was to fail and none was refused memory.
+    fn shut(
+        alloc: Global,
+        disk: MemDisk,
+        words: Vec<u64>,
+        quota: u16,
+        fails_at: Option<u64>,
+    ) -> Result<Book, BookFault>
+        ensures { MatchResult result
+            (λ book. IsSome fails_at × (disk.refused ≡ 0) × HasParts book (Shut disk) words.items (replicate quota Place.Empty) (replicate SLOTS 0) true [])
+            (λ fault. fault ≡ BookFault.Memory) }
+    {
+        if fails_at.is_none() || disk.refused() > 0 {
+            return Err(BookFault::Memory);
+        }
+        let Ok(places) = empty_places(alloc, usize::from(quota)) else {
+            return Err(BookFault::Memory);
+        };
+        Ok(Book {
+            device: Device::Shut(disk),
+            contents: words,
+            places,
+            place_of: [0; SLOTS],
+            has_failed: true,
+            doubt: Entries::new(),
+        })
+    }
+
+    /// The book of a file that is opened from these bytes.
+    ///
+    /// # Errors
+    ///
+    /// [`BookFault::NotEnabled`] where the opening makes no device call with the number of the one that
+    /// is to fail. [`BookFault::Memory`] where memory was refused.
+    pub(crate) fn open(
+        alloc: Global,
+        bytes: Vec<u8>,
+        fails_at: Option<u64>,
+    ) -> Result<Book, BookFault>
+        ensures { (words : List ℕ) (places : ℕ) → IsFile places words bytes.items → ReopenEnds bytes.items places words fails_at result }
+    {
+        let Ok(image) = decode(&bytes) else {
+            return Err(BookFault::NotEnabled);
+        };
+        let found = words_of(alloc, &image)?;
+        let quota = image.places();
+        let disk = MemDisk::new(alloc, bytes, script_of(alloc, fails_at)?)?;
+        match TenantFile::open(alloc, disk) {
+            Ok(opened) => {
+                let (file, words) = opened;
+                Book::opened(alloc, file, words, fails_at)
+            }
+            Err(failed) => {
+                let (fault, disk) = failed;
+                match fault {
+                    OpenFault::Disk => Book::shut(alloc, disk, found, quota, fails_at),
+                    OpenFault::Damage(_) => Err(BookFault::NotEnabled),
+                    OpenFault::Memory => Err(BookFault::Memory),
+                }
+            }
+        }
+    }
+}
