@@ -71,7 +71,7 @@ impl From<clap::Error> for ArgFault {
 /// [`ArgFault::Refused`] where clap refuses the words, or they ask for the help; [`ArgFault::Words`]
 /// where they haven't exactly one of `--listen` and `--script`, or have `--connections` with
 /// `--script`; [`ArgFault::Memory`] where memory was refused. The words are only read.
-pub fn read_words(alloc: Global, words: &[String]) -> Result<Args, ArgFault>
+pub fn read_args(alloc: Global, words: &[String]) -> Result<Args, ArgFault>
     ensures permitted { IfOk result (λ args. ArePermittedArgs args) }
 {
     let matches = command(alloc)?.try_get_matches_from(words)?;

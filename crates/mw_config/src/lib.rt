@@ -8,7 +8,7 @@ mod lines;
 mod refusals;
 mod tenants;
 
-pub use command_line::{ArgFault, Args, Mode, read_words};
+pub use command_line::{ArgFault, Args, Mode, read_args};
 pub use laws::one_answer;
 pub use lines::TenantLine;
 pub use refusals::Refusal;

@@ -157,7 +157,7 @@ fn read(alloc: Global, words: &[&str]) -> Result<String, AllocError> {
     for word in words {
         given.push(String::from_str(alloc, word)?)?;
     }
-    match read_words(alloc, &given) {
+    match read_args(alloc, &given) {
         Ok(args) => format!(in alloc; "{args:?}"),
         Err(ArgFault::Refused(_)) => String::from_str(alloc, "refused"),
         Err(ArgFault::Words) => String::from_str(alloc, "words"),
@@ -322,7 +322,7 @@ fn fault_of(alloc: Global, word: &str) -> Result<String, AllocError> {
     let mut words = Vec::new(alloc);
     words.push(String::from_str(alloc, "mwserve")?)?;
     words.push(String::from_str(alloc, word)?)?;
-    match read_words(alloc, &words) {
+    match read_args(alloc, &words) {
         Ok(_) => String::from_str(alloc, "none"),
         Err(fault) => format!(in alloc; "{fault}"),
     }

@@ -1,8 +1,8 @@
 -- What an engine is before it serves.
-use Rattle.mw_engine.specs.declared.unstarted.Unstarted.{Unstarted}
+use Rattle.mw_engine.specs.declared.parts.EngineParts.{EngineParts}
 use Rattle.mw_engine.specs.Identity.{Identity}
 use Rattle.mw_engine.specs.Lines.{identity_over}
 
 -- the identity that the engine has once it is started
-abbrev pub identity_of : {D H : Type 0} → Unstarted D H → Identity
-identity_of unstarted = identity_over unstarted.plain
+abbrev pub identity_of : {D H : Type 0} → EngineParts D H → Identity
+identity_of parts = identity_over parts.plain

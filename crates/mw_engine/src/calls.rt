@@ -10,14 +10,14 @@ ghost use Rattle.mw_plain.specs.Quotas.{disk_in};
 ghost use Rattle.mw_plain.specs.Report.{figures_of};
 ghost use Rattle.mw_report.specs.Table.{AreWithinLimits};
 
-use crate::room::Room;
+use crate::brand::EngineBrand;
 use crate::store::Store;
 use mw_disk::Disk;
 use mw_report::Figures;
 use mw_words::{Job, Reply};
 use std::alloc::{AllocError, Global};
 
-impl<J: Room, D: Disk + Drop> Store<J, D> {
+impl<J: EngineBrand, D: Disk + Drop> Store<J, D> {
     /// The reply to a job of a tenant, as the plain store answers it.
     pub(crate) fn ask(&mut self, tenant: u8, job: &Job) -> Reply
         requires { IsFor J.identity tenant job.now }

@@ -2,10 +2,10 @@
 ghost use Rattle.std.specs.Prelude.{◌≡◌, map};
 ghost use Rattle.mw_engine.specs.Lines.{line_of};
 
+use crate::brand::EngineBrand;
 use crate::hold::{Hold, Point};
 use crate::listed::Listed;
 use crate::pass::Pass;
-use crate::room::Room;
 use crate::store::Store;
 use arrayvec::ArrayVec;
 use mw_disk::Disk;
@@ -16,14 +16,14 @@ use std::sync::{Mutex, Wait};
 
 /// The tenants' words, which many workers ask at once. One request at a time is served, under a lock.
 #[derive(Drop)]
-pub struct Engine<J: Room, D, H> {
+pub struct Engine<J: EngineBrand, D, H> {
     pub(crate) lines: ArrayVec<Listed, MAX_TENANTS>,
     pub(crate) store: Mutex<Store<J, D>>,
     pub(crate) hold: H,
     ghost same: { map line_of lines.items ≡ J.identity.lines },
 }
 
-impl<J: Room, D: Disk + Drop, H: Hold + Drop> Engine<J, D, H> {
+impl<J: EngineBrand, D: Disk + Drop, H: Hold + Drop> Engine<J, D, H> {
     ghost use Rattle.std.specs.Prelude.{◌<◌, ◌-◌, is_some, length, IfOk, IfSome, MatchOption};
     ghost use Rattle.mw_report.specs.Table.{AreWithinLimits};
     ghost use Rattle.mw_engine.specs.Lines.{line_shown, used_in_all};

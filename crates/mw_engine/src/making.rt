@@ -6,13 +6,13 @@ ghost use Rattle.mw_engine.specs.Lines.{line_of, line_read, told_by};
 ghost use Rattle.mw_engine.specs.Starting.{identity_of};
 ghost use Rattle.mw_engine.specs.Passes.{IsIdle, passes_to};
 
+use crate::brand::EngineBrand;
 use crate::engine::Engine;
 use crate::hold::Hold;
 use crate::listed::Listed;
+use crate::parts::EngineParts;
 use crate::pass::Pass;
-use crate::room::Room;
 use crate::store::Store;
-use crate::unstarted::Unstarted;
 use arrayvec::ArrayVec;
 use mw_config::TenantLine;
 use mw_disk::Disk;
@@ -23,7 +23,7 @@ use std::alloc::{AllocError, Global};
 use std::marker::PhantomData;
 use std::sync::Mutex;
 
-impl<D: Disk + Drop, H: Hold + Drop> Unstarted<D, H> {
+impl<D: Disk + Drop, H: Hold + Drop> EngineParts<D, H> {
     /// An engine of the tenants with these lines, each over its file and the words that it was opened
     /// with, and a pass for each of so many workers, in order of number. A tenant whose file didn't
     /// open, or isn't as its line says, has faulted from the start. The tenants share a pool of so many
@@ -39,7 +39,7 @@ impl<D: Disk + Drop, H: Hold + Drop> Unstarted<D, H> {
         pool: u16,
         workers: u8,
         hold: H,
-    ) -> Result<(Unstarted<D, H>, Vec<Pass>), AllocError>
+    ) -> Result<(EngineParts<D, H>, Vec<Pass>), AllocError>
         requires few { length lines.now ≤ MAX_TENANTS }
         requires fit { FitLines lines.now files.items }
         requires shared { quotas_in lines.now ≤ pool }
@@ -51,22 +51,22 @@ impl<D: Disk + Drop, H: Hold + Drop> Unstarted<D, H> {
     {
         let plain = Plain::new(alloc, lines, files, pool)?;
         let passes = passes_for(alloc, workers)?;
-        let unstarted = Unstarted {
+        let parts = EngineParts {
             lines: listed(lines),
             plain,
             hold,
         };
-        Ok((unstarted, passes))
+        Ok((parts, passes))
     }
 
     /// The engine, which serves from now on.
-    pub fn start<J: Room>(self) -> Engine<J, D, H>
+    pub fn into_engine<J: EngineBrand>(self) -> Engine<J, D, H>
         requires { identity_of self ≡ J.identity }
     {
-        let Unstarted { lines, plain, hold } = self;
+        let EngineParts { lines, plain, hold } = self;
         let store = Store {
             plain,
-            room: PhantomData,
+            brand: PhantomData,
         };
         Engine {
             lines,

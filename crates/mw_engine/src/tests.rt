@@ -69,17 +69,17 @@ fn two_tenants<H: Hold + Drop>(
     alloc: Global,
     workers: u8,
     hold: H,
-) -> Result<(Unstarted<MemDisk, H>, Vec<Pass>), AllocError>
+) -> Result<(EngineParts<MemDisk, H>, Vec<Pass>), AllocError>
     ensures { IfOk result (λ made. All IsIdle made.1.items) }
 {
     let t = line(b"t", 2, 1);
     let u = line(b"u", 4, 2);
     let files = vec![in alloc; new_file(alloc, &t, 1), new_file(alloc, &u, 2)]?;
-    Unstarted::new(alloc, &[t, u], files, 3, workers, hold)
+    EngineParts::new(alloc, &[t, u], files, 3, workers, hold)
 }
 
 /// Asks a tenant for a job.
-fn ask<J: Room, H: Hold + Drop, R: Wait>(
+fn ask<J: EngineBrand, H: Hold + Drop, R: Wait>(
     rt: &R,
     engine: &Engine<J, MemDisk, H>,
     pass: &mut Pass,
@@ -109,22 +109,22 @@ fn change(addr: u16, expected: u64, new: u64) -> Job {
 
 #[test]
 fn one_worker(rt: HostRuntime) -> Result<(), Fail> {
-    let (unstarted, mut passes) = two_tenants(rt.alloc(), 1, NoHold)?;
+    let (parts, mut passes) = two_tenants(rt.alloc(), 1, NoHold)?;
     let pass = passes.pop().ok_or("there is a pass")?;
-    served_by_one::<Brand, _>(&rt, rt.alloc(), unstarted, pass)
+    served_by_one::<Brand, _>(&rt, rt.alloc(), parts, pass)
 }
 
 /// One worker asks both tenants and for the figures, and ends the engine.
-fn served_by_one<J: Room, R: Wait + Abort>(
+fn served_by_one<J: EngineBrand, R: Wait + Abort>(
     rt: &R,
     alloc: Global,
-    unstarted: Unstarted<MemDisk, NoHold>,
+    parts: EngineParts<MemDisk, NoHold>,
     mut pass: Pass,
 ) -> Result<(), Fail>
-    requires identity { identity_of unstarted ≡ J.identity }
+    requires identity { identity_of parts ≡ J.identity }
     requires idle { IsIdle pass }
 {
-    let engine = unstarted.start::<J>();
+    let engine = parts.into_engine::<J>();
     assert_eq!(rt; pass.worker(), 0);
     assert_eq!(rt; engine.find(&name_of(b"t")), Some((0, 2)));
     assert_eq!(rt; engine.find(&name_of(b"u")), Some((1, 4)));
@@ -158,10 +158,10 @@ fn two_workers(rt: HostRuntime) -> Result<(), Fail> {
         replies: &replies,
         others: &others,
     };
-    let (unstarted, mut passes) = two_tenants(rt.alloc(), 2, met)?;
+    let (parts, mut passes) = two_tenants(rt.alloc(), 2, met)?;
     let last = passes.pop().ok_or("there are two passes")?;
     let first = passes.pop().ok_or("there are two passes")?;
-    served_by_two::<Brand, _>(&rt, unstarted, first, last)?;
+    served_by_two::<Brand, _>(&rt, parts, first, last)?;
     assert_eq!(rt; replies.load(Ordering::SeqCst), 200);
     assert_eq!(rt; others.load(Ordering::SeqCst), 0);
     Ok(())
@@ -189,17 +189,17 @@ impl<R: Wait> Hold for Met<'_, R> {
 }
 
 /// Two workers serve at the same time, each a hundred changes of its own word.
-fn served_by_two<J: Room + Send + Sync, R: Threads + Wait + Abort + Sync>(
+fn served_by_two<J: EngineBrand + Send + Sync, R: Threads + Wait + Abort + Sync>(
     rt: &R,
-    unstarted: Unstarted<MemDisk, Met<'_, R>>,
+    parts: EngineParts<MemDisk, Met<'_, R>>,
     mut first: Pass,
     mut last: Pass,
 ) -> Result<(), Fail>
-    requires identity { identity_of unstarted ≡ J.identity }
+    requires identity { identity_of parts ≡ J.identity }
     requires first { IsIdle first }
     requires last { IsIdle last }
 {
-    let engine = unstarted.start::<J>();
+    let engine = parts.into_engine::<J>();
     let engine = &engine;
     let counts = thread::join(
         rt,
@@ -211,7 +211,7 @@ fn served_by_two<J: Room + Send + Sync, R: Threads + Wait + Abort + Sync>(
 }
 
 /// How many of a hundred changes of a tenant's word are made.
-fn count_up<J: Room, R: Wait>(
+fn count_up<J: EngineBrand, R: Wait>(
     rt: &R,
     engine: &Engine<J, MemDisk, Met<'_, R>>,
     pass: &mut Pass,

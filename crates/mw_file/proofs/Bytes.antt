@@ -10,10 +10,10 @@ use Rattle.mw_record.specs.Reading.{SameBytes, body_same, length_body, home_same
 use Rattle.mw_record.specs.Writes.{record_same}
 use Rattle.mw_record.specs.Below.{few_entries}
 use Rattle.mw_record.specs.Stands.{HasWords}
-use Rattle.mw_file.specs.declared.slots.Slot.{Slot}
-use Rattle.mw_file.specs.declared.slots.Stage.{Stage}
-use Rattle.mw_file.specs.declared.slots.Stage.TheVariants.{Free, Prepared, Sealed}
-use Rattle.mw_file.specs.Slots.{stage_of, writes_of_place, IsStaged}
+use Rattle.mw_file.specs.declared.place_states.PlaceState.{PlaceState}
+use Rattle.mw_file.specs.declared.place_states.Stage.{Stage}
+use Rattle.mw_file.specs.declared.place_states.Stage.TheVariants.{Free, Prepared, Sealed}
+use Rattle.mw_file.specs.PlaceStates.{stage_of, writes_of_place, IsStaged}
 use Rattle.mw_file.specs.Stores.{PlacedAs, Stores}
 
 -- bytes outside the changed ones are the same
@@ -73,20 +73,20 @@ placed_same b c words place Prepared w same few was =
     }
 
 -- A file in which one place's change has gone on, and the bytes of the other places stayed.
-pub stores_staged : (b c : List ℕ) (words : ℕ) (before after : List ℕ) (slots new : List Slot) (place : ℕ) (stage : Stage) (writes : Pairs)
-    → Stores b words before slots → IsStaged slots new place stage writes → HasWords words (length slots) after c
-    → ((other : ℕ) → other < length slots → (other ≡ place → ⊥) → SameBytes PLACE_SIZE (place_at words other) (place_at words other) c b)
+pub stores_staged : (b c : List ℕ) (words : ℕ) (before after : List ℕ) (states new : List PlaceState) (place : ℕ) (stage : Stage) (writes : Pairs)
+    → Stores b words before states → IsStaged states new place stage writes → HasWords words (length states) after c
+    → ((other : ℕ) → other < length states → (other ≡ place → ⊥) → SameBytes PLACE_SIZE (place_at words other) (place_at words other) c b)
     → PlacedAs c words place stage writes → Stores c words after new
-stores_staged b c words before after slots new place stage writes was staged has same here = record {
+stores_staged b c words before after states new place stage writes was staged has same here = record {
   has = subst (λ (n : ℕ). HasWords words n after c) (sym staged.count) has;
-  placed = λ other lt. let within : other < length slots = (let e = staged.count in omega arith) in
+  placed = λ other lt. let within : other < length states = (let e = staged.count in omega arith) in
       elim (cases_eq other place) [
         | inl e ↦ placed_as c words other (stage_of new other) stage (writes_of_place new other) writes
             (ap (λ p. stage_of new p) e ∙ staged.stage_here) (ap (λ p. writes_of_place new p) e ∙ staged.writes_here)
             (subst (λ (p : ℕ). PlacedAs c words p stage writes) (sym e) here)
-        | inr ne ↦ placed_as c words other (stage_of new other) (stage_of slots other) (writes_of_place new other) (writes_of_place slots other)
+        | inr ne ↦ placed_as c words other (stage_of new other) (stage_of states other) (writes_of_place new other) (writes_of_place states other)
             (staged.stage_there other ne) (staged.writes_there other ne)
-            (placed_same b c words other (stage_of slots other) (writes_of_place slots other) (same other within ne)
+            (placed_same b c words other (stage_of states other) (writes_of_place states other) (same other within ne)
             (λ ps is. few_entries words ps (was.has.stands.formed other ps within is)) (was.placed other within))
       ];
 }

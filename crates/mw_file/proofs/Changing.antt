@@ -1,11 +1,11 @@
--- What a write into one place of a file leaves: of a record behind its shut gate, and of the gate byte.
+-- What a write into one place of a file leaves: of a record behind its shut commit byte, and of the commit byte.
 use Rattle.std.proofs.Common.{◌≡◌, ◌⊎◌, ℕ, ◌+◌, ◌<◌, ◌≤◌, List, length, Some, None, Option, true, false, slice_index, refl, sym, ap, ◌∙◌, inl, inr, arith}
 use Rattle.std.proofs.lemmas.Bool.{cases_eq, cases_lt, both_ways}
 use Rattle.mw_words.specs.declared.limits.TheConstants.{MAX_ENTRIES, MAX_WORDS}
 use Rattle.mw_words.specs.declared.jobs.Entry.{Entry}
 use Rattle.mw_words.specs.Change.{is_change}
 use Rattle.mw_disk.specs.Runs.{SameBut}
-use Rattle.mw_record.specs.declared.layout.TheConstants.{HEAD_SIZE, PLACE_SIZE, BODY_SIZE, GATE_OPEN}
+use Rattle.mw_record.specs.declared.layout.TheConstants.{HEAD_SIZE, PLACE_SIZE, BODY_SIZE, COMMITTED}
 use Rattle.mw_record.specs.Layout.{place_at, size, body, pairs_of}
 use Rattle.mw_record.specs.Records.{Pairs, holds, record_at, body_at, home, put_pairs}
 use Rattle.mw_record.specs.Reading.{SameBytes, shut_stays, record_open, record_shut, body_same, length_body}
@@ -14,10 +14,10 @@ use Rattle.mw_record.specs.Below.{few_entries}
 use Rattle.mw_record.specs.Faults.{sizes_are}
 use Rattle.mw_record.specs.Images.{words_stay, words_put}
 use Rattle.mw_record.specs.Stands.{HasWords}
-use Rattle.mw_file.specs.declared.slots.Slot.{Slot}
-use Rattle.mw_file.specs.declared.slots.Stage.{Stage}
-use Rattle.mw_file.specs.declared.slots.Stage.TheVariants.{Free, Prepared, Sealed}
-use Rattle.mw_file.specs.Slots.{stage_of, writes_of_place, IsStaged, MaySeal}
+use Rattle.mw_file.specs.declared.place_states.PlaceState.{PlaceState}
+use Rattle.mw_file.specs.declared.place_states.Stage.{Stage}
+use Rattle.mw_file.specs.declared.place_states.Stage.TheVariants.{Free, Prepared, Sealed}
+use Rattle.mw_file.specs.PlaceStates.{stage_of, writes_of_place, IsStaged, MaySeal}
 use Rattle.mw_file.specs.Stores.{PlacedAs, IsWritten, Stores}
 use Rattle.mw_file.specs.Rolls.{InRange}
 use Rattle.mw_file.proofs.Bytes.{same_bytes, still_long, record_missed, home_missed, stores_staged}
@@ -34,37 +34,37 @@ apart words place other at n low high ne k lt s = elim (cases_lt other place) [
 closed : (r : Option Pairs) (ps : Pairs) → r ≡ None → r ≡ Some ps → ⊥
 closed r ps none some = let e : ⊥ = cc (none, some) in e
 
-module _ (b c : List ℕ) (words : ℕ) (contents : List ℕ) (slots : List Slot) (place : ℕ) (was : Stores b words contents slots) (within : place < length slots) where
+module _ (b c : List ℕ) (words : ℕ) (contents : List ℕ) (states : List PlaceState) (place : ℕ) (was : Stores b words contents states) (within : place < length states) where
   -- the places but one, where the change stayed within that one
   others_same : (at n : ℕ) → place_at words place ≤ at → at + n ≤ place_at words place + PLACE_SIZE → SameBut (InRange at n) b c
-      → (other : ℕ) → other < length slots → (other ≡ place → ⊥) → SameBytes PLACE_SIZE (place_at words other) (place_at words other) c b
+      → (other : ℕ) → other < length states → (other ≡ place → ⊥) → SameBytes PLACE_SIZE (place_at words other) (place_at words other) c b
   others_same at n low high same other lt ne =
       same_bytes (InRange at n) b c PLACE_SIZE (place_at words other) same (apart words place other at n low high ne)
 
-  -- Where the record behind a shut gate was changed in any way, the file has the words that it had.
-  pub prepare_torn : SameBut (InRange (place_at words place + 1) BODY_SIZE) b c → record_at b words place ≡ None → HasWords words (length slots) contents c
+  -- Where the record behind a clear commit byte was changed in any way, the file has the words that it had.
+  pub prepare_torn : SameBut (InRange (place_at words place + 1) BODY_SIZE) b c → record_at b words place ≡ None → HasWords words (length states) contents c
   prepare_torn same shut =
       let S : ℕ → Type 0 = InRange (place_at words place + 1) BODY_SIZE in
       let at : ℕ = place_at words place in
-      words_stay words (length slots) contents b c was.has (still_long words (length slots) contents b c S was.has same)
+      words_stay words (length states) contents b c was.has (still_long words (length states) contents b c S was.has same)
       (same_bytes S b c HEAD_SIZE 0 same (λ k lt s. omega (arith, s.from, lt)))
       (λ j lt. elim (cases_eq j place) [
         | inl e ↦ inl (
-            let gate : slice_index c (place_at words j) ≡ slice_index b (place_at words j) = same.outside (place_at words j) (λ s. omega (arith, s.from, e)) in
+            let commit : slice_index c (place_at words j) ≡ slice_index b (place_at words j) = same.outside (place_at words j) (λ s. omega (arith, s.from, e)) in
             let was_shut : record_at b words j ≡ None = ap (record_at b words) e ∙ shut in
-            shut_stays c b words j gate was_shut ∙ sym was_shut)
-        | inr ne ↦ inl (record_missed words (length slots) contents b c S was.has same j lt (apart words place j (at + 1) BODY_SIZE (omega arith) (omega arith) ne))
+            shut_stays c b words j commit was_shut ∙ sym was_shut)
+        | inr ne ↦ inl (record_missed words (length states) contents b c S was.has same j lt (apart words place j (at + 1) BODY_SIZE (omega arith) (omega arith) ne))
       ])
-      (λ a lt. inl (home_missed words (length slots) contents b c S was.has same a (λ k l s. omega (arith, s.from, l, lt))))
+      (λ a lt. inl (home_missed words (length states) contents b c S was.has same a (λ k l s. omega (arith, s.from, l, lt))))
 
   -- Once it was written whole, the place is prepared.
-  pub prepare_done : (entries : List Entry) (new : List Slot) → SameBut (InRange (place_at words place + 1) BODY_SIZE) b c → record_at b words place ≡ None
+  pub prepare_done : (entries : List Entry) (new : List PlaceState) → SameBut (InRange (place_at words place + 1) BODY_SIZE) b c → record_at b words place ≡ None
       → is_change words entries ≡ true → SameBytes BODY_SIZE (place_at words place + 1) 0 c (body entries)
-      → IsStaged slots new place Prepared (pairs_of entries) → Stores c words contents new
+      → IsStaged states new place Prepared (pairs_of entries) → Stores c words contents new
   prepare_done entries new same shut change written staged =
       let at : ℕ = place_at words place in
       let fit : words ≤ MAX_WORDS = omega (arith, was.has.head.words_are, (sizes_are b was.has.head.sizes).words_fit) in
-      stores_staged b c words contents contents slots new place Prepared (pairs_of entries) was staged (prepare_torn same shut)
+      stores_staged b c words contents contents states new place Prepared (pairs_of entries) was staged (prepare_torn same shut)
       (others_same (at + 1) BODY_SIZE (omega arith) (omega arith) same) (record {
         shut = shut_stays c b words place (same.outside at (λ s. omega (arith, s.from))) shut;
         behind = body_again c at entries (length_of_change words entries change) (numbers_of_change words entries fit change) written;
@@ -72,43 +72,43 @@ module _ (b c : List ℕ) (words : ℕ) (contents : List ℕ) (slots : List Slot
         values = values_of_change words entries change;
       })
 
-  -- The gate byte of a prepared place, with any value.
+  -- The commit byte of a prepared place, with any value.
   module _ (writes : Pairs) (behind : IsWritten b words place writes) (same : SameBut (InRange (place_at words place) 1) b c) where
-    gate_only : (k : ℕ) → (k ≡ place_at words place → ⊥) → slice_index c k ≡ slice_index b k
-    gate_only k ne = same.outside k (λ s. ne (omega (arith, s.from, s.to)))
+    commit_only : (k : ℕ) → (k ≡ place_at words place → ⊥) → slice_index c k ≡ slice_index b k
+    commit_only k ne = same.outside k (λ s. ne (omega (arith, s.from, s.to)))
 
     body_stays : body_at c (place_at words place) ≡ writes
     body_stays =
         let at : ℕ = place_at words place in
         let count : slice_index b (at + 1) ≤ MAX_ENTRIES = omega (arith, few_entries words writes behind.formed, length_body b at, ap length behind.behind) in
-        body_same c b at at count (λ k lt. gate_only (at + 1 + k) (λ e. omega (arith, e))) ∙ behind.behind
+        body_same c b at at count (λ k lt. commit_only (at + 1 + k) (λ e. omega (arith, e))) ∙ behind.behind
 
     head_stays : SameBytes HEAD_SIZE 0 0 c b
     head_stays = same_bytes (InRange (place_at words place) 1) b c HEAD_SIZE 0 same (λ k lt s. omega (arith, s.from, lt))
 
     homes_stay : (a : ℕ) → a < words → home c a ≡ home b a
-    homes_stay a lt = home_missed words (length slots) contents b c (InRange (place_at words place) 1) was.has same a (λ k l s. omega (arith, s.from, l, lt))
+    homes_stay a lt = home_missed words (length states) contents b c (InRange (place_at words place) 1) was.has same a (λ k l s. omega (arith, s.from, l, lt))
 
-    other_stays : (j : ℕ) → j < length slots → (j ≡ place → ⊥) → record_at c words j ≡ record_at b words j
-    other_stays j lt ne = record_missed words (length slots) contents b c (InRange (place_at words place) 1) was.has same j lt
+    other_stays : (j : ℕ) → j < length states → (j ≡ place → ⊥) → record_at c words j ≡ record_at b words j
+    other_stays j lt ne = record_missed words (length states) contents b c (InRange (place_at words place) 1) was.has same j lt
         (apart words place j (place_at words place) 1 (omega arith) (omega arith) ne)
 
-    long : size words (length slots) ≤ length c
-    long = still_long words (length slots) contents b c (InRange (place_at words place) 1) was.has same
+    long : size words (length states) ≤ length c
+    long = still_long words (length states) contents b c (InRange (place_at words place) 1) was.has same
 
     -- shut, the words are those before
-    pub seal_shut : (slice_index c (place_at words place) ≡ GATE_OPEN → ⊥) → HasWords words (length slots) contents c
-    seal_shut gate =
-        words_stay words (length slots) contents b c was.has long head_stays
+    pub seal_shut : (slice_index c (place_at words place) ≡ COMMITTED → ⊥) → HasWords words (length states) contents c
+    seal_shut commit =
+        words_stay words (length states) contents b c was.has long head_stays
         (λ j lt. elim (cases_eq j place) [
-          | inl e ↦ inl (ap (record_at c words) e ∙ record_shut c words place (place_at words place) refl gate ∙ sym (ap (record_at b words) e ∙ behind.shut))
+          | inl e ↦ inl (ap (record_at c words) e ∙ record_shut c words place (place_at words place) refl commit ∙ sym (ap (record_at b words) e ∙ behind.shut))
           | inr ne ↦ inl (other_stays j lt ne)
         ])
         (λ a lt. inl (homes_stay a lt))
 
     -- open, the change is put over them
-    pub gate_opened : slice_index c (place_at words place) ≡ GATE_OPEN → record_at c words place ≡ Some writes
-    gate_opened gate = record_open c words place (place_at words place) refl gate ∙ ap Some body_stays
+    pub commit_written : slice_index c (place_at words place) ≡ COMMITTED → record_at c words place ≡ Some writes
+    commit_written commit = record_open c words place (place_at words place) refl commit ∙ ap Some body_stays
 
     -- a record that is open is that of a sealed place
     sealed_there : (j : ℕ) (s : Stage) (v qs : Pairs) → PlacedAs b words j s v → record_at b words j ≡ Some qs → (s ≡ Sealed) × (qs ≡ v)
@@ -116,39 +116,39 @@ module _ (b c : List ℕ) (words : ℕ) (contents : List ℕ) (slots : List Slot
     sealed_there j Prepared v qs placed is = absurd (closed (record_at b words j) qs placed.shut is)
     sealed_there j Sealed v qs placed is = (refl, (let e : Some qs ≡ Some v = sym is ∙ placed in cc))
 
-    pub seal_open : MaySeal slots place → writes_of_place slots place ≡ writes → slice_index c (place_at words place) ≡ GATE_OPEN
-        → HasWords words (length slots) (put_pairs writes contents) c
-    seal_open may is_writes gate =
-        words_put words (length slots) contents b c was.has long head_stays place writes (record {
+    pub seal_open : MaySeal states place → writes_of_place states place ≡ writes → slice_index c (place_at words place) ≡ COMMITTED
+        → HasWords words (length states) (put_pairs writes contents) c
+    seal_open may is_writes commit =
+        words_put words (length states) contents b c was.has long head_stays place writes (record {
           within = within;
           was_shut = behind.shut;
-          is_open = gate_opened gate;
+          is_open = commit_written commit;
           others = other_stays;
           formed = behind.formed;
           values = behind.values;
           alone = λ j qs a lt is here there.
-              let t = sealed_there j (stage_of slots j) (writes_of_place slots j) qs (was.placed j lt) is in
-              let free : holds (writes_of_place slots j) a ≡ false = may.apart j a t.0 (ap (λ w. holds w a) is_writes ∙ here) in
-              both_ways (holds (writes_of_place slots j) a) free (ap (λ w. holds w a) (sym t.1) ∙ there);
+              let t = sealed_there j (stage_of states j) (writes_of_place states j) qs (was.placed j lt) is in
+              let free : holds (writes_of_place states j) a ≡ false = may.apart j a t.0 (ap (λ w. holds w a) is_writes ∙ here) in
+              both_ways (holds (writes_of_place states j) a) free (ap (λ w. holds w a) (sym t.1) ∙ there);
         }) homes_stay
 
-    -- Whatever the gate byte is, the file has the words before or these with the change put over them.
-    pub seal_torn : MaySeal slots place → writes_of_place slots place ≡ writes
-        → HasWords words (length slots) contents c ⊎ HasWords words (length slots) (put_pairs writes contents) c
-    seal_torn may is_writes = elim (cases_eq (slice_index c (place_at words place)) GATE_OPEN) [
-      | inl gate ↦ inr (seal_open may is_writes gate)
+    -- Whatever the commit byte is, the file has the words before or these with the change put over them.
+    pub seal_torn : MaySeal states place → writes_of_place states place ≡ writes
+        → HasWords words (length states) contents c ⊎ HasWords words (length states) (put_pairs writes contents) c
+    seal_torn may is_writes = elim (cases_eq (slice_index c (place_at words place)) COMMITTED) [
+      | inl commit ↦ inr (seal_open may is_writes commit)
       | inr shut ↦ inl (seal_shut shut)
     ]
 
     -- Once it is open, the place is sealed.
-    pub seal_done : (new : List Slot) → MaySeal slots place → writes_of_place slots place ≡ writes → slice_index c (place_at words place) ≡ GATE_OPEN
-        → IsStaged slots new place Sealed writes → Stores c words (put_pairs writes contents) new
-    seal_done new may is_writes gate staged =
-        stores_staged b c words contents (put_pairs writes contents) slots new place Sealed writes was staged (seal_open may is_writes gate)
-        (others_same (place_at words place) 1 (omega arith) (omega arith) same) (gate_opened gate)
+    pub seal_done : (new : List PlaceState) → MaySeal states place → writes_of_place states place ≡ writes → slice_index c (place_at words place) ≡ COMMITTED
+        → IsStaged states new place Sealed writes → Stores c words (put_pairs writes contents) new
+    seal_done new may is_writes commit staged =
+        stores_staged b c words contents (put_pairs writes contents) states new place Sealed writes was staged (seal_open may is_writes commit)
+        (others_same (place_at words place) 1 (omega arith) (omega arith) same) (commit_written commit)
 
 -- A change that is given up.
-pub cancel_done : (b : List ℕ) (words : ℕ) (contents : List ℕ) (slots new : List Slot) (place : ℕ) (writes : Pairs) → Stores b words contents slots
-    → IsStaged slots new place Free writes → record_at b words place ≡ None → Stores b words contents new
-cancel_done b words contents slots new place writes was staged shut =
-    stores_staged b b words contents contents slots new place Free writes was staged was.has (λ other lt ne k l. refl) shut
+pub cancel_done : (b : List ℕ) (words : ℕ) (contents : List ℕ) (states new : List PlaceState) (place : ℕ) (writes : Pairs) → Stores b words contents states
+    → IsStaged states new place Free writes → record_at b words place ≡ None → Stores b words contents new
+cancel_done b words contents states new place writes was staged shut =
+    stores_staged b b words contents contents states new place Free writes was staged was.has (λ other lt ne k l. refl) shut

@@ -7,10 +7,10 @@ use Rattle.mw_disk.specs.Facts.{Facts}
 use Rattle.mw_record.specs.Records.{Pairs, record_at}
 use Rattle.mw_record.specs.Damages.{words_of, places_of}
 use Rattle.mw_record.specs.Stands.{HasWords}
-use Rattle.mw_file.specs.declared.slots.Slot.{Slot}
-use Rattle.mw_file.specs.declared.slots.Stage.{Stage}
-use Rattle.mw_file.specs.declared.slots.Stage.TheVariants.{Free, Prepared, Sealed}
-use Rattle.mw_file.specs.Slots.{stage_of, stage_at, writes_in, writes_of_place, if_sealed, home_writes, home_writes_of, gate_writes, gate_writes_of, roll_calls, all_free}
+use Rattle.mw_file.specs.declared.place_states.PlaceState.{PlaceState}
+use Rattle.mw_file.specs.declared.place_states.Stage.{Stage}
+use Rattle.mw_file.specs.declared.place_states.Stage.TheVariants.{Free, Prepared, Sealed}
+use Rattle.mw_file.specs.PlaceStates.{stage_of, stage_at, writes_in, writes_of_place, if_sealed, home_writes, home_writes_of, commit_writes, commit_writes_of, roll_calls, all_free}
 use Rattle.mw_file.specs.Free.{stage_of-all_free}
 use Rattle.mw_file.specs.Stores.{PlacedAs, Stores, IsDurable}
 use Rattle.mw_file.specs.Rolls.{if_open, IsRecalled, CanRoll, CanFinish, IsRolled}
@@ -23,23 +23,23 @@ open_pairs None some = absurd (some refl)
 open_pairs (Some ps) some = refl
 
 -- the slot at a place, and what a number of it is
-module _ (f : Slot → ℕ) (slots : List Slot) (k : ℕ) (lt : k < length slots) where
-  slot_here : (s : Slot) × (slice_get slots k ≡ Some s)
-  slot_here = elim ((slice_get_cases slots k).1) [
+module _ (f : PlaceState → ℕ) (states : List PlaceState) (k : ℕ) (lt : k < length states) where
+  state_here : (s : PlaceState) × (slice_get states k ≡ Some s)
+  state_here = elim ((slice_get_cases states k).1) [
     | inl there ↦ (there.0, there.2)
     | inr past ↦ absurd (let e = past.0 in let z : ⊥ = omega (arith, e, lt) in z)
   ]
 
-  sum_step : (s : Slot) → slice_get slots k ≡ Some s → f (get_or slots k s) ≡ f s
-  sum_step s at = ap f (get_or_from_slice_get slots k s s at)
+  sum_step : (s : PlaceState) → slice_get states k ≡ Some s → f (get_or states k s) ≡ f s
+  sum_step s at = ap f (get_or_from_slice_get states k s s at)
 
--- where no gate is written no place is sealed
-pub none_sealed : (slots : List Slot) (k : ℕ) → gate_writes slots ≡ 0 → k < length slots → stage_of slots k ≡ Sealed → ⊥
-none_sealed slots k none lt sealed =
-    let here = slot_here gate_writes_of slots k lt in
-    let one : gate_writes_of here.0 ≡ 1 = ap (λ s. if_sealed s 1) (sym (ap stage_at here.1) ∙ sealed) in
-    let more = sum_by_more_le gate_writes_of slots k here.0 lt in
-    omega (arith, none, one, more, sum_step gate_writes_of slots k lt here.0 here.1)
+-- where no commit byte is written no place is sealed
+pub none_sealed : (states : List PlaceState) (k : ℕ) → commit_writes states ≡ 0 → k < length states → stage_of states k ≡ Sealed → ⊥
+none_sealed states k none lt sealed =
+    let here = state_here commit_writes_of states k lt in
+    let one : commit_writes_of here.0 ≡ 1 = ap (λ s. if_sealed s 1) (sym (ap stage_at here.1) ∙ sealed) in
+    let more = sum_by_more_le commit_writes_of states k here.0 lt in
+    omega (arith, none, one, more, sum_step commit_writes_of states k lt here.0 here.1)
 
 entries_open : (s : Stage) (w : Pairs) → if_sealed s (length w) ≡ length (unwrap_or (if_open s w) [])
 entries_open Free w = refl
@@ -51,46 +51,46 @@ records_open Free w some = refl
 records_open Prepared w some = refl
 records_open Sealed w some = let l = some refl in omega (arith, l)
 
-module _ (image : List ℕ) (slots : List Slot) (recalled : IsRecalled image slots) where
+module _ (image : List ℕ) (states : List PlaceState) (recalled : IsRecalled image states) where
   -- the entries of a place are what its slot writes, if it is sealed
-  entries_here : (k : ℕ) (s : Slot) → k < length slots → slice_get slots k ≡ Some s → if_open s.stage s.writes.items ≡ record_at image (words_of image) k
+  entries_here : (k : ℕ) (s : PlaceState) → k < length states → slice_get states k ≡ Some s → if_open s.stage s.writes.items ≡ record_at image (words_of image) k
   entries_here k s lt at = sym (ap (λ o. if_open (stage_at o) (writes_in o)) at) ∙ recalled.each k (let e = recalled.count in omega arith)
 
-  entries_sum : (k : ℕ) → k ≤ length slots → home_writes (take k slots) ≡ entries_below image k
+  entries_sum : (k : ℕ) → k ≤ length states → home_writes (take k states) ≡ entries_below image k
   entries_sum zero le = refl
   entries_sum (suc k) le =
-      let lt : k < length slots = omega (arith, le) in
-      let here = slot_here home_writes_of slots k lt in
-      let more = sum_by_more home_writes_of slots k here.0 lt in
-      let step = sum_step home_writes_of slots k lt here.0 here.1 in
+      let lt : k < length states = omega (arith, le) in
+      let here = state_here home_writes_of states k lt in
+      let more = sum_by_more home_writes_of states k here.0 lt in
+      let step = sum_step home_writes_of states k lt here.0 here.1 in
       let item : home_writes_of here.0 ≡ entries_in image k =
       entries_open here.0.stage here.0.writes.items ∙ ap (λ r. length (unwrap_or r [])) (entries_here k here.0 lt here.1) in
-      let next : home_writes (take (k + 1) slots) ≡ entries_below image k + entries_in image k = omega (arith, more, step, item, entries_sum k (omega (arith, le))) in
-      ap (λ n. home_writes (take n slots)) (let e : suc k ≡ k + 1 = omega arith in e) ∙ next
+      let next : home_writes (take (k + 1) states) ≡ entries_below image k + entries_in image k = omega (arith, more, step, item, entries_sum k (omega (arith, le))) in
+      ap (λ n. home_writes (take n states)) (let e : suc k ≡ k + 1 = omega arith in e) ∙ next
 
-  records_sum : (k : ℕ) → k ≤ length slots → gate_writes (take k slots) ≡ records_below image k
+  records_sum : (k : ℕ) → k ≤ length states → commit_writes (take k states) ≡ records_below image k
   records_sum zero le = refl
   records_sum (suc k) le =
-      let lt : k < length slots = omega (arith, le) in
-      let here = slot_here gate_writes_of slots k lt in
-      let more = sum_by_more gate_writes_of slots k here.0 lt in
-      let step = sum_step gate_writes_of slots k lt here.0 here.1 in
+      let lt : k < length states = omega (arith, le) in
+      let here = state_here commit_writes_of states k lt in
+      let more = sum_by_more commit_writes_of states k here.0 lt in
+      let step = sum_step commit_writes_of states k lt here.0 here.1 in
       let some : here.0.stage ≡ Sealed → 1 ≤ length here.0.writes.items = λ is.
       subst (λ (w : Pairs). 1 ≤ length w) (ap writes_in here.1) (recalled.some_entries k (let e = recalled.count in omega arith) (ap stage_at here.1 ∙ is)) in
-      let item : gate_writes_of here.0 ≡ min 1 (entries_in image k) =
+      let item : commit_writes_of here.0 ≡ min 1 (entries_in image k) =
       records_open here.0.stage here.0.writes.items some ∙ ap (λ r. min 1 (length (unwrap_or r []))) (entries_here k here.0 lt here.1) in
-      let next : gate_writes (take (k + 1) slots) ≡ records_below image k + min 1 (entries_in image k) = omega (arith, more, step, item, records_sum k (omega (arith, le))) in
-      ap (λ n. gate_writes (take n slots)) (let e : suc k ≡ k + 1 = omega arith in e) ∙ next
+      let next : commit_writes (take (k + 1) states) ≡ records_below image k + min 1 (entries_in image k) = omega (arith, more, step, item, records_sum k (omega (arith, le))) in
+      ap (λ n. commit_writes (take n states)) (let e : suc k ≡ k + 1 = omega arith in e) ∙ next
 
   -- the device calls are those that the bytes ask for
-  pub repair_is : (if gate_writes slots == 0 then 0 else roll_calls slots) ≡ repair_calls image
+  pub repair_is : (if commit_writes states == 0 then 0 else roll_calls states) ≡ repair_calls image
   repair_is =
-      let whole : take (length slots) slots ≡ slots = take_all (length slots) slots (omega arith) in
-      let homes : home_writes slots ≡ open_entries image =
-      sym (ap home_writes whole) ∙ entries_sum (length slots) (omega arith) ∙ ap (entries_below image) recalled.count in
-      let gates : gate_writes slots ≡ open_records image =
-      sym (ap gate_writes whole) ∙ records_sum (length slots) (omega arith) ∙ ap (records_below image) recalled.count in
-      ap (λ n. if n == 0 then 0 else (home_writes slots + 1) + (n + 1)) gates ∙ ap (λ n. if open_records image == 0 then 0 else (n + 1) + (open_records image + 1)) homes
+      let whole : take (length states) states ≡ states = take_all (length states) states (omega arith) in
+      let homes : home_writes states ≡ open_entries image =
+      sym (ap home_writes whole) ∙ entries_sum (length states) (omega arith) ∙ ap (entries_below image) recalled.count in
+      let commits : commit_writes states ≡ open_records image =
+      sym (ap commit_writes whole) ∙ records_sum (length states) (omega arith) ∙ ap (records_below image) recalled.count in
+      ap (λ n. if n == 0 then 0 else (home_writes states + 1) + (n + 1)) commits ∙ ap (λ n. if open_records image == 0 then 0 else (n + 1) + (open_records image + 1)) homes
 
   -- the bytes that a read gives are a file with these places
   module _ (f : Facts) (contents : List ℕ) (can : CanFinish f image contents) where
@@ -99,27 +99,27 @@ module _ (image : List ℕ) (slots : List Slot) (recalled : IsRecalled image slo
     placed_recalled place Prepared w other is = absurd (other refl)
     placed_recalled place Sealed w other is = sym is
 
-    stores_recalled : Stores f.reads (words_of image) contents slots
+    stores_recalled : Stores f.reads (words_of image) contents states
     stores_recalled = record {
       has = subst (λ (n : ℕ). HasWords (words_of image) n contents f.reads) (sym recalled.count) can.has;
       placed = λ place lt.
           let low : place < places_of image = (let e = recalled.count in omega arith) in
-          placed_recalled place (stage_of slots place) (writes_of_place slots place) (recalled.none_prepared place low) (recalled.each place low ∙ sym (can.same place low));
+          placed_recalled place (stage_of states place) (writes_of_place states place) (recalled.none_prepared place low) (recalled.each place low ∙ sym (can.same place low));
     }
 
-    pub roll_recalled : CanRoll f (words_of image) (length slots) 0 slots contents
+    pub roll_recalled : CanRoll f (words_of image) (length states) 0 states contents
     roll_recalled = record {
       honest = can.honest;
       rest = can.rest;
       has = stores_recalled.has;
       within = omega arith;
-      recorded = (tells_all f.reads (words_of image) contents slots stores_recalled).recorded;
+      recorded = (tells_all f.reads (words_of image) contents states stores_recalled).recorded;
     }
 
     -- once they were finished every place is free
-    pub finish_durable : (f2 : Facts) (next : List Slot) → HasWords (words_of image) (length slots) contents f2.reads → IsRolled (words_of image) 0 slots f f2 → length next ≡ length slots
+    pub finish_durable : (f2 : Facts) (next : List PlaceState) → HasWords (words_of image) (length states) contents f2.reads → IsRolled (words_of image) 0 states f f2 → length next ≡ length states
         → IsTrue (all_free next) → IsDurable f2 (words_of image) contents next
     finish_durable f2 next has rolled count free = record {
       rest = rolled.rest;
-      stores = open_done f.reads f2.reads (words_of image) contents slots next stores_recalled rolled.same rolled.shut has count (λ place. stage_of-all_free next place free);
+      stores = open_done f.reads f2.reads (words_of image) contents states next stores_recalled rolled.same rolled.shut has count (λ place. stage_of-all_free next place free);
     }

@@ -1,22 +1,22 @@
--- What a file stands for while sealed changes are put into its home words and their gates shut.
+-- What a file stands for while sealed changes are put into its home words and their commit bytes shut.
 use Rattle.std.proofs.Common.{◌≡◌, ◌⊎◌, ℕ, ◌+◌, ◌-◌, ◌<◌, ◌≤◌, List, length, Some, None, true, false, slice_index, refl, sym, ap, ◌∙◌, inl, inr, arith, subst}
 use Rattle.std.proofs.lemmas.Bool.{cases_Bool, cases_eq, cases_lt, both_ways}
 use Rattle.mw_disk.specs.Runs.{SameBut}
-use Rattle.mw_record.specs.declared.layout.TheConstants.{HEAD_SIZE, WORD_SIZE, PLACE_SIZE, GATE_OPEN}
+use Rattle.mw_record.specs.declared.layout.TheConstants.{HEAD_SIZE, WORD_SIZE, PLACE_SIZE, COMMITTED}
 use Rattle.mw_record.specs.Layout.{home_at, place_at}
 use Rattle.mw_record.specs.Records.{Pairs, holds, over, all_over, is_covered, record_at, body_at, home}
-use Rattle.mw_record.specs.Reading.{SameBytes, record_open, record_shut, body_same, length_body, gate_open}
+use Rattle.mw_record.specs.Reading.{SameBytes, record_open, record_shut, body_same, length_body, commit_set}
 use Rattle.mw_record.specs.Below.{few_entries}
 use Rattle.mw_record.specs.Over.{Covers, covers, covered, all_hit}
 use Rattle.mw_record.specs.Changes.{Agrees, StaysOrShut}
 use Rattle.mw_record.specs.Images.{words_stay}
 use Rattle.mw_record.specs.Stands.{HasWords, Apart}
 use Rattle.mw_words.specs.declared.limits.TheConstants.{MAX_ENTRIES}
-use Rattle.mw_file.specs.declared.slots.Slot.{Slot}
-use Rattle.mw_file.specs.declared.slots.Stage.{Stage}
-use Rattle.mw_file.specs.declared.slots.Stage.TheVariants.{Free, Prepared, Sealed}
-use Rattle.mw_file.specs.Slots.{stage_of, writes_of_place}
-use Rattle.mw_file.specs.Rolls.{InHomes, AtGates, if_open, kept_of}
+use Rattle.mw_file.specs.declared.place_states.PlaceState.{PlaceState}
+use Rattle.mw_file.specs.declared.place_states.Stage.{Stage}
+use Rattle.mw_file.specs.declared.place_states.Stage.TheVariants.{Free, Prepared, Sealed}
+use Rattle.mw_file.specs.PlaceStates.{stage_of, writes_of_place}
+use Rattle.mw_file.specs.Rolls.{InHomes, AtCommits, if_open, kept_of}
 use Rattle.mw_file.proofs.Bytes.{same_bytes, held_below, still_long, record_missed, home_missed}
 
 -- a place that writes is sealed
@@ -32,30 +32,30 @@ sealed_or_not Prepared = inr (λ e. cc)
 sealed_or_not Sealed = inl refl
 
 -- These slots tell which records of the file are open, from the first place on.
-pub record Tells (b : List ℕ) (words first : ℕ) (slots : List Slot) : Type 0 where
-  pub recorded : (place : ℕ) → place < length slots → stage_of slots place ≡ Sealed → record_at b words (first + place) ≡ Some (writes_of_place slots place)
+pub record Tells (b : List ℕ) (words first : ℕ) (states : List PlaceState) : Type 0 where
+  pub recorded : (place : ℕ) → place < length states → stage_of states place ≡ Sealed → record_at b words (first + place) ≡ Some (writes_of_place states place)
 
-module _ (b : List ℕ) (words places first : ℕ) (slots : List Slot) (contents : List ℕ)
-    (has : HasWords words places contents b) (within : first + length slots ≤ places) (tells : Tells b words first slots) where
+module _ (b : List ℕ) (words places first : ℕ) (states : List PlaceState) (contents : List ℕ)
+    (has : HasWords words places contents b) (within : first + length states ≤ places) (tells : Tells b words first states) where
   -- a record that is written is open in the file
-  pub open_there : (place : ℕ) (ps : Pairs) → place < length slots → kept_of slots place ≡ Some ps → record_at b words (first + place) ≡ Some ps
+  pub open_there : (place : ℕ) (ps : Pairs) → place < length states → kept_of states place ≡ Some ps → record_at b words (first + place) ≡ Some ps
   open_there place ps lt is =
-      let o = open_is (stage_of slots place) (writes_of_place slots place) ps is in
+      let o = open_is (stage_of states place) (writes_of_place states place) ps is in
       tells.recorded place lt o.0 ∙ ap Some (sym o.1)
 
   -- it is for words of the file
-  pub below_there : (place : ℕ) (ps : Pairs) (addr : ℕ) → place < length slots → kept_of slots place ≡ Some ps → holds ps addr ≡ true → addr < words
+  pub below_there : (place : ℕ) (ps : Pairs) (addr : ℕ) → place < length states → kept_of states place ≡ Some ps → holds ps addr ≡ true → addr < words
   below_there place ps addr lt is held =
       held_below words ps addr (has.stands.formed (first + place) ps (omega (arith, within, lt)) (open_there place ps lt is)) held
 
   -- a byte that is written is one of a home word
-  home_of : (k : ℕ) (s : InHomes slots k) → (s.in_record.addr < words) × (home_at s.in_record.addr ≤ k) × (k < home_at s.in_record.addr + WORD_SIZE)
+  home_of : (k : ℕ) (s : InHomes states k) → (s.in_record.addr < words) × (home_at s.in_record.addr ≤ k) × (k < home_at s.in_record.addr + WORD_SIZE)
   home_of k s =
       let r = s.in_record in
       (below_there s.place r.writes r.addr s.within r.is r.held, r.in_word.from, r.in_word.to)
 
   -- of a word that an open record covers
-  covers_it : (k : ℕ) (s : InHomes slots k) → Covers (record_at b words) places s.in_record.addr
+  covers_it : (k : ℕ) (s : InHomes states k) → Covers (record_at b words) places s.in_record.addr
   covers_it k s =
       let r = s.in_record in
       record {
@@ -67,7 +67,7 @@ module _ (b : List ℕ) (words places first : ℕ) (slots : List Slot) (contents
       }
 
   -- a home word that was not written
-  missed : (a : ℕ) → is_covered (record_at b words) places a ≡ false → (k : ℕ) → k < WORD_SIZE → InHomes slots (home_at a + k) → ⊥
+  missed : (a : ℕ) → is_covered (record_at b words) places a ≡ false → (k : ℕ) → k < WORD_SIZE → InHomes states (home_at a + k) → ⊥
   missed a none k lt s =
       let h = home_of (home_at a + k) s in
       let e : s.in_record.addr ≡ a = omega (arith, h.1, h.2, lt) in
@@ -75,9 +75,9 @@ module _ (b : List ℕ) (words places first : ℕ) (slots : List Slot) (contents
       (subst (λ (i : ℕ). is_covered (record_at b words) places i ≡ true) e (covered (record_at b words) places s.in_record.addr (covers_it (home_at a + k) s)))
 
   -- Whatever was written to the home words of open records, the words stay.
-  pub homes_torn : (c : List ℕ) → SameBut (InHomes slots) b c → HasWords words places contents c
+  pub homes_torn : (c : List ℕ) → SameBut (InHomes states) b c → HasWords words places contents c
   homes_torn c same =
-      let S : ℕ → Type 0 = InHomes slots in
+      let S : ℕ → Type 0 = InHomes states in
       words_stay words places contents b c has (still_long words places contents b c S has same)
       (same_bytes S b c HEAD_SIZE 0 same (λ k lt s. (let h = home_of (0 + k) s in omega (arith, h.1, lt))))
       (λ j lt. inl (record_missed words places contents b c S has same j lt (λ k l s. (let h = home_of (place_at words j + k) s in omega (arith, h.0, h.2)))))
@@ -87,40 +87,40 @@ module _ (b : List ℕ) (words places first : ℕ) (slots : List Slot) (contents
       ])
 
   -- records that are written share no address
-  pub apart_there : Apart (kept_of slots) (length slots)
+  pub apart_there : Apart (kept_of states) (length states)
   apart_there i j ps qs a p q ne is js hi hj =
       has.stands.apart (first + i) (first + j) ps qs a (omega (arith, within, p)) (omega (arith, within, q)) (λ e. ne (omega (arith, e)))
       (open_there i ps p is) (open_there j qs q js) hi hj
 
   -- Once all were written, the values of each stand in the home words.
-  pub agree_there : (c : List ℕ) → ((a : ℕ) → a < words → home c a ≡ all_over (kept_of slots) (length slots) a (home b a))
-      → (place : ℕ) → place < length slots → stage_of slots place ≡ Sealed → Agrees (writes_of_place slots place) (home c)
+  pub agree_there : (c : List ℕ) → ((a : ℕ) → a < words → home c a ≡ all_over (kept_of states) (length states) a (home b a))
+      → (place : ℕ) → place < length states → stage_of states place ≡ Sealed → Agrees (writes_of_place states place) (home c)
   agree_there c written place lt sealed a held =
-      let is : kept_of slots place ≡ Some (writes_of_place slots place) = ap (λ s. if_open s (writes_of_place slots place)) sealed in
-      let low : a < words = below_there place (writes_of_place slots place) a lt is held in
-      let c0 : Covers (kept_of slots) (length slots) a = record { place = place; pairs = writes_of_place slots place; within = lt; is = is; holds_it = held } in
-      written a low ∙ all_hit (kept_of slots) (length slots) a (home b a) apart_there c0
+      let is : kept_of states place ≡ Some (writes_of_place states place) = ap (λ s. if_open s (writes_of_place states place)) sealed in
+      let low : a < words = below_there place (writes_of_place states place) a lt is held in
+      let c0 : Covers (kept_of states) (length states) a = record { place = place; pairs = writes_of_place states place; within = lt; is = is; holds_it = held } in
+      written a low ∙ all_hit (kept_of states) (length states) a (home b a) apart_there c0
 
   -- the records stay while home words are written
-  pub tells_still : (c : List ℕ) → SameBut (InHomes slots) b c → Tells c words first slots
+  pub tells_still : (c : List ℕ) → SameBut (InHomes states) b c → Tells c words first states
   tells_still c same = record {
     recorded = λ place lt sealed.
-        record_missed words places contents b c (InHomes slots) has same (first + place) (omega (arith, within, lt))
+        record_missed words places contents b c (InHomes states) has same (first + place) (omega (arith, within, lt))
         (λ k l s. (let h = home_of (place_at words (first + place) + k) s in omega (arith, h.0, h.2))) ∙ tells.recorded place lt sealed;
   }
 
-  -- a gate of another place, or a byte that is no gate
-  not_at : (j : ℕ) → (first ≤ j → j < first + length slots → stage_of slots (j - first) ≡ Sealed → ⊥) → (k : ℕ) → k < PLACE_SIZE → AtGates words first slots (place_at words j + k) → ⊥
+  -- a commit byte of another place, or a byte that is no commit byte
+  not_at : (j : ℕ) → (first ≤ j → j < first + length states → stage_of states (j - first) ≡ Sealed → ⊥) → (k : ℕ) → k < PLACE_SIZE → AtCommits words first states (place_at words j + k) → ⊥
   not_at j none k lt g =
       let e : j ≡ first + g.place = omega (arith, g.at, lt) in
-      none (omega (arith, e)) (omega (arith, e, g.within)) (ap (stage_of slots) (omega (arith, e)) ∙ g.sealed)
+      none (omega (arith, e)) (omega (arith, e, g.within)) (ap (stage_of states) (omega (arith, e)) ∙ g.sealed)
 
-  -- the gate of a place whose record is written
-  gate_cases : (j : ℕ) → ((i : ℕ) × (i < length slots) × (j ≡ first + i) × (stage_of slots i ≡ Sealed)) ⊎ (first ≤ j → j < first + length slots → stage_of slots (j - first) ≡ Sealed → ⊥)
-  gate_cases j = elim (cases_lt j first) [
+  -- the commit byte of a place whose record is written
+  commit_cases : (j : ℕ) → ((i : ℕ) × (i < length states) × (j ≡ first + i) × (stage_of states i ≡ Sealed)) ⊎ (first ≤ j → j < first + length states → stage_of states (j - first) ≡ Sealed → ⊥)
+  commit_cases j = elim (cases_lt j first) [
     | inl before ↦ inr (λ low high sealed. omega (arith, before, low))
-    | inr since ↦ elim (cases_lt j (first + length slots)) [
-      | inl inside ↦ elim (sealed_or_not (stage_of slots (j - first))) [
+    | inr since ↦ elim (cases_lt j (first + length states)) [
+      | inl inside ↦ elim (sealed_or_not (stage_of states (j - first))) [
         | inl sealed ↦ inl (j - first, omega (arith, since, inside), omega (arith, since), sealed)
         | inr other ↦ inr (λ low high sealed. other sealed)
       ]
@@ -128,23 +128,23 @@ module _ (b : List ℕ) (words places first : ℕ) (slots : List Slot) (contents
     ]
   ]
 
-  -- Once the values stand in the home words, the gates may have any value: the words stay.
-  module _ (c : List ℕ) (same : SameBut (AtGates words first slots) b c)
-      (agree : (place : ℕ) → place < length slots → stage_of slots place ≡ Sealed → Agrees (writes_of_place slots place) (home b)) where
+  -- Once the values stand in the home words, the commit bytes may have any value: the words stay.
+  module _ (c : List ℕ) (same : SameBut (AtCommits words first states) b c)
+      (agree : (place : ℕ) → place < length states → stage_of states place ≡ Sealed → Agrees (writes_of_place states place) (home b)) where
     homes_still : (a : ℕ) → a < words → home c a ≡ home b a
-    homes_still a lt = home_missed words places contents b c (AtGates words first slots) has same a (λ k l g. omega (arith, g.at, l, lt))
+    homes_still a lt = home_missed words places contents b c (AtCommits words first states) has same a (λ k l g. omega (arith, g.at, l, lt))
 
-    torn_gate : (i : ℕ) → i < length slots → stage_of slots i ≡ Sealed → StaysOrShut (record_at b words (first + i)) (record_at c words (first + i)) (home c)
-    torn_gate i lt sealed =
-        let w : Pairs = writes_of_place slots i in
+    torn_commit : (i : ℕ) → i < length states → stage_of states i ≡ Sealed → StaysOrShut (record_at b words (first + i)) (record_at c words (first + i)) (home c)
+    torn_commit i lt sealed =
+        let w : Pairs = writes_of_place states i in
         let at : ℕ = place_at words (first + i) in
         let was : record_at b words (first + i) ≡ Some w = tells.recorded i lt sealed in
         let few : length w ≤ MAX_ENTRIES = few_entries words w (has.stands.formed (first + i) w (omega (arith, within, lt)) was) in
-        let stood = gate_open b words (first + i) w was in
+        let stood = commit_set b words (first + i) w was in
         let count : slice_index b (at + 1) ≤ MAX_ENTRIES = omega (arith, few, length_body b at, ap length stood.1) in
         let behind : body_at c at ≡ w = body_same c b at at count (λ k l. same.outside (at + 1 + k) (λ g. omega (arith, g.at, l))) ∙ stood.1 in
-        elim (cases_eq (slice_index c at) GATE_OPEN) [
-          | inl gate ↦ inl (record_open c words (first + i) at refl gate ∙ ap Some behind ∙ sym was)
+        elim (cases_eq (slice_index c at) COMMITTED) [
+          | inl commit ↦ inl (record_open c words (first + i) at refl commit ∙ ap Some behind ∙ sym was)
           | inr shut ↦ inr (
             record_shut c words (first + i) at refl shut,
             λ ps is a held.
@@ -154,30 +154,30 @@ module _ (b : List ℕ) (words places first : ℕ) (slots : List Slot) (contents
           )
         ]
 
-    pub gates_torn : HasWords words places contents c
-    gates_torn =
-        let S : ℕ → Type 0 = AtGates words first slots in
+    pub commits_torn : HasWords words places contents c
+    commits_torn =
+        let S : ℕ → Type 0 = AtCommits words first states in
         words_stay words places contents b c has (still_long words places contents b c S has same)
         (same_bytes S b c HEAD_SIZE 0 same (λ k lt g. omega (arith, g.at, lt)))
-        (λ j lt. elim (gate_cases j) [
-          | inl g ↦ subst (λ (p : ℕ). StaysOrShut (record_at b words p) (record_at c words p) (home c)) (sym g.2) (torn_gate g.0 g.1 g.3)
+        (λ j lt. elim (commit_cases j) [
+          | inl g ↦ subst (λ (p : ℕ). StaysOrShut (record_at b words p) (record_at c words p) (home c)) (sym g.2) (torn_commit g.0 g.1 g.3)
           | inr none ↦ inl (record_missed words places contents b c S has same j lt (not_at j none))
         ])
         (λ a lt. inl (homes_still a lt))
 
   -- After the roll a place whose record was not written has the bytes that it had, and one whose record was is shut.
-  module _ (c : List ℕ) (same : SameBut (λ k. InHomes slots k ⊎ AtGates words first slots k) b c) where
-    pub rolled_others : (j : ℕ) → (first ≤ j → j < first + length slots → stage_of slots (j - first) ≡ Sealed → ⊥)
+  module _ (c : List ℕ) (same : SameBut (λ k. InHomes states k ⊎ AtCommits words first states k) b c) where
+    pub rolled_others : (j : ℕ) → (first ≤ j → j < first + length states → stage_of states (j - first) ≡ Sealed → ⊥)
         → SameBytes PLACE_SIZE (place_at words j) (place_at words j) c b
     rolled_others j none k lt = same.outside (place_at words j + k) (λ s. elim s [
       | inl h ↦ (let o = home_of (place_at words j + k) h in omega (arith, o.0, o.2))
       | inr g ↦ not_at j none k lt g
     ])
 
-    -- where all gates that were written are shut, each place is shut now or had no open record
-    pub rolled_shut : ((place : ℕ) → place < length slots → stage_of slots place ≡ Sealed → slice_index c (place_at words (first + place)) ≡ 0)
-        → (j : ℕ) → j < places → (first ≤ j → j < first + length slots → stage_of slots (j - first) ≡ Sealed → ⊥) ⊎ (record_at c words j ≡ None)
-    rolled_shut shut j lt = elim (gate_cases j) [
-      | inl g ↦ inr (ap (record_at c words) g.2 ∙ record_shut c words (first + g.0) (place_at words (first + g.0)) refl (λ gate. omega (arith, gate, shut g.0 g.1 g.3)))
+    -- where all commit bytes that were written are shut, each place is shut now or had no open record
+    pub rolled_shut : ((place : ℕ) → place < length states → stage_of states place ≡ Sealed → slice_index c (place_at words (first + place)) ≡ 0)
+        → (j : ℕ) → j < places → (first ≤ j → j < first + length states → stage_of states (j - first) ≡ Sealed → ⊥) ⊎ (record_at c words j ≡ None)
+    rolled_shut shut j lt = elim (commit_cases j) [
+      | inl g ↦ inr (ap (record_at c words) g.2 ∙ record_shut c words (first + g.0) (place_at words (first + g.0)) refl (λ commit. omega (arith, commit, shut g.0 g.1 g.3)))
       | inr none ↦ inl none
     ]

@@ -6,12 +6,12 @@ use Rattle.mw_record.specs.Records.{Pairs, record_at}
 use Rattle.mw_record.specs.Writes.{record_same}
 use Rattle.mw_record.specs.Below.{few_entries}
 use Rattle.mw_record.specs.Stands.{HasWords}
-use Rattle.mw_file.specs.declared.slots.Slot.{Slot}
-use Rattle.mw_file.specs.declared.slots.Stage.{Stage}
-use Rattle.mw_file.specs.declared.slots.Stage.TheVariants.{Free, Prepared, Sealed}
-use Rattle.mw_file.specs.Slots.{stage_of, stage_at, writes_in, writes_of_place, IsStaged}
+use Rattle.mw_file.specs.declared.place_states.PlaceState.{PlaceState}
+use Rattle.mw_file.specs.declared.place_states.Stage.{Stage}
+use Rattle.mw_file.specs.declared.place_states.Stage.TheVariants.{Free, Prepared, Sealed}
+use Rattle.mw_file.specs.PlaceStates.{stage_of, stage_at, writes_in, writes_of_place, IsStaged}
 use Rattle.mw_file.specs.Stores.{PlacedAs, Stores}
-use Rattle.mw_file.specs.Rolls.{InHomes, AtGates}
+use Rattle.mw_file.specs.Rolls.{InHomes, AtCommits}
 use Rattle.mw_file.proofs.Bytes.{placed_as, stores_staged}
 use Rattle.mw_file.proofs.Rolling.{Tells, rolled_others, rolled_shut}
 
@@ -27,61 +27,61 @@ sealed_open b words place Free w is placed = cc
 sealed_open b words place Prepared w is placed = cc
 
 -- the slots of a file tell which of its records are open
-pub tells_all : (b : List ℕ) (words : ℕ) (contents : List ℕ) (slots : List Slot) → Stores b words contents slots → Tells b words 0 slots
-tells_all b words contents slots was = record {
+pub tells_all : (b : List ℕ) (words : ℕ) (contents : List ℕ) (states : List PlaceState) → Stores b words contents states → Tells b words 0 states
+tells_all b words contents states was = record {
   recorded = λ place lt sealed.
-      subst (λ (p : ℕ). record_at b words p ≡ Some (writes_of_place slots place)) (let e : place ≡ 0 + place = omega arith in e)
-      (sealed_open b words place (stage_of slots place) (writes_of_place slots place) sealed (was.placed place lt));
+      subst (λ (p : ℕ). record_at b words p ≡ Some (writes_of_place states place)) (let e : place ≡ 0 + place = omega arith in e)
+      (sealed_open b words place (stage_of states place) (writes_of_place states place) sealed (was.placed place lt));
 }
 
 -- so does one of them
-pub tells_one : (b : List ℕ) (words : ℕ) (contents : List ℕ) (slots : List Slot) (place : ℕ) (s : Slot) → Stores b words contents slots → place < length slots
-    → slice_get slots place ≡ Some s → Tells b words place (s ∷ [])
-tells_one b words contents slots place s was within at = record {
+pub tells_one : (b : List ℕ) (words : ℕ) (contents : List ℕ) (states : List PlaceState) (place : ℕ) (s : PlaceState) → Stores b words contents states → place < length states
+    → slice_get states place ≡ Some s → Tells b words place (s ∷ [])
+tells_one b words contents states place s was within at = record {
   recorded = λ i lt sealed.
       let zero_is : i ≡ 0 = omega (arith, lt) in
       let is : place ≡ place + i = omega (arith, zero_is) in
-      let stage : stage_of slots place ≡ Sealed = ap stage_at at ∙ ap (λ k. stage_of (s ∷ []) k) (sym zero_is) ∙ sealed in
-      let writes : writes_of_place slots place ≡ writes_of_place (s ∷ []) i = ap writes_in at ∙ ap (λ k. writes_of_place (s ∷ []) k) (sym zero_is) in
+      let stage : stage_of states place ≡ Sealed = ap stage_at at ∙ ap (λ k. stage_of (s ∷ []) k) (sym zero_is) ∙ sealed in
+      let writes : writes_of_place states place ≡ writes_of_place (s ∷ []) i = ap writes_in at ∙ ap (λ k. writes_of_place (s ∷ []) k) (sym zero_is) in
       subst (λ (p : ℕ). record_at b words p ≡ Some (writes_of_place (s ∷ []) i)) is
-      (sealed_open b words place (stage_of slots place) (writes_of_place slots place) stage (was.placed place within) ∙ ap Some writes);
+      (sealed_open b words place (stage_of states place) (writes_of_place states place) stage (was.placed place within) ∙ ap Some writes);
 }
 
 -- One change was put into the home words: its place is free.
-pub settle_done : (b c : List ℕ) (words : ℕ) (contents : List ℕ) (slots new : List Slot) (place : ℕ) (s : Slot) (writes : Pairs) → Stores b words contents slots
-    → place < length slots → slice_get slots place ≡ Some s → stage_of slots place ≡ Sealed
-    → SameBut (λ k. InHomes (s ∷ []) k ⊎ AtGates words place (s ∷ []) k) b c
+pub settle_done : (b c : List ℕ) (words : ℕ) (contents : List ℕ) (states new : List PlaceState) (place : ℕ) (s : PlaceState) (writes : Pairs) → Stores b words contents states
+    → place < length states → slice_get states place ≡ Some s → stage_of states place ≡ Sealed
+    → SameBut (λ k. InHomes (s ∷ []) k ⊎ AtCommits words place (s ∷ []) k) b c
     → ((i : ℕ) → i < length (s ∷ []) → stage_of (s ∷ []) i ≡ Sealed → slice_index c (place_at words (place + i)) ≡ 0)
-    → HasWords words (length slots) contents c → IsStaged slots new place Free writes → Stores c words contents new
-settle_done b c words contents slots new place s writes was within at sealed same shut has staged =
-    let tells : Tells b words place (s ∷ []) = tells_one b words contents slots place s was within at in
-    let inside : place + length (s ∷ []) ≤ length slots = omega (arith, within) in
+    → HasWords words (length states) contents c → IsStaged states new place Free writes → Stores c words contents new
+settle_done b c words contents states new place s writes was within at sealed same shut has staged =
+    let tells : Tells b words place (s ∷ []) = tells_one b words contents states place s was within at in
+    let inside : place + length (s ∷ []) ≤ length states = omega (arith, within) in
     let first_sealed : stage_of (s ∷ []) (place - place) ≡ Sealed = ap (stage_of (s ∷ [])) (let e : place - place ≡ 0 = omega arith in e) ∙ sym (ap stage_at at) ∙ sealed in
-    stores_staged b c words contents contents slots new place Free writes was staged has
-    (λ other lt ne. rolled_others b words (length slots) place (s ∷ []) contents was.has inside tells c same other (λ low high is. ne (omega (arith, low, high))))
-    (elim (rolled_shut b words (length slots) place (s ∷ []) contents was.has inside tells c same shut place within) [
+    stores_staged b c words contents contents states new place Free writes was staged has
+    (λ other lt ne. rolled_others b words (length states) place (s ∷ []) contents was.has inside tells c same other (λ low high is. ne (omega (arith, low, high))))
+    (elim (rolled_shut b words (length states) place (s ∷ []) contents was.has inside tells c same shut place within) [
       | inl none ↦ absurd (none (omega arith) (omega arith) first_sealed)
       | inr none ↦ none
     ])
 
 -- All changes that were found open were put into the home words: every place is free.
-pub open_done : (b c : List ℕ) (words : ℕ) (contents : List ℕ) (slots new : List Slot) → Stores b words contents slots
-    → SameBut (λ k. InHomes slots k ⊎ AtGates words 0 slots k) b c
-    → ((i : ℕ) → i < length slots → stage_of slots i ≡ Sealed → slice_index c (place_at words (0 + i)) ≡ 0)
-    → HasWords words (length slots) contents c → length new ≡ length slots → ((place : ℕ) → stage_of new place ≡ Free) → Stores c words contents new
-open_done b c words contents slots new was same shut has count free =
-    let tells : Tells b words 0 slots = tells_all b words contents slots was in
-    let inside : 0 + length slots ≤ length slots = omega arith in
+pub open_done : (b c : List ℕ) (words : ℕ) (contents : List ℕ) (states new : List PlaceState) → Stores b words contents states
+    → SameBut (λ k. InHomes states k ⊎ AtCommits words 0 states k) b c
+    → ((i : ℕ) → i < length states → stage_of states i ≡ Sealed → slice_index c (place_at words (0 + i)) ≡ 0)
+    → HasWords words (length states) contents c → length new ≡ length states → ((place : ℕ) → stage_of new place ≡ Free) → Stores c words contents new
+open_done b c words contents states new was same shut has count free =
+    let tells : Tells b words 0 states = tells_all b words contents states was in
+    let inside : 0 + length states ≤ length states = omega arith in
     record {
       has = subst (λ (n : ℕ). HasWords words n contents c) (sym count) has;
       placed = λ place lt.
-          let within : place < length slots = omega (arith, lt, count) in
+          let within : place < length states = omega (arith, lt, count) in
           placed_as c words place (stage_of new place) Free (writes_of_place new place) (writes_of_place new place) (free place) refl
-          (elim (rolled_shut b words (length slots) 0 slots contents was.has inside tells c same shut place within) [
+          (elim (rolled_shut b words (length states) 0 states contents was.has inside tells c same shut place within) [
             | inl none ↦
-                let other : stage_of slots place ≡ Sealed → ⊥ = λ is. none (omega arith) (omega (arith, within)) (ap (stage_of slots) (let e : place - 0 ≡ place = omega arith in e) ∙ is) in
-                let closed : record_at b words place ≡ None = not_open b words place (stage_of slots place) (writes_of_place slots place) other (was.placed place within) in
-                record_same c b words place (rolled_others b words (length slots) 0 slots contents was.has inside tells c same place none)
+                let other : stage_of states place ≡ Sealed → ⊥ = λ is. none (omega arith) (omega (arith, within)) (ap (stage_of states) (let e : place - 0 ≡ place = omega arith in e) ∙ is) in
+                let closed : record_at b words place ≡ None = not_open b words place (stage_of states place) (writes_of_place states place) other (was.placed place within) in
+                record_same c b words place (rolled_others b words (length states) 0 states contents was.has inside tells c same place none)
                 (λ ps is. few_entries words ps (was.has.stands.formed place ps within is)) ∙ closed
             | inr none ↦ none
           ]);

@@ -2,7 +2,7 @@
 use Rattle.std.specs.Prelude.{◌≡◌, ℕ, Bool, true, false, List, Result, Ok, Err, is_err, OnOk}
 use Rattle.mw_disk.specs.Facts.{Facts}
 use Rattle.mw_disk.specs.Runs.{Good, Bad}
-use Rattle.mw_file.specs.declared.slots.Slot.{Slot}
+use Rattle.mw_file.specs.declared.place_states.PlaceState.{PlaceState}
 use Rattle.mw_file.specs.declared.tenant_file.TenantFile.{TenantFile}
 use Rattle.mw_file.specs.declared.tenant_file.FileFault.{FileFault}
 use Rattle.mw_file.specs.declared.tenant_file.FileFault.TheVariants.{Disk, Failed}
@@ -17,8 +17,8 @@ module _ {D : Type 0} where
   words_of file = file.words
 
   -- its places
-  abbrev pub slots_of : TenantFile D → List Slot
-  slots_of file = file.slots.items
+  abbrev pub states_of : TenantFile D → List PlaceState
+  states_of file = file.states.items
 
   -- a call on its device has failed since it was opened
   abbrev pub has_failed : TenantFile D → Bool
@@ -28,7 +28,7 @@ module _ {D : Type 0} where
 pub record IsCopy {D : Type 0} (old new : TenantFile D) : Type 0 where
   pub disk : disk_of new ≡ disk_of old
   pub words : words_of new ≡ words_of old
-  pub slots : slots_of new ≡ slots_of old
+  pub states : states_of new ≡ states_of old
   pub failed : has_failed new ≡ has_failed old
 
 module _ {D : Type 0} (facts : D → Facts) where
@@ -44,7 +44,7 @@ module _ {D : Type 0} (facts : D → Facts) where
     pub before : has_failed old ≡ false
     pub after : has_failed new ≡ true
     pub words : words_of new ≡ words_of old
-    pub slots : slots_of new ≡ slots_of old
+    pub states : states_of new ≡ states_of old
     pub made : Bad calls (facts (disk_of old)) (facts (disk_of new))
 
   -- The file had failed before. Nothing was touched.

@@ -1,10 +1,10 @@
 -- A file all of whose places are free, and one change that goes through it alone.
 use Rattle.std.proofs.Common.{◌≡◌, ℕ, zero, suc, ◌+◌, ◌-◌, ◌<◌, ◌≤◌, List, [], ◌∷◌, length, true, Some, IsSome, is_some, if◌then◌else◌, refl, sym, ap, ◌∙◌, inl, inr, arith}
 use Rattle.std.proofs.lemmas.Bool.{and_parts, and_from, cases_eq, cases_Bool}
-use Rattle.mw_file.specs.declared.slots.Slot.{Slot}
-use Rattle.mw_file.specs.declared.slots.Stage.{Stage}
-use Rattle.mw_file.specs.declared.slots.Stage.TheVariants.{Free, Prepared, Sealed}
-use Rattle.mw_file.specs.Slots.{is_free_stage, is_free, all_free, free_from, free_place, stage_of, IsStaged, MaySeal}
+use Rattle.mw_file.specs.declared.place_states.PlaceState.{PlaceState}
+use Rattle.mw_file.specs.declared.place_states.Stage.{Stage}
+use Rattle.mw_file.specs.declared.place_states.Stage.TheVariants.{Free, Prepared, Sealed}
+use Rattle.mw_file.specs.PlaceStates.{is_free_stage, is_free, all_free, free_from, free_place, stage_of, IsStaged, MaySeal}
 
 free_stage : (s : Stage) → is_free_stage s ≡ true → s ≡ Free
 free_stage Free is = refl
@@ -12,23 +12,23 @@ free_stage Prepared is = absurd (cc)
 free_stage Sealed is = absurd (cc)
 
 -- no place of such a file has a change
-pub stage_of-all_free : (slots : List Slot) (place : ℕ) → all_free slots ≡ true → stage_of slots place ≡ Free
+pub stage_of-all_free : (states : List PlaceState) (place : ℕ) → all_free states ≡ true → stage_of states place ≡ Free
 stage_of-all_free [] place all = refl
-stage_of-all_free (s ∷ slots) zero all = free_stage s.stage (and_parts _ _ all).0
-stage_of-all_free (s ∷ slots) (suc place) all = stage_of-all_free slots place (and_parts _ _ all).1
+stage_of-all_free (s ∷ states) zero all = free_stage s.stage (and_parts _ _ all).0
+stage_of-all_free (s ∷ states) (suc place) all = stage_of-all_free states place (and_parts _ _ all).1
 
 -- some place is free, if there is one
-pub free_place-all_free : (slots : List Slot) → all_free slots ≡ true → 0 < length slots → IsSome (free_place slots)
+pub free_place-all_free : (states : List PlaceState) → all_free states ≡ true → 0 < length states → IsSome (free_place states)
 free_place-all_free [] all some = absurd (omega arith)
-free_place-all_free (s ∷ slots) all some = ap (λ b. is_some (if b then Some 0 else free_from 1 slots)) (and_parts _ _ all).0
+free_place-all_free (s ∷ states) all some = ap (λ b. is_some (if b then Some 0 else free_from 1 states)) (and_parts _ _ all).0
 
 -- where no place has a change, all are free
-pub all_free_from : (slots : List Slot) → ((place : ℕ) → stage_of slots place ≡ Free) → all_free slots ≡ true
+pub all_free_from : (states : List PlaceState) → ((place : ℕ) → stage_of states place ≡ Free) → all_free states ≡ true
 all_free_from [] none = refl
-all_free_from (s ∷ slots) none = and_from _ _ (ap is_free_stage (none 0)) (all_free_from slots (λ place. none (suc place)))
+all_free_from (s ∷ states) none = and_from _ _ (ap is_free_stage (none 0)) (all_free_from states (λ place. none (suc place)))
 
 -- the only change of a file may be sealed
-pub may_seal_alone : (old new : List Slot) (place : ℕ) (writes : List (ℕ × ℕ)) → all_free old ≡ true → IsStaged old new place Prepared writes → MaySeal new place
+pub may_seal_alone : (old new : List PlaceState) (place : ℕ) (writes : List (ℕ × ℕ)) → all_free old ≡ true → IsStaged old new place Prepared writes → MaySeal new place
 may_seal_alone old new place writes all staged = record {
   prepared = staged.stage_here;
   apart = λ other addr sealed here. elim (cases_eq other place) [
@@ -40,7 +40,7 @@ may_seal_alone old new place writes all staged = record {
 }
 
 -- a file is free again once its only change is gone
-pub free_again : (old mid new : List Slot) (place : ℕ) (stage : Stage) (v w : List (ℕ × ℕ)) → all_free old ≡ true → IsStaged old mid place stage v → IsStaged mid new place Free w
+pub free_again : (old mid new : List PlaceState) (place : ℕ) (stage : Stage) (v w : List (ℕ × ℕ)) → all_free old ≡ true → IsStaged old mid place stage v → IsStaged mid new place Free w
     → all_free new ≡ true
 free_again old mid new place stage v w all first last = all_free_from new (λ other. elim (cases_eq other place) [
   | inl same ↦ ap (λ p. stage_of new p) same ∙ last.stage_here
@@ -48,7 +48,7 @@ free_again old mid new place stage v w all first last = all_free_from new (λ ot
 ])
 
 -- a change that goes on
-pub staged_on : (old mid new : List Slot) (place : ℕ) (a b : Stage) (v w : List (ℕ × ℕ)) → IsStaged old mid place a v → IsStaged mid new place b w → IsStaged old new place b w
+pub staged_on : (old mid new : List PlaceState) (place : ℕ) (a b : Stage) (v w : List (ℕ × ℕ)) → IsStaged old mid place a v → IsStaged mid new place b w → IsStaged old new place b w
 staged_on old mid new place a b v w first last = record {
   count = last.count ∙ first.count;
   stage_here = last.stage_here;
@@ -58,18 +58,18 @@ staged_on old mid new place a b v w first last = record {
 }
 
 -- the lowest free place is free
-free_at : (first : ℕ) (slots : List Slot) (place : ℕ) → free_from first slots ≡ Some place → (first ≤ place) × (stage_of slots (place - first) ≡ Free)
+free_at : (first : ℕ) (states : List PlaceState) (place : ℕ) → free_from first states ≡ Some place → (first ≤ place) × (stage_of states (place - first) ≡ Free)
 free_at first [] place found = absurd (cc)
-free_at first (s ∷ slots) place found = elim (cases_Bool (is_free s)) [
+free_at first (s ∷ states) place found = elim (cases_Bool (is_free s)) [
   | inl is ↦
-      let e : Some first ≡ Some place = sym (ap (λ b. if b then Some first else free_from (first + 1) slots) is) ∙ found in
+      let e : Some first ≡ Some place = sym (ap (λ b. if b then Some first else free_from (first + 1) states) is) ∙ found in
       let same : first ≡ place = cc in
-      (omega (arith, same), ap (stage_of (s ∷ slots)) (let z : place - first ≡ 0 = omega (arith, same) in z) ∙ free_stage s.stage is)
+      (omega (arith, same), ap (stage_of (s ∷ states)) (let z : place - first ≡ 0 = omega (arith, same) in z) ∙ free_stage s.stage is)
   | inr other ↦
-      let e : free_from (first + 1) slots ≡ Some place = sym (ap (λ b. if b then Some first else free_from (first + 1) slots) other) ∙ found in
-      let more = free_at (first + 1) slots place e in
-      (omega (arith, more.0), ap (stage_of (s ∷ slots)) (let z : place - first ≡ suc (place - (first + 1)) = omega (arith, more.0) in z) ∙ more.1)
+      let e : free_from (first + 1) states ≡ Some place = sym (ap (λ b. if b then Some first else free_from (first + 1) states) other) ∙ found in
+      let more = free_at (first + 1) states place e in
+      (omega (arith, more.0), ap (stage_of (s ∷ states)) (let z : place - first ≡ suc (place - (first + 1)) = omega (arith, more.0) in z) ∙ more.1)
 ]
 
-pub free_stage_at : (slots : List Slot) (place : ℕ) → free_place slots ≡ Some place → stage_of slots place ≡ Free
-free_stage_at slots place found = ap (stage_of slots) (let z : place ≡ place - 0 = omega arith in z) ∙ (free_at 0 slots place found).1
+pub free_stage_at : (states : List PlaceState) (place : ℕ) → free_place states ≡ Some place → stage_of states place ≡ Free
+free_stage_at states place found = ap (stage_of states) (let z : place ≡ place - 0 = omega arith in z) ∙ (free_at 0 states place found).1

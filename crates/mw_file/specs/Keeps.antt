@@ -7,7 +7,7 @@ use Rattle.mw_record.specs.Damages.{file_words, places_of}
 use Rattle.mw_file.specs.declared.tenant_file.TenantFile.{TenantFile}
 use Rattle.mw_file.specs.declared.tenant_file.FileFault.{FileFault}
 use Rattle.mw_file.specs.declared.tenant_file.FileFault.TheVariants.{Disk, Failed}
-use Rattle.mw_file.specs.File.{disk_of, words_of, slots_of, has_failed}
+use Rattle.mw_file.specs.File.{disk_of, words_of, states_of, has_failed}
 use Rattle.mw_file.specs.Stores.{IsDurable}
 
 -- these bytes are a file with so many places, whose words are these
@@ -27,17 +27,17 @@ module _ {D : Type 0} (facts : D → Facts) where
     -- there are as many as the file says
     pub count : length contents ≡ words_of file
     -- until a device call fails a read gives a file of these words, and no change is in doubt
-    pub read : has_failed file ≡ false → IsFile (length (slots_of file)) contents (facts (disk_of file)).reads
+    pub read : has_failed file ≡ false → IsFile (length (states_of file)) contents (facts (disk_of file)).reads
     pub certain : has_failed file ≡ false → doubt ≡ []
     -- a crash leaves a file of these words, or of these with the change in doubt put over them
-    pub left : (image : List ℕ) → MayLeave (facts (disk_of file)) image → IsEither (length (slots_of file)) contents doubt image
+    pub left : (image : List ℕ) → MayLeave (facts (disk_of file)) image → IsEither (length (states_of file)) contents doubt image
     -- for the calls of this crate alone; whoever calls them passes it on
-    pub inside : has_failed file ≡ false → IsDurable (facts (disk_of file)) (words_of file) contents (slots_of file)
+    pub inside : has_failed file ≡ false → IsDurable (facts (disk_of file)) (words_of file) contents (states_of file)
 
   -- A call through which a crash does no harm: whenever one comes since the call began, it leaves a file of the words before, or of
   -- these with this change put over them. After the call the file stands for these words, with that change in doubt.
   pub record CrashSafe (old new : TenantFile D) (before : List ℕ) (change : Pairs) (now : List ℕ) (doubt : Pairs) : Type 0 where
-    pub moments : LeavesOnly (facts (disk_of old)) (facts (disk_of new)) (IsEither (length (slots_of old)) before change)
+    pub moments : LeavesOnly (facts (disk_of old)) (facts (disk_of new)) (IsEither (length (states_of old)) before change)
     pub after : Keeps new now doubt
 
   -- a call on an honest disk that leaves the words and the change in doubt, however it ends

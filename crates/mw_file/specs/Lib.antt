@@ -5,6 +5,6 @@ pub mod Keeps
 pub mod Opening
 pub mod Rolls
 pub mod Run
-pub mod Slots
+pub mod PlaceStates
 pub mod Stores
 pub mod Taken

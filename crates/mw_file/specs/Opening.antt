@@ -10,8 +10,8 @@ use Rattle.mw_file.specs.declared.tenant_file.TenantFile.{TenantFile}
 use Rattle.mw_file.specs.declared.opening.OpenFault.{OpenFault}
 use Rattle.mw_file.specs.declared.opening.OpenFault.TheVariants.{Damage, Disk, Memory}
 use Rattle.mw_file.specs.Run.{IsUntouched}
-use Rattle.mw_file.specs.Slots.{all_free}
-use Rattle.mw_file.specs.File.{disk_of, words_of, slots_of, has_failed}
+use Rattle.mw_file.specs.PlaceStates.{all_free}
+use Rattle.mw_file.specs.File.{disk_of, words_of, states_of, has_failed}
 use Rattle.mw_file.specs.Keeps.{Keeps}
 
 -- what of a disk's bytes can belong to a file
@@ -46,7 +46,7 @@ open_entries image = entries_below image (places_of image)
 abbrev pub open_records : List ℕ → ℕ
 open_records image = records_below image (places_of image)
 
--- The device calls that finish the changes whose records are open: their home words, a sync, their gates, a sync; none where
+-- The device calls that finish the changes whose records are open: their home words, a sync, their commit bytes, a sync; none where
 -- no record is open.
 abbrev pub repair_calls : List ℕ → ℕ
 repair_calls image = if open_records image == 0 then 0 else (open_entries image + 1) + (open_records image + 1)
@@ -85,9 +85,9 @@ module _ {D : Type 0} (facts : D → Facts) where
     pub made : Good (open_calls image) (facts disk) (facts (disk_of file))
     pub read : words ≡ words_in image
     pub count : words_of file ≡ length words
-    pub places : length (slots_of file) ≡ places_of image
-    pub some_place : 0 < length (slots_of file)
-    pub free : IsTrue (all_free (slots_of file))
+    pub places : length (states_of file) ≡ places_of image
+    pub some_place : 0 < length (states_of file)
+    pub free : IsTrue (all_free (states_of file))
     pub sound : has_failed file ≡ false
     -- of an honest disk these are the words of all its bytes, and the file stands for them if the disk was at rest
     pub whole : IsTrue (facts disk).honest → file_words (facts disk).reads ≡ Some words

@@ -7,10 +7,10 @@ use Rattle.mw_record.specs.Layout.{home_at, place_at}
 use Rattle.mw_record.specs.Records.{Pairs, Kept, holds, record_at}
 use Rattle.mw_record.specs.Damages.{words_of, places_of}
 use Rattle.mw_record.specs.Stands.{HasWords}
-use Rattle.mw_file.specs.declared.slots.Slot.{Slot}
-use Rattle.mw_file.specs.declared.slots.Stage.{Stage}
-use Rattle.mw_file.specs.declared.slots.Stage.TheVariants.{Free, Prepared, Sealed}
-use Rattle.mw_file.specs.Slots.{stage_of, writes_of_place}
+use Rattle.mw_file.specs.declared.place_states.PlaceState.{PlaceState}
+use Rattle.mw_file.specs.declared.place_states.Stage.{Stage}
+use Rattle.mw_file.specs.declared.place_states.Stage.TheVariants.{Free, Prepared, Sealed}
+use Rattle.mw_file.specs.PlaceStates.{stage_of, writes_of_place}
 
 -- no byte
 abbrev pub Nowhere : ℕ → Type 0
@@ -27,11 +27,11 @@ if_open Free writes = None
 if_open Prepared writes = None
 if_open Sealed writes = Some writes
 
-abbrev pub record_of : Slot → Option Pairs
+abbrev pub record_of : PlaceState → Option Pairs
 record_of s = if_open s.stage s.writes.items
 
-abbrev pub kept_of : List Slot → Kept
-kept_of slots place = if_open (stage_of slots place) (writes_of_place slots place)
+abbrev pub kept_of : List PlaceState → Kept
+kept_of states place = if_open (stage_of states place) (writes_of_place states place)
 
 -- a byte of a home word that a record has a value for
 pub record InRecord (r : Option Pairs) (k : ℕ) : Type 0 where
@@ -42,21 +42,21 @@ pub record InRecord (r : Option Pairs) (k : ℕ) : Type 0 where
   pub in_word : InRange (home_at addr) WORD_SIZE k
 
 -- a byte of a home word that a sealed place has a value for
-pub record InHomes (slots : List Slot) (k : ℕ) : Type 0 where
+pub record InHomes (states : List PlaceState) (k : ℕ) : Type 0 where
   pub place : ℕ
-  pub within : place < length slots
-  pub in_record : InRecord (kept_of slots place) k
+  pub within : place < length states
+  pub in_record : InRecord (kept_of states place) k
 
--- the gate byte of a sealed place; slot i is place first + i
-pub record AtGates (words first : ℕ) (slots : List Slot) (k : ℕ) : Type 0 where
+-- the commit byte of a sealed place; slot i is place first + i
+pub record AtCommits (words first : ℕ) (states : List PlaceState) (k : ℕ) : Type 0 where
   pub place : ℕ
-  pub within : place < length slots
-  pub sealed : stage_of slots place ≡ Sealed
+  pub within : place < length states
+  pub sealed : stage_of states place ≡ Sealed
   pub at : k ≡ place_at words (first + place)
 
--- a gate byte that is written, if the place is sealed
-pub record AtGate (gate : ℕ) (s : Slot) (k : ℕ) : Type 0 where
-  pub at : k ≡ gate
+-- a commit byte that is written, if the place is sealed
+pub record AtCommit (commit : ℕ) (s : PlaceState) (k : ℕ) : Type 0 where
+  pub at : k ≡ commit
   pub sealed : s.stage ≡ Sealed
 
 -- a record has values for words below this number alone
@@ -69,30 +69,30 @@ pub record HasHomes (f : Facts) (words : ℕ) : Type 0 where
   pub fits : Fits f (home_at words)
 
 -- each of these places has values for words below this number alone
-abbrev pub AreBelow : ℕ → List Slot → Type 0
-AreBelow words slots = (place : ℕ) → place < length slots → IsBelow words (kept_of slots place)
+abbrev pub AreBelow : ℕ → List PlaceState → Type 0
+AreBelow words states = (place : ℕ) → place < length states → IsBelow words (kept_of states place)
 
 -- The disk keeps the model and is at rest, what a read gives is a file with these words, and each of these slots that is sealed has
 -- its record open there; slot i is place first + i.
-pub record CanRoll (f : Facts) (words places first : ℕ) (slots : List Slot) (contents : List ℕ) : Type 0 where
+pub record CanRoll (f : Facts) (words places first : ℕ) (states : List PlaceState) (contents : List ℕ) : Type 0 where
   pub honest : IsTrue f.honest
   pub rest : IsAtRest f
   pub has : HasWords words places contents f.reads
-  pub within : first + length slots ≤ places
-  pub recorded : (place : ℕ) → place < length slots → stage_of slots place ≡ Sealed → record_at f.reads words (first + place) ≡ Some (writes_of_place slots place)
+  pub within : first + length states ≤ places
+  pub recorded : (place : ℕ) → place < length states → stage_of states place ≡ Sealed → record_at f.reads words (first + place) ≡ Some (writes_of_place states place)
 
--- At rest. Only bytes of the sealed places' home words and gates may have changed, and those gates are 0.
-pub record IsRolled (words first : ℕ) (slots : List Slot) (old new : Facts) : Type 0 where
+-- At rest. Only bytes of the sealed places' home words and commit bytes may have changed, and those commit bytes are 0.
+pub record IsRolled (words first : ℕ) (states : List PlaceState) (old new : Facts) : Type 0 where
   pub rest : IsAtRest new
-  pub same : SameBut (λ k. InHomes slots k ⊎ AtGates words first slots k) old.reads new.reads
-  pub shut : (place : ℕ) → place < length slots → stage_of slots place ≡ Sealed → slice_index new.reads (place_at words (first + place)) ≡ 0
+  pub same : SameBut (λ k. InHomes states k ⊎ AtCommits words first states k) old.reads new.reads
+  pub shut : (place : ℕ) → place < length states → stage_of states place ≡ Sealed → slice_index new.reads (place_at words (first + place)) ≡ 0
 
 -- These slots are the places of a file that was read: sealed where its record is open, with that record, else free.
-pub record IsRecalled (image : List ℕ) (slots : List Slot) : Type 0 where
-  pub count : length slots ≡ places_of image
-  pub each : (place : ℕ) → place < places_of image → kept_of slots place ≡ record_at image (words_of image) place
-  pub none_prepared : (place : ℕ) → place < places_of image → stage_of slots place ≡ Prepared → ⊥
-  pub some_entries : (place : ℕ) → place < places_of image → stage_of slots place ≡ Sealed → 1 ≤ length (writes_of_place slots place)
+pub record IsRecalled (image : List ℕ) (states : List PlaceState) : Type 0 where
+  pub count : length states ≡ places_of image
+  pub each : (place : ℕ) → place < places_of image → kept_of states place ≡ record_at image (words_of image) place
+  pub none_prepared : (place : ℕ) → place < places_of image → stage_of states place ≡ Prepared → ⊥
+  pub some_entries : (place : ℕ) → place < places_of image → stage_of states place ≡ Sealed → 1 ≤ length (writes_of_place states place)
 
 -- The disk keeps the model and is at rest, what a read gives is a file with these words, and it has the sizes and the records of
 -- the bytes that were read.

@@ -4,30 +4,30 @@ use Rattle.mw_disk.specs.Facts.{Facts, IsAtRest}
 use Rattle.mw_record.specs.Layout.{place_at}
 use Rattle.mw_record.specs.Records.{Pairs, record_at, body_at, is_record, has_values}
 use Rattle.mw_record.specs.Stands.{HasWords}
-use Rattle.mw_file.specs.declared.slots.Slot.{Slot}
-use Rattle.mw_file.specs.declared.slots.Stage.{Stage}
-use Rattle.mw_file.specs.declared.slots.Stage.TheVariants.{Free, Prepared, Sealed}
-use Rattle.mw_file.specs.Slots.{stage_of, writes_of_place}
+use Rattle.mw_file.specs.declared.place_states.PlaceState.{PlaceState}
+use Rattle.mw_file.specs.declared.place_states.Stage.{Stage}
+use Rattle.mw_file.specs.declared.place_states.Stage.TheVariants.{Free, Prepared, Sealed}
+use Rattle.mw_file.specs.PlaceStates.{stage_of, writes_of_place}
 
--- The record of a change stands behind the shut gate of a place, well formed for so many words.
+-- The record of a change stands behind the clear commit byte of a place, well formed for so many words.
 pub record IsWritten (image : List ℕ) (words place : ℕ) (writes : Pairs) : Type 0 where
   pub shut : record_at image words place ≡ None
   pub behind : body_at image (place_at words place) ≡ writes
   pub formed : is_record words writes ≡ true
   pub values : has_values writes ≡ true
 
--- The bytes of a place by how far its change is: shut, shut with the change's record behind the gate, or open with it.
+-- The bytes of a place by how far its change is: shut, shut with the change's record behind the commit byte, or open with it.
 abbrev pub PlacedAs : List ℕ → ℕ → ℕ → Stage → Pairs → Type 0
 PlacedAs image words place Free writes = record_at image words place ≡ None
 PlacedAs image words place Prepared writes = IsWritten image words place writes
 PlacedAs image words place Sealed writes = record_at image words place ≡ Some writes
 
 -- These bytes are a file with these words, and each of its places is as it is kept in memory.
-pub record Stores (image : List ℕ) (words : ℕ) (contents : List ℕ) (slots : List Slot) : Type 0 where
-  pub has : HasWords words (length slots) contents image
-  pub placed : (place : ℕ) → place < length slots → PlacedAs image words place (stage_of slots place) (writes_of_place slots place)
+pub record Stores (image : List ℕ) (words : ℕ) (contents : List ℕ) (states : List PlaceState) : Type 0 where
+  pub has : HasWords words (length states) contents image
+  pub placed : (place : ℕ) → place < length states → PlacedAs image words place (stage_of states place) (writes_of_place states place)
 
 -- A crash now leaves what a read gives, and that is such a file.
-pub record IsDurable (f : Facts) (words : ℕ) (contents : List ℕ) (slots : List Slot) : Type 0 where
+pub record IsDurable (f : Facts) (words : ℕ) (contents : List ℕ) (states : List PlaceState) : Type 0 where
   pub rest : IsAtRest f
-  pub stores : Stores f.reads words contents slots
+  pub stores : Stores f.reads words contents states

@@ -6,33 +6,33 @@ ghost use Rattle.mw_file.specs.Rolls.{InRange};
 ghost use Rattle.mw_file.specs.Run.{Ran};
 ghost use Rattle.mw_words.specs.Change.{is_change};
 ghost use Rattle.mw_record.specs.Layout.{pairs_of};
-ghost use Rattle.mw_file.specs.Slots as spec;
-ghost use Rattle.mw_file.specs.Slots.{stage_of, writes_of_place, IsStaged, MaySeal};
+ghost use Rattle.mw_file.specs.PlaceStates as spec;
+ghost use Rattle.mw_file.specs.PlaceStates.{stage_of, writes_of_place, IsStaged, MaySeal};
 
+use crate::place_states::{PlaceState, Stage, writes_to};
 use crate::roll::roll_forward;
-use crate::slots::{Slot, Stage, writes_to};
 use crate::tenant_file::{FileFault, Place, TenantFile};
 use mw_disk::{Disk, DiskFault};
-use mw_record::{GATE_OPEN, body, place_at};
+use mw_record::{COMMITTED, body, place_at};
 use mw_words::Entries;
 use std::slice;
 
 impl<D: Disk> TenantFile<D> {
-    ghost use Rattle.mw_file.specs.File.{slots_of, words_of, disk_of, Ends};
+    ghost use Rattle.mw_file.specs.File.{states_of, words_of, disk_of, Ends};
     ghost use Rattle.mw_file.specs.Keeps.{ContentsStay, ChangeIsSealed};
 
     /// How many places the file has.
     pub fn places(&self) -> u16
-        ensures { result ≡ length (slots_of self.now) }
+        ensures { result ≡ length (states_of self.now) }
     {
-        self.slots.len() as u16
+        self.states.len() as u16
     }
 
     /// Whether a place is free.
     pub fn has_place(&self) -> bool
-        ensures { result ≡ is_some (spec.free_place (slots_of self.now)) }
+        ensures { result ≡ is_some (spec.free_place (states_of self.now)) }
     {
-        free_place(&self.slots).is_some()
+        free_place(&self.states).is_some()
     }
 
     /// Writes the record of a change into the lowest free place, and syncs. The change isn't in the
@@ -44,11 +44,11 @@ impl<D: Disk> TenantFile<D> {
     /// [`FileFault::Disk`] where the device failed; the place is as free as it was.
     /// [`FileFault::Failed`] where the file had failed before.
     pub fn prepare(&mut self, entries: &Entries) -> Result<Place, FileFault>
-        requires room { IsSome (spec.free_place (slots_of self.old)) }
+        requires room { IsSome (spec.free_place (states_of self.old)) }
         requires formed { IsTrue (is_change (words_of self.old) entries.now.items) }
         ensures ends { Ends D.facts 2 self.old self.new result }
-        ensures lowest { IfOk result (λ p. spec.free_place (slots_of self.old) ≡ Some p.0) }
-        ensures staged { IfOk result (λ p. IsStaged (slots_of self.old) (slots_of self.new) p.0
+        ensures lowest { IfOk result (λ p. spec.free_place (states_of self.old) ≡ Some p.0) }
+        ensures staged { IfOk result (λ p. IsStaged (states_of self.old) (states_of self.new) p.0
             Stage.Prepared (pairs_of entries.now.items)) }
         ensures later { Later (D.facts (disk_of self.old)) (D.facts (disk_of self.new)) }
         ensures safe { ContentsStay D.facts self.old self.new }
@@ -56,7 +56,7 @@ impl<D: Disk> TenantFile<D> {
         if self.failed {
             return Err(FileFault::Failed);
         }
-        let Some(place) = free_place(&self.slots) else {
+        let Some(place) = free_place(&self.states) else {
             unreachable!()
         };
         let at = place_at(self.words, place) + 1;
@@ -64,14 +64,14 @@ impl<D: Disk> TenantFile<D> {
             self.failed = true;
             return Err(FileFault::Disk);
         }
-        self.slots[place as usize] = Slot {
+        self.states[place as usize] = PlaceState {
             stage: Stage::Prepared,
             writes: writes_to(entries),
         };
         Ok(Place(place))
     }
 
-    /// Opens the gate of a prepared change, and syncs. From then on the change is in the file,
+    /// Sets the commit byte of a prepared change, and syncs. From then on the change is in the file,
     /// durably. Until then a crash at any moment leaves the words before, or these with the whole
     /// change. The change has to be prepared, and to share no address with one that is sealed and not
     /// settled.
@@ -81,26 +81,26 @@ impl<D: Disk> TenantFile<D> {
     /// [`FileFault::Disk`] where the device failed; the change may be found when the file is opened
     /// again. [`FileFault::Failed`] where the file had failed before.
     pub fn seal(&mut self, place: Place) -> Result<(), FileFault>
-        requires { MaySeal (slots_of self.old) place.0 }
+        requires { MaySeal (states_of self.old) place.0 }
         ensures ends { Ends D.facts 2 self.old self.new result }
-        ensures staged { OnOk result (IsStaged (slots_of self.old) (slots_of self.new) place.0
-            Stage.Sealed (writes_of_place (slots_of self.old) place.0)) }
+        ensures staged { OnOk result (IsStaged (states_of self.old) (states_of self.new) place.0
+            Stage.Sealed (writes_of_place (states_of self.old) place.0)) }
         ensures later { Later (D.facts (disk_of self.old)) (D.facts (disk_of self.new)) }
-        ensures safe { ChangeIsSealed D.facts self.old self.new (writes_of_place (slots_of self.old) place.0) result }
+        ensures safe { ChangeIsSealed D.facts self.old self.new (writes_of_place (states_of self.old) place.0) result }
     {
         if self.failed {
             return Err(FileFault::Failed);
         }
         let at = place_at(self.words, place.0);
-        if write_and_sync(&mut self.disk, at, &[GATE_OPEN]).is_err() {
+        if write_and_sync(&mut self.disk, at, &[COMMITTED]).is_err() {
             self.failed = true;
             return Err(FileFault::Disk);
         }
-        self.slots[place.0 as usize].stage = Stage::Sealed;
+        self.states[place.0 as usize].stage = Stage::Sealed;
         Ok(())
     }
 
-    /// Puts a sealed change's values into their home words and syncs, then shuts its gate and syncs. Its
+    /// Puts a sealed change's values into their home words and syncs, then clears its commit byte and syncs. Its
     /// place is free then. A crash at any moment leaves the words as they were, with this change.
     ///
     /// # Errors
@@ -108,35 +108,35 @@ impl<D: Disk> TenantFile<D> {
     /// [`FileFault::Disk`] where the device failed; the change was sealed all the same.
     /// [`FileFault::Failed`] where the file had failed before.
     pub fn settle(&mut self, place: Place) -> Result<(), FileFault>
-        requires { stage_of (slots_of self.old) place.0 ≡ Stage.Sealed }
-        ensures ends { Ends D.facts (length (writes_of_place (slots_of self.old) place.0) + 3) self.old self.new result }
-        ensures staged { OnOk result (IsStaged (slots_of self.old) (slots_of self.new) place.0
-            Stage.Free (writes_of_place (slots_of self.old) place.0)) }
+        requires { stage_of (states_of self.old) place.0 ≡ Stage.Sealed }
+        ensures ends { Ends D.facts (length (writes_of_place (states_of self.old) place.0) + 3) self.old self.new result }
+        ensures staged { OnOk result (IsStaged (states_of self.old) (states_of self.new) place.0
+            Stage.Free (writes_of_place (states_of self.old) place.0)) }
         ensures later { Later (D.facts (disk_of self.old)) (D.facts (disk_of self.new)) }
         ensures safe { ContentsStay D.facts self.old self.new }
     {
         if self.failed {
             return Err(FileFault::Failed);
         }
-        let alone = slice::from_ref(&self.slots[place.0 as usize]);
+        let alone = slice::from_ref(&self.states[place.0 as usize]);
         if roll_forward(&mut self.disk, self.words, alone, place.0).is_err() {
             self.failed = true;
             return Err(FileFault::Disk);
         }
-        self.slots[place.0 as usize].stage = Stage::Free;
+        self.states[place.0 as usize].stage = Stage::Free;
         Ok(())
     }
 
     /// Gives up a prepared change. Its place is free then. This makes no device call, and always
     /// succeeds.
     pub fn cancel(&mut self, place: Place)
-        requires { stage_of (slots_of self.old) place.0 ≡ Stage.Prepared }
-        ensures staged { IsStaged (slots_of self.old) (slots_of self.new) place.0
-            Stage.Free (writes_of_place (slots_of self.old) place.0) }
-        ensures rest { self.new ≡ record self.old { slots = self.new.slots; few = self.new.few } }
+        requires { stage_of (states_of self.old) place.0 ≡ Stage.Prepared }
+        ensures staged { IsStaged (states_of self.old) (states_of self.new) place.0
+            Stage.Free (writes_of_place (states_of self.old) place.0) }
+        ensures rest { self.new ≡ record self.old { states = self.new.states; few = self.new.few } }
         ensures safe { ContentsStay D.facts self.old self.new }
     {
-        self.slots[place.0 as usize].stage = Stage::Free;
+        self.states[place.0 as usize].stage = Stage::Free;
     }
 
     /// The disk again.
@@ -146,20 +146,20 @@ impl<D: Disk> TenantFile<D> {
         let TenantFile {
             disk,
             words: _,
-            slots: _,
+            states: _,
             failed: _,
         } = self;
         disk
     }
 }
 
-fn free_place(slots: &[Slot]) -> Option<u16>
-    requires { length slots.now < 2 ^ 16 }
-    ensures lowest { result ≡ spec.free_place slots.now }
-    ensures within { IfSome result (λ place. place < length slots.now) }
+fn free_place(states: &[PlaceState]) -> Option<u16>
+    requires { length states.now < 2 ^ 16 }
+    ensures lowest { result ≡ spec.free_place states.now }
+    ensures within { IfSome result (λ place. place < length states.now) }
 {
-    for (place, slot) in slots.iter().enumerate() {
-        if slot.stage == Stage::Free {
+    for (place, state) in states.iter().enumerate() {
+        if state.stage == Stage::Free {
             return Some(place as u16);
         }
     }

@@ -10,9 +10,9 @@ ghost use Rattle.mw_file.specs.Keeps.{Keeps, IsEither};
 ghost use Rattle.mw_file.specs.Opening.{Opens, disk_after, SameFile};
 ghost use Rattle.mw_file.specs.Again.{Holds};
 ghost use Rattle.mw_file.specs.Run.{IsDoomed};
-ghost use Rattle.mw_file.specs.declared.slots.Slot.{Slot};
-ghost use Rattle.mw_file.specs.declared.slots.Stage.{Stage};
-ghost use Rattle.mw_file.specs.Slots.{free_place, stage_of, IsStaged};
+ghost use Rattle.mw_file.specs.declared.place_states.PlaceState.{PlaceState};
+ghost use Rattle.mw_file.specs.declared.place_states.Stage.{Stage};
+ghost use Rattle.mw_file.specs.PlaceStates.{free_place, stage_of, IsStaged};
 ghost use Rattle.mw_file.specs.Taken.{taken, if_taken};
 
 use mw_disk::Disk;
@@ -47,8 +47,8 @@ pub fn crash_of_a_file<D: Disk, E: Disk>()
 /// since, than there are. A change that is prepared in a free place is one more, one that is settled or
 /// canceled one less, and a seal leaves their number.
 pub fn places_are_counted()
-    ensures free { (slots : List Slot) → is_some (free_place slots) ≡ nat_lt (taken slots) (length slots) }
-    ensures staged { (old new : List Slot) (place : ℕ) (stage : Stage) (writes : Pairs) → place < length old → IsStaged old new place stage writes
+    ensures free { (states : List PlaceState) → is_some (free_place states) ≡ nat_lt (taken states) (length states) }
+    ensures staged { (old new : List PlaceState) (place : ℕ) (stage : Stage) (writes : Pairs) → place < length old → IsStaged old new place stage writes
         → taken new + if_taken (stage_of old place) ≡ taken old + if_taken stage }
 {}
 

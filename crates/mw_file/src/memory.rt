@@ -5,7 +5,7 @@ ghost use Rattle.mw_disk.specs.Facts.{MayLeave};
 ghost use Rattle.mw_record.specs.Records.{Pairs};
 ghost use Rattle.mw_disk.specs.Memory.{memory_facts, with_name, with_fault, with_stop, sooner};
 
-use crate::slots::copies;
+use crate::place_states::copies;
 use crate::tenant_file::TenantFile;
 use mw_disk::MemDisk;
 use std::alloc::{AllocError, Global};
@@ -22,11 +22,11 @@ impl TenantFile<MemDisk> {
             → Keeps memory_facts file contents doubt) }
     {
         let disk = self.disk.copy()?;
-        let slots = copies(alloc, &self.slots)?;
+        let states = copies(alloc, &self.states)?;
         Ok(TenantFile {
             disk,
             words: self.words,
-            slots,
+            states,
             failed: self.failed,
         })
     }

@@ -9,12 +9,12 @@ ghost use Rattle.mw_record.specs.Stands.{HasWords};
 ghost use Rattle.mw_file.specs.Opening.{repair_calls};
 ghost use Rattle.mw_file.specs.Rolls.{CanRoll, CanFinish, IsRolled, IsRecalled, Nowhere, record_of};
 ghost use Rattle.mw_file.specs.Run.{Ran, IsUntouched};
-ghost use Rattle.mw_file.specs.Slots.{all_free, gate_writes, roll_calls};
+ghost use Rattle.mw_file.specs.PlaceStates.{all_free, commit_writes, roll_calls};
 ghost use Rattle.mw_file.specs.Stores.{IsDurable};
-ghost use Rattle.mw_file.specs.declared.slots.Stage.TheVariants.{Prepared, Sealed};
+ghost use Rattle.mw_file.specs.declared.place_states.Stage.TheVariants.{Prepared, Sealed};
 
+use crate::place_states::{PlaceState, Stage, Writes};
 use crate::roll::roll_forward;
-use crate::slots::{Slot, Stage, Writes};
 use crate::tenant_file::TenantFile;
 use mw_disk::{Disk, DiskFault};
 use mw_record::{Damage, Image, MAX_FILE, decode};
@@ -39,7 +39,7 @@ impl<D: Disk> TenantFile<D> {
     /// so that every place is free then. Gives its words too, in order of address.
     ///
     /// It asks for the length and reads; if any record is open, it writes the home words of all open
-    /// records, syncs, shuts their gates and syncs. On a file it takes memory once, before it reads:
+    /// records, syncs, clears their commit bytes and syncs. On a file it takes memory once, before it reads:
     /// no other call on the file takes any.
     ///
     /// # Errors
@@ -59,7 +59,7 @@ impl<D: Disk> TenantFile<D> {
         let Room {
             mut bytes,
             mut words,
-            mut slots,
+            mut states,
         } = room;
         if read_front(&mut disk, &mut bytes).is_err() {
             return Err((OpenFault::Disk, disk));
@@ -69,14 +69,14 @@ impl<D: Disk> TenantFile<D> {
             Err(damage) => return Err((OpenFault::Damage(damage), disk)),
         };
         fill_words(&image, &mut words);
-        slots.truncate(image.places() as usize);
-        if finish(&mut disk, &image, &mut slots).is_err() {
+        states.truncate(image.places() as usize);
+        if finish(&mut disk, &image, &mut states).is_err() {
             return Err((OpenFault::Disk, disk));
         }
         let file = TenantFile {
             disk,
             words: image.words(),
-            slots,
+            states,
             failed: false,
         };
         Ok((file, words))
@@ -91,34 +91,34 @@ struct Room {
     /// As many words as a file may have.
     words: Vec<u64>,
     /// As many free slots as a file may have places.
-    slots: Vec<Slot>,
+    states: Vec<PlaceState>,
 }
 
 impl Room {
     fn new(alloc: Global, len: u64) -> Result<Room, AllocError>
         ensures { IfOk result (λ room. (vec_len room.bytes ≡ min len MAX_FILE)
-            × (vec_len room.words ≡ MAX_WORDS) × (vec_len room.slots ≡ MAX_PLACES) × IsTrue (all_free room.slots.items)) }
+            × (vec_len room.words ≡ MAX_WORDS) × (vec_len room.states ≡ MAX_PLACES) × IsTrue (all_free room.states.items)) }
     {
         let size = len.min(MAX_FILE as u64) as usize;
         Ok(Room {
             bytes: vec![in alloc; 0; size]?,
             words: vec![in alloc; 0; MAX_WORDS as usize]?,
-            slots: free_slots(alloc)?,
+            states: free_states(alloc)?,
         })
     }
 }
 
-fn free_slots(alloc: Global) -> Result<Vec<Slot>, AllocError>
-    ensures { IfOk result (λ slots. (vec_len slots ≡ MAX_PLACES) × IsTrue (all_free slots.items)) }
+fn free_states(alloc: Global) -> Result<Vec<PlaceState>, AllocError>
+    ensures { IfOk result (λ states. (vec_len states ≡ MAX_PLACES) × IsTrue (all_free states.items)) }
 {
-    let mut slots = Vec::with_capacity(alloc, MAX_PLACES as usize)?;
+    let mut states = Vec::with_capacity(alloc, MAX_PLACES as usize)?;
     for _ in 0..MAX_PLACES {
-        slots.push(Slot {
+        states.push(PlaceState {
             stage: Stage::Free,
             writes: Writes::new(),
         })?;
     }
-    Ok(slots)
+    Ok(states)
 }
 
 /// Reads the first bytes. Where there are none to read no device call is made.
@@ -149,37 +149,41 @@ fn fill_words(image: &Image<'_>, words: &mut Vec<u64>)
 }
 
 /// Finishes the changes whose records are open. Every place is free then.
-fn finish<D: Disk>(disk: &mut D, image: &Image<'_>, slots: &mut [Slot]) -> Result<(), DiskFault>
-    requires each { length slots.old ≡ places_of image.now }
-    requires few { length slots.old ≤ MAX_PLACES }
+fn finish<D: Disk>(
+    disk: &mut D,
+    image: &Image<'_>,
+    states: &mut [PlaceState],
+) -> Result<(), DiskFault>
+    requires each { length states.old ≡ places_of image.now }
+    requires few { length states.old ≤ MAX_PLACES }
     ensures calls { Ran (repair_calls image.now) (D.facts disk.old) (D.facts disk.new) result }
     ensures later { Later (D.facts disk.old) (D.facts disk.new) }
-    ensures free { IsTrue (all_free slots.new) }
+    ensures free { IsTrue (all_free states.new) }
     ensures moments { (contents : List ℕ) → CanFinish (D.facts disk.old) image.now contents
         → LeavesOnly (D.facts disk.old) (D.facts disk.new) (HasWords (words_of image.now) (places_of image.now) contents) }
     ensures read { (contents : List ℕ) → CanFinish (D.facts disk.old) image.now contents
         → HasWords (words_of image.now) (places_of image.now) contents (D.facts disk.new).reads }
     ensures done { OnOk result ((contents : List ℕ) → CanFinish (D.facts disk.old) image.now contents
-        → IsDurable (D.facts disk.new) (words_of image.now) contents slots.new) }
+        → IsDurable (D.facts disk.new) (words_of image.now) contents states.new) }
 {
-    recall(image, slots);
-    let ran = repair(disk, image.words(), slots);
-    set_free(slots);
+    recall(image, states);
+    let ran = repair(disk, image.words(), states);
+    set_free(states);
     ran
 }
 
 /// Tells each place whose record is open as a sealed one, and the others as free.
-fn recall(image: &Image<'_>, slots: &mut [Slot])
-    requires { length slots.old ≡ places_of image.now }
-    ensures { IsRecalled image.now slots.new }
+fn recall(image: &Image<'_>, states: &mut [PlaceState])
+    requires { length states.old ≡ places_of image.now }
+    ensures { IsRecalled image.now states.new }
 {
     for place in 0..image.places() {
-        slots[place as usize] = slot_of(image, place);
+        states[place as usize] = state_of(image, place);
     }
 }
 
 /// A place as a file that was read tells it.
-fn slot_of(image: &Image<'_>, place: u16) -> Slot
+fn state_of(image: &Image<'_>, place: u16) -> PlaceState
     requires { place < places_of image.now }
     ensures record { record_of result ≡ record_at image.now (words_of image.now) place }
     ensures stage { result.stage ≡ Prepared → ⊥ }
@@ -187,12 +191,12 @@ fn slot_of(image: &Image<'_>, place: u16) -> Slot
 {
     let writes = writes_of(image, place);
     if writes.is_empty() {
-        return Slot {
+        return PlaceState {
             stage: Stage::Free,
             writes,
         };
     }
-    Slot {
+    PlaceState {
         stage: Stage::Sealed,
         writes,
     }
@@ -212,38 +216,38 @@ fn writes_of(image: &Image<'_>, place: u16) -> Writes
 }
 
 /// Puts the sealed places into their home words, if there are any.
-fn repair<D: Disk>(disk: &mut D, words: u16, slots: &[Slot]) -> Result<(), DiskFault>
-    requires { length slots.now < 2 ^ 16 }
-    ensures calls { Ran (if gate_writes slots.now == 0 then 0 else roll_calls slots.now) (D.facts disk.old) (D.facts disk.new) result }
+fn repair<D: Disk>(disk: &mut D, words: u16, states: &[PlaceState]) -> Result<(), DiskFault>
+    requires { length states.now < 2 ^ 16 }
+    ensures calls { Ran (if commit_writes states.now == 0 then 0 else roll_calls states.now) (D.facts disk.old) (D.facts disk.new) result }
     ensures later { Later (D.facts disk.old) (D.facts disk.new) }
-    ensures moments { (contents : List ℕ) → CanRoll (D.facts disk.old) words (length slots.now) 0 slots.now contents
-        → LeavesOnly (D.facts disk.old) (D.facts disk.new) (HasWords words (length slots.now) contents) }
-    ensures read { (contents : List ℕ) → CanRoll (D.facts disk.old) words (length slots.now) 0 slots.now contents
-        → HasWords words (length slots.now) contents (D.facts disk.new).reads }
-    ensures done { OnOk result ((contents : List ℕ) → CanRoll (D.facts disk.old) words (length slots.now) 0 slots.now contents
-        → IsRolled words 0 slots.now (D.facts disk.old) (D.facts disk.new)) }
+    ensures moments { (contents : List ℕ) → CanRoll (D.facts disk.old) words (length states.now) 0 states.now contents
+        → LeavesOnly (D.facts disk.old) (D.facts disk.new) (HasWords words (length states.now) contents) }
+    ensures read { (contents : List ℕ) → CanRoll (D.facts disk.old) words (length states.now) 0 states.now contents
+        → HasWords words (length states.now) contents (D.facts disk.new).reads }
+    ensures done { OnOk result ((contents : List ℕ) → CanRoll (D.facts disk.old) words (length states.now) 0 states.now contents
+        → IsRolled words 0 states.now (D.facts disk.old) (D.facts disk.new)) }
 {
-    if !has_sealed(slots) {
+    if !has_sealed(states) {
         return Ok(());
     }
-    roll_forward(disk, words, slots, 0)
+    roll_forward(disk, words, states, 0)
 }
 
-fn has_sealed(slots: &[Slot]) -> bool
-    ensures { result ≡ not (gate_writes slots.now == 0) }
+fn has_sealed(states: &[PlaceState]) -> bool
+    ensures { result ≡ not (commit_writes states.now == 0) }
 {
-    for slot in slots {
-        if slot.stage == Stage::Sealed {
+    for state in states {
+        if state.stage == Stage::Sealed {
             return true;
         }
     }
     false
 }
 
-fn set_free(slots: &mut [Slot])
-    ensures { IsTrue (all_free slots.new) }
+fn set_free(states: &mut [PlaceState])
+    ensures { IsTrue (all_free states.new) }
 {
-    for slot in slots.iter_mut() {
-        slot.stage = Stage::Free;
+    for state in states.iter_mut() {
+        state.stage = Stage::Free;
     }
 }

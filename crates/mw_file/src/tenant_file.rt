@@ -2,7 +2,7 @@
 ghost use Rattle.std.specs.Prelude.{◌≤◌, length};
 ghost use Rattle.mw_words.specs.declared.limits.TheConstants.{MAX_PLACES};
 
-use crate::slots::Slot;
+use crate::place_states::PlaceState;
 
 /// Why a call on a file did nothing, or not all.
 #[derive(Clone, Copy, Debug, PartialEq, Eq)]
@@ -23,7 +23,7 @@ pub struct Place(pub u16);
 pub struct TenantFile<D> {
     pub(crate) disk: D,
     pub(crate) words: u16,
-    pub(crate) slots: Vec<Slot>,
+    pub(crate) states: Vec<PlaceState>,
     pub(crate) failed: bool,
-    ghost few: { length slots.items ≤ MAX_PLACES },
+    ghost few: { length states.items ≤ MAX_PLACES },
 }

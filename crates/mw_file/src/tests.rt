@@ -1,6 +1,6 @@
 ghost use Rattle.std.specs.Prelude.{◌≡◌, ◌≤◌, ◌==◌, true};
 ghost use Rattle.mw_words.specs.declared.limits.TheConstants.{MAX_PLACES, MAX_WORDS};
-ghost use Rattle.mw_file.specs.Slots.{MaySeal, gate_writes, stage_of};
+ghost use Rattle.mw_file.specs.PlaceStates.{MaySeal, commit_writes, stage_of};
 
 use super::*;
 use mw_disk::{Disk, DiskFault, MemDisk};
@@ -10,7 +10,7 @@ use std::alloc::{AllocError, Global};
 use std::test::Fail;
 
 /// Four bytes that a crash leaves, over and over, in what was not synced: none are given, all are
-/// zero, all are ones, and a mixture that begins with a shut gate or with an open one.
+/// zero, all are ones, and a mixture that begins with a clear commit byte or with an open one.
 const TORN: [&[u8]; 5] = [
     &[],
     &[0x00, 0x00, 0x00, 0x00],
@@ -116,21 +116,21 @@ fn change(writes: &[(u16, u64)]) -> Entries {
 }
 
 /// Whether a place is so far.
-fn is_at(slots: &[Slot], place: Place, stage: Stage) -> bool
-    ensures { result ≡ true → stage_of slots.now place.0 ≡ stage }
+fn is_at(states: &[PlaceState], place: Place, stage: Stage) -> bool
+    ensures { result ≡ true → stage_of states.now place.0 ≡ stage }
 {
-    match slots.get(place.0 as usize) {
-        Some(slot) => slot.stage == stage,
+    match states.get(place.0 as usize) {
+        Some(state) => state.stage == stage,
         None => false,
     }
 }
 
 /// Whether no place is sealed.
-fn none_sealed(slots: &[Slot]) -> bool
-    ensures { result ≡ (gate_writes slots.now == 0) }
+fn none_sealed(states: &[PlaceState]) -> bool
+    ensures { result ≡ (commit_writes states.now == 0) }
 {
-    for slot in slots {
-        if slot.stage == Stage::Sealed {
+    for state in states {
+        if state.stage == Stage::Sealed {
             return false;
         }
     }
@@ -138,10 +138,10 @@ fn none_sealed(slots: &[Slot]) -> bool
 }
 
 /// Whether this place may be sealed, as is sure where no other one is.
-fn may_seal(slots: &[Slot], place: Place) -> bool
-    ensures { result ≡ true → MaySeal slots.now place.0 }
+fn may_seal(states: &[PlaceState], place: Place) -> bool
+    ensures { result ≡ true → MaySeal states.now place.0 }
 {
-    is_at(slots, place, Stage::Prepared) && none_sealed(slots)
+    is_at(states, place, Stage::Prepared) && none_sealed(states)
 }
 
 /// Prepares a change, if there is a place and the file has its words.
@@ -155,7 +155,7 @@ fn prepare(file: &mut TenantFile<MemDisk>, entries: &Entries) -> Option<Result<P
 
 /// Seals a change, if it is prepared and none is sealed.
 fn seal(file: &mut TenantFile<MemDisk>, place: Place) -> Option<Result<(), FileFault>> {
-    if may_seal(&file.slots, place) {
+    if may_seal(&file.states, place) {
         Some(file.seal(place))
     } else {
         None
@@ -164,7 +164,7 @@ fn seal(file: &mut TenantFile<MemDisk>, place: Place) -> Option<Result<(), FileF
 
 /// Settles a change, if it is sealed.
 fn settle(file: &mut TenantFile<MemDisk>, place: Place) -> Option<Result<(), FileFault>> {
-    if is_at(&file.slots, place, Stage::Sealed) {
+    if is_at(&file.states, place, Stage::Sealed) {
         Some(file.settle(place))
     } else {
         None
@@ -173,7 +173,7 @@ fn settle(file: &mut TenantFile<MemDisk>, place: Place) -> Option<Result<(), Fil
 
 /// Cancels a change, if it is prepared.
 fn cancel(file: &mut TenantFile<MemDisk>, place: Place) -> Option<()> {
-    if is_at(&file.slots, place, Stage::Prepared) {
+    if is_at(&file.states, place, Stage::Prepared) {
         Some(file.cancel(place))
     } else {
         None
@@ -352,7 +352,7 @@ fn answers_to(calls: u8, places: u16) -> (Answers, Answers) {
     }
 }
 
-/// Whether a crash leaves the gate open where the device had trouble after so many calls.
+/// Whether a crash leaves the commit byte set where the device had trouble after so many calls.
 fn is_sealed(calls: u8, trouble: Trouble, torn: &[u8]) -> bool {
     match (calls, trouble) {
         (0..=1, _) | (2, Trouble::Stop) => false,
@@ -458,7 +458,7 @@ fn copies_and_counts(rt: HostRuntime) -> Result<(), Fail> {
     let mut copy = file.copy(alloc)?;
     assert_eq!(rt; answers(&mut copy), well);
     assert_eq!(rt; file.crash(&[])?, bytes);
-    // The third call fails, which is seal's write of the gate byte.
+    // The third call fails, which is seal's write of the commit byte.
     let mut failing = file.copy(alloc)?;
     failing.fail_next(3)?;
     assert_eq!(rt; answers(&mut failing), answers_to(2, 1).0);

@@ -4,13 +4,13 @@ use Rattle.mw_words.specs.declared.replies.Reply.{Reply}
 use Rattle.mw_words.specs.declared.replies.Reply.TheVariants as reply
 use Rattle.mw_line.specs.declared.requests.LineFault.{LineFault}
 use Rattle.mw_line.specs.declared.requests.LineFault.TheVariants as line_fault
-use Rattle.mw_line.specs.declared.replies.Fault.{Fault}
-use Rattle.mw_line.specs.declared.replies.Fault.TheVariants as fault
+use Rattle.mw_line.specs.declared.replies.ErrCode.{ErrCode}
+use Rattle.mw_line.specs.declared.replies.ErrCode.TheVariants as fault
 use Rattle.mw_line.specs.declared.replies.Say.{Say}
 use Rattle.mw_line.specs.declared.replies.Say.TheVariants as say
 
 -- what is wrong with a line, among all that may be wrong
-abbrev pub fault_of : LineFault → Fault
+abbrev pub fault_of : LineFault → ErrCode
 fault_of line_fault.NotACommand = fault.NotACommand
 fault_of line_fault.AddressRange = fault.AddressRange
 fault_of line_fault.AddressOrder = fault.AddressOrder
@@ -18,7 +18,7 @@ fault_of line_fault.TooManyEntries = fault.TooManyEntries
 fault_of line_fault.ValueRange = fault.ValueRange
 
 -- the number that stands for a fault
-abbrev pub number_of : Fault → ℕ
+abbrev pub number_of : ErrCode → ℕ
 number_of fault.LineTooLong = 1
 number_of fault.NotACommand = 2
 number_of fault.NotBound = 3

@@ -13,7 +13,7 @@ pub const MAX_REPLY: usize = 32;
 
 /// Why a line is refused.
 #[derive(Clone, Copy, Debug, PartialEq, Eq)]
-pub enum Fault {
+pub enum ErrCode {
     /// The line has more than [`mw_words::MAX_LINE`] bytes. The session ends.
     LineTooLong,
     /// The line isn't in the grammar.
@@ -36,36 +36,36 @@ pub enum Fault {
     WrongSession,
 }
 
-impl Fault {
+impl ErrCode {
     /// The number that stands for the fault on the wire, from 1 to 10.
     pub fn number(self) -> u8
         ensures { result ≡ spec.number_of self }
     {
         match self {
-            Fault::LineTooLong => 1,
-            Fault::NotACommand => 2,
-            Fault::NotBound => 3,
-            Fault::AlreadyBound => 4,
-            Fault::NoSuchTenant => 5,
-            Fault::AddressRange => 6,
-            Fault::AddressOrder => 7,
-            Fault::TooManyEntries => 8,
-            Fault::ValueRange => 9,
-            Fault::WrongSession => 10,
+            ErrCode::LineTooLong => 1,
+            ErrCode::NotACommand => 2,
+            ErrCode::NotBound => 3,
+            ErrCode::AlreadyBound => 4,
+            ErrCode::NoSuchTenant => 5,
+            ErrCode::AddressRange => 6,
+            ErrCode::AddressOrder => 7,
+            ErrCode::TooManyEntries => 8,
+            ErrCode::ValueRange => 9,
+            ErrCode::WrongSession => 10,
         }
     }
 }
 
-impl From<LineFault> for Fault {
+impl From<LineFault> for ErrCode {
     ghost from_gives = { λ fault answer. answer ≡ fault_of fault };
 
-    fn from(fault: LineFault) -> Fault {
+    fn from(fault: LineFault) -> ErrCode {
         match fault {
-            LineFault::NotACommand => Fault::NotACommand,
-            LineFault::AddressRange => Fault::AddressRange,
-            LineFault::AddressOrder => Fault::AddressOrder,
-            LineFault::TooManyEntries => Fault::TooManyEntries,
-            LineFault::ValueRange => Fault::ValueRange,
+            LineFault::NotACommand => ErrCode::NotACommand,
+            LineFault::AddressRange => ErrCode::AddressRange,
+            LineFault::AddressOrder => ErrCode::AddressOrder,
+            LineFault::TooManyEntries => ErrCode::TooManyEntries,
+            LineFault::ValueRange => ErrCode::ValueRange,
         }
     }
 }
@@ -82,7 +82,7 @@ pub enum Say {
     /// The session ends, as it was asked to.
     Bye,
     /// The line was refused.
-    Err(Fault),
+    Err(ErrCode),
 }
 
 /// A line of an answer as bytes, with its line feed.

@@ -143,8 +143,8 @@ fn replies_are_written(rt: HostRuntime) {
         (Say::Store(Reply::Fault), b"FAULT\n"),
         (Say::Store(Reply::Worn), b"WORN\n"),
         (Say::Bye, b"BYE\n"),
-        (Say::Err(Fault::LineTooLong), b"ERR 1\n"),
-        (Say::Err(Fault::WrongSession), b"ERR 10\n"),
+        (Say::Err(ErrCode::LineTooLong), b"ERR 1\n"),
+        (Say::Err(ErrCode::WrongSession), b"ERR 10\n"),
     ];
     for (say, text) in &cases {
         assert!(rt; say.text().as_slice() == *text, "{say:?}");
@@ -161,12 +161,12 @@ fn faults_have_numbers(rt: HostRuntime) {
         (LineFault::ValueRange, 9),
     ];
     for (fault, number) in cases {
-        assert_eq!(rt; Fault::from(fault).number(), number);
+        assert_eq!(rt; ErrCode::from(fault).number(), number);
     }
     let sessions = [
-        (Fault::NotBound, 3),
-        (Fault::AlreadyBound, 4),
-        (Fault::NoSuchTenant, 5),
+        (ErrCode::NotBound, 3),
+        (ErrCode::AlreadyBound, 4),
+        (ErrCode::NoSuchTenant, 5),
     ];
     for (fault, number) in sessions {
         assert_eq!(rt; fault.number(), number);

@@ -7,7 +7,7 @@ use Rattle.mw_words.specs.declared.jobs.Job.{Job}
 use Rattle.mw_words.specs.declared.jobs.Job.TheVariants.{Cas}
 use Rattle.mw_words.specs.declared.replies.Reply.{Reply}
 use Rattle.mw_words.specs.Change.{is_well_formed}
-use Rattle.mw_file.specs.File.{disk_of, slots_of}
+use Rattle.mw_file.specs.File.{disk_of, states_of}
 use Rattle.mw_file.specs.Keeps.{IsFile, IsEither}
 use Rattle.mw_record.specs.Layout.{pairs_of}
 use Rattle.mw_record.specs.Records.{Pairs, put_pairs}
@@ -48,7 +48,7 @@ module _ {D : Type 0} (facts : D → Facts) where
       let begun = first honest in
       let none = (keeps honest).certain (old.sound up) in
       leaves_more _ (facts (disk_of between.file)) _
-      (leaves_wider _ _ (λ image either. certain_words (length (slots_of old.file)) s.words (pairs_of s.in_doubt) (pairs_of change) image none either) begun)
+      (leaves_wider _ _ (λ image either. certain_words (length (states_of old.file)) s.words (pairs_of s.in_doubt) (pairs_of change) image none either) begun)
       (subst (λ n. LeavesOnly (facts (disk_of between.file)) (facts (disk_of new.file)) (IsEither n s.words (pairs_of change))) (places 0) (last (still_honest _ _ begun.later honest)))
 
   pub asks_done : (case : StartCase) (old new : Plain D) (tenant : ℕ) (job : Job) (reply : Reply) → IsTrue (is_well_formed (words_at old tenant) job)

@@ -8,14 +8,14 @@ use Rattle.mw_disk.specs.Runs.{Later, LeavesOnly, later_trans, was_honest, still
 use Rattle.mw_words.specs.declared.jobs.Entry.{Entry}
 use Rattle.mw_words.specs.declared.replies.Reply.TheVariants.{No, Yes, Fault}
 use Rattle.mw_words.specs.Change.{word_at, fits, put}
-use Rattle.mw_file.specs.declared.slots.Stage.{Stage}
-use Rattle.mw_file.specs.declared.slots.Stage.TheVariants.{Free}
+use Rattle.mw_file.specs.declared.place_states.Stage.{Stage}
+use Rattle.mw_file.specs.declared.place_states.Stage.TheVariants.{Free}
 use Rattle.mw_file.specs.declared.tenant_file.TenantFile.{TenantFile}
 use Rattle.mw_file.specs.declared.tenant_file.FileFault.{FileFault}
 use Rattle.mw_file.specs.declared.tenant_file.FileFault.TheVariants.{Disk, Failed}
-use Rattle.mw_file.specs.File.{disk_of, slots_of, has_failed, Ends, WentWell}
+use Rattle.mw_file.specs.File.{disk_of, states_of, has_failed, Ends, WentWell}
 use Rattle.mw_file.specs.Keeps.{Keeps, CrashSafe, ContentsStay, ChangeIsSealed, SealEnds, IsFile, IsEither}
-use Rattle.mw_file.specs.Slots.{writes_of_place, IsStaged}
+use Rattle.mw_file.specs.PlaceStates.{writes_of_place, IsStaged}
 use Rattle.mw_record.specs.Layout.{pairs_of}
 use Rattle.mw_record.specs.Records.{Pairs, put_pairs}
 use Rattle.mw_record.specs.ReadAgain.{put-put_pairs}
@@ -35,7 +35,7 @@ found_at None e words is differs = absurd (cc)
 found_at (Some x) e words is differs = let same : x ≡ e = cc in subst (λ (y : Entry). word_at words y.addr ≢ y.expected) (sym same) differs
 
 -- changes prepared in other places stay
-others_stay : {D : Type 0} (old new : Book D) (place : ℕ) (stage : Stage) (writes : Pairs) (other : ℕ) (others : List Entry) → old.faulted ≡ false → IsStaged (slots_of old.file) (slots_of new.file) place stage writes
+others_stay : {D : Type 0} (old new : Book D) (place : ℕ) (stage : Stage) (writes : Pairs) (other : ℕ) (others : List Entry) → old.faulted ≡ false → IsStaged (states_of old.file) (states_of new.file) place stage writes
     → other ≢ place → IsPrepared (Some old) other others → IsPrepared (Some new) other others
 others_stay old new place stage writes other others up staged apart was = λ _. (staged.stage_there other apart ∙ (was up).0, staged.writes_there other apart ∙ (was up).1)
 
@@ -54,7 +54,7 @@ module _ {D : Type 0} (facts : D → Facts) where
   pub missed : (old new : Book D) (place : ℕ) (entries : ArrayVec Entry) (e : Entry) (value : ℕ) → old.faulted ≡ false
       → (first : IsFirstMiss old.words.items entries.items e) → value ≡ word_at old.words.items e.addr
       → new.words ≡ old.words → new.used ≡ old.used - 1 → new.faulted ≡ old.faulted → disk_of new.file ≡ disk_of old.file
-      → IsStaged (slots_of old.file) (slots_of new.file) place Free (writes_of_place (slots_of old.file) place) → ContentsStay facts old.file new.file
+      → IsStaged (states_of old.file) (states_of new.file) place Free (writes_of_place (states_of old.file) place) → ContentsStay facts old.file new.file
       → FinishEnds facts (Missed first.index) (Some old) (Some new) place entries (No e.addr value)
   missed old new place entries e value up first value_is words used faulted disk staged safe = record {
     made = (up, disk);
@@ -85,9 +85,9 @@ module _ {D : Type 0} (facts : D → Facts) where
   seal_failed old new change (Err Failed) bad sound ends contents doubt safe = absurd (let no : true ≡ false = sym ends.before ∙ sound in cc)
 
   pub unsealed : (old new : Book D) (place : ℕ) (entries : ArrayVec Entry) (r : Result (Unit {0}) FileFault) → old.faulted ≡ false → IsTrue (fits old.words.items entries.items)
-      → writes_of_place (slots_of old.file) place ≡ pairs_of entries.items
+      → writes_of_place (states_of old.file) place ≡ pairs_of entries.items
       → new.words ≡ old.words → new.used ≡ old.used → new.faulted ≡ true → is_err r ≡ true → Ends facts 2 old.file new.file r
-      → Later (facts (disk_of old.file)) (facts (disk_of new.file)) → ChangeIsSealed facts old.file new.file (writes_of_place (slots_of old.file) place) r
+      → Later (facts (disk_of old.file)) (facts (disk_of new.file)) → ChangeIsSealed facts old.file new.file (writes_of_place (states_of old.file) place) r
       → FinishEnds facts Unsealed (Some old) (Some new) place entries Fault
   unsealed old new place entries r up expected writes words used faulted bad ends later safe = record {
     made = (up, (met_fault facts 2 old.file new.file r bad (old.sound up) ends).made);
@@ -117,13 +117,13 @@ module _ {D : Type 0} (facts : D → Facts) where
   pub record Sealing (old new : Book D) (between : TenantFile D) (place : ℕ) (entries : ArrayVec Entry) (r : Result (Unit {0}) FileFault) : Type 0 where
     pub up : old.faulted ≡ false
     pub expected : IsTrue (fits old.words.items entries.items)
-    pub writes : writes_of_place (slots_of old.file) place ≡ pairs_of entries.items
+    pub writes : writes_of_place (states_of old.file) place ≡ pairs_of entries.items
     pub words : new.words.items ≡ put old.words.items entries.items
     pub well : is_err r ≡ false
-    pub places : length (slots_of between) ≡ length (slots_of old.file)
+    pub places : length (states_of between) ≡ length (states_of old.file)
     pub first : Later (facts (disk_of old.file)) (facts (disk_of between))
     pub last : Later (facts (disk_of between)) (facts (disk_of new.file))
-    pub sealed : ChangeIsSealed facts old.file between (writes_of_place (slots_of old.file) place) r
+    pub sealed : ChangeIsSealed facts old.file between (writes_of_place (states_of old.file) place) r
     pub settled : ContentsStay facts between new.file
 
   module _ (old new : Book D) (between : TenantFile D) (place : ℕ) (entries : ArrayVec Entry) (r : Result (Unit {0}) FileFault) (c : Sealing old new between place entries r) where
@@ -139,11 +139,11 @@ module _ {D : Type 0} (facts : D → Facts) where
     over s keeps honest = c.settled (still_honest _ _ c.first honest) (put_pairs (pairs_of entries.items) s.words) [] (begun s keeps honest).after
 
     sealed_moments : (s : Store) → IsKept facts (Some old) s → IsTrue (facts (disk_of old.file)).honest
-        → LeavesOnly (facts (disk_of old.file)) (facts (disk_of new.file)) (IsEither (length (slots_of old.file)) s.words (pairs_of entries.items))
+        → LeavesOnly (facts (disk_of old.file)) (facts (disk_of new.file)) (IsEither (length (states_of old.file)) s.words (pairs_of entries.items))
     sealed_moments s keeps honest = leaves_more _ (facts (disk_of between)) _ (begun s keeps honest).moments
         (leaves_wider _ _ (λ image either. inr (subst (λ places. IsFile places (put_pairs (pairs_of entries.items) s.words) image) c.places (one image s either))) (over s keeps honest).moments) where
-          one : (image : List ℕ) (s : Store) → IsEither (length (slots_of between)) (put_pairs (pairs_of entries.items) s.words) [] image
-              → IsFile (length (slots_of between)) (put_pairs (pairs_of entries.items) s.words) image
+          one : (image : List ℕ) (s : Store) → IsEither (length (states_of between)) (put_pairs (pairs_of entries.items) s.words) [] image
+              → IsFile (length (states_of between)) (put_pairs (pairs_of entries.items) s.words) image
           one image s (inl is) = is
           one image s (inr is) = is
 
@@ -173,7 +173,7 @@ module _ {D : Type 0} (facts : D → Facts) where
 
     pub changed : new.used ≡ old.used - 1 → new.faulted ≡ old.faulted
         → WentWell facts 2 old.file between → WentWell facts (length entries.items + 3) between new.file
-        → IsStaged (slots_of old.file) (slots_of new.file) place Free (writes_of_place (slots_of old.file) place)
+        → IsStaged (states_of old.file) (states_of new.file) place Free (writes_of_place (states_of old.file) place)
         → FinishEnds facts Changed (Some old) (Some new) place entries Yes
     changed used faulted seal settle staged = record {
       made = (c.up, good_trans 2 (length entries.items + 3) _ _ _ seal.made settle.made);

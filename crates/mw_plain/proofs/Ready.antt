@@ -2,30 +2,30 @@
 use Rattle.std.proofs.Common.{◌≡◌, ◌≢◌, ℕ, ◌+◌, ◌<◌, ◌≤◌, List, [], ◌∷◌, length, true, Some, IsSome, refl, sym, ap, ◌∙◌, inl, inr, arith}
 use Rattle.std.proofs.lemmas.Bool.{cases_eq, cases_lt, lt-ltb, and_parts}
 use Rattle.std.proofs.lemmas.Option.{slice_get_past}
-use Rattle.mw_file.specs.declared.slots.Slot.{Slot}
-use Rattle.mw_file.specs.declared.slots.Stage.{Stage}
-use Rattle.mw_file.specs.declared.slots.Stage.TheVariants.{Free, Prepared, Sealed}
-use Rattle.mw_file.specs.Slots.{is_free, all_free, stage_of, stage_at, free_place, IsStaged, MaySeal}
+use Rattle.mw_file.specs.declared.place_states.PlaceState.{PlaceState}
+use Rattle.mw_file.specs.declared.place_states.Stage.{Stage}
+use Rattle.mw_file.specs.declared.place_states.Stage.TheVariants.{Free, Prepared, Sealed}
+use Rattle.mw_file.specs.PlaceStates.{is_free, all_free, stage_of, stage_at, free_place, IsStaged, MaySeal}
 use Rattle.mw_file.specs.Free.{free_stage_at, stage_of-all_free}
 use Rattle.mw_file.specs.Taken.{taken, if_taken, has_free, taken_staged}
 
 -- no place is sealed
-abbrev pub NoneSealed : List Slot → Type 0
+abbrev pub NoneSealed : List PlaceState → Type 0
 NoneSealed slots = (place : ℕ) → stage_of slots place ≡ Sealed → ⊥
 
 -- a place that has a change is there
-pub is_there : (slots : List Slot) (place : ℕ) → stage_of slots place ≢ Free → place < length slots
+pub is_there : (slots : List PlaceState) (place : ℕ) → stage_of slots place ≢ Free → place < length slots
 is_there slots place change = elim (cases_lt place (length slots)) [
   | inl lt ↦ lt
   | inr past ↦ absurd (change (ap stage_at (slice_get_past slots place past)))
 ]
 
 -- fewer slots in use than places: there is room
-pub has_room : (slots : List Slot) (used quota : ℕ) → taken slots ≡ used → used < quota → quota ≤ length slots → IsSome (free_place slots)
+pub has_room : (slots : List PlaceState) (used quota : ℕ) → taken slots ≡ used → used < quota → quota ≤ length slots → IsSome (free_place slots)
 has_room slots used quota counted below room = has_free slots ∙ lt-ltb (taken slots) (length slots) (omega (arith, counted, below, room))
 
 -- a change that is prepared is one more
-pub one_more : (old new : List Slot) (place : ℕ) (writes : List (ℕ × ℕ)) → free_place old ≡ Some place → IsStaged old new place Prepared writes → taken new ≡ taken old + 1
+pub one_more : (old new : List PlaceState) (place : ℕ) (writes : List (ℕ × ℕ)) → free_place old ≡ Some place → IsStaged old new place Prepared writes → taken new ≡ taken old + 1
 one_more old new place writes free staged =
     let change : stage_of new place ≢ Free = λ e. (let no : Prepared ≡ Free = sym staged.stage_here ∙ e in cc) in
     let there : place < length old = omega (arith, is_there new place change, staged.count) in
@@ -35,7 +35,7 @@ one_more old new place writes free staged =
     omega (arith, counted, before, after)
 
 -- a change that is settled or canceled is one less
-pub one_less : (old new : List Slot) (place : ℕ) (writes : List (ℕ × ℕ)) → stage_of old place ≡ Prepared → IsStaged old new place Free writes → taken new + 1 ≡ taken old
+pub one_less : (old new : List PlaceState) (place : ℕ) (writes : List (ℕ × ℕ)) → stage_of old place ≡ Prepared → IsStaged old new place Free writes → taken new + 1 ≡ taken old
 one_less old new place writes prepared staged =
     let change : stage_of old place ≢ Free = λ e. (let no : Prepared ≡ Free = sym prepared ∙ e in cc) in
     let there : place < length old = is_there old place change in
@@ -45,21 +45,21 @@ one_less old new place writes prepared staged =
     omega (arith, counted, before, after)
 
 -- a place that goes to a stage other than sealed leaves none sealed
-pub none_sealed : (old new : List Slot) (place : ℕ) (stage : Stage) (writes : List (ℕ × ℕ)) → (stage ≡ Sealed → ⊥) → NoneSealed old → IsStaged old new place stage writes → NoneSealed new
+pub none_sealed : (old new : List PlaceState) (place : ℕ) (stage : Stage) (writes : List (ℕ × ℕ)) → (stage ≡ Sealed → ⊥) → NoneSealed old → IsStaged old new place stage writes → NoneSealed new
 none_sealed old new place stage writes other none staged there sealed = elim (cases_eq there place) [
   | inl same ↦ other (sym staged.stage_here ∙ ap (stage_of new) (sym same) ∙ sealed)
   | inr apart ↦ none there (sym (staged.stage_there there apart) ∙ sealed)
 ]
 
 -- where none is sealed any change that is prepared may be sealed
-pub may_seal : (slots : List Slot) (place : ℕ) → stage_of slots place ≡ Prepared → NoneSealed slots → MaySeal slots place
+pub may_seal : (slots : List PlaceState) (place : ℕ) → stage_of slots place ≡ Prepared → NoneSealed slots → MaySeal slots place
 may_seal slots place prepared none = record {
   prepared = prepared;
   apart = λ other addr sealed here. absurd (none other sealed);
 }
 
 -- where all places are free none has a change
-pub taken_none : (slots : List Slot) → all_free slots ≡ true → taken slots ≡ 0
+pub taken_none : (slots : List PlaceState) → all_free slots ≡ true → taken slots ≡ 0
 taken_none [] all = refl
 taken_none (s ∷ slots) all =
     let rest : taken slots ≡ 0 = taken_none slots (and_parts (is_free s) (all_free slots) all).1 in
@@ -67,5 +67,5 @@ taken_none (s ∷ slots) all =
     omega (arith, rest, here)
 
 -- nor is any sealed
-pub none_taken : (slots : List Slot) → all_free slots ≡ true → NoneSealed slots
+pub none_taken : (slots : List PlaceState) → all_free slots ≡ true → NoneSealed slots
 none_taken slots all place sealed = let no : Free ≡ Sealed = sym (stage_of-all_free slots place all) ∙ sealed in cc

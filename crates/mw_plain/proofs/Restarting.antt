@@ -21,7 +21,7 @@ use Rattle.mw_file.specs.Opening.{Opens, Fails, OpensSafely, SameFile}
 use Rattle.mw_lone.specs.Store.{Store, request, entries_of, is_empty, store_after_start}
 use Rattle.mw_lone.specs.Sound.{length-put}
 use Rattle.mw_plain.specs.Cases.{CanChange, under_way}
-use Rattle.mw_plain.specs.Restarts.{MayStartWith, StartGoesOn}
+use Rattle.mw_plain.specs.Restarts.{MayStartWith, RestartGoesOn}
 use Rattle.mw_plain.proofs.Runs.{may-stop}
 
 nothing : (es : List Entry) → is_empty es ≡ true → es ≡ []
@@ -88,7 +88,7 @@ module _ {D : Type 0} (facts : D → Facts) where
   unchanged_of disk Memory after fails = fails.unchanged
 
   pub goes_on : (s : Store) (interrupted : Option ℕ) (places : ℕ) (contents : List ℕ) (change : Pairs) (disk : D) (opened : Result (TenantFile D × Vec ℕ Global) (OpenFault × D))
-      → Found s interrupted places (facts disk).reads → IsTrue (facts disk).honest → IsAtRest (facts disk) → Opens facts disk opened → Holds facts contents change opened → StartGoesOn facts s interrupted places opened
+      → Found s interrupted places (facts disk).reads → IsTrue (facts disk).honest → IsAtRest (facts disk) → Opens facts disk opened → Holds facts contents change opened → RestartGoesOn facts s interrupted places opened
   goes_on s interrupted places contents change disk (Ok opened) found honest rest opens holds =
       let read : found.words ≡ opened.1.items = same_Some _ _ (sym found.file.words_are ∙ opens.whole honest) in
       let keeps = opens.keeps honest rest in

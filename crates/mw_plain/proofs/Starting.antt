@@ -7,15 +7,15 @@ use Rattle.mw_disk.specs.Runs.{Later, was_honest}
 use Rattle.mw_words.specs.declared.jobs.Entry.{Entry}
 use Rattle.mw_words.specs.declared.jobs.Job.TheVariants.{Cas}
 use Rattle.mw_words.specs.declared.replies.Reply.TheVariants.{Fault}
-use Rattle.mw_file.specs.declared.slots.Stage.TheVariants.{Free, Prepared as PreparedStage}
+use Rattle.mw_file.specs.declared.place_states.Stage.TheVariants.{Free, Prepared as PreparedStage}
 use Rattle.mw_file.specs.declared.tenant_file.TenantFile.{TenantFile}
 use Rattle.mw_file.specs.declared.tenant_file.Place.{Place}
 use Rattle.mw_file.specs.declared.tenant_file.FileFault.{FileFault}
 use Rattle.mw_file.specs.declared.tenant_file.FileFault.TheVariants.{Disk, Failed}
-use Rattle.mw_file.specs.File.{disk_of, slots_of, has_failed, Ends, MetFault, WentWell}
+use Rattle.mw_file.specs.File.{disk_of, states_of, has_failed, Ends, MetFault, WentWell}
 use Rattle.mw_file.specs.Free.{free_stage_at}
 use Rattle.mw_file.specs.Keeps.{ContentsStay}
-use Rattle.mw_file.specs.Slots.{stage_of, free_place, IsStaged}
+use Rattle.mw_file.specs.PlaceStates.{stage_of, free_place, IsStaged}
 use Rattle.mw_record.specs.Layout.{pairs_of}
 use Rattle.mw_plain.specs.declared.book.Book.{Book}
 use Rattle.mw_plain.specs.declared.calls.Begun.TheVariants.{Done, Prepared as PreparedIn}
@@ -53,8 +53,8 @@ module _ {D : Type 0} (facts : D → Facts) where
 
   pub prepared : (quota : ℕ) (old new : Book D) (entries copy : ArrayVec Entry) (place : Place) → old.faulted ≡ false → old.used < quota
       → new.words ≡ old.words → new.used ≡ old.used + 1 → new.faulted ≡ old.faulted → copy ≡ entries
-      → WentWell facts 2 old.file new.file → free_place (slots_of old.file) ≡ Some place.0
-      → IsStaged (slots_of old.file) (slots_of new.file) place.0 PreparedStage (pairs_of entries.items)
+      → WentWell facts 2 old.file new.file → free_place (states_of old.file) ≡ Some place.0
+      → IsStaged (states_of old.file) (states_of new.file) place.0 PreparedStage (pairs_of entries.items)
       → Later (facts (disk_of old.file)) (facts (disk_of new.file)) → ContentsStay facts old.file new.file
       → StartEnds facts Prepared quota (Some old) (Some new) (Cas entries) (PreparedIn place copy)
   prepared quota old new entries copy place up room words used faulted same well lowest staged later safe = record {
@@ -77,9 +77,9 @@ module _ {D : Type 0} (facts : D → Facts) where
       alone = λ others was. let no : Free ≡ PreparedStage = sym free ∙ (was up).0 in absurd (cc);
     };
     kept = λ other others was now. elim (cases_eq other place.0) [
-      | inl here ↦ let no : Free ≡ PreparedStage = sym free ∙ ap (stage_of (slots_of old.file)) (sym here) ∙ (was up).0 in absurd (cc)
+      | inl here ↦ let no : Free ≡ PreparedStage = sym free ∙ ap (stage_of (states_of old.file)) (sym here) ∙ (was up).0 in absurd (cc)
       | inr apart ↦ (staged.stage_there other apart ∙ (was up).0, staged.writes_there other apart ∙ (was up).1)
     ];
   } where
-    free : stage_of (slots_of old.file) place.0 ≡ Free
-    free = free_stage_at (slots_of old.file) place.0 lowest
+    free : stage_of (states_of old.file) place.0 ≡ Free
+    free = free_stage_at (states_of old.file) place.0 lowest

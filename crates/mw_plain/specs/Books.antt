@@ -1,9 +1,9 @@
 -- What a tenant is served from: a book, which is not there where the tenant's file didn't open.
 use Rattle.std.specs.Prelude.{◌≡◌, ℕ, Bool, true, false, List, length, Option, Some, None}
 use Rattle.mw_words.specs.declared.jobs.Entry.{Entry}
-use Rattle.mw_file.specs.declared.slots.Stage.TheVariants.{Prepared}
-use Rattle.mw_file.specs.File.{words_of, slots_of}
-use Rattle.mw_file.specs.Slots.{stage_of, writes_of_place}
+use Rattle.mw_file.specs.declared.place_states.Stage.TheVariants.{Prepared}
+use Rattle.mw_file.specs.File.{words_of, states_of}
+use Rattle.mw_file.specs.PlaceStates.{stage_of, writes_of_place}
 use Rattle.mw_record.specs.Layout.{pairs_of}
 use Rattle.mw_plain.specs.declared.book.Book.{Book}
 
@@ -25,11 +25,11 @@ module _ {D : Type 0} where
 
   abbrev pub places_in : ℕ → Option (Book D) → ℕ
   places_in so_many None = so_many
-  places_in so_many (Some book) = length (slots_of book.file)
+  places_in so_many (Some book) = length (states_of book.file)
 
   -- what this change writes is prepared in this place of the tenant's file, or the tenant has faulted; the values that the change
   -- expects are no part of the file
   abbrev pub IsPrepared : Option (Book D) → ℕ → List Entry → Type 0
   IsPrepared None place entries = Unit {0}
   IsPrepared (Some book) place entries =
-      book.faulted ≡ false → (stage_of (slots_of book.file) place ≡ Prepared) × (writes_of_place (slots_of book.file) place ≡ pairs_of entries)
+      book.faulted ≡ false → (stage_of (states_of book.file) place ≡ Prepared) × (writes_of_place (states_of book.file) place ≡ pairs_of entries)

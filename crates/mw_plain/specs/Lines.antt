@@ -5,9 +5,9 @@ use Rattle.mw_disk.specs.Facts.{Facts}
 use Rattle.mw_config.specs.declared.lines.TenantLine.{TenantLine}
 use Rattle.mw_words.specs.declared.limits.TheConstants.{MAX_QUOTA, MAX_WORDS}
 use Rattle.mw_file.specs.declared.tenant_file.TenantFile.{TenantFile}
-use Rattle.mw_file.specs.File.{disk_of, words_of, slots_of, has_failed}
+use Rattle.mw_file.specs.File.{disk_of, words_of, states_of, has_failed}
 use Rattle.mw_file.specs.Keeps.{Keeps}
-use Rattle.mw_file.specs.Slots.{all_free}
+use Rattle.mw_file.specs.PlaceStates.{all_free}
 use Rattle.mw_lone.specs.Store.{Store}
 use Rattle.mw_plain.specs.declared.book.Book.{Book}
 use Rattle.mw_plain.specs.declared.part.Part.{Part}
@@ -27,8 +27,8 @@ module _ {D : Type 0} where
   pub record IsFresh (line : TenantLine) (opened : TenantFile D × Vec ℕ Global) : Type 0 where
     pub count : words_of opened.0 ≡ line.words
     pub read : length opened.1.items ≡ words_of opened.0
-    pub room : line.quota ≤ length (slots_of opened.0)
-    pub free : IsTrue (all_free (slots_of opened.0))
+    pub room : line.quota ≤ length (states_of opened.0)
+    pub free : IsTrue (all_free (states_of opened.0))
     pub sound : has_failed opened.0 ≡ false
 
   -- The same, where there is a file; there is none where the tenant's file didn't open, or isn't as its line says.

@@ -4,7 +4,7 @@ use Rattle.std.specs.declared.alloc.Global.{Global}
 use Rattle.mw_disk.specs.Facts.{Facts, MayLeave}
 use Rattle.mw_file.specs.declared.tenant_file.TenantFile.{TenantFile}
 use Rattle.mw_file.specs.declared.opening.OpenFault.{OpenFault}
-use Rattle.mw_file.specs.File.{slots_of}
+use Rattle.mw_file.specs.File.{states_of}
 use Rattle.mw_file.specs.Again.{NotDamaged}
 use Rattle.mw_file.specs.Keeps.{Keeps, IsFile}
 use Rattle.mw_lone.specs.Store.{Store, step, store_after_start}
@@ -22,7 +22,7 @@ module _ {D : Type 0} (facts : D → Facts) where
   pub record GoesOn (s : Store) (interrupted : Option ℕ) (places : ℕ) (file : TenantFile D) (words : List ℕ) : Type 0 where
     pub start : MayStartWith s interrupted words
     pub keeps : Keeps facts file words []
-    pub places_are : length (slots_of file) ≡ places
+    pub places_are : length (states_of file) ≡ places
 
   -- The file was not found damaged; and there are words that the store may start with, though faulted, such that a crash leaves a
   -- file of these words and so many places. So openings that fail lose nothing.
@@ -33,6 +33,6 @@ module _ {D : Type 0} (facts : D → Facts) where
     pub left : (image : List ℕ) → MayLeave (facts disk) image → IsFile places words image
 
   -- the opening of what a crash left, by its answer
-  abbrev pub StartGoesOn : Store → Option ℕ → ℕ → Result (TenantFile D × Vec ℕ Global) (OpenFault × D) → Type 0
-  StartGoesOn s interrupted places (Ok opened) = GoesOn s interrupted places opened.0 opened.1.items
-  StartGoesOn s interrupted places (Err failed) = StaysBehind s interrupted places failed.0 failed.1
+  abbrev pub RestartGoesOn : Store → Option ℕ → ℕ → Result (TenantFile D × Vec ℕ Global) (OpenFault × D) → Type 0
+  RestartGoesOn s interrupted places (Ok opened) = GoesOn s interrupted places opened.0 opened.1.items
+  RestartGoesOn s interrupted places (Err failed) = StaysBehind s interrupted places failed.0 failed.1

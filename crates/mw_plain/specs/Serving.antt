@@ -7,7 +7,7 @@ use Rattle.arrayvec.specs.ArrayVec.{ArrayVec}
 use Rattle.mw_words.specs.declared.jobs.Job.{Job}
 use Rattle.mw_words.specs.declared.jobs.Job.TheVariants.{Cas}
 use Rattle.mw_words.specs.declared.replies.Reply.{Reply}
-use Rattle.mw_file.specs.File.{disk_of, words_of, slots_of}
+use Rattle.mw_file.specs.File.{disk_of, words_of, states_of}
 use Rattle.mw_lone.specs.Store.{Store}
 use Rattle.mw_plain.specs.declared.book.Book.{Book}
 use Rattle.mw_plain.specs.declared.calls.Begun.{Begun}
@@ -32,7 +32,7 @@ at_stake Changed entries in_doubt = entries
 -- The book's file has as many words and places as before, and no more slots are in use than this.
 pub record KeepsShape {D : Type 0} (most : ℕ) (old new : Book D) : Type 0 where
   pub words : words_of new.file ≡ words_of old.file
-  pub places : length (slots_of new.file) ≡ length (slots_of old.file)
+  pub places : length (states_of new.file) ≡ length (states_of old.file)
   pub within : new.used ≤ most
 
 module _ {D : Type 0} (facts : D → Facts) where

@@ -4,7 +4,7 @@ use Rattle.mw_disk.specs.Facts.{Facts}
 use Rattle.mw_disk.specs.Runs.{LeavesOnly}
 use Rattle.mw_record.specs.Layout.{pairs_of}
 use Rattle.mw_words.specs.declared.jobs.Entry.{Entry}
-use Rattle.mw_file.specs.File.{disk_of, slots_of}
+use Rattle.mw_file.specs.File.{disk_of, states_of}
 use Rattle.mw_file.specs.Keeps.{Keeps, IsEither}
 use Rattle.mw_lone.specs.Store.{Store}
 use Rattle.mw_plain.specs.declared.book.Book.{Book}
@@ -35,4 +35,4 @@ module _ {D : Type 0} (facts : D → Facts) where
   CrashLeaves (Some old) None words change = ⊥
   CrashLeaves (Some old) (Some new) words change =
       IsTrue (facts (disk_of old.file)).honest
-      → LeavesOnly (facts (disk_of old.file)) (facts (disk_of new.file)) (IsEither (length (slots_of old.file)) words (pairs_of change))
+      → LeavesOnly (facts (disk_of old.file)) (facts (disk_of new.file)) (IsEither (length (states_of old.file)) words (pairs_of change))

@@ -1,8 +1,8 @@
 //! The words of a tenant whose file has opened, over that file.
 ghost use Rattle.std.specs.Prelude.{◌≡◌, ℕ, false, vec_len};
-ghost use Rattle.mw_file.specs.declared.slots.Stage.TheVariants.{Sealed};
-ghost use Rattle.mw_file.specs.File.{words_of, slots_of, has_failed};
-ghost use Rattle.mw_file.specs.Slots.{stage_of};
+ghost use Rattle.mw_file.specs.declared.place_states.Stage.TheVariants.{Sealed};
+ghost use Rattle.mw_file.specs.File.{words_of, states_of, has_failed};
+ghost use Rattle.mw_file.specs.PlaceStates.{stage_of};
 ghost use Rattle.mw_file.specs.Taken.{taken};
 
 use mw_file::TenantFile;
@@ -18,6 +18,6 @@ pub struct Book<D> {
     pub(crate) faulted: bool,
     ghost same_words: { vec_len words ≡ words_of file },
     ghost sound: { faulted ≡ false → has_failed file ≡ false },
-    ghost counted: { faulted ≡ false → taken (slots_of file) ≡ used },
-    ghost unsealed: { faulted ≡ false → (place : ℕ) → stage_of (slots_of file) place ≡ Sealed → ⊥ },
+    ghost counted: { faulted ≡ false → taken (states_of file) ≡ used },
+    ghost unsealed: { faulted ≡ false → (place : ℕ) → stage_of (states_of file) place ≡ Sealed → ⊥ },
 }

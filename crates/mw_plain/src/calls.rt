@@ -2,7 +2,7 @@
 ghost use Rattle.std.specs.Prelude.{◌≡◌, ◌≤◌, false, Some, length, IsTrue};
 ghost use Rattle.mw_words.specs.Change.{is_change, is_well_formed, fits};
 ghost use Rattle.mw_plain.specs.Misses.{IsFirstMiss};
-ghost use Rattle.mw_file.specs.File.{words_of, slots_of};
+ghost use Rattle.mw_file.specs.File.{words_of, states_of};
 
 use crate::book::Book;
 use crate::changes::{first_miss, put};
@@ -28,7 +28,7 @@ impl<D: Disk> Book<D> {
     pub(crate) fn start(&mut self, job: &Job, quota: u8) -> Begun
         requires formed { IsTrue (is_well_formed (words_of self.old.file) job.now) }
         requires within { self.old.used ≤ quota }
-        requires room { quota ≤ length (slots_of self.old.file) }
+        requires room { quota ≤ length (states_of self.old.file) }
         ensures shape { KeepsShape quota self.old self.new }
         ensures ends { (case : StartCase) × StartEnds D.facts case quota (Some self.old) (Some self.new) job.now result }
     {
@@ -46,7 +46,7 @@ impl<D: Disk> Book<D> {
         requires up { self.old.faulted ≡ false }
         requires formed { IsTrue (is_change (words_of self.old.file) entries.now.items) }
         requires within { self.old.used ≤ quota }
-        requires room { quota ≤ length (slots_of self.old.file) }
+        requires room { quota ≤ length (states_of self.old.file) }
         ensures shape { KeepsShape quota self.old self.new }
         ensures ends { (case : StartCase) × StartEnds D.facts case quota (Some self.old) (Some self.new) (Job.Cas entries.now) result }
     {

@@ -12,7 +12,7 @@ mod serving;
 mod worker;
 
 pub use making::init;
-pub use replaying::{replay, replay_words};
+pub use replaying::{replay, replay_args};
 pub use serving::serve;
 
 #[cfg(test)]

@@ -68,7 +68,7 @@ fn make<R: Files + AllocGlobal, O: Write>(
     words: &[String],
     out: &mut O,
 ) -> Result<(), InitFault> {
-    let file = read_words(rt.alloc(), words)?;
+    let file = read_args(rt.alloc(), words)?;
     let made = write_file(rt, &file).and_then(|()| sync_folder(rt, file.path));
     made.and_then(|()| writeln!(out, "made {}", size(file.words, file.places)))
         .map_err(|_| InitFault::CannotMake)
@@ -83,7 +83,7 @@ impl From<clap::Error> for InitFault {
     }
 }
 
-fn read_words<'a>(alloc: Global, words: &'a [String]) -> Result<NewFile<'a>, InitFault> {
+fn read_args<'a>(alloc: Global, words: &'a [String]) -> Result<NewFile<'a>, InitFault> {
     let matches = command(alloc)?.try_get_matches_from(words)?;
     let path = matches.get_str("PATH");
     let words = matches.get_one::<u16>("WORDS");

@@ -1,6 +1,6 @@
 //! What playing schedules gives.
 use crate::player::{Halt, Player};
-use crate::replaying::{replay, replay_words};
+use crate::replaying::{replay, replay_args};
 use crate::schedules::{PLAYED, SLOT_RECYCLED};
 use mw_look::Kind;
 use mw_schedule::{Command, StepKind, read_schedule};
@@ -44,7 +44,7 @@ impl Played {
         }
         let mut out = Vec::new(rt.alloc());
         let mut err = Vec::new(rt.alloc());
-        let status = replay_words(rt, &line, &mut out, &mut err);
+        let status = replay_args(rt, &line, &mut out, &mut err);
         Ok(Played {
             status,
             out: String::from_utf8(out)?,

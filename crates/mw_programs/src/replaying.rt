@@ -96,7 +96,7 @@ impl From<io::Error> for ReplayFault {
 ///
 /// Gives the exit status: that of [`replay`]; 1 where the file can't be opened; 2 for a wrong command
 /// line. What went wrong is written to `err`.
-pub fn replay_words<R: Files + AllocGlobal, O: Write, E: Write>(
+pub fn replay_args<R: Files + AllocGlobal, O: Write, E: Write>(
     rt: &R,
     words: &[String],
     out: &mut O,

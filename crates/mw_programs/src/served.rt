@@ -1,13 +1,13 @@
 //! What a session asks of a worker: the engine answers, with the worker's pass.
 use crate::worker::Worker;
 use mw_disk::Disk;
-use mw_engine::{Engine, Hold, Room};
+use mw_engine::{Engine, EngineBrand, Hold};
 use mw_report::Figures;
 use mw_session::Service;
 use mw_words::{Job, Name, Reply};
 use std::sync::Wait;
 
-impl<J: Room, D: Disk + Drop, H: Hold + Drop, R: Wait> Service for Worker<'_, J, D, H, R> {
+impl<J: EngineBrand, D: Disk + Drop, H: Hold + Drop, R: Wait> Service for Worker<'_, J, D, H, R> {
     ghost use Rattle.std.specs.Prelude.{false, None, []};
     ghost use Rattle.mw_engine.specs.Identity.{HasWords};
 

@@ -6,9 +6,9 @@ ghost use Rattle.mw_engine.specs.Starting.{identity_of};
 use crate::notes::Notes;
 use crate::opening::{open_files, read_tenants_file};
 use crate::worker::Worker;
-use mw_config::{ArgFault, Mode, Refusal, read_words};
+use mw_config::{ArgFault, Mode, Refusal, read_args};
 use mw_disk::FileDisk;
-use mw_engine::{Engine, NoHold, Pass, Room, Unstarted};
+use mw_engine::{Engine, EngineBrand, EngineParts, NoHold, Pass};
 use mw_session::{Ended, Session};
 use mw_workers::{ServeEnd, listen_at, port_of, serve_all};
 use std::alloc::AllocError;
@@ -90,7 +90,7 @@ where
         + Sync,
     R::File: FileExt + Send,
 {
-    match serve_words(rt, words, out, err) {
+    match serve_args(rt, words, out, err) {
         Ok(()) => 0,
         Err(ServeFault::Words(fault)) if !fault.use_stderr() => {
             u8::from(write!(out, "{fault}").is_err())
@@ -110,7 +110,7 @@ where
 
 /// Faults are looked for in this order: the command line, the tenants file, the tenants' files, of
 /// which notes tell, and the script or the listener.
-fn serve_words<R, O: Write, E: Write>(
+fn serve_args<R, O: Write, E: Write>(
     rt: &R,
     words: &[String],
     out: &mut O,
@@ -125,10 +125,10 @@ where
         + Sync,
     R::File: FileExt + Send,
 {
-    let args = read_words(rt.alloc(), words)?;
+    let args = read_args(rt.alloc(), words)?;
     let lines = read_tenants_file(rt, args.tenants.as_str(), args.pool)?;
     let files = open_files(rt, &Notes::new(err), &lines)?;
-    let (unstarted, passes) = Unstarted::new(
+    let (parts, passes) = EngineParts::new(
         rt.alloc(),
         &lines,
         files,
@@ -136,13 +136,13 @@ where
         args.workers,
         NoHold,
     )?;
-    serve_engine::<Brand, _, _>(rt, unstarted, passes, &args.mode, out)
+    serve_engine::<Brand, _, _>(rt, parts, passes, &args.mode, out)
 }
 
 /// Starts the engine, and serves what the command line asks for.
-fn serve_engine<J: Room + Send + Sync, R, O: Write>(
+fn serve_engine<J: EngineBrand + Send + Sync, R, O: Write>(
     rt: &R,
-    unstarted: Unstarted<FileDisk<R::File>, NoHold>,
+    parts: EngineParts<FileDisk<R::File>, NoHold>,
     passes: Vec<Pass>,
     mode: &Mode,
     out: &mut O,
@@ -155,11 +155,11 @@ where
         + Wait
         + Sync,
     R::File: FileExt + Send,
-    requires identity { identity_of unstarted ≡ J.identity }
+    requires identity { identity_of parts ≡ J.identity }
     requires idle { All IsIdle passes.items }
     requires some { 0 < vec_len passes }
 {
-    let engine = unstarted.start::<J>();
+    let engine = parts.into_engine::<J>();
     match mode {
         Mode::Script(path) => run_script(rt, &engine, passes, path.as_str(), out),
         Mode::Listen(address, connections) => {
@@ -169,7 +169,7 @@ where
 }
 
 /// Runs one session, from the script to `out`, by the first worker.
-fn run_script<J: Room, R: Files + AllocGlobal + Wait, O: Write>(
+fn run_script<J: EngineBrand, R: Files + AllocGlobal + Wait, O: Write>(
     rt: &R,
     engine: &Engine<J, FileDisk<R::File>, NoHold>,
     passes: Vec<Pass>,
@@ -195,7 +195,7 @@ where
 }
 
 /// Tells on `out` at which port it listens, and serves clients by a worker for each pass.
-fn serve_clients<J: Room + Send + Sync, R, O: Write>(
+fn serve_clients<J: EngineBrand + Send + Sync, R, O: Write>(
     rt: &R,
     engine: &Engine<J, FileDisk<R::File>, NoHold>,
     passes: Vec<Pass>,

@@ -2,7 +2,7 @@
 use Rattle.std.specs.Prelude.{◌≡◌, ℕ, ◌==◌, ◌&&◌, not, nat_eq, nat_le, if◌then◌else◌, Bool, Option, Some, None, List, [], ◌∷◌, length, map, slice_index, unwrap_or, is_none}
 use Rattle.std.specs.List.{range_with_len, starts_with}
 use Rattle.mw_words.specs.declared.limits.TheConstants.{MAX_WORDS, MAX_PLACES}
-use Rattle.mw_record.specs.declared.layout.TheConstants.{HEAD_SIZE, MAGIC, GATE_OPEN, WORDS_AT, PLACES_AT, OTHER_LAYOUT_AT}
+use Rattle.mw_record.specs.declared.layout.TheConstants.{HEAD_SIZE, MAGIC, COMMITTED, WORDS_AT, PLACES_AT, OTHER_LAYOUT_AT}
 use Rattle.mw_record.specs.declared.damages.Damage.{Damage}
 use Rattle.mw_record.specs.declared.damages.Damage.TheVariants.{NotThisFormat, Sizes, Value, Record, Overlap, Short}
 use Rattle.mw_record.specs.Layout.{size, number_at}
@@ -40,7 +40,7 @@ has_mark image = starts_with nat_eq image MAGIC
 abbrev pub has_sizes : List ℕ → Bool
 has_sizes image =
     nat_le 1 (words_of image) && nat_le (words_of image) MAX_WORDS && nat_le 1 (places_of image) && nat_le (places_of image) MAX_PLACES
-    && not (slice_index image OTHER_LAYOUT_AT == GATE_OPEN)
+    && not (slice_index image OTHER_LAYOUT_AT == COMMITTED)
 
 -- it has all bytes that its sizes ask for
 abbrev pub has_all_bytes : List ℕ → Bool

@@ -4,7 +4,7 @@ use Rattle.std.proofs.lemmas.Bool.{cond-true, cond-false, and_parts, and_from, l
 use Rattle.std.proofs.lemmas.List.FromFn.{length-map-range_with_len, get_or-map-range_with_len}
 use Rattle.std.proofs.lemmas.Option.{slice_get-get_or}
 use Rattle.mw_words.specs.declared.limits.TheConstants.{MAX_WORDS, MAX_PLACES}
-use Rattle.mw_record.specs.declared.layout.TheConstants.{GATE_OPEN}
+use Rattle.mw_record.specs.declared.layout.TheConstants.{COMMITTED}
 use Rattle.mw_record.specs.declared.damages.Damage.{Damage}
 use Rattle.mw_record.specs.declared.damages.Damage.TheVariants.{NotThisFormat, Sizes, Value, Record, Overlap, Short}
 use Rattle.mw_record.specs.Damages.{damage_of, has_head, has_mark, has_sizes, has_all_bytes, has_formed_records, has_records_apart, has_small_values, words_of, places_of, word_at, words_in}
@@ -77,7 +77,7 @@ pub record AreSizes (image : List ℕ) : Type 0 where
   pub words_fit : words_of image ≤ MAX_WORDS
   pub some_place : 1 ≤ places_of image
   pub places_fit : places_of image ≤ MAX_PLACES
-  pub one_layout : slice_index image 15 ≡ GATE_OPEN → ⊥
+  pub one_layout : slice_index image 15 ≡ COMMITTED → ⊥
 
 pub sizes_are : (image : List ℕ) → has_sizes image ≡ true → AreSizes image
 sizes_are image ok =

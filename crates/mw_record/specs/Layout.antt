@@ -38,7 +38,7 @@ header words places = MAGIC ++ (number_bytes 4 words ++ (number_bytes 2 places +
 abbrev pub entry_bytes : Entry → List ℕ
 entry_bytes e = number_bytes WORD_SIZE e.addr ++ number_bytes WORD_SIZE e.new
 
--- what stands behind the gate byte of a place with these entries: their number, six zeros, the entries in
+-- what stands behind the commit byte of a place with these entries: their number, six zeros, the entries in
 -- order, and zeros for the entries that aren't there
 abbrev pub body : List Entry → List ℕ
 body entries =

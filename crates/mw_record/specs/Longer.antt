@@ -3,12 +3,12 @@ use Rattle.std.proofs.Common.{◌≡◌, ℕ, ◌+◌, ◌<◌, ◌≤◌, ◌==
 use Rattle.std.proofs.lemmas.Bool.{cases_lt, lt-leb, le-leb}
 use Rattle.std.proofs.lemmas.List.{get_or-take, length-take, take-take}
 use Rattle.mw_words.specs.declared.limits.TheConstants.{MAX_ENTRIES, MAX_WORDS, MAX_PLACES}
-use Rattle.mw_record.specs.declared.layout.TheConstants.{HEAD_SIZE, WORD_SIZE, PLACE_SIZE, GATE_OPEN}
+use Rattle.mw_record.specs.declared.layout.TheConstants.{HEAD_SIZE, WORD_SIZE, PLACE_SIZE, COMMITTED}
 use Rattle.mw_record.specs.declared.damages.Damage.{Damage}
 use Rattle.mw_record.specs.Layout.{home_at, place_at, size}
 use Rattle.mw_record.specs.Records.{Pairs, record_at, body_at, home, is_formed, are_formed, are_apart, records_fit, homes_fit}
 use Rattle.mw_record.specs.Damages.{damage_of, has_mark, has_sizes, has_all_bytes, has_formed_records, has_records_apart, has_small_values, words_of, places_of, records_of, words_in, file_words, pairs_in}
-use Rattle.mw_record.specs.Reading.{SameBytes, number_same, home_same, gate_open, shut_stays, record_open, record_stays, length_body}
+use Rattle.mw_record.specs.Reading.{SameBytes, number_same, home_same, commit_set, shut_stays, record_open, record_stays, length_body}
 use Rattle.mw_record.specs.ReadAgain.{within, mark_same}
 use Rattle.mw_record.specs.Faults.{AreSizes, sizes_are, passes}
 use Rattle.mw_record.specs.Below.{few_entries, formed_at}
@@ -16,22 +16,22 @@ use Rattle.mw_record.specs.Agree.{SameRecords, each_same, apart_same, records_fi
 use Rattle.mw_record.specs.Stands.{HasWords}
 use Rattle.mw_record.specs.Sound.{has_words, same_words}
 use Rattle.mw_record.specs.Images.{has_words_same}
-use Rattle.mw_record.specs.Writes.{gate_same, record_same}
+use Rattle.mw_record.specs.Writes.{commit_same, record_same}
 
 -- a place whose bytes stay is as well formed as it was
 formed_same_as : (words place : ℕ) (xs ys : List ℕ) (kept : Option Pairs) → SameBytes PLACE_SIZE (place_at words place) (place_at words place) xs ys
     → record_at ys words place ≡ kept → is_formed words (record_at xs words place) ≡ is_formed words kept
 formed_same_as words place xs ys None same is =
-    ap (is_formed words) (shut_stays xs ys words place (gate_same xs ys (place_at words place) same) is)
+    ap (is_formed words) (shut_stays xs ys words place (commit_same xs ys (place_at words place) same) is)
 formed_same_as words place xs ys (Some ps) same is =
     elim (cases_lt MAX_ENTRIES (length ps)) [
       | inr few ↦ ap (is_formed words) (record_stays xs ys words place ps same few is)
       | inl many ↦
           let at : ℕ = place_at words place in
-          let was = gate_open ys words place ps is in
+          let was = commit_set ys words place ps is in
           let count : slice_index xs (at + 1) ≡ slice_index ys (at + 1) = same 1 (omega arith) in
           let long : length (body_at xs at) ≡ length ps = length_body xs at ∙ count ∙ sym (length_body ys at) ∙ ap length was.1 in
-          ap (is_formed words) (record_open xs words place at refl (gate_same xs ys at same ∙ was.0))
+          ap (is_formed words) (record_open xs words place at refl (commit_same xs ys at same ∙ was.0))
           ∙ too_many words (body_at xs at) (omega (arith, long, many)) ∙ sym (too_many words ps many)
     ]
 
@@ -46,7 +46,7 @@ words_by image damage is = ap (λ d. if is_none d then Some (words_in image) els
 
 -- the test of the sizes, by what the head tells
 abbrev are_allowed : ℕ → ℕ → ℕ → Bool
-are_allowed words places layout = nat_le 1 words && nat_le words MAX_WORDS && nat_le 1 places && nat_le places MAX_PLACES && not (layout == GATE_OPEN)
+are_allowed words places layout = nat_le 1 words && nat_le words MAX_WORDS && nat_le 1 places && nat_le places MAX_PLACES && not (layout == COMMITTED)
 
 -- the number of bytes of the largest file
 abbrev largest : ℕ

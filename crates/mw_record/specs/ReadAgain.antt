@@ -7,7 +7,7 @@ use Rattle.std.proofs.lemmas.List.{append-nil, get_or-take, length-append, lengt
 use Rattle.mw_words.specs.declared.limits.TheConstants.{MAX_ENTRIES, MAX_VALUE, MAX_WORDS, MAX_PLACES}
 use Rattle.mw_words.specs.declared.jobs.Entry.{Entry}
 use Rattle.mw_words.specs.Change.{is_in_range, rises_from, is_change, put}
-use Rattle.mw_record.specs.declared.layout.TheConstants.{HEAD_SIZE, BODY_SIZE, ENTRY_SIZE, GATE_OPEN, MAGIC}
+use Rattle.mw_record.specs.declared.layout.TheConstants.{HEAD_SIZE, BODY_SIZE, ENTRY_SIZE, COMMITTED, MAGIC}
 use Rattle.mw_record.specs.Layout.{home_at, place_at, number_at, number_bytes, header, entry_bytes, body, pairs_of, new_file}
 use Rattle.mw_record.specs.Records.{pairs_at, body_at, record_at, home, put_pairs, is_covered, is_record, rises_below, has_values}
 use Rattle.mw_record.specs.Damages.{has_mark, words_of, places_of}
@@ -171,13 +171,13 @@ body_again image at entries few fits same =
     ap (λ a. get_or image a 0) e ∙ same (7 + k) (omega (arith, few, lt)) ∙ ap (λ a. get_or (body entries) a 0) f) in
     ap (pairs_at image (at + 8)) count ∙ pairs ∙ pairs_written head zeros entries 7 refl fits
 
--- Where a record's body stands behind an open gate, its entries are the record of the place.
+-- Where a record's body stands behind a set commit byte, its entries are the record of the place.
 pub record_again : (image : List ℕ) (words place : ℕ) (entries : List Entry) → length entries ≤ MAX_ENTRIES → AreNumbers entries
-    → slice_index image (place_at words place) ≡ GATE_OPEN → SameBytes BODY_SIZE (place_at words place + 1) 0 image (body entries)
+    → slice_index image (place_at words place) ≡ COMMITTED → SameBytes BODY_SIZE (place_at words place + 1) 0 image (body entries)
     → record_at image words place ≡ Some (pairs_of entries)
-record_again image words place entries few fits gate same =
+record_again image words place entries few fits commit same =
     let at : ℕ = place_at words place in
-    record_open image words place at refl gate ∙ ap Some (body_again image at entries few fits same)
+    record_open image words place at refl commit ∙ ap Some (body_again image at entries few fits same)
 
 -- The entries of a change are a record with small values.
 change_parts : (words : ℕ) (es : List Entry) → is_change words es ≡ true
@@ -251,8 +251,8 @@ module _ (words places : ℕ) (may : MayHave words places) where
 
   no_records : (j : ℕ) → record_at (new_file words places) words j ≡ None
   no_records j =
-      record_shut (new_file words places) words j (place_at words j) refl (λ gate.
-      omega (arith, gate, zeros_after_head (place_at words j) (omega arith)))
+      record_shut (new_file words places) words j (place_at words j) refl (λ commit.
+      omega (arith, commit, zeros_after_head (place_at words j) (omega arith)))
 
   home_zero : (a : ℕ) → home (new_file words places) a ≡ 0
   home_zero a = number_zero 8 (home_at a) (new_file words places) (λ k lt. zeros_after_head (home_at a + k) (omega arith))

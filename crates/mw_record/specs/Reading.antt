@@ -5,7 +5,7 @@ use Rattle.std.proofs.lemmas.Bool.{eq-eqb, ne_eqb, cases_eq}
 use Rattle.byteorder.specs.Endian.{little_from}
 use Rattle.byteorder.specs.Numbers.{length-bytes_low_first, little_number-reads_back}
 use Rattle.mw_words.specs.declared.limits.TheConstants.{MAX_ENTRIES}
-use Rattle.mw_record.specs.declared.layout.TheConstants.{BODY_SIZE, GATE_OPEN, PLACE_SIZE, WORD_SIZE}
+use Rattle.mw_record.specs.declared.layout.TheConstants.{BODY_SIZE, COMMITTED, PLACE_SIZE, WORD_SIZE}
 use Rattle.mw_record.specs.Layout.{home_at, place_at, number_at, number_bytes, patched}
 use Rattle.mw_record.specs.Records.{Pairs, pairs_at, body_at, record_at, home}
 
@@ -68,17 +68,17 @@ pub length_body : (image : List ℕ) (at : ℕ) → length (body_at image at) �
 unfolding body_at
 length_body image at = length_pairs image (at + 8) (slice_index image (at + 1))
 
--- the record of a place whose gate is open, or shut, where the place begins at an offset
-pub record_open : (image : List ℕ) (words place at : ℕ) → at ≡ place_at words place → slice_index image at ≡ GATE_OPEN → record_at image words place ≡ Some (body_at image at)
+-- the record of a place whose commit byte is set, or shut, where the place begins at an offset
+pub record_open : (image : List ℕ) (words place at : ℕ) → at ≡ place_at words place → slice_index image at ≡ COMMITTED → record_at image words place ≡ Some (body_at image at)
 unfolding record_at
-record_open image words place at is gate =
-    let e : (slice_index image (place_at words place) == GATE_OPEN) ≡ true = eq-eqb _ _ (ap (λ a. slice_index image a) (sym is) ∙ gate) in
+record_open image words place at is commit =
+    let e : (slice_index image (place_at words place) == COMMITTED) ≡ true = eq-eqb _ _ (ap (λ a. slice_index image a) (sym is) ∙ commit) in
     ap (λ b. if b then Some (body_at image (place_at words place)) else None) e ∙ ap (λ a. Some (body_at image a)) (sym is)
 
-pub record_shut : (image : List ℕ) (words place at : ℕ) → at ≡ place_at words place → (slice_index image at ≡ GATE_OPEN → ⊥) → record_at image words place ≡ None
+pub record_shut : (image : List ℕ) (words place at : ℕ) → at ≡ place_at words place → (slice_index image at ≡ COMMITTED → ⊥) → record_at image words place ≡ None
 unfolding record_at
-record_shut image words place at is gate =
-    let e : (slice_index image (place_at words place) == GATE_OPEN) ≡ false = ne_eqb _ _ (λ h. gate (ap (λ a. slice_index image a) is ∙ h)) in
+record_shut image words place at is commit =
+    let e : (slice_index image (place_at words place) == COMMITTED) ≡ false = ne_eqb _ _ (λ h. commit (ap (λ a. slice_index image a) is ∙ h)) in
     ap (λ b. if b then Some (body_at image (place_at words place)) else None) e
 
 -- a number is 0 where its bytes are
@@ -153,34 +153,34 @@ body_same xs ys i j few same =
 pub home_same : (xs ys : List ℕ) (addr : ℕ) → SameBytes WORD_SIZE (home_at addr) (home_at addr) xs ys → home xs addr ≡ home ys addr
 home_same xs ys addr same = number_same 8 (home_at addr) (home_at addr) xs ys same
 
--- the gate of a closed place isn't open, and of an open one is
-pub gate_shut : (image : List ℕ) (words place : ℕ) → record_at image words place ≡ None → slice_index image (place_at words place) ≡ GATE_OPEN → ⊥
-gate_shut image words place none gate = (let e = record_open image words place (place_at words place) refl gate in cc)
+-- the commit byte of a closed place isn't open, and of an open one is
+pub commit_clear : (image : List ℕ) (words place : ℕ) → record_at image words place ≡ None → slice_index image (place_at words place) ≡ COMMITTED → ⊥
+commit_clear image words place none commit = (let e = record_open image words place (place_at words place) refl commit in cc)
 
-pub gate_open : (image : List ℕ) (words place : ℕ) (pairs : Pairs) → record_at image words place ≡ Some pairs
-    → (slice_index image (place_at words place) ≡ GATE_OPEN) × (body_at image (place_at words place) ≡ pairs)
-gate_open image words place pairs is =
-    elim (cases_eq (slice_index image (place_at words place)) GATE_OPEN) [
-      | inl gate ↦ (gate, (let e = record_open image words place (place_at words place) refl gate in cc))
+pub commit_set : (image : List ℕ) (words place : ℕ) (pairs : Pairs) → record_at image words place ≡ Some pairs
+    → (slice_index image (place_at words place) ≡ COMMITTED) × (body_at image (place_at words place) ≡ pairs)
+commit_set image words place pairs is =
+    elim (cases_eq (slice_index image (place_at words place)) COMMITTED) [
+      | inl commit ↦ (commit, (let e = record_open image words place (place_at words place) refl commit in cc))
       | inr shut ↦ absurd (let e = record_shut image words place (place_at words place) refl shut in let f : ⊥ = cc in f)
     ]
 
--- a closed place stays closed where its gate byte stays
+-- a closed place stays closed where its commit byte stays
 pub shut_stays : (xs ys : List ℕ) (words place : ℕ) → slice_index xs (place_at words place) ≡ slice_index ys (place_at words place)
     → record_at ys words place ≡ None → record_at xs words place ≡ None
 shut_stays xs ys words place same none =
-    record_shut xs words place (place_at words place) refl (λ gate. gate_shut ys words place none (sym same ∙ gate))
+    record_shut xs words place (place_at words place) refl (λ commit. commit_clear ys words place none (sym same ∙ commit))
 
 -- an open place keeps its record where its bytes stay
 pub record_stays : (xs ys : List ℕ) (words place : ℕ) (pairs : Pairs) → SameBytes PLACE_SIZE (place_at words place) (place_at words place) xs ys
     → length pairs ≤ MAX_ENTRIES → record_at ys words place ≡ Some pairs → record_at xs words place ≡ Some pairs
 record_stays xs ys words place pairs same few is =
     let at : ℕ = place_at words place in
-    let g = gate_open ys words place pairs is in
-    let gate : get_or xs at 0 ≡ GATE_OPEN =
+    let g = commit_set ys words place pairs is in
+    let commit : get_or xs at 0 ≡ COMMITTED =
     ap (λ a. get_or xs a 0) (sym (add-zero at)) ∙ same 0 (omega arith) ∙ ap (λ a. get_or ys a 0) (add-zero at) ∙ g.0 in
     let count : slice_index ys (at + 1) ≤ MAX_ENTRIES = omega (arith, few, length_body ys at, ap length g.1) in
-    record_open xs words place at refl gate
+    record_open xs words place at refl commit
     ∙ ap Some (body_same xs ys at at count (λ k lt.
     let e : (at + 1) + k ≡ at + (1 + k) = omega arith in
     ap (λ a. get_or xs a 0) e ∙ same (1 + k) (omega arith) ∙ ap (λ a. get_or ys a 0) (sym e)) ∙ g.1)

@@ -3,7 +3,7 @@ use Rattle.std.specs.Prelude.{ℕ, zero, suc, ◌+◌, ◌==◌, ◌&&◌, ◌||
 use Rattle.std.specs.List.{list_all, list_any}
 use Rattle.std.specs.Option.{option_map_or}
 use Rattle.mw_words.specs.declared.limits.TheConstants.{MAX_ENTRIES, MAX_VALUE}
-use Rattle.mw_record.specs.declared.layout.TheConstants.{COUNT_AT, ENTRIES_AT, ENTRY_SIZE, GATE_OPEN, WORD_SIZE}
+use Rattle.mw_record.specs.declared.layout.TheConstants.{COUNT_AT, ENTRIES_AT, ENTRY_SIZE, COMMITTED, WORD_SIZE}
 use Rattle.mw_record.specs.Layout.{home_at, place_at, number_at}
 
 -- A record is the list of its entries: addresses, each with its new value. A file's records are a function
@@ -23,10 +23,10 @@ pairs_at image at (suc n) = (number_at image at WORD_SIZE, number_at image (at +
 unfoldable pub body_at : List ℕ → ℕ → Pairs
 body_at image at = pairs_at image (at + ENTRIES_AT) (slice_index image (at + COUNT_AT))
 
--- the record of a place, where its gate is open
+-- the record of a place, where its commit byte is set
 unfoldable pub record_at : List ℕ → ℕ → Kept
 record_at image words place =
-    if slice_index image (place_at words place) == GATE_OPEN then Some (body_at image (place_at words place)) else None
+    if slice_index image (place_at words place) == COMMITTED then Some (body_at image (place_at words place)) else None
 
 -- the home word of an address
 abbrev pub home : List ℕ → ℕ → ℕ

@@ -1,11 +1,11 @@
--- What a write leaves of a file: a home word that is written, a place whose bytes stay, and a gate byte that is torn.
+-- What a write leaves of a file: a home word that is written, a place whose bytes stay, and a commit byte that is torn.
 use Rattle.std.proofs.Common.{◌≡◌, ℕ, ◌+◌, ◌-◌, ◌*◌, ◌^◌, [], ◌∷◌, replicate, ◌<◌, ◌≤◌, ◌==◌, ◌⊎◌, if◌then◌else◌, Option, Some, None, List, length, take, drop, get_or, slice_index, refl, sym, ap, ◌∙◌, inl, inr, arith, add-zero}
 use Rattle.std.proofs.lemmas.Bool.{cases_eq, cases_lt, cond-true, cond-false, eq-eqb, ne_eqb}
 use Rattle.std.proofs.lemmas.List.{length-take-le, length-append, length-replicate}
 use Rattle.std.specs.List.{flat_map}
 use Rattle.mw_words.specs.declared.jobs.Entry.{Entry}
 use Rattle.mw_words.specs.declared.limits.TheConstants.{MAX_ENTRIES}
-use Rattle.mw_record.specs.declared.layout.TheConstants.{BODY_SIZE, ENTRY_SIZE, GATE_OPEN, PLACE_SIZE}
+use Rattle.mw_record.specs.declared.layout.TheConstants.{BODY_SIZE, ENTRY_SIZE, COMMITTED, PLACE_SIZE}
 use Rattle.mw_record.specs.Layout.{home_at, place_at, number_bytes, entry_bytes, body, patched}
 use Rattle.mw_record.specs.Records.{Pairs, body_at, record_at, home}
 use Rattle.mw_record.specs.Reading.{SameBytes, number_written, length-number_bytes, get_patched_before, get_patched_after, body_same, home_same, record_open, record_shut, shut_stays, record_stays}
@@ -36,13 +36,13 @@ home_written bytes a v b small fits _ =
       | inr apart ↦ home_elsewhere bytes a v b fits apart ∙ sym (cond-false (a == b) v (home bytes b) (ne_eqb a b apart))
     ]
 
--- the gate byte of a place whose bytes stay
-pub gate_same : (xs ys : List ℕ) (at : ℕ) → SameBytes PLACE_SIZE at at xs ys → slice_index xs at ≡ slice_index ys at
-gate_same xs ys at same = ap (λ i. get_or xs i 0) (sym (add-zero at)) ∙ same 0 (omega arith) ∙ ap (λ i. get_or ys i 0) (add-zero at)
+-- the commit byte of a place whose bytes stay
+pub commit_same : (xs ys : List ℕ) (at : ℕ) → SameBytes PLACE_SIZE at at xs ys → slice_index xs at ≡ slice_index ys at
+commit_same xs ys at same = ap (λ i. get_or xs i 0) (sym (add-zero at)) ∙ same 0 (omega arith) ∙ ap (λ i. get_or ys i 0) (add-zero at)
 
 record_same_as : (xs ys : List ℕ) (words place : ℕ) (kept : Option Pairs) → SameBytes PLACE_SIZE (place_at words place) (place_at words place) xs ys
     → record_at ys words place ≡ kept → ((ps : Pairs) → kept ≡ Some ps → length ps ≤ MAX_ENTRIES) → record_at xs words place ≡ kept
-record_same_as xs ys words place None same is few = shut_stays xs ys words place (gate_same xs ys (place_at words place) same) is
+record_same_as xs ys words place None same is few = shut_stays xs ys words place (commit_same xs ys (place_at words place) same) is
 record_same_as xs ys words place (Some ps) same is few = record_stays xs ys words place ps same (few ps refl) is
 
 -- A place whose bytes stay has the record that it had, and stays closed where it had none.
@@ -50,14 +50,14 @@ pub record_same : (xs ys : List ℕ) (words place : ℕ) → SameBytes PLACE_SIZ
     → ((ps : Pairs) → record_at ys words place ≡ Some ps → length ps ≤ MAX_ENTRIES) → record_at xs words place ≡ record_at ys words place
 record_same xs ys words place same few = record_same_as xs ys words place (record_at ys words place) same refl few
 
--- Where the body of a place stays, whatever became of its gate byte, the place is closed or has the entries of its body.
-pub gate_torn : (xs ys : List ℕ) (words place : ℕ) → SameBytes BODY_SIZE (place_at words place + 1) (place_at words place + 1) xs ys
+-- Where the body of a place stays, whatever became of its commit byte, the place is closed or has the entries of its body.
+pub commit_torn : (xs ys : List ℕ) (words place : ℕ) → SameBytes BODY_SIZE (place_at words place + 1) (place_at words place + 1) xs ys
     → slice_index ys (place_at words place + 1) ≤ MAX_ENTRIES
     → (record_at xs words place ≡ None) ⊎ (record_at xs words place ≡ Some (body_at ys (place_at words place)))
-gate_torn xs ys words place same few =
+commit_torn xs ys words place same few =
     let at : ℕ = place_at words place in
-    elim (cases_eq (slice_index xs at) GATE_OPEN) [
-      | inl gate ↦ inr (record_open xs words place at refl gate ∙ ap Some (body_same xs ys at at few same))
+    elim (cases_eq (slice_index xs at) COMMITTED) [
+      | inl commit ↦ inr (record_open xs words place at refl commit ∙ ap Some (body_same xs ys at at few same))
       | inr shut ↦ inl (record_shut xs words place at refl shut)
     ]
 

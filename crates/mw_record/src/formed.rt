@@ -3,7 +3,7 @@ ghost use Rattle.std.specs.Prelude.{◌≡◌, ◌+◌, ◌≤◌, ◌<◌, ◌&
 ghost use Rattle.mw_record.specs.Layout as layout;
 ghost use Rattle.mw_record.specs.Records as spec;
 
-use crate::layout::{COUNT_AT, GATE_OPEN, home_at, place_at, read_number};
+use crate::layout::{COMMITTED, COUNT_AT, home_at, place_at, read_number};
 use crate::records::Record;
 use mw_words::{MAX_ENTRIES, MAX_VALUE};
 
@@ -38,7 +38,7 @@ fn is_formed(bytes: &[u8], words: u16, place: u16) -> bool
     ensures { result ≡ spec.is_formed words (spec.record_at bytes.now words place) }
 {
     let at = place_at(words, place) as usize;
-    if bytes[at] != GATE_OPEN {
+    if bytes[at] != COMMITTED {
         return true;
     }
     is_record_len(bytes[at + COUNT_AT]) && Record::new(bytes, at).rises_below(words)
@@ -52,13 +52,13 @@ fn is_record_len(count: u8) -> bool
 }
 
 impl FormedFile<'_> {
-    /// The record of a place, where its gate is open.
+    /// The record of a place, where its commit byte is set.
     pub(crate) fn record(&self, place: u16) -> Option<Record<'_>>
         requires { place < self.now.places }
         ensures { result ≡ spec.record_at self.now.bytes.now self.now.words place }
     {
         let at = place_at(self.words, place) as usize;
-        if self.bytes[at] == GATE_OPEN {
+        if self.bytes[at] == COMMITTED {
             Some(Record::new(self.bytes, at))
         } else {
             None

@@ -5,7 +5,7 @@ ghost use Rattle.mw_record.specs.Damages as spec;
 
 use crate::damages::Damage;
 use crate::formed::{FormedFile, are_formed};
-use crate::layout::{GATE_OPEN, HEAD_SIZE, MAGIC, OTHER_LAYOUT_AT, PLACES_AT, WORDS_AT, size};
+use crate::layout::{COMMITTED, HEAD_SIZE, MAGIC, OTHER_LAYOUT_AT, PLACES_AT, WORDS_AT, size};
 use byteorder::{ByteOrder, LittleEndian};
 use mw_words::{MAX_PLACES, MAX_WORDS};
 use std::marker::Model;
@@ -84,7 +84,7 @@ fn sizes(bytes: &[u8]) -> Option<(u16, u16)>
     if words == 0 || words > u32::from(MAX_WORDS) {
         return None;
     }
-    if places == 0 || places > MAX_PLACES || bytes[OTHER_LAYOUT_AT] == GATE_OPEN {
+    if places == 0 || places > MAX_PLACES || bytes[OTHER_LAYOUT_AT] == COMMITTED {
         return None;
     }
     Some((words as u16, places))
@@ -117,7 +117,7 @@ impl Image<'_> {
         self.file.word(addr)
     }
 
-    /// How many entries the record of a place below [`Image::places`] has, 0 where its gate is closed.
+    /// How many entries the record of a place below [`Image::places`] has, 0 where its commit byte is clear.
     pub fn count(&self, place: u16) -> u8
         requires { place < spec.places_of self.now }
         ensures value { result ≡ length (spec.pairs_in self.now place) }

@@ -10,7 +10,7 @@ ghost use Rattle.mw_record.specs.Reading.{SameBytes};
 ghost use Rattle.mw_record.specs.Records.{has_values, is_record, put_pairs, record_at};
 ghost use Rattle.mw_record.specs.Stands.{HasWords, IsHead};
 
-use crate::layout::{BODY_SIZE, GATE_OPEN, HEAD_SIZE, MAX_FILE};
+use crate::layout::{BODY_SIZE, COMMITTED, HEAD_SIZE, MAX_FILE};
 use mw_words::{MAX_ENTRIES, MAX_WORDS};
 
 /// Where the head of a file is [`header`](crate::header) of sizes that a file may have, the file has
@@ -20,10 +20,10 @@ pub fn header_is_read_again()
         → SameBytes HEAD_SIZE 0 0 image (layout.header words places) → IsHead words places image }
 {}
 
-/// Where [`body`](crate::body) of entries stands behind an open gate, the place has the entries' record.
+/// Where [`body`](crate::body) of entries stands behind a set commit byte, the place has the entries' record.
 pub fn body_is_read_again()
     ensures { (image : List ℕ) (words place : ℕ) (entries : List Entry) → length entries ≤ MAX_ENTRIES → AreNumbers entries
-        → slice_index image (layout.place_at words place) ≡ GATE_OPEN
+        → slice_index image (layout.place_at words place) ≡ COMMITTED
         → SameBytes BODY_SIZE (layout.place_at words place + 1) 0 image (layout.body entries)
         → record_at image words place ≡ Some (layout.pairs_of entries) }
 {}

@@ -17,14 +17,17 @@ pub const WORD_SIZE: usize = 8;
 /// The number of bytes of one entry of a record: an address and a new value.
 pub const ENTRY_SIZE: usize = 16;
 
-/// The number of bytes of a record place after its gate byte.
+/// The number of bytes of a record place after its commit byte.
 pub const BODY_SIZE: usize = 135;
 
 /// The number of bytes of a record place.
 pub const PLACE_SIZE: usize = 136;
 
-/// The gate byte of an open record place. Every other one is closed.
-pub const GATE_OPEN: u8 = 0xa5;
+/// The commit byte of an open record place. Every other one is closed.
+pub const COMMITTED: u8 = 0xa5;
+
+/// The commit byte that a change's place is given when its values stand in the home words.
+pub const NOT_COMMITTED: u8 = 0;
 
 /// Where the head has the number of words, in four bytes.
 pub const WORDS_AT: usize = 8;
@@ -32,7 +35,7 @@ pub const WORDS_AT: usize = 8;
 /// Where the head has the number of record places, in two bytes.
 pub const PLACES_AT: usize = 12;
 
-/// Where the head has the gate byte of another layout.
+/// Where the head has the commit byte of another layout.
 pub const OTHER_LAYOUT_AT: usize = 15;
 
 /// Where a record place has its count byte.
@@ -62,7 +65,7 @@ pub fn home_at(addr: u16) -> u64
 }
 
 /// The offset at which a record place begins, in a file with so many words. Its first byte is its
-/// gate byte.
+/// commit byte.
 pub fn place_at(words: u16, place: u16) -> u64
     ensures { result ≡ spec.place_at words place }
 {

@@ -10,14 +10,14 @@
 //! | 8..12 | number of words |
 //! | 12..14 | number of record places |
 //! | 14 | 0, not looked at |
-//! | 15 | 0; [`GATE_OPEN`] tells of another layout, which isn't read here |
+//! | 15 | 0; [`COMMITTED`] tells of another layout, which isn't read here |
 //! | 16..32 | 0, not looked at |
 //! | from 32 | home words, 8 bytes each |
 //! | then | record places, 136 bytes each |
 //!
-//! A record place has a gate byte, a count byte, six bytes that aren't looked at, and room for eight
-//! entries of 16 bytes, an address and its new value. A place is open exactly where its gate byte is
-//! [`GATE_OPEN`]; then the first `count` entries are its record, put over the home words. Of a closed
+//! A record place has a commit byte, a count byte, six bytes that aren't looked at, and room for eight
+//! entries of 16 bytes, an address and its new value. A place is open exactly where its commit byte is
+//! [`COMMITTED`]; then the first `count` entries are its record, put over the home words. Of a closed
 //! place nothing is looked at.
 #![tactic(auto)]
 
@@ -37,8 +37,8 @@ pub use laws::{
     words_are_what_the_bytes_stand_for,
 };
 pub use layout::{
-    BODY_SIZE, ENTRY_SIZE, GATE_OPEN, HEAD_SIZE, MAGIC, MAX_FILE, PLACE_SIZE, WORD_SIZE, home_at,
-    place_at, size,
+    BODY_SIZE, COMMITTED, ENTRY_SIZE, HEAD_SIZE, MAGIC, MAX_FILE, NOT_COMMITTED, PLACE_SIZE,
+    WORD_SIZE, home_at, place_at, size,
 };
 pub use written::{body, header, home_word};
 

@@ -1,5 +1,5 @@
 //! Files with one fault each, and a file that is read.
-use crate::{Damage, GATE_OPEN, MAX_FILE, body, decode, header, home_at, place_at, size};
+use crate::{COMMITTED, Damage, MAX_FILE, body, decode, header, home_at, place_at, size};
 use mw_words::{Entries, Entry};
 use std::test::Fail;
 
@@ -63,15 +63,15 @@ fn a_change_of_one_byte_is_told(rt: HostRuntime) {
 #[test]
 fn records_are_told(rt: HostRuntime) {
     let mut long = small_file();
-    long[48] = GATE_OPEN;
+    long[48] = COMMITTED;
     long[49] = 9;
     assert_eq!(rt; told(&long), Damage::Record.number());
 
     let mut shared = file_of_two_places();
-    shared[48] = GATE_OPEN;
+    shared[48] = COMMITTED;
     shared[49] = 1;
     shared[64] = 1;
-    shared[184] = GATE_OPEN;
+    shared[184] = COMMITTED;
     shared[185] = 1;
     shared[200] = 1;
     assert_eq!(rt; told(&shared), Damage::Overlap.number());
@@ -89,7 +89,7 @@ fn file_with_a_record() -> [u8; 320] {
     });
     let mut file = file_of_two_places();
     file[32] = 5;
-    file[48] = GATE_OPEN;
+    file[48] = COMMITTED;
     file[49..184].copy_from_slice(&body(&entries));
     file
 }

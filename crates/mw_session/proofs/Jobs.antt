@@ -7,7 +7,7 @@ use Rattle.mw_words.specs.declared.jobs.Entry.{Entry}
 use Rattle.mw_words.specs.declared.jobs.Job.{Job}
 use Rattle.mw_words.specs.declared.jobs.Job.TheVariants.{Get, Cas}
 use Rattle.mw_words.specs.Change.{is_in_range, is_well_formed, rises}
-use Rattle.mw_line.specs.declared.replies.Fault.TheVariants.{AddressRange}
+use Rattle.mw_line.specs.declared.replies.ErrCode.TheVariants.{AddressRange}
 use Rattle.mw_line.specs.declared.requests.Request.TheVariants as request
 use Rattle.mw_session.specs.declared.steps.Bound.TheVariants.{Tenant}
 use Rattle.mw_session.specs.declared.steps.Step.TheVariants.{Ask, Refuse}

@@ -3,8 +3,8 @@ use Rattle.std.proofs.Common.{◌≡◌, ℕ, Bool, List, [], ◌∷◌, ◌++�
 use Rattle.arrayvec.specs.ArrayVec.{ArrayVec}
 use Rattle.mw_words.specs.declared.jobs.Job.{Job}
 use Rattle.mw_words.specs.declared.replies.Reply.{Reply}
-use Rattle.mw_line.specs.declared.replies.Fault.{Fault}
-use Rattle.mw_line.specs.declared.replies.Fault.TheVariants as fault
+use Rattle.mw_line.specs.declared.replies.ErrCode.{ErrCode}
+use Rattle.mw_line.specs.declared.replies.ErrCode.TheVariants as fault
 use Rattle.mw_line.specs.declared.replies.Say.TheVariants as say
 use Rattle.mw_line.specs.Replies.{text_of}
 use Rattle.mw_report.specs.declared.figures.Figures.{Figures}
@@ -44,7 +44,7 @@ asked_then tells by names s t u xs ys h k is =
     }
 
 module _ (Asked : List Call → Type 0) where
-  pub refused : (wrong : Fault) (bound : Bound) (text : List ℕ) → Asked [] → text ≡ text_of (say.Err wrong) → Performs Asked (Refuse wrong) bound bound text
+  pub refused : (wrong : ErrCode) (bound : Bound) (text : List ℕ) → Asked [] → text ≡ text_of (say.Err wrong) → Performs Asked (Refuse wrong) bound bound text
   refused wrong bound text h e = record { answers = []; calls = []; asked = h; does = λ unused rest. ap (λ t. after t [] (rest bound unused)) (sym e) }
 
   pub bound_to_admin : (bound : Bound) (text : List ℕ) → Asked [] → text ≡ text_of say.OkAdmin → Performs Asked BindAdmin bound Admin text

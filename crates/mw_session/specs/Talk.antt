@@ -7,7 +7,7 @@ use Rattle.mw_words.specs.declared.replies.Reply.{Reply}
 use Rattle.mw_line.specs.declared.requests.LineFault.{LineFault}
 use Rattle.mw_line.specs.declared.requests.Request.{Request}
 use Rattle.mw_line.specs.declared.requests.Request.TheVariants as request
-use Rattle.mw_line.specs.declared.replies.Fault.TheVariants as fault
+use Rattle.mw_line.specs.declared.replies.ErrCode.TheVariants as fault
 use Rattle.mw_line.specs.declared.replies.Say.{Say}
 use Rattle.mw_line.specs.declared.replies.Say.TheVariants as say
 use Rattle.mw_line.specs.Replies.{fault_of, text_of}

@@ -7,7 +7,7 @@ ghost use Rattle.mw_session.specs.Serving.{CanAsk, IsServed, Tells};
 use crate::service::Service;
 use crate::steps::{Bound, Step};
 use arrayvec::ArrayVec;
-use mw_line::{Fault, Say};
+use mw_line::{ErrCode, Say};
 use mw_report::{MAX_REPORT, report_text};
 
 /// What is said to one line.
@@ -27,7 +27,7 @@ pub fn perform<S: Service>(step: &Step, bound: &mut Bound, service: &mut S) -> T
                 *bound = Bound::Tenant(number, words);
                 text(Say::Ok(words))
             }
-            None => text(Say::Err(Fault::NoSuchTenant)),
+            None => text(Say::Err(ErrCode::NoSuchTenant)),
         },
         Step::BindAdmin => {
             *bound = Bound::Admin;
@@ -39,7 +39,7 @@ pub fn perform<S: Service>(step: &Step, bound: &mut Bound, service: &mut S) -> T
             report_text(&figures.tenants, figures.pool_free)
         }
         Step::Leave => text(Say::Bye),
-        Step::Overrun => text(Say::Err(Fault::LineTooLong)),
+        Step::Overrun => text(Say::Err(ErrCode::LineTooLong)),
     }
 }
 

@@ -9,7 +9,7 @@ ghost use Rattle.mw_line.specs.Limits.{FitsLargestTenant};
 
 use crate::session::Ended;
 use mw_frame::Line;
-use mw_line::{Fault, Request, read_line};
+use mw_line::{ErrCode, Request, read_line};
 use mw_words::{Job, Name};
 
 /// For whom a session speaks.
@@ -27,7 +27,7 @@ pub enum Bound {
 #[derive(Debug, PartialEq, Eq, Drop)]
 pub enum Step {
     /// Say what is wrong with the line.
-    Refuse(Fault),
+    Refuse(ErrCode),
     /// Look for the tenant of this name, and be bound to it.
     Find(Name),
     /// Be bound to the administrator.
@@ -78,12 +78,12 @@ fn step_for(bound: Bound, request: Request) -> Step
         (Request::Quit, _) => Step::Leave,
         (Request::Tenant(name), Bound::Nobody) => Step::Find(name),
         (Request::Admin, Bound::Nobody) => Step::BindAdmin,
-        (Request::Job(_) | Request::Report, Bound::Nobody) => Step::Refuse(Fault::NotBound),
-        (Request::Tenant(_) | Request::Admin, _) => Step::Refuse(Fault::AlreadyBound),
+        (Request::Job(_) | Request::Report, Bound::Nobody) => Step::Refuse(ErrCode::NotBound),
+        (Request::Tenant(_) | Request::Admin, _) => Step::Refuse(ErrCode::AlreadyBound),
         (Request::Job(job), Bound::Tenant(number, words)) => step_for_job(number, words, job),
         (Request::Report, Bound::Admin) => Step::Report,
         (Request::Job(_), Bound::Admin) | (Request::Report, Bound::Tenant(..)) => {
-            Step::Refuse(Fault::WrongSession)
+            Step::Refuse(ErrCode::WrongSession)
         }
     }
 }
@@ -98,6 +98,6 @@ fn step_for_job(number: u8, words: u16, job: Job) -> Step
     if job.is_well_formed(usize::from(words)) {
         Step::Ask(number, job)
     } else {
-        Step::Refuse(Fault::AddressRange)
+        Step::Refuse(ErrCode::AddressRange)
     }
 }

@@ -6,9 +6,9 @@ use Rattle.std.proofs.lemmas.Option.{slice_get_cases, slice_get_within}
 use Rattle.mw_words.specs.declared.jobs.Entry.{Entry}
 use Rattle.mw_record.specs.Records.{holds}
 use Rattle.mw_record.specs.Layout.{pairs_of}
-use Rattle.mw_file.specs.declared.slots.Slot.{Slot}
-use Rattle.mw_file.specs.declared.slots.Stage.TheVariants.{Free as FreeStage, Prepared as PreparedStage, Sealed as SealedStage}
-use Rattle.mw_file.specs.Slots.{writes_of_place, MaySeal}
+use Rattle.mw_file.specs.declared.place_states.PlaceState.{PlaceState}
+use Rattle.mw_file.specs.declared.place_states.Stage.TheVariants.{Free as FreeStage, Prepared as PreparedStage, Sealed as SealedStage}
+use Rattle.mw_file.specs.PlaceStates.{writes_of_place, MaySeal}
 use Rattle.mw_world_file.specs.declared.places.Place.{Place as KeptPlace}
 use Rattle.mw_world_file.specs.Files.{File, Place, Empty, Prepared, Sealed, is_empty, is_sealed, entries_in, entries_at, share_a_word, is_apart}
 use Rattle.mw_world_file.specs.Devices.{told, told_at, place_in, stage_told, is_clear, AreKept}
@@ -107,7 +107,7 @@ share_none entries others clear = by (share_a_word entries others) refl where
   by true is = absurd (let e : false ≡ true = sym (ap not is) ∙ clear in cc)
 
 -- the change of a place may be sealed
-pub may_seal : (slots : List Slot) (places : List KeptPlace) (number : ℕ) (entries : List Entry) → AreKept slots places → place_in places number ≡ Prepared entries
+pub may_seal : (slots : List PlaceState) (places : List KeptPlace) (number : ℕ) (entries : List Entry) → AreKept slots places → place_in places number ≡ Prepared entries
     → list_all (λ place. is_clear entries (told place)) places ≡ true → MaySeal slots number
 may_seal slots places number entries kept here all = record {
   prepared = kept.stages number ∙ ap stage_told here;

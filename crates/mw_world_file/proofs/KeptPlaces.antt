@@ -5,9 +5,9 @@ use Rattle.std.proofs.lemmas.Option.{slice_get_cases, slice_get_read, slice_get_
 use Rattle.std.proofs.lemmas.List.{get_or-set_same, get_or-set_other, length-set}
 use Rattle.mw_record.specs.Records.{Pairs}
 use Rattle.mw_record.specs.Layout.{pairs_of}
-use Rattle.mw_file.specs.declared.slots.Slot.{Slot}
-use Rattle.mw_file.specs.declared.slots.Stage.{Stage}
-use Rattle.mw_file.specs.Slots.{is_free_stage, is_free, free_from, free_place, stage_of, writes_of_place, IsStaged}
+use Rattle.mw_file.specs.declared.place_states.PlaceState.{PlaceState}
+use Rattle.mw_file.specs.declared.place_states.Stage.{Stage}
+use Rattle.mw_file.specs.PlaceStates.{is_free_stage, is_free, free_from, free_place, stage_of, writes_of_place, IsStaged}
 use Rattle.mw_world_file.specs.declared.places.Place.{Place as KeptPlace}
 use Rattle.mw_world_file.specs.Maps.{upd}
 use Rattle.mw_world_file.specs.Files.{File, Place, Empty, Prepared, Sealed, is_empty, entries_in, empty_from}
@@ -55,7 +55,7 @@ set_number at numbers i n most long within same k lt = elim (cases_eq k i) [
 ]
 
 -- the places are as the file says after a place of both has gone on
-pub kept_on : (old new : List Slot) (places : List KeptPlace) (number : ℕ) (p : KeptPlace) (stage : Stage) (w : Pairs) → number < length places → AreKept old places
+pub kept_on : (old new : List PlaceState) (places : List KeptPlace) (number : ℕ) (p : KeptPlace) (stage : Stage) (w : Pairs) → number < length places → AreKept old places
     → IsStaged old new number stage w → stage ≡ stage_told (told p) → (is_empty (told p) ≡ false → w ≡ pairs_of (entries_in (told p)))
     → AreKept new (slice_set places number p)
 kept_on old new places number p stage w within kept staged is writes = record {
@@ -90,7 +90,7 @@ free_told Empty = refl
 free_told (Prepared entries) = refl
 free_told (Sealed entries) = refl
 
-lowest_from : (slots : List Slot) (places : List KeptPlace) (file : File) (first : ℕ) → length slots ≡ length places
+lowest_from : (slots : List PlaceState) (places : List KeptPlace) (file : File) (first : ℕ) → length slots ≡ length places
     → ((k : ℕ) → stage_of slots k ≡ stage_told (place_in places k)) → ((k : ℕ) → k < length places → file.places (first + k) ≡ place_in places k)
     → Lowest file first (length places) (free_from first slots)
 lowest_from [] [] file first count stages same = omega arith
@@ -103,13 +103,13 @@ lowest_from (s ∷ slots) (p ∷ places) file first count stages same =
     (lowest_from slots places file (first + 1) (omega (arith, count)) (λ k. stages (suc k))
     (λ k lt. ap file.places (let e : (first + 1) + k ≡ first + suc k = omega arith in e) ∙ same (suc k) (omega (arith, lt))))
 
-pub lowest : (slots : List Slot) (places : List KeptPlace) (file : File) → length slots ≡ length places → AreKept slots places
+pub lowest : (slots : List PlaceState) (places : List KeptPlace) (file : File) → length slots ≡ length places → AreKept slots places
     → ((k : ℕ) → k < length places → file.places k ≡ place_in places k) → Lowest file 0 (length places) (free_place slots)
 lowest slots places file count kept same =
     lowest_from slots places file 0 count kept.stages (λ k lt. ap file.places (let e : 0 + k ≡ k = omega arith in e) ∙ same k lt)
 
 -- a free place is one of the file's
-within_from : (first : ℕ) (slots : List Slot) (place : ℕ) → free_from first slots ≡ Some place → place < first + length slots
+within_from : (first : ℕ) (slots : List PlaceState) (place : ℕ) → free_from first slots ≡ Some place → place < first + length slots
 within_from first [] place found = absurd (cc)
 within_from first (s ∷ slots) place found = elim (cases_Bool (is_free s)) [
   | inl is ↦
@@ -122,5 +122,5 @@ within_from first (s ∷ slots) place found = elim (cases_Bool (is_free s)) [
       omega (arith, lt)
 ]
 
-pub found_within : (slots : List Slot) (place : ℕ) → free_place slots ≡ Some place → place < length slots
+pub found_within : (slots : List PlaceState) (place : ℕ) → free_place slots ≡ Some place → place < length slots
 found_within slots place found = let lt = within_from 0 slots place found in omega (arith, lt)

@@ -8,11 +8,11 @@ use Rattle.mw_record.specs.declared.layout.TheConstants.{MAX_FILE}
 use Rattle.mw_record.specs.Damages.{damage_of, places_of, pairs_in}
 use Rattle.mw_record.specs.Layout.{size}
 use Rattle.mw_record.specs.Longer.{places_of_first, damage_of_first, pairs_in_first}
-use Rattle.mw_file.specs.declared.slots.Slot.{Slot}
+use Rattle.mw_file.specs.declared.place_states.PlaceState.{PlaceState}
 use Rattle.mw_file.specs.declared.tenant_file.TenantFile.{TenantFile}
-use Rattle.mw_file.specs.File.{slots_of}
+use Rattle.mw_file.specs.File.{states_of}
 use Rattle.mw_file.specs.Opening.{IsOpened, entries_below, records_below, open_entries, open_records, repair_calls, read_calls, open_calls}
-use Rattle.mw_file.specs.Slots.{all_free}
+use Rattle.mw_file.specs.PlaceStates.{all_free}
 use Rattle.mw_file.specs.Free.{stage_of-all_free}
 use Rattle.mw_file.specs.Keeps.{Keeps, IsFile}
 use Rattle.mw_world_file.specs.declared.device.Device.TheVariants.{Open}
@@ -34,7 +34,7 @@ zero_there (suc n) zero = refl
 zero_there (suc n) (suc k) = zero_there n k
 
 -- free places are kept as empty ones
-pub free_kept : (slots : List Slot) (places : List KeptPlace) (n : ℕ) → IsTrue (all_free slots) → places ≡ replicate n KeptEmpty → AreKept slots places
+pub free_kept : (slots : List PlaceState) (places : List KeptPlace) (n : ℕ) → IsTrue (all_free slots) → places ≡ replicate n KeptEmpty → AreKept slots places
 free_kept slots places n free empty = record {
   stages = λ place. stage_of-all_free slots place free ∙ sym (ap stage_told (there place));
   writes = λ place busy. absurd (let e : true ≡ false = sym (ap is_empty (there place)) ∙ busy in cc);
@@ -104,6 +104,6 @@ opened_words disk file words places contents opened is =
     let e : Some words ≡ Some contents = sym (opened.whole refl) ∙ is.words_are in cc
 
 pub opened_places : (disk : Memory) (file : TenantFile Memory) (words : List ℕ) (places : ℕ) (contents : List ℕ) → IsOpened memory_facts disk file words
-    → IsFile places contents (memory_facts disk).reads → length (slots_of file) ≡ places
+    → IsFile places contents (memory_facts disk).reads → length (states_of file) ≡ places
 opened_places disk file words places contents opened is =
     opened.places ∙ ap places_of (opened.seen refl) ∙ places_of_first (memory_facts disk).reads MAX_FILE enough ∙ is.places_are

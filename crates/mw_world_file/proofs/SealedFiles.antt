@@ -16,10 +16,10 @@ use Rattle.mw_lone.specs.Sound.{length-put}
 use Rattle.mw_file.specs.declared.tenant_file.TenantFile.{TenantFile}
 use Rattle.mw_file.specs.declared.tenant_file.FileFault.{FileFault}
 use Rattle.mw_file.specs.declared.tenant_file.FileFault.TheVariants.{Disk, Failed}
-use Rattle.mw_file.specs.File.{slots_of, words_of, has_failed, Ends}
+use Rattle.mw_file.specs.File.{states_of, words_of, has_failed, Ends}
 use Rattle.mw_file.specs.Keeps.{Keeps, ChangeIsSealed}
-use Rattle.mw_file.specs.declared.slots.Stage.TheVariants.{Free as FreeStage, Prepared as PreparedStage, Sealed as SealedStage}
-use Rattle.mw_file.specs.Slots.{stage_of, writes_of_place, IsStaged, MaySeal}
+use Rattle.mw_file.specs.declared.place_states.Stage.TheVariants.{Free as FreeStage, Prepared as PreparedStage, Sealed as SealedStage}
+use Rattle.mw_file.specs.PlaceStates.{stage_of, writes_of_place, IsStaged, MaySeal}
 use Rattle.mw_world_file.specs.declared.device.Device.TheVariants.{Open, Shut}
 use Rattle.mw_world_file.specs.declared.places.Place.{Place as KeptPlace}
 use Rattle.mw_world_file.specs.declared.places.Place.TheVariants.{Empty as KeptEmpty, Prepared as KeptPrepared, Sealed as KeptSealed}
@@ -29,7 +29,7 @@ use Rattle.mw_world_file.specs.declared.outcomes.Outcome.TheVariants.{Good, Fail
 use Rattle.mw_world_file.specs.Maps.{upd}
 use Rattle.mw_world_file.specs.Files.{File, Empty, Prepared, Sealed, is_empty, is_prepared, is_sealed, is_apart, entries_in, sealed, emptied}
 use Rattle.mw_world_file.specs.Calls.{suits, device_calls}
-use Rattle.mw_world_file.specs.Devices.{told, told_at, place_in, stage_told, slots_on, is_clear, AreKept}
+use Rattle.mw_world_file.specs.Devices.{told, told_at, place_in, stage_told, states_on, is_clear, AreKept}
 use Rattle.mw_world_file.specs.Books.{Shows, HasParts, quota_of}
 use Rattle.mw_world_file.specs.Working.{may_end, worked, Turns}
 use Rattle.mw_world_file.proofs.ApartPlaces.{may_seal, is_apart_as}
@@ -60,24 +60,24 @@ emptied_as old slot number p is file shows =
     ap (emptied file) (place_is old slot number p is file shows) ∙ ap (λ ws. record file { contents = ws; places = upd file.places number Empty }) shows.same_contents
 
 -- the places of a book, once one of them is empty again
-pub emptied_kept : (old : Book) (slot number : ℕ) (p : KeptPlace) → IsAt old slot number p → (held : TenantFile Memory) → old.device ≡ Open held → (before : TenantFile Memory) → slots_of before ≡ slots_of held
-    → (now : TenantFile Memory) (w : Pairs) → IsStaged (slots_of before) (slots_of now) number FreeStage w → AreKept (slots_of now) (slice_set old.places.items number KeptEmpty)
+pub emptied_kept : (old : Book) (slot number : ℕ) (p : KeptPlace) → IsAt old slot number p → (held : TenantFile Memory) → old.device ≡ Open held → (before : TenantFile Memory) → states_of before ≡ states_of held
+    → (now : TenantFile Memory) (w : Pairs) → IsStaged (states_of before) (states_of now) number FreeStage w → AreKept (states_of now) (slice_set old.places.items number KeptEmpty)
 emptied_kept old slot number p is held device before same now w staged =
     kept_after old held device before now number KeptEmpty FreeStage w same is.within staged refl (λ busy. absurd (let e : true ≡ false = busy in cc))
 
 -- a change is as far in the file as in the book
 pub is_sealed_in : (old : Book) (slot number : ℕ) (entries : ArrayVec Entry) → IsAt old slot number (KeptSealed entries) → (held : TenantFile Memory) → old.device ≡ Open held → (before : TenantFile Memory)
-    → slots_of before ≡ slots_of held → stage_of (slots_of before) number ≡ SealedStage
+    → states_of before ≡ states_of held → stage_of (states_of before) number ≡ SealedStage
 is_sealed_in old slot number entries is held device before same = ap (λ ss. stage_of ss number) same ∙ (kept_open old held device).stages number ∙ ap (λ q. stage_told (told_at q)) is.there
 
 pub is_prepared_in : (old : Book) (slot number : ℕ) (entries : ArrayVec Entry) → IsAt old slot number (KeptPrepared entries) → (held : TenantFile Memory) → old.device ≡ Open held → (before : TenantFile Memory)
-    → slots_of before ≡ slots_of held → stage_of (slots_of before) number ≡ PreparedStage
+    → states_of before ≡ states_of held → stage_of (states_of before) number ≡ PreparedStage
 is_prepared_in old slot number entries is held device before same = ap (λ ss. stage_of ss number) same ∙ (kept_open old held device).stages number ∙ ap (λ q. stage_told (told_at q)) is.there
 
 -- a file that isn't open has no prepared change
 pub none_shut : (old : Book) (slot number : ℕ) (entries : ArrayVec Entry) → IsAt old slot number (KeptPrepared entries) → (disk : Memory) → old.device ≡ Shut disk → ⊥
 none_shut old slot number entries is disk device =
-    let e : FreeStage ≡ PreparedStage = sym (ap (λ d. stage_of (slots_on d) number) device) ∙ old.kept.stages number ∙ ap (λ q. stage_told (told_at q)) is.there in
+    let e : FreeStage ≡ PreparedStage = sym (ap (λ d. stage_of (states_on d) number) device) ∙ old.kept.stages number ∙ ap (λ q. stage_told (told_at q)) is.there in
     cc
 
 -- A prepared change of a slot.
@@ -100,18 +100,18 @@ module _ (old : Book) (slot number : ℕ) (entries : ArrayVec Entry) (is : IsAt 
   prepared_in : place_in old.places.items number ≡ Prepared entries.items
   prepared_in = ap told_at is.there
 
-  module _ (held : TenantFile Memory) (device : old.device ≡ Open held) (before : TenantFile Memory) (same : slots_of before ≡ slots_of held) where
-    pub may_seal_it : list_all (λ place. is_clear entries.items (told place)) old.places.items ≡ true → MaySeal (slots_of before) number
-    may_seal_it all = may_seal (slots_of before) old.places.items number entries.items (subst (λ ss. AreKept ss old.places.items) (sym same) (kept_open old held device)) prepared_in all
+  module _ (held : TenantFile Memory) (device : old.device ≡ Open held) (before : TenantFile Memory) (same : states_of before ≡ states_of held) where
+    pub may_seal_it : list_all (λ place. is_clear entries.items (told place)) old.places.items ≡ true → MaySeal (states_of before) number
+    may_seal_it all = may_seal (states_of before) old.places.items number entries.items (subst (λ ss. AreKept ss old.places.items) (sym same) (kept_open old held device)) prepared_in all
 
-    pub writes_are : writes_of_place (slots_of before) number ≡ pairs_of entries.items
+    pub writes_are : writes_of_place (states_of before) number ≡ pairs_of entries.items
     writes_are = ap (λ ss. writes_of_place ss number) same ∙ (kept_open old held device).writes number (ap is_empty prepared_in) ∙ ap (λ q. pairs_of (entries_in q)) prepared_in
 
     -- the places of the book, once it is sealed
-    pub sealed_kept : (now : TenantFile Memory) (copy : ArrayVec Entry) → copy ≡ entries → IsStaged (slots_of before) (slots_of now) number SealedStage (writes_of_place (slots_of before) number)
-        → AreKept (slots_of now) (slice_set old.places.items number (KeptSealed copy))
+    pub sealed_kept : (now : TenantFile Memory) (copy : ArrayVec Entry) → copy ≡ entries → IsStaged (states_of before) (states_of now) number SealedStage (writes_of_place (states_of before) number)
+        → AreKept (states_of now) (slice_set old.places.items number (KeptSealed copy))
     sealed_kept now copy copied_as staged =
-        kept_after old held device before now number (KeptSealed copy) SealedStage (writes_of_place (slots_of before) number) same is.within staged refl
+        kept_after old held device before now number (KeptSealed copy) SealedStage (writes_of_place (states_of before) number) same is.within staged refl
         (λ busy. writes_are ∙ ap (λ es. pairs_of es.items) (sym copied_as))
 
     -- and its words
@@ -122,7 +122,7 @@ module _ (old : Book) (slot number : ℕ) (entries : ArrayVec Entry) (is : IsAt 
 
     module _ (now : TenantFile Memory) (new : Book) (others : List Entry) (outcome : Outcome) (r : Result (Unit {0}) FileFault)
         (copied : (contents : List ℕ) (doubt : Pairs) → Keeps memory_facts held contents doubt → Keeps memory_facts before contents doubt)
-        (safe : ChangeIsSealed memory_facts before now (writes_of_place (slots_of before) number) r)
+        (safe : ChangeIsSealed memory_facts before now (writes_of_place (states_of before) number) r)
         (all : list_all (λ place. is_clear entries.items (told place)) old.places.items ≡ true) (sound : old.has_failed ≡ false) where
       safe_as : ChangeIsSealed memory_facts before now (pairs_of entries.items) r
       safe_as = subst (λ w. ChangeIsSealed memory_facts before now w r) writes_are safe
@@ -193,8 +193,8 @@ unsettled old slot xs isnt are within file shows = elim (cases_lt (file.place_of
 -- A sealed change of a slot.
 module _ (old : Book) (slot number : ℕ) (entries : ArrayVec Entry) (is : IsAt old slot number (KeptSealed entries)) where
   -- a copy of the file has as many entries for it
-  pub sealed_writes : (held : TenantFile Memory) → old.device ≡ Open held → (before : TenantFile Memory) → slots_of before ≡ slots_of held
-      → length (writes_of_place (slots_of before) number) ≡ length entries.items
+  pub sealed_writes : (held : TenantFile Memory) → old.device ≡ Open held → (before : TenantFile Memory) → states_of before ≡ states_of held
+      → length (writes_of_place (states_of before) number) ≡ length entries.items
   sealed_writes held device before same =
       let there : place_in old.places.items number ≡ Sealed entries.items = ap told_at is.there in
       ap (λ ss. length (writes_of_place ss number)) same

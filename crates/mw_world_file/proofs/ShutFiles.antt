@@ -7,7 +7,7 @@ use Rattle.mw_disk.specs.Runs.{leaves_now}
 use Rattle.mw_record.specs.declared.layout.TheConstants.{MAX_FILE}
 use Rattle.mw_record.specs.Damages.{damage_of, places_of, words_in, file_words}
 use Rattle.mw_file.specs.declared.tenant_file.TenantFile.{TenantFile}
-use Rattle.mw_file.specs.File.{slots_of}
+use Rattle.mw_file.specs.File.{states_of}
 use Rattle.mw_file.specs.Keeps.{IsFile}
 use Rattle.mw_file.specs.declared.opening.OpenFault.{OpenFault}
 use Rattle.mw_file.specs.declared.opening.OpenFault.TheVariants.{Disk}
@@ -123,7 +123,7 @@ module _ (disk : Memory) (bytes words : List ℕ) (places : ℕ) (fails_at : Opt
 
   -- how an opening ends that went well, and one that failed
   pub opened_ends : (file : TenantFile Memory) (contents : List ℕ) → IsOpened memory_facts disk file contents → (r : Result Book BookFault)
-      → MatchResult r (λ book. (fails_at ≡ None) × Shows book (file_of contents) × (quota_of book ≡ length (slots_of file))) (λ fault. fault ≡ NotEnabled → IsSomeAnd fails_at (λ number. number < 2 ^ 64))
+      → MatchResult r (λ book. (fails_at ≡ None) × Shows book (file_of contents) × (quota_of book ≡ length (states_of file))) (λ fault. fault ≡ NotEnabled → IsSomeAnd fails_at (λ number. number < 2 ^ 64))
       → ReopenEnds bytes places words fails_at r
   opened_ends file contents opened (Ok new) ends =
       let is_read : IsFile places words (memory_facts disk).reads = subst (λ image. IsFile places words image) (sym reads) is in

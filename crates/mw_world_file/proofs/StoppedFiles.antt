@@ -17,7 +17,7 @@ use Rattle.mw_record.specs.ReadAgain.{put-put_pairs}
 use Rattle.mw_file.specs.declared.tenant_file.TenantFile.{TenantFile}
 use Rattle.mw_file.specs.declared.tenant_file.FileFault.{FileFault}
 use Rattle.mw_file.specs.declared.tenant_file.FileFault.TheVariants.{Disk, Failed}
-use Rattle.mw_file.specs.File.{slots_of, disk_of, has_failed, Ends}
+use Rattle.mw_file.specs.File.{states_of, disk_of, has_failed, Ends}
 use Rattle.mw_file.specs.Keeps.{Keeps, IsFile, IsEither, ContentsStay, ChangeIsSealed}
 use Rattle.mw_world_file.specs.declared.device.Device.{Device}
 use Rattle.mw_world_file.specs.declared.device.Device.TheVariants.{Open, Shut}
@@ -70,10 +70,10 @@ either_words places words image (inl is) = is.words_are
 either_words places words image (inr is) = is.words_are
 
 -- a book in which no device call was under way
-finds_device : (device : Device) (places : ℕ) (before : List ℕ) (doubt : List Entry) (image : List ℕ) → ((open_file : TenantFile Memory) → device ≡ Open open_file → length (slots_of open_file) ≡ places)
+finds_device : (device : Device) (places : ℕ) (before : List ℕ) (doubt : List Entry) (image : List ℕ) → ((open_file : TenantFile Memory) → device ≡ Open open_file → length (states_of open_file) ≡ places)
     → StandsFor device places before doubt → MayLeave (memory_facts (disk_under device)) image → Finds places false before doubt image
 finds_device (Open file) places before doubt image count stands may =
-    subst (λ n. Finds n false before doubt image) (count file refl) (finds_either (length (slots_of file)) before doubt image (stands.left image may))
+    subst (λ n. Finds n false before doubt image) (count file refl) (finds_either (length (states_of file)) before doubt image (stands.left image may))
 finds_device (Shut disk) places before doubt image count stands may = record { words = before; stands = stands.1 image may; found = found_before before doubt before refl }
 
 finds_whole : (old : Book) (file : File) → Shows old file → (image : List ℕ) → MayLeave (memory_facts (disk_under old.device)) image
@@ -251,12 +251,12 @@ left_of old held before now made calls torn image r device sound some few stops 
   ran = ran_call (disk_of held) before now made calls r (subst (λ d. IsReady (disk_under d)) device (old.ready sound)) stops plan granted few (failed ∙ unfailed_open old held device sound) ends
 
 -- The file on the disk that stopped.
-module _ (old : Book) (held : TenantFile Memory) (device : old.device ≡ Open held) (before now : TenantFile Memory) (same : slots_of before ≡ slots_of held)
+module _ (old : Book) (held : TenantFile Memory) (device : old.device ≡ Open held) (before now : TenantFile Memory) (same : states_of before ≡ states_of held)
     (copied : (contents : List ℕ) (doubt : Pairs) → Keeps memory_facts held contents doubt → Keeps memory_facts before contents doubt) (image : List ℕ) (may : MayLeave (memory_facts (disk_of now)) image) where
-  places_before : length (slots_of before) ≡ quota_of old
+  places_before : length (states_of before) ≡ quota_of old
   places_before = ap (λ ss. length ss) same ∙ counted old held device
 
-  left_either : (change : Pairs) → LeavesOnly (memory_facts (disk_of before)) (memory_facts (disk_of now)) (IsEither (length (slots_of before)) old.contents.items change)
+  left_either : (change : Pairs) → LeavesOnly (memory_facts (disk_of before)) (memory_facts (disk_of now)) (IsEither (length (states_of before)) old.contents.items change)
       → IsEither (quota_of old) old.contents.items change image
   left_either change moments =
       subst (λ n. IsEither n old.contents.items change image) places_before (leaves_now (memory_facts (disk_of before)) (memory_facts (disk_of now)) moments image may)
@@ -293,7 +293,7 @@ module _ (old : Book) (held : TenantFile Memory) (device : old.device ≡ Open h
         record {
           words = put old.contents.items entries;
           stands = record {
-            words_are = either_words (length (slots_of now)) (put_pairs w old.contents.items) image (after.left image may)
+            words_are = either_words (length (states_of now)) (put_pairs w old.contents.items) image (after.left image may)
                 ∙ ap (λ ps. Some (put_pairs ps old.contents.items)) writes ∙ sym (ap Some (put-put_pairs entries old.contents.items));
             places_are = either_places (quota_of old) old.contents.items (pairs_of entries) image (sealing (Ok y) safe unfailed ends file shows);
           };

@@ -12,10 +12,10 @@ use Rattle.mw_disk.specs.Memory.{Memory, memory_facts}
 use Rattle.mw_record.specs.Records.{Pairs}
 use Rattle.mw_record.specs.Layout.{pairs_of}
 use Rattle.mw_file.specs.declared.tenant_file.TenantFile.{TenantFile}
-use Rattle.mw_file.specs.File.{slots_of, words_of, has_failed}
+use Rattle.mw_file.specs.File.{states_of, words_of, has_failed}
 use Rattle.mw_file.specs.Keeps.{Keeps}
-use Rattle.mw_file.specs.declared.slots.Stage.{Stage}
-use Rattle.mw_file.specs.Slots.{free_place, IsStaged}
+use Rattle.mw_file.specs.declared.place_states.Stage.{Stage}
+use Rattle.mw_file.specs.PlaceStates.{free_place, IsStaged}
 use Rattle.mw_world_file.specs.declared.device.Device.{Device}
 use Rattle.mw_world_file.specs.declared.device.Device.TheVariants.{Open}
 use Rattle.mw_world_file.specs.declared.places.Place.{Place as KeptPlace}
@@ -28,7 +28,7 @@ use Rattle.mw_world_file.specs.declared.faults.BookFault.TheVariants.{NotEnabled
 use Rattle.mw_world_file.specs.Files.{File, Prepared, is_empty, entries_in, entries_at, broken, prepared, empty_from}
 use Rattle.mw_world_file.specs.Calls.{place_for, suits, device_calls, filed, doubt_of}
 use Rattle.mw_world_file.specs.Maps.{upd}
-use Rattle.mw_world_file.specs.Devices.{told, told_at, place_in, stage_told, StandsFor, AreKept, slots_on, words_on, has_failed_on, is_open}
+use Rattle.mw_world_file.specs.Devices.{told, told_at, place_in, stage_told, StandsFor, AreKept, states_on, words_on, has_failed_on, is_open}
 use Rattle.mw_world_file.specs.Books.{Tells, Shows, HasParts, quota_of}
 use Rattle.mw_world_file.specs.Working.{may_end, left_by, worked_at, worked, Turns, Works}
 use Rattle.mw_world_file.proofs.KeptPlaces.{lowest, Lowest, set_told, set_number, kept_on, found_within}
@@ -88,11 +88,11 @@ none_written (e ∷ doubt) none = absurd (cc)
 
 -- The facts of a book whose file is open.
 module _ (old : Book) (held : TenantFile Memory) (is : old.device ≡ Open held) where
-  pub counted : length (slots_of held) ≡ length old.places.items
-  counted = sym (ap (λ d. length (slots_on d)) is) ∙ old.count (ap (λ d. is_open d) is)
+  pub counted : length (states_of held) ≡ length old.places.items
+  counted = sym (ap (λ d. length (states_on d)) is) ∙ old.count (ap (λ d. is_open d) is)
 
-  pub kept_open : AreKept (slots_of held) old.places.items
-  kept_open = subst (λ d. AreKept (slots_on d) old.places.items) is old.kept
+  pub kept_open : AreKept (states_of held) old.places.items
+  kept_open = subst (λ d. AreKept (states_on d) old.places.items) is old.kept
 
   pub keeps_open : (file : File) → Shows old file → Keeps memory_facts held old.contents.items (pairs_of old.doubt.items)
   keeps_open file shows = stands_open old.device held (length old.places.items) old.contents.items old.doubt.items is shows.stands
@@ -106,11 +106,11 @@ module _ (old : Book) (held : TenantFile Memory) (is : old.device ≡ Open held)
   unfailed_open sound = sym (ap (λ d. has_failed_on d) is) ∙ old.failed ∙ sound
 
   -- a place of a copy of the file has gone on
-  pub kept_after : (before now : TenantFile Memory) (number : ℕ) (p : KeptPlace) (stage : Stage) (w : Pairs) → slots_of before ≡ slots_of held → number < length old.places.items
-      → IsStaged (slots_of before) (slots_of now) number stage w → stage ≡ stage_told (told p) → (is_empty (told p) ≡ false → w ≡ pairs_of (entries_in (told p)))
-      → AreKept (slots_of now) (slice_set old.places.items number p)
+  pub kept_after : (before now : TenantFile Memory) (number : ℕ) (p : KeptPlace) (stage : Stage) (w : Pairs) → states_of before ≡ states_of held → number < length old.places.items
+      → IsStaged (states_of before) (states_of now) number stage w → stage ≡ stage_told (told p) → (is_empty (told p) ≡ false → w ≡ pairs_of (entries_in (told p)))
+      → AreKept (states_of now) (slice_set old.places.items number p)
   kept_after before now number p stage w same within staged is_stage is_writes =
-      kept_on (slots_of before) (slots_of now) old.places.items number p stage w within (subst (λ ss. AreKept ss old.places.items) (sym same) kept_open) staged is_stage is_writes
+      kept_on (states_of before) (states_of now) old.places.items number p stage w within (subst (λ ss. AreKept ss old.places.items) (sym same) kept_open) staged is_stage is_writes
 
   -- a device call of a call failed
   pub broken_turns : (now : TenantFile Memory) (new : Book) (call : Call) (slot : ℕ) (entries : List Entry) (outcome : Outcome) (number : ℕ) (doubt : ArrayVec Entry) → outcome ≡ Fail number
@@ -151,34 +151,34 @@ pub record IsAt (old : Book) (slot number : ℕ) (p : KeptPlace) : Type 0 where
   pub at : number ≡ get_or old.place_of slot 0
   pub there : slice_get old.places.items number ≡ Some p
   pub within : number < length old.places.items
-  pub slot_within : slot < MAX_POOL
+  pub state_within : slot < MAX_POOL
 
 -- what was read of a book at a slot
 pub is_at : (old : Book) (slot : ℕ) (p x : KeptPlace) (xs : List KeptPlace) → x ≡ p → true ≡ nat_lt (get_or old.place_of slot 0) (length xs) → x ≡ get_or xs (get_or old.place_of slot 0) x
     → xs ≡ old.places.items → slot < MAX_POOL → IsAt old slot (get_or old.place_of slot 0) p
-is_at old slot p x xs same within read are slot_within =
+is_at old slot p x xs same within read are state_within =
     let number : ℕ = get_or old.place_of slot 0 in
     let lt : number < length xs = ltb-true number (length xs) (sym within) in
     record {
       at = refl;
       there = ap (λ l. slice_get l number) (sym are) ∙ slice_get_read xs (length xs) number x refl lt read ∙ ap Some same;
       within = subst (λ l. number < length l) are lt;
-      slot_within = slot_within;
+      state_within = state_within;
     }
 
 pub is_there : (old : Book) (slot : ℕ) (p : KeptPlace) (xs : List KeptPlace) → slice_get xs (get_or old.place_of slot 0) ≡ Some p → xs ≡ old.places.items → slot < MAX_POOL
     → IsAt old slot (get_or old.place_of slot 0) p
-is_there old slot p xs there are slot_within = record {
+is_there old slot p xs there are state_within = record {
   at = refl;
   there = ap (λ l. slice_get l (get_or old.place_of slot 0)) (sym are) ∙ there;
   within = subst (λ l. get_or old.place_of slot 0 < length l) are (slice_get_within xs (get_or old.place_of slot 0) p there);
-  slot_within = slot_within;
+  state_within = state_within;
 }
 
 module _ (old : Book) (slot number : ℕ) (p : KeptPlace) (is : IsAt old slot number p) (file : File) (shows : Shows old file) where
   -- the file says the same place, and the same of it
   pub place_is : file.place_of slot ≡ number
-  place_is = shows.same_place_of slot is.slot_within ∙ sym is.at
+  place_is = shows.same_place_of slot is.state_within ∙ sym is.at
 
   pub told_is : file.places number ≡ told p
   told_is = shows.same_places number is.within ∙ ap told_at is.there
@@ -216,32 +216,32 @@ module _ (old : Book) (held : TenantFile Memory) (is : old.device ≡ Open held)
 
 -- The facts of a change that is written down in the lowest free place.
 module _ (old : Book) (held : TenantFile Memory) (slot : ℕ) (entries : ArrayVec Entry) (is : old.device ≡ Open held) where
-  lowest_in : (file : File) → Shows old file → (found : Option ℕ) → free_place (slots_of held) ≡ found → Lowest file 0 (quota_of old) found
+  lowest_in : (file : File) → Shows old file → (found : Option ℕ) → free_place (states_of held) ≡ found → Lowest file 0 (quota_of old) found
   lowest_in file shows found at =
-      subst (λ f. Lowest file 0 (quota_of old) f) at (lowest (slots_of held) old.places.items file (counted old held is) (kept_open old held is) shows.same_places)
+      subst (λ f. Lowest file 0 (quota_of old) f) at (lowest (states_of held) old.places.items file (counted old held is) (kept_open old held is) shows.same_places)
 
-  pub none_suits : is_some (free_place (slots_of held)) ≡ false → (file : File) → Shows old file → nat_lt (empty_from file 0 (quota_of old)) (quota_of old) ≡ false
-  none_suits none file shows = by (free_place (slots_of held)) refl where
-    by : (found : Option ℕ) → free_place (slots_of held) ≡ found → nat_lt (empty_from file 0 (quota_of old)) (quota_of old) ≡ false
+  pub none_suits : is_some (free_place (states_of held)) ≡ false → (file : File) → Shows old file → nat_lt (empty_from file 0 (quota_of old)) (quota_of old) ≡ false
+  none_suits none file shows = by (free_place (states_of held)) refl where
+    by : (found : Option ℕ) → free_place (states_of held) ≡ found → nat_lt (empty_from file 0 (quota_of old)) (quota_of old) ≡ false
     by None at =
         let past : empty_from file 0 (quota_of old) ≡ 0 + quota_of old = lowest_in file shows None at in
         le-ltb (empty_from file 0 (quota_of old)) (quota_of old) (omega (arith, past))
     by (Some place) at = absurd (let e : true ≡ false = sym (ap is_some at) ∙ none in cc)
 
-  pub none_empty : (outcome : Outcome) → is_some (free_place (slots_of held)) ≡ false → (file : File) → Shows old file → worked PrepareCall file (quota_of old) slot entries.items outcome ≡ None
+  pub none_empty : (outcome : Outcome) → is_some (free_place (states_of held)) ≡ false → (file : File) → Shows old file → worked PrepareCall file (quota_of old) slot entries.items outcome ≡ None
   none_empty outcome none file shows = unsuited PrepareCall file (quota_of old) slot (empty_from file 0 (quota_of old)) entries.items outcome (none_suits none file shows)
 
-  module _ (before : TenantFile Memory) (same : slots_of before ≡ slots_of held) where
-    pub place_within : (place : ℕ) → free_place (slots_of before) ≡ Some place → place < length old.places.items
+  module _ (before : TenantFile Memory) (same : states_of before ≡ states_of held) where
+    pub place_within : (place : ℕ) → free_place (states_of before) ≡ Some place → place < length old.places.items
     place_within place found =
-        let lt : place < length (slots_of before) = found_within (slots_of before) place found in
-        let e : length (slots_of before) ≡ length (slots_of held) = ap (λ ss. length ss) same in
+        let lt : place < length (states_of before) = found_within (states_of before) place found in
+        let e : length (states_of before) ≡ length (states_of held) = ap (λ ss. length ss) same in
         let n = counted old held is in
         omega (arith, lt, e, n)
 
-    pub some_empty : is_some (free_place (slots_of held)) ≡ true → (file : File) → Shows old file → nat_lt (empty_from file 0 (quota_of old)) (quota_of old) ≡ true
-    some_empty some file shows = by (free_place (slots_of held)) refl where
-      by : (found : Option ℕ) → free_place (slots_of held) ≡ found → nat_lt (empty_from file 0 (quota_of old)) (quota_of old) ≡ true
+    pub some_empty : is_some (free_place (states_of held)) ≡ true → (file : File) → Shows old file → nat_lt (empty_from file 0 (quota_of old)) (quota_of old) ≡ true
+    some_empty some file shows = by (free_place (states_of held)) refl where
+      by : (found : Option ℕ) → free_place (states_of held) ≡ found → nat_lt (empty_from file 0 (quota_of old)) (quota_of old) ≡ true
       by None at = absurd (let e : false ≡ true = sym (ap is_some at) ∙ some in cc)
       by (Some place) at =
           let low : Lowest file 0 (quota_of old) (Some place) = lowest_in file shows (Some place) at in
@@ -250,7 +250,7 @@ module _ (old : Book) (held : TenantFile Memory) (slot : ℕ) (entries : ArrayVe
 
     -- the device failed as it was told
     pub prepare_broken : (now : TenantFile Memory) (new : Book) (outcome : Outcome) (number : ℕ) (doubt : ArrayVec Entry) → outcome ≡ Fail number → doubt.items ≡ [] → may_end 2 outcome ≡ true
-        → old.has_failed ≡ false → is_some (free_place (slots_of held)) ≡ true
+        → old.has_failed ≡ false → is_some (free_place (states_of held)) ≡ true
         → ((contents : List ℕ) (doubt : Pairs) → Keeps memory_facts held contents doubt → Keeps memory_facts now contents doubt)
         → HasParts new (Open now) old.contents.items old.places.items old.place_of true doubt.items
         → Turns old new (λ file. worked PrepareCall file (quota_of old) slot entries.items outcome)
@@ -260,7 +260,7 @@ module _ (old : Book) (held : TenantFile Memory) (slot : ℕ) (entries : ArrayVe
         (some_empty some) (λ file shows. may) (λ file shows. sym none)
 
     -- all went well
-    pub prepare_done : (now : TenantFile Memory) (new : Book) (outcome : Outcome) (place : ℕ) → outcome ≡ Good → free_place (slots_of before) ≡ Some place → slot < MAX_POOL → MAX_POOL ≤ length old.place_of
+    pub prepare_done : (now : TenantFile Memory) (new : Book) (outcome : Outcome) (place : ℕ) → outcome ≡ Good → free_place (states_of before) ≡ Some place → slot < MAX_POOL → MAX_POOL ≤ length old.place_of
         → ((contents : List ℕ) (doubt : Pairs) → Keeps memory_facts held contents doubt → Keeps memory_facts now contents doubt)
         → HasParts new (Open now) old.contents.items (slice_set old.places.items place (KeptPrepared entries)) (slice_set old.place_of slot place) old.has_failed old.doubt.items
         → Turns old new (λ file. worked PrepareCall file (quota_of old) slot entries.items outcome)
@@ -268,7 +268,7 @@ module _ (old : Book) (held : TenantFile Memory) (slot : ℕ) (entries : ArrayVe
       places = ap (λ ps. length ps) parts.is_places ∙ length-set old.places.items place (KeptPrepared entries);
       words = ap (λ ws. length ws) parts.is_contents;
       shows = λ file shows.
-          let at : free_place (slots_of held) ≡ Some place = sym (ap free_place same) ∙ found in
+          let at : free_place (states_of held) ≡ Some place = sym (ap free_place same) ∙ found in
           let low : Lowest file 0 (quota_of old) (Some place) = lowest_in file shows (Some place) at in (
             prepared file slot place entries.items,
             suited PrepareCall file (quota_of old) slot (empty_from file 0 (quota_of old)) entries.items outcome (some_empty (ap is_some at) file shows) (ap (may_end 2) well)

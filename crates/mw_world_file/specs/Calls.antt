@@ -33,8 +33,8 @@ is_formed call file entries = true
 abbrev pub can_be_made : Call → File → ℕ → ℕ → List Entry → Bool
 can_be_made call file places place entries = is_formed call file entries && suits call file places place
 
--- How many device calls a call makes: a change is written down and synced; its gate is opened and synced; each of its words is written
--- and synced with the others, and its gate is shut and synced.
+-- How many device calls a call makes: a change is written down and synced; its commit byte is set and synced; each of its words is written
+-- and synced with the others, and its commit byte is cleared and synced.
 abbrev pub device_calls : Call → List Entry → ℕ
 device_calls PrepareCall entries = 2
 device_calls SealCall entries = 2

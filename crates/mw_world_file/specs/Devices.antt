@@ -4,12 +4,12 @@ use Rattle.mw_disk.specs.Facts.{MayLeave}
 use Rattle.mw_disk.specs.Memory.{Memory, memory_facts}
 use Rattle.mw_words.specs.declared.jobs.Entry.{Entry}
 use Rattle.mw_record.specs.Layout.{pairs_of}
-use Rattle.mw_file.specs.declared.slots.Slot.{Slot}
-use Rattle.mw_file.specs.declared.slots.Stage.{Stage}
-use Rattle.mw_file.specs.declared.slots.Stage.TheVariants.{Free as FreeStage, Prepared as PreparedStage, Sealed as SealedStage}
-use Rattle.mw_file.specs.File.{disk_of, words_of, slots_of, has_failed}
+use Rattle.mw_file.specs.declared.place_states.PlaceState.{PlaceState}
+use Rattle.mw_file.specs.declared.place_states.Stage.{Stage}
+use Rattle.mw_file.specs.declared.place_states.Stage.TheVariants.{Free as FreeStage, Prepared as PreparedStage, Sealed as SealedStage}
+use Rattle.mw_file.specs.File.{disk_of, words_of, states_of, has_failed}
 use Rattle.mw_file.specs.Keeps.{Keeps, IsFile}
-use Rattle.mw_file.specs.Slots.{stage_of, writes_of_place}
+use Rattle.mw_file.specs.PlaceStates.{stage_of, writes_of_place}
 use Rattle.mw_world_file.specs.declared.device.Device.{Device}
 use Rattle.mw_world_file.specs.declared.device.Device.TheVariants.{Open, Shut}
 use Rattle.mw_world_file.specs.declared.places.Place.{Place as KeptPlace}
@@ -48,9 +48,9 @@ is_open (Open file) = true
 is_open (Shut disk) = false
 
 -- the file's own places; none of one that isn't open
-abbrev pub slots_on : Device → List Slot
-slots_on (Open file) = slots_of file
-slots_on (Shut disk) = []
+abbrev pub states_on : Device → List PlaceState
+states_on (Open file) = states_of file
+states_on (Shut disk) = []
 
 -- a call on it has failed, or its opening has
 abbrev pub has_failed_on : Device → Bool
@@ -73,7 +73,7 @@ pub record IsReady (disk : Memory) : Type 0 where
   pub granted : disk.refused ≡ 0
 
 -- The file's own places are as far as these say, with their entries.
-pub record AreKept (slots : List Slot) (places : List KeptPlace) : Type 0 where
+pub record AreKept (slots : List PlaceState) (places : List KeptPlace) : Type 0 where
   pub stages : (place : ℕ) → stage_of slots place ≡ stage_told (place_in places place)
   pub writes : (place : ℕ) → is_empty (place_in places place) ≡ false → writes_of_place slots place ≡ pairs_of (entries_in (place_in places place))
 

@@ -1,9 +1,9 @@
 //! The book of a file that was just opened.
 ghost use Rattle.std.specs.Prelude.{◌≡◌, [], false, length, replicate, IfOk, IsTrue};
 ghost use Rattle.mw_disk.specs.Memory.{memory_facts};
-ghost use Rattle.mw_file.specs.File.{disk_of, has_failed, slots_of};
+ghost use Rattle.mw_file.specs.File.{disk_of, has_failed, states_of};
 ghost use Rattle.mw_file.specs.Keeps.{Keeps};
-ghost use Rattle.mw_file.specs.Slots.{all_free};
+ghost use Rattle.mw_file.specs.PlaceStates.{all_free};
 ghost use Rattle.mw_world_file.specs.Books.{Shows, quota_of};
 ghost use Rattle.mw_world_file.specs.Devices.{IsReady};
 ghost use Rattle.mw_world_file.specs.Files.{file_of};
@@ -24,12 +24,12 @@ pub(crate) fn open_book(
     file: TenantFile<MemDisk>,
     contents: Vec<u64>,
 ) -> Result<Book, AllocError>
-    requires free { IsTrue (all_free (slots_of file)) }
+    requires free { IsTrue (all_free (states_of file)) }
     requires sound { has_failed file ≡ false }
     requires keeps { Keeps memory_facts file contents.items [] }
     requires ready { IsReady (disk_of file) }
     ensures shows { IfOk result (λ book. Shows book (file_of contents.items)) }
-    ensures places { IfOk result (λ book. quota_of book ≡ length (slots_of file)) }
+    ensures places { IfOk result (λ book. quota_of book ≡ length (states_of file)) }
 {
     let places = empty_places(alloc, usize::from(file.places()))?;
     Ok(Book {

@@ -1,9 +1,9 @@
 //! The opening of a tenant's file.
 ghost use Rattle.std.specs.Prelude.{◌≡◌, ◌<◌, ◌^◌, ℕ, List, Some, None, [], length, replicate, true, false, IsTrue, IsSome, IsSomeAnd, IfOk, MatchResult};
 ghost use Rattle.mw_disk.specs.Memory.{memory_facts};
-ghost use Rattle.mw_file.specs.File.{disk_of, slots_of, has_failed};
+ghost use Rattle.mw_file.specs.File.{disk_of, states_of, has_failed};
 ghost use Rattle.mw_file.specs.Keeps.{IsFile, Keeps};
-ghost use Rattle.mw_file.specs.Slots.{all_free};
+ghost use Rattle.mw_file.specs.PlaceStates.{all_free};
 ghost use Rattle.mw_record.specs.Damages.{words_in};
 ghost use Rattle.mw_world_file.specs.Books.{HasParts, Shows, quota_of};
 ghost use Rattle.mw_world_file.specs.Devices.{IsReady};
@@ -54,12 +54,12 @@ impl Book {
         words: Vec<u64>,
         fails_at: Option<u64>,
     ) -> Result<Book, BookFault>
-        requires free { IsTrue (all_free (slots_of file)) }
+        requires free { IsTrue (all_free (states_of file)) }
         requires sound { has_failed file ≡ false }
         requires keeps { Keeps memory_facts file words.items [] }
         requires ready { fails_at ≡ None → IsReady (disk_of file) }
         ensures { MatchResult result
-            (λ book. (fails_at ≡ None) × Shows book (file_of words.items) × (quota_of book ≡ length (slots_of file)))
+            (λ book. (fails_at ≡ None) × Shows book (file_of words.items) × (quota_of book ≡ length (states_of file)))
             (λ fault. fault ≡ BookFault.NotEnabled → IsSomeAnd fails_at (λ number. number < 2 ^ 64)) }
     {
         if fails_at.is_some() {

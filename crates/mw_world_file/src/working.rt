@@ -3,7 +3,7 @@ ghost use Rattle.std.specs.Prelude.{◌≡◌, ◌<◌, ℕ, List, length, true,
 ghost use Rattle.mw_words.specs.Change.{is_change};
 ghost use Rattle.mw_disk.specs.Memory.{memory_facts};
 ghost use Rattle.mw_record.specs.Records.{Pairs};
-ghost use Rattle.mw_file.specs.File.{disk_of, words_of, slots_of, has_failed};
+ghost use Rattle.mw_file.specs.File.{disk_of, words_of, states_of, has_failed};
 ghost use Rattle.mw_file.specs.Keeps.{Keeps};
 ghost use Rattle.mw_world_file.specs.declared.device.Device.TheVariants.{Open};
 ghost use Rattle.mw_world_file.specs.Devices.{told, is_clear, AreKept, IsReady};
@@ -59,7 +59,7 @@ fn copy_for(
     file: &TenantFile<MemDisk>,
     outcome: Outcome,
 ) -> Result<TenantFile<MemDisk>, AllocError>
-    ensures slots { IfOk result (λ copy. slots_of copy ≡ slots_of file.now) }
+    ensures slots { IfOk result (λ copy. states_of copy ≡ states_of file.now) }
     ensures words { IfOk result (λ copy. words_of copy ≡ words_of file.now) }
     ensures failed { IfOk result (λ copy. has_failed copy ≡ has_failed file.now) }
     ensures disk { IfOk result (λ copy. outcome ≡ Outcome.Good → disk_of copy ≡ disk_of file.now) }
@@ -170,8 +170,8 @@ impl Book {
     ) -> Result<Book, AllocError>
         requires within { place < length self.now.places.items }
         requires sized { words_of file ≡ length self.now.contents.items }
-        requires count { length (slots_of file) ≡ length self.now.places.items }
-        requires kept { AreKept (slots_of file) (slice_set self.now.places.items place (Place.Prepared entries.now)) }
+        requires count { length (states_of file) ≡ length self.now.places.items }
+        requires kept { AreKept (states_of file) (slice_set self.now.places.items place (Place.Prepared entries.now)) }
         requires failed { has_failed file ≡ self.now.has_failed }
         requires ready { self.now.has_failed ≡ false → IsReady (disk_of file) }
         ensures { IfOk result (λ book. HasParts book (Open file) self.now.contents.items
@@ -292,8 +292,8 @@ impl Book {
     ) -> Result<Book, AllocError>
         requires within { number < length self.now.places.items }
         requires sized { words_of file ≡ length self.now.contents.items }
-        requires count { length (slots_of file) ≡ length self.now.places.items }
-        requires kept { AreKept (slots_of file) (slice_set self.now.places.items number Place.Empty) }
+        requires count { length (states_of file) ≡ length self.now.places.items }
+        requires kept { AreKept (states_of file) (slice_set self.now.places.items number Place.Empty) }
         requires failed { has_failed file ≡ self.now.has_failed }
         requires ready { self.now.has_failed ≡ false → IsReady (disk_of file) }
         ensures { IfOk result (λ book. HasParts book (Open file) self.now.contents.items (slice_set self.now.places.items number Place.Empty)
@@ -314,8 +314,8 @@ impl Book {
     ) -> Result<Book, AllocError>
         requires within { number < length self.now.places.items }
         requires sized { words_of file ≡ length contents.items }
-        requires count { length (slots_of file) ≡ length self.now.places.items }
-        requires kept { AreKept (slots_of file) (slice_set self.now.places.items number place) }
+        requires count { length (states_of file) ≡ length self.now.places.items }
+        requires kept { AreKept (states_of file) (slice_set self.now.places.items number place) }
         requires failed { has_failed file ≡ self.now.has_failed }
         requires ready { self.now.has_failed ≡ false → IsReady (disk_of file) }
         ensures { IfOk result (λ book. HasParts book (Open file) contents.items (slice_set self.now.places.items number place)
@@ -341,8 +341,8 @@ impl Book {
         doubt: Entries,
     ) -> Result<Book, AllocError>
         requires sized { words_of file ≡ length self.now.contents.items }
-        requires count { length (slots_of file) ≡ length self.now.places.items }
-        requires kept { AreKept (slots_of file) self.now.places.items }
+        requires count { length (states_of file) ≡ length self.now.places.items }
+        requires kept { AreKept (states_of file) self.now.places.items }
         requires failed { has_failed file ≡ true }
         ensures { IfOk result (λ book. HasParts book (Open file) self.now.contents.items self.now.places.items self.now.place_of true doubt.items) }
     {

@@ -1,14 +1,14 @@
 //! `mwreplay [--trace] FILE` plays a schedule.
 #![tactic(auto)]
 
-use mw_programs::replay_words;
+use mw_programs::replay_args;
 use std::io::ErrorKind;
 use std::process::ExitCode;
 use std::{env, io};
 
 fn main(rt: HostRuntime) -> ExitCode {
     let status = match words(&rt) {
-        Ok(words) => replay_words(&rt, &words, &mut rt.stdout(), &mut rt.stderr()),
+        Ok(words) => replay_args(&rt, &words, &mut rt.stdout(), &mut rt.stderr()),
         Err(fault) if fault.kind() == ErrorKind::InvalidData => {
             let _ = rt.eprintln("mwreplay: the command line is no text");
             2

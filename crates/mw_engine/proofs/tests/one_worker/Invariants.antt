@@ -2,4 +2,4 @@ use Rattle.mw_engine.specs.Starting.{identity_of}
 use Rattle.mw_engine.proofs.tests.one_worker.Given as goal
 
 abbrev pub ghosts-served_by_one : goal.ghosts-served_by_one
-ghosts-served_by_one g a = record { identity = identity_of a.unstarted }
+ghosts-served_by_one g a = record { identity = identity_of a.parts }

@@ -1,7 +1,7 @@
 use Rattle.std.proofs.Common.{◌≡◌, drop}
-use Rattle.mw_file.specs.Slots.{free_from, free_place}
+use Rattle.mw_file.specs.PlaceStates.{free_from, free_place}
 use Rattle.mw_file.proofs.calls.free_place.Given as goal
 
 -- no place so far is free
 abbrev pub invariant-loop-place : goal.invariant-loop-place
-invariant-loop-place l = free_from l.place (drop l.place l.slots) ≡ free_place l.slots
+invariant-loop-place l = free_from l.place (drop l.place l.states) ≡ free_place l.states

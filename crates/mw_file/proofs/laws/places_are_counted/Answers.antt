@@ -3,7 +3,7 @@ use Rattle.mw_file.specs.Taken.{taken, if_taken, has_free, taken_staged}
 use Rattle.mw_file.proofs.laws.places_are_counted.Goals as goal
 
 pub returns-clause-free : goal.returns-clause-free
-returns-clause-free c slots = has_free slots
+returns-clause-free c states = has_free states
 
 pub returns-clause-staged : goal.returns-clause-staged
 returns-clause-staged c old new place stage writes lt is =

@@ -12,16 +12,16 @@ pub returns-clause-calls : goal.returns-clause-calls
 returns-clause-calls g c =
     let f = g.D.Disk.facts c.args.disk.now in
     let f2 = g.D.Disk.facts c.repair-ran.new.disk in
-    subst (λ (n : ℕ). Ran n f f2 c.repair-ran.result) (repair_is c.args.image.now c.recall.new.slots c.recall.ensures) c.repair-ran.ensures.calls
+    subst (λ (n : ℕ). Ran n f f2 c.repair-ran.result) (repair_is c.args.image.now c.recall.new.states c.recall.ensures) c.repair-ran.ensures.calls
 
 pub returns-clause-moments : goal.returns-clause-moments
 returns-clause-moments g c contents can =
     let f = g.D.Disk.facts c.args.disk.now in
     let f2 = g.D.Disk.facts c.repair-ran.new.disk in
     let image = c.args.image.now in
-    let slots = c.recall.new.slots in
+    let states = c.recall.new.states in
     let is = c.words.ensures.value in
-    let roll = subst (λ (n : ℕ). CanRoll f n (length slots) 0 slots contents) (sym is) (roll_recalled image slots c.recall.ensures f contents can) in
+    let roll = subst (λ (n : ℕ). CanRoll f n (length states) 0 states contents) (sym is) (roll_recalled image states c.recall.ensures f contents can) in
     subst (λ (n : ℕ). LeavesOnly f f2 (HasWords n (places_of image) contents)) is
     (subst (λ (p : ℕ). LeavesOnly f f2 (HasWords c.words.result p contents)) c.recall.ensures.count (c.repair-ran.ensures.moments contents roll))
 
@@ -30,9 +30,9 @@ returns-clause-read g c contents can =
     let f = g.D.Disk.facts c.args.disk.now in
     let f2 = g.D.Disk.facts c.repair-ran.new.disk in
     let image = c.args.image.now in
-    let slots = c.recall.new.slots in
+    let states = c.recall.new.states in
     let is = c.words.ensures.value in
-    let roll = subst (λ (n : ℕ). CanRoll f n (length slots) 0 slots contents) (sym is) (roll_recalled image slots c.recall.ensures f contents can) in
+    let roll = subst (λ (n : ℕ). CanRoll f n (length states) 0 states contents) (sym is) (roll_recalled image states c.recall.ensures f contents can) in
     subst (λ (n : ℕ). HasWords n (places_of image) contents f2.reads) is
     (subst (λ (p : ℕ). HasWords c.words.result p contents f2.reads) c.recall.ensures.count (c.repair-ran.ensures.read contents roll))
 
@@ -41,10 +41,10 @@ returns-clause-done g c =
     let f = g.D.Disk.facts c.args.disk.now in
     let f2 = g.D.Disk.facts c.repair-ran.new.disk in
     let image = c.args.image.now in
-    let slots = c.recall.new.slots in
+    let states = c.recall.new.states in
     let is = c.words.ensures.value in
     on_ok _ _ c.repair-ran.result (λ done contents can.
-    let roll = subst (λ (n : ℕ). CanRoll f n (length slots) 0 slots contents) (sym is) (roll_recalled image slots c.recall.ensures f contents can) in
-    let has = subst (λ (n : ℕ). HasWords n (length slots) contents f2.reads) is (c.repair-ran.ensures.read contents roll) in
-    let rolled = subst (λ (n : ℕ). IsRolled n 0 slots f f2) is (done contents roll) in
-    finish_durable image slots c.recall.ensures f contents can f2 c.set_free.new.slots has rolled c.set_free.auto.slots c.set_free.ensures) c.repair-ran.ensures.done
+    let roll = subst (λ (n : ℕ). CanRoll f n (length states) 0 states contents) (sym is) (roll_recalled image states c.recall.ensures f contents can) in
+    let has = subst (λ (n : ℕ). HasWords n (length states) contents f2.reads) is (c.repair-ran.ensures.read contents roll) in
+    let rolled = subst (λ (n : ℕ). IsRolled n 0 states f f2) is (done contents roll) in
+    finish_durable image states c.recall.ensures f contents can f2 c.set_free.new.states has rolled c.set_free.auto.states c.set_free.ensures) c.repair-ran.ensures.done

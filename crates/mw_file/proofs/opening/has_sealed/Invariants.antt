@@ -1,7 +1,7 @@
 use Rattle.std.proofs.Common.{◌≡◌, take}
-use Rattle.mw_file.specs.Slots.{gate_writes}
+use Rattle.mw_file.specs.PlaceStates.{commit_writes}
 use Rattle.mw_file.proofs.opening.has_sealed.Given as goal
 
 -- no place so far is sealed
-abbrev pub invariant-loop-slot : goal.invariant-loop-slot
-invariant-loop-slot l = gate_writes (take l.slot-index l.slots) ≡ 0
+abbrev pub invariant-loop-state : goal.invariant-loop-state
+invariant-loop-state l = commit_writes (take l.state-index l.states) ≡ 0

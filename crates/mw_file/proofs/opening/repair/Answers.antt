@@ -1,8 +1,8 @@
 use Rattle.std.proofs.Common.{◌⊎◌, ◌==◌, length, sym, ◌∙◌}
 use Rattle.std.proofs.lemmas.Bool.{eqb-true, not-false}
 use Rattle.mw_disk.specs.Runs.{leaves_same, same_but_refl}
-use Rattle.mw_file.specs.Slots.{gate_writes}
-use Rattle.mw_file.specs.Rolls.{InHomes, AtGates}
+use Rattle.mw_file.specs.PlaceStates.{commit_writes}
+use Rattle.mw_file.specs.Rolls.{InHomes, AtCommits}
 use Rattle.mw_file.proofs.Looping.{on_ok}
 use Rattle.mw_file.proofs.Recalled.{none_sealed}
 use Rattle.mw_file.proofs.Rolled.{at_rest_has}
@@ -11,24 +11,24 @@ use Rattle.mw_file.proofs.opening.repair.Goals as goal
 pub returns-then-not-has_sealed-clause-moments : goal.returns-then-not-has_sealed-clause-moments
 returns-then-not-has_sealed-clause-moments g c contents can =
     let f = g.D.Disk.facts c.args.disk.now in
-    leaves_same f (at_rest_has f c.args.words (length c.args.slots.now) 0 c.args.slots.now contents can)
+    leaves_same f (at_rest_has f c.args.words (length c.args.states.now) 0 c.args.states.now contents can)
 
 pub returns-then-not-has_sealed-clause-done : goal.returns-then-not-has_sealed-clause-done
 returns-then-not-has_sealed-clause-done g c contents can =
     let f = g.D.Disk.facts c.args.disk.now in
-    let slots = c.args.slots.now in
-    let none = eqb-true (gate_writes slots) 0 (not-false (gate_writes slots == 0) (sym c.has_sealed.ensures ∙ c.if-not-has_sealed.true)) in
+    let states = c.args.states.now in
+    let none = eqb-true (commit_writes states) 0 (not-false (commit_writes states == 0) (sym c.has_sealed.ensures ∙ c.if-not-has_sealed.true)) in
     record {
       rest = can.rest;
-      same = same_but_refl (λ k. InHomes slots k ⊎ AtGates c.args.words 0 slots k) f.reads;
-      shut = λ place lt sealed. absurd (none_sealed slots place none lt sealed);
+      same = same_but_refl (λ k. InHomes states k ⊎ AtCommits c.args.words 0 states k) f.reads;
+      shut = λ place lt sealed. absurd (none_sealed states place none lt sealed);
     }
 
 pub returns-clause-moments : goal.returns-clause-moments
-returns-clause-moments g c contents can = c.roll_forward.ensures.moments (length c.args.slots.now) contents can
+returns-clause-moments g c contents can = c.roll_forward.ensures.moments (length c.args.states.now) contents can
 
 pub returns-clause-read : goal.returns-clause-read
-returns-clause-read g c contents can = c.roll_forward.ensures.read (length c.args.slots.now) contents can
+returns-clause-read g c contents can = c.roll_forward.ensures.read (length c.args.states.now) contents can
 
 pub returns-clause-done : goal.returns-clause-done
-returns-clause-done g c = on_ok _ _ c.roll_forward.result (λ done contents can. done (length c.args.slots.now) contents can) c.roll_forward.ensures.done
+returns-clause-done g c = on_ok _ _ c.roll_forward.result (λ done contents can. done (length c.args.states.now) contents can) c.roll_forward.ensures.done

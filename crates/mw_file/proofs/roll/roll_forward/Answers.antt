@@ -1,124 +1,124 @@
 use Rattle.std.proofs.Common.{◌+◌, arith}
-use Rattle.mw_file.specs.Slots.{home_writes, gate_writes, roll_calls}
+use Rattle.mw_file.specs.PlaceStates.{home_writes, commit_writes, roll_calls}
 use Rattle.mw_disk.specs.Runs.{still_honest}
-use Rattle.mw_file.proofs.Rolled.{has_homes, are_below, homes_moments, homes_read, gates_fit, gates_moments, gates_read, rolled}
+use Rattle.mw_file.proofs.Rolled.{has_homes, are_below, homes_moments, homes_read, commits_fit, commits_moments, commits_read, rolled}
 use Rattle.mw_file.proofs.Ran.{goes_on, stops}
 use Rattle.mw_file.proofs.roll.roll_forward.Goals as goal
 
-pub returns-in_err-shut_gates-clause-calls : goal.returns-in_err-shut_gates-clause-calls
-returns-in_err-shut_gates-clause-calls g c =
-    let slots = c.args.slots.now in
-    stops (home_writes slots + 1) (gate_writes slots + 1) (roll_calls slots) _ _ _ _ (omega arith)
-    c.in_ok-write_homes.ensures.calls c.in_err-shut_gates.ensures.calls c.from_residual-in_err-shut_gates.ensures.0
+pub returns-in_err-clear_commits-clause-calls : goal.returns-in_err-clear_commits-clause-calls
+returns-in_err-clear_commits-clause-calls g c =
+    let states = c.args.states.now in
+    stops (home_writes states + 1) (commit_writes states + 1) (roll_calls states) _ _ _ _ (omega arith)
+    c.in_ok-write_homes.ensures.calls c.in_err-clear_commits.ensures.calls c.from_residual-in_err-clear_commits.ensures.0
 
 pub returns-clause-calls : goal.returns-clause-calls
 returns-clause-calls g c =
-    let slots = c.args.slots.now in
-    goes_on (home_writes slots + 1) (gate_writes slots + 1) (roll_calls slots) _ _ _ (omega arith)
-    c.in_ok-write_homes.ensures.calls c.in_ok-shut_gates.ensures.calls
+    let states = c.args.states.now in
+    goes_on (home_writes states + 1) (commit_writes states + 1) (roll_calls states) _ _ _ (omega arith)
+    c.in_ok-write_homes.ensures.calls c.in_ok-clear_commits.ensures.calls
 
 pub returns-in_err-write_homes-clause-moments : goal.returns-in_err-write_homes-clause-moments
 returns-in_err-write_homes-clause-moments g c places contents can =
     let start = g.D.Disk.facts c.args.disk.now in
     let mid = g.D.Disk.facts c.write_homes.new.disk in
-    let homes = has_homes start c.args.words places c.args.first c.args.slots.now contents can in
-    let below = are_below start c.args.words places c.args.first c.args.slots.now contents can in
-    homes_moments start c.args.words places c.args.first c.args.slots.now contents can mid (c.write_homes.ensures.touched c.args.words homes below)
+    let homes = has_homes start c.args.words places c.args.first c.args.states.now contents can in
+    let below = are_below start c.args.words places c.args.first c.args.states.now contents can in
+    homes_moments start c.args.words places c.args.first c.args.states.now contents can mid (c.write_homes.ensures.touched c.args.words homes below)
 
 pub returns-in_err-write_homes-clause-read : goal.returns-in_err-write_homes-clause-read
 returns-in_err-write_homes-clause-read g c places contents can =
     let start = g.D.Disk.facts c.args.disk.now in
     let mid = g.D.Disk.facts c.write_homes.new.disk in
-    let homes = has_homes start c.args.words places c.args.first c.args.slots.now contents can in
-    let below = are_below start c.args.words places c.args.first c.args.slots.now contents can in
-    homes_read start c.args.words places c.args.first c.args.slots.now contents can mid (c.write_homes.ensures.touched c.args.words homes below)
+    let homes = has_homes start c.args.words places c.args.first c.args.states.now contents can in
+    let below = are_below start c.args.words places c.args.first c.args.states.now contents can in
+    homes_read start c.args.words places c.args.first c.args.states.now contents can mid (c.write_homes.ensures.touched c.args.words homes below)
 
-pub returns-in_err-shut_gates-clause-moments : goal.returns-in_err-shut_gates-clause-moments
-returns-in_err-shut_gates-clause-moments g c places contents can =
+pub returns-in_err-clear_commits-clause-moments : goal.returns-in_err-clear_commits-clause-moments
+returns-in_err-clear_commits-clause-moments g c places contents can =
     let start = g.D.Disk.facts c.args.disk.now in
     let mid = g.D.Disk.facts c.write_homes.new.disk in
-    let new = g.D.Disk.facts c.shut_gates.new.disk in
+    let new = g.D.Disk.facts c.clear_commits.new.disk in
     let words = c.args.words in
     let first = c.args.first in
-    let slots = c.args.slots.now in
-    let homes = has_homes start words places first slots contents can in
-    let below = are_below start words places first slots contents can in
+    let states = c.args.states.now in
+    let homes = has_homes start words places first states contents can in
+    let below = are_below start words places first states contents can in
     let touched = c.write_homes.ensures.touched words homes below in
     let rest = c.in_ok-write_homes.ensures.rest can.honest in
     let values = c.in_ok-write_homes.ensures.values words homes below in
     let honest = still_honest start mid c.write_homes.ensures.later can.honest in
-    let fit = gates_fit start words places first slots contents can mid touched in
-    let shut = c.shut_gates.ensures.touched honest fit in
-    gates_moments start words places first slots contents can mid touched rest values new shut
+    let fit = commits_fit start words places first states contents can mid touched in
+    let shut = c.clear_commits.ensures.touched honest fit in
+    commits_moments start words places first states contents can mid touched rest values new shut
 
-pub returns-in_err-shut_gates-clause-read : goal.returns-in_err-shut_gates-clause-read
-returns-in_err-shut_gates-clause-read g c places contents can =
+pub returns-in_err-clear_commits-clause-read : goal.returns-in_err-clear_commits-clause-read
+returns-in_err-clear_commits-clause-read g c places contents can =
     let start = g.D.Disk.facts c.args.disk.now in
     let mid = g.D.Disk.facts c.write_homes.new.disk in
-    let new = g.D.Disk.facts c.shut_gates.new.disk in
+    let new = g.D.Disk.facts c.clear_commits.new.disk in
     let words = c.args.words in
     let first = c.args.first in
-    let slots = c.args.slots.now in
-    let homes = has_homes start words places first slots contents can in
-    let below = are_below start words places first slots contents can in
+    let states = c.args.states.now in
+    let homes = has_homes start words places first states contents can in
+    let below = are_below start words places first states contents can in
     let touched = c.write_homes.ensures.touched words homes below in
     let rest = c.in_ok-write_homes.ensures.rest can.honest in
     let values = c.in_ok-write_homes.ensures.values words homes below in
     let honest = still_honest start mid c.write_homes.ensures.later can.honest in
-    let fit = gates_fit start words places first slots contents can mid touched in
-    let shut = c.shut_gates.ensures.touched honest fit in
-    gates_read start words places first slots contents can mid touched rest values new shut
+    let fit = commits_fit start words places first states contents can mid touched in
+    let shut = c.clear_commits.ensures.touched honest fit in
+    commits_read start words places first states contents can mid touched rest values new shut
 
 pub returns-clause-moments : goal.returns-clause-moments
 returns-clause-moments g c places contents can =
     let start = g.D.Disk.facts c.args.disk.now in
     let mid = g.D.Disk.facts c.write_homes.new.disk in
-    let new = g.D.Disk.facts c.shut_gates.new.disk in
+    let new = g.D.Disk.facts c.clear_commits.new.disk in
     let words = c.args.words in
     let first = c.args.first in
-    let slots = c.args.slots.now in
-    let homes = has_homes start words places first slots contents can in
-    let below = are_below start words places first slots contents can in
+    let states = c.args.states.now in
+    let homes = has_homes start words places first states contents can in
+    let below = are_below start words places first states contents can in
     let touched = c.write_homes.ensures.touched words homes below in
     let rest = c.in_ok-write_homes.ensures.rest can.honest in
     let values = c.in_ok-write_homes.ensures.values words homes below in
     let honest = still_honest start mid c.write_homes.ensures.later can.honest in
-    let fit = gates_fit start words places first slots contents can mid touched in
-    let shut = c.shut_gates.ensures.touched honest fit in
-    gates_moments start words places first slots contents can mid touched rest values new shut
+    let fit = commits_fit start words places first states contents can mid touched in
+    let shut = c.clear_commits.ensures.touched honest fit in
+    commits_moments start words places first states contents can mid touched rest values new shut
 
 pub returns-clause-read : goal.returns-clause-read
 returns-clause-read g c places contents can =
     let start = g.D.Disk.facts c.args.disk.now in
     let mid = g.D.Disk.facts c.write_homes.new.disk in
-    let new = g.D.Disk.facts c.shut_gates.new.disk in
+    let new = g.D.Disk.facts c.clear_commits.new.disk in
     let words = c.args.words in
     let first = c.args.first in
-    let slots = c.args.slots.now in
-    let homes = has_homes start words places first slots contents can in
-    let below = are_below start words places first slots contents can in
+    let states = c.args.states.now in
+    let homes = has_homes start words places first states contents can in
+    let below = are_below start words places first states contents can in
     let touched = c.write_homes.ensures.touched words homes below in
     let rest = c.in_ok-write_homes.ensures.rest can.honest in
     let values = c.in_ok-write_homes.ensures.values words homes below in
     let honest = still_honest start mid c.write_homes.ensures.later can.honest in
-    let fit = gates_fit start words places first slots contents can mid touched in
-    let shut = c.shut_gates.ensures.touched honest fit in
-    gates_read start words places first slots contents can mid touched rest values new shut
+    let fit = commits_fit start words places first states contents can mid touched in
+    let shut = c.clear_commits.ensures.touched honest fit in
+    commits_read start words places first states contents can mid touched rest values new shut
 
 pub returns-clause-done : goal.returns-clause-done
 returns-clause-done g c places contents can =
     let start = g.D.Disk.facts c.args.disk.now in
     let mid = g.D.Disk.facts c.write_homes.new.disk in
-    let new = g.D.Disk.facts c.shut_gates.new.disk in
+    let new = g.D.Disk.facts c.clear_commits.new.disk in
     let words = c.args.words in
     let first = c.args.first in
-    let slots = c.args.slots.now in
-    let homes = has_homes start words places first slots contents can in
-    let below = are_below start words places first slots contents can in
+    let states = c.args.states.now in
+    let homes = has_homes start words places first states contents can in
+    let below = are_below start words places first states contents can in
     let touched = c.write_homes.ensures.touched words homes below in
     let rest = c.in_ok-write_homes.ensures.rest can.honest in
     let values = c.in_ok-write_homes.ensures.values words homes below in
     let honest = still_honest start mid c.write_homes.ensures.later can.honest in
-    let fit = gates_fit start words places first slots contents can mid touched in
-    let shut = c.shut_gates.ensures.touched honest fit in
-    rolled start words places first slots contents can mid touched rest values new shut (c.in_ok-shut_gates.ensures.rest honest) (c.in_ok-shut_gates.ensures.shut honest fit)
+    let fit = commits_fit start words places first states contents can mid touched in
+    let shut = c.clear_commits.ensures.touched honest fit in
+    rolled start words places first states contents can mid touched rest values new shut (c.in_ok-clear_commits.ensures.rest honest) (c.in_ok-clear_commits.ensures.shut honest fit)

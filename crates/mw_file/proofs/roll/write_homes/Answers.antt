@@ -1,54 +1,54 @@
 use Rattle.std.proofs.Common.{◌<◌, ◌+◌, length, take, arith, ap}
 use Rattle.std.proofs.lemmas.List.Sums.{sum_by_more, sum_by_more_le}
 use Rattle.mw_disk.specs.Runs.{later_trans}
-use Rattle.mw_file.specs.Slots.{home_writes, home_writes_of}
+use Rattle.mw_file.specs.PlaceStates.{home_writes, home_writes_of}
 use Rattle.mw_file.proofs.Ran.{goes_on, stops}
 use Rattle.mw_file.proofs.Looping.{item_at, below_item, homes_still_there, homes_more, values_more}
 use Rattle.mw_file.proofs.roll.write_homes.Goals as goal
 
 pub returns-in_err-write_home-clause-calls : goal.returns-in_err-write_home-clause-calls
 returns-in_err-write_home-clause-calls g c =
-    let slots = c.args.slots.now in
-    let k = c.loop-slot.slot-index in
-    let item = ap home_writes_of c.slot-item.is in
-    let more = sum_by_more_le home_writes_of slots k c.slot-item.result (omega arith) in
-    stops (home_writes (take k slots)) (home_writes_of c.slot-item.result) (home_writes slots + 1) _ _ _ _
-    (omega (arith, item, more)) c.loop-slot.invariant.0 c.in_err-write_home.ensures.calls c.from_residual.ensures.0
+    let states = c.args.states.now in
+    let k = c.loop-state.state-index in
+    let item = ap home_writes_of c.state-item.is in
+    let more = sum_by_more_le home_writes_of states k c.state-item.result (omega arith) in
+    stops (home_writes (take k states)) (home_writes_of c.state-item.result) (home_writes states + 1) _ _ _ _
+    (omega (arith, item, more)) c.loop-state.invariant.0 c.in_err-write_home.ensures.calls c.from_residual.ensures.0
 
 pub returns-in_err-write_home-clause-touched : goal.returns-in_err-write_home-clause-touched
 returns-in_err-write_home-clause-touched g c words has below =
     let start = g.D.Disk.facts c.args.disk.now in
-    let old = g.D.Disk.facts c.loop-slot.disk in
+    let old = g.D.Disk.facts c.loop-state.disk in
     let new = g.D.Disk.facts c.write_home.new.disk in
-    let slots = c.args.slots.now in
-    let k = c.loop-slot.slot-index in
-    let s = c.slot-item.result in
-    let lt : k < length slots = c.loop-slot-test.true in
-    let at = item_at slots k s lt c.slot-item.is in
-    let run = (c.loop-slot.invariant.2 words has below).0 in
-    let has2 = homes_still_there start old new words slots k s lt at c.loop-slot.invariant.1 run has in
-    homes_more start old new words slots k s lt at run (c.write_home.ensures.touched words has2 (below_item start old new words slots k s lt at below))
+    let states = c.args.states.now in
+    let k = c.loop-state.state-index in
+    let s = c.state-item.result in
+    let lt : k < length states = c.loop-state-test.true in
+    let at = item_at states k s lt c.state-item.is in
+    let run = (c.loop-state.invariant.2 words has below).0 in
+    let has2 = homes_still_there start old new words states k s lt at c.loop-state.invariant.1 run has in
+    homes_more start old new words states k s lt at run (c.write_home.ensures.touched words has2 (below_item start old new words states k s lt at below))
 
-pub loop-slot-preserved : goal.loop-slot-preserved
-loop-slot-preserved g c =
+pub loop-state-preserved : goal.loop-state-preserved
+loop-state-preserved g c =
     let start = g.D.Disk.facts c.args.disk.now in
-    let old = g.D.Disk.facts c.loop-slot.disk in
+    let old = g.D.Disk.facts c.loop-state.disk in
     let new = g.D.Disk.facts c.write_home.new.disk in
-    let slots = c.args.slots.now in
-    let k = c.loop-slot.slot-index in
-    let s = c.slot-item.result in
-    let lt : k < length slots = c.loop-slot-test.true in
-    let at = item_at slots k s lt c.slot-item.is in
-    let item = ap home_writes_of c.slot-item.is in
-    let more = sum_by_more home_writes_of slots k s (omega arith) in (
-      goes_on (home_writes (take k slots)) (home_writes_of s) (home_writes (take (k + 1) slots)) _ _ _
-          (omega (arith, item, more)) c.loop-slot.invariant.0 c.in_ok-write_home.ensures.calls,
-      later_trans _ _ _ c.loop-slot.invariant.1 c.write_home.ensures.later,
+    let states = c.args.states.now in
+    let k = c.loop-state.state-index in
+    let s = c.state-item.result in
+    let lt : k < length states = c.loop-state-test.true in
+    let at = item_at states k s lt c.state-item.is in
+    let item = ap home_writes_of c.state-item.is in
+    let more = sum_by_more home_writes_of states k s (omega arith) in (
+      goes_on (home_writes (take k states)) (home_writes_of s) (home_writes (take (k + 1) states)) _ _ _
+          (omega (arith, item, more)) c.loop-state.invariant.0 c.in_ok-write_home.ensures.calls,
+      later_trans _ _ _ c.loop-state.invariant.1 c.write_home.ensures.later,
       λ words has below.
-          let so_far = c.loop-slot.invariant.2 words has below in
-          let has2 = homes_still_there start old new words slots k s lt at c.loop-slot.invariant.1 so_far.0 has in
-          let below2 = below_item start old new words slots k s lt at below in (
-            homes_more start old new words slots k s lt at so_far.0 (c.write_home.ensures.touched words has2 below2),
-            λ addr low. values_more start old new words slots k s lt at addr (so_far.1 addr low) (c.in_ok-write_home.ensures.values words has2 below2 addr low),
+          let so_far = c.loop-state.invariant.2 words has below in
+          let has2 = homes_still_there start old new words states k s lt at c.loop-state.invariant.1 so_far.0 has in
+          let below2 = below_item start old new words states k s lt at below in (
+            homes_more start old new words states k s lt at so_far.0 (c.write_home.ensures.touched words has2 below2),
+            λ addr low. values_more start old new words states k s lt at addr (so_far.1 addr low) (c.in_ok-write_home.ensures.values words has2 below2 addr low),
           ),
     )

@@ -1,16 +1,16 @@
 use Rattle.std.proofs.Common.{ℕ, ◌≡◌, ◌<◌, take}
 use Rattle.mw_disk.specs.Runs.{Good, Later, Touched}
 use Rattle.mw_record.specs.Records.{home, all_over}
-use Rattle.mw_file.specs.Slots.{home_writes}
+use Rattle.mw_file.specs.PlaceStates.{home_writes}
 use Rattle.mw_file.specs.Rolls.{InHomes, HasHomes, AreBelow, kept_of}
 use Rattle.mw_file.proofs.roll.write_homes.Given as goal
 
 -- each value of the sealed places so far took a call that went well, and stands in its home word
-abbrev pub invariant-loop-slot : goal.invariant-loop-slot
-invariant-loop-slot g l =
-    Good (home_writes (take l.slot-index l.slots)) (g.D.Disk.facts l.initial.disk) (g.D.Disk.facts l.disk)
+abbrev pub invariant-loop-state : goal.invariant-loop-state
+invariant-loop-state g l =
+    Good (home_writes (take l.state-index l.states)) (g.D.Disk.facts l.initial.disk) (g.D.Disk.facts l.disk)
     × Later (g.D.Disk.facts l.initial.disk) (g.D.Disk.facts l.disk)
-    × ((words : ℕ) → HasHomes (g.D.Disk.facts l.initial.disk) words → AreBelow words l.slots
-    → Touched (InHomes l.slots) (g.D.Disk.facts l.initial.disk) (g.D.Disk.facts l.disk)
+    × ((words : ℕ) → HasHomes (g.D.Disk.facts l.initial.disk) words → AreBelow words l.states
+    → Touched (InHomes l.states) (g.D.Disk.facts l.initial.disk) (g.D.Disk.facts l.disk)
     × ((addr : ℕ) → addr < words
-    → home (g.D.Disk.facts l.disk).reads addr ≡ all_over (kept_of l.slots) l.slot-index addr (home (g.D.Disk.facts l.initial.disk).reads addr)))
+    → home (g.D.Disk.facts l.disk).reads addr ≡ all_over (kept_of l.states) l.state-index addr (home (g.D.Disk.facts l.initial.disk).reads addr)))

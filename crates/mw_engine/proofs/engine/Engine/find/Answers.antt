@@ -6,7 +6,7 @@ use Rattle.mw_engine.proofs.engine.Engine.find.Goals as goal
 pub returns-then-eq-clause-first : goal.returns-then-eq-clause-first
 returns-then-eq-clause-first g c =
     let value = c.deref-line-items.ensures.0 in
-    is_first g.J.Room.identity c.args.self.now.lines.items c.args.self.now.same c.loop-tenant.tenant c.line-item.result c.args.name.now.items
+    is_first g.J.EngineBrand.identity c.args.self.now.lines.items c.args.self.now.same c.loop-tenant.tenant c.line-item.result c.args.name.now.items
     (omega (arith, c.loop-tenant-test.true, ap length value))
     (c.line-item.is ∙ ap (λ xs. get_or xs c.loop-tenant.tenant c.line-item.result) value)
     c.loop-tenant.invariant
@@ -15,14 +15,14 @@ returns-then-eq-clause-first g c =
 pub returns-then-eq-clause-words : goal.returns-then-eq-clause-words
 returns-then-eq-clause-words g c =
     let value = c.deref-line-items.ensures.0 in
-    has g.J.Room.identity c.args.self.now.lines.items c.args.self.now.same c.loop-tenant.tenant c.line-item.result c.args.name.now.items
+    has g.J.EngineBrand.identity c.args.self.now.lines.items c.args.self.now.same c.loop-tenant.tenant c.line-item.result c.args.name.now.items
     (omega (arith, c.loop-tenant-test.true, ap length value))
     (c.line-item.is ∙ ap (λ xs. get_or xs c.loop-tenant.tenant c.line-item.result) value)
 
 pub loop-tenant-preserved : goal.loop-tenant-preserved
 loop-tenant-preserved g c =
     let value = c.deref-line-items.ensures.0 in
-    none_yet g.J.Room.identity c.args.self.now.lines.items c.args.self.now.same c.loop-tenant.tenant c.line-item.result c.args.name.now.items
+    none_yet g.J.EngineBrand.identity c.args.self.now.lines.items c.args.self.now.same c.loop-tenant.tenant c.line-item.result c.args.name.now.items
     (omega (arith, c.loop-tenant-test.true, ap length value))
     (c.line-item.is ∙ ap (λ xs. get_or xs c.loop-tenant.tenant c.line-item.result) value)
     c.loop-tenant.invariant

@@ -4,8 +4,8 @@ use Rattle.mw_disk.specs.Facts.{IsAtRest}
 use Rattle.mw_disk.specs.Runs.{Good, Bad, Touched, good_call, bad_call, good_trans, then_bad, called_later, later_trans, still_honest, touched_trans, touched_quiet}
 use Rattle.mw_record.specs.declared.layout.TheConstants.{MAX_FILE}
 use Rattle.mw_record.specs.Damages.{words_in, words_of, places_of, word_at}
-use Rattle.mw_file.specs.declared.slots.Slot.{Slot}
-use Rattle.mw_file.specs.Slots.{all_free}
+use Rattle.mw_file.specs.declared.place_states.PlaceState.{PlaceState}
+use Rattle.mw_file.specs.PlaceStates.{all_free}
 use Rattle.mw_file.specs.File.{went_well}
 use Rattle.mw_file.specs.Rolls.{Nowhere, CanFinish}
 use Rattle.mw_file.specs.Opening.{front, open_calls, repair_calls, OpensSafely}
@@ -158,11 +158,11 @@ returns g c =
     let calls : (1 + n) + repair_calls c.in-Ok-decode.image ≡ open_calls image = ap (λ i. (1 + n) + repair_calls i) same ∙ calls_sound image size long none in
     let ended = sym c.is_err-2.ensures.value ∙ c.if-is_err-2.false in
     let words_are : c.words.result ≡ words_of c.in-Ok-decode.image = c.words.ensures.value in
-    let slots_len = c.finish.auto.slots ∙ c.deref_mut-2.ensures.len in
-    let slots_are = whole _ c.finish.new.slots _ slots_len in
+    let states_len = c.finish.auto.states ∙ c.deref_mut-2.ensures.len in
+    let states_are = whole _ c.finish.new.states _ states_len in
     let few = c.truncate.ensures.len in
     let made = c.in-Ok-new.ensures.2 in
-    let slots_long = ap length slots_are in
+    let states_long = ap length states_are in
     let count = words_are ∙ sym (ap length c.fill_words.ensures ∙ length-map-range_with_len (word_at c.in-Ok-decode.image) 0 (words_of c.in-Ok-decode.image)) in
     record {
       later = later;
@@ -177,13 +177,13 @@ returns g c =
       count = count;
       places =
           let is_places = ap places_of same in
-          omega (arith, few, made, slots_long, slots_len, c.places.ensures.value, c.places.ensures.fits, is_places);
-      some_place = omega (arith, few, made, slots_long, slots_len, c.places.ensures.some, c.places.ensures.fits);
-      free = subst (λ (ss : List Slot). IsTrue (all_free ss)) (sym slots_are) c.finish.ensures.free;
+          omega (arith, few, made, states_long, states_len, c.places.ensures.value, c.places.ensures.fits, is_places);
+      some_place = omega (arith, few, made, states_long, states_len, c.places.ensures.some, c.places.ensures.fits);
+      free = subst (λ (ss : List PlaceState). IsTrue (all_free ss)) (sym states_are) c.finish.ensures.free;
       sound = refl;
       whole = λ honest. whole_words f0.reads image (seen honest) none ∙ ap Some (sym (ap words_in same) ∙ sym c.fill_words.ensures);
       keeps = λ honest rest.
           let durable = went_well c.finish.result _ ended c.finish.ensures.done (words_in c.in-Ok-decode.image) (can honest rest) in
           keeps_well g.D.Disk.facts _ c.fill_words.new.words.items (sym count)
-          (durable_as f3 _ _ _ _ _ _ words_are c.fill_words.ensures slots_are durable);
+          (durable_as f3 _ _ _ _ _ _ words_are c.fill_words.ensures states_are durable);
     }

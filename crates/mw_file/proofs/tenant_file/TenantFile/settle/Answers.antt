@@ -1,52 +1,52 @@
 use Rattle.std.proofs.Common.{List, [], inl, subst, arith, ◌+◌, ap, length, refl, ◌∙◌, sym}
 use Rattle.mw_disk.specs.Runs.{leaves_wider}
-use Rattle.mw_file.specs.declared.slots.Slot.{Slot}
-use Rattle.mw_file.specs.declared.slots.Stage.TheVariants.{Sealed}
-use Rattle.mw_file.specs.Slots.{roll_calls, writes_of_place}
+use Rattle.mw_file.specs.declared.place_states.PlaceState.{PlaceState}
+use Rattle.mw_file.specs.declared.place_states.Stage.TheVariants.{Sealed}
+use Rattle.mw_file.specs.PlaceStates.{roll_calls, writes_of_place}
 use Rattle.mw_file.specs.Rolls.{CanRoll, IsRolled}
 use Rattle.mw_file.specs.File.{went_well}
 use Rattle.mw_file.proofs.Safety.{safe_failed, safe_well, safe_same, settle_can, settle_moments, settle_durable}
-use Rattle.mw_file.proofs.Places.{slot_at, slot_there, alone_calls, staged_as}
+use Rattle.mw_file.proofs.Places.{state_at, state_there, alone_calls, staged_as}
 use Rattle.mw_file.proofs.Ran.{ran_well, ran_badly}
 use Rattle.mw_file.proofs.tenant_file.TenantFile.settle.Goals as goal
 
 pub returns-then-is_err-clause-ends : goal.returns-then-is_err-clause-ends
 returns-then-is_err-clause-ends g c =
-    let slots = c.args.self.now.slots.items in
+    let states = c.args.self.now.states.items in
     let place = c.args.place.0 in
-    let at = slot_at slots place c.index.result.now Sealed c.index.ensures c.requires (λ e. cc) in
-    let calls = ap roll_calls c.from_ref-alone.ensures.value ∙ alone_calls slots place c.index.result.now at c.requires in
+    let at = state_at states place c.index.result.now Sealed c.index.ensures c.requires (λ e. cc) in
+    let calls = ap roll_calls c.from_ref-alone.ensures.value ∙ alone_calls states place c.index.result.now at c.requires in
     record {
       before = c.if-self.false;
       after = refl;
       words = refl;
-      slots = refl;
-      made = ran_badly (roll_calls c.from_ref-alone.result.now) (length (writes_of_place slots place) + 3) _ _ _ calls
+      states = refl;
+      made = ran_badly (roll_calls c.from_ref-alone.result.now) (length (writes_of_place states place) + 3) _ _ _ calls
           (sym c.is_err.ensures.value ∙ c.if-is_err.true) c.roll_forward.ensures.calls;
     }
 
 pub returns-clause-ends : goal.returns-clause-ends
 returns-clause-ends g c =
-    let slots = c.args.self.now.slots.items in
+    let states = c.args.self.now.states.items in
     let place = c.args.place.0 in
-    let at = slot_at slots place c.index.result.now Sealed c.index.ensures c.requires (λ e. cc) in
-    let calls = ap roll_calls c.from_ref-alone.ensures.value ∙ alone_calls slots place c.index.result.now at c.requires in
+    let at = state_at states place c.index.result.now Sealed c.index.ensures c.requires (λ e. cc) in
+    let calls = ap roll_calls c.from_ref-alone.ensures.value ∙ alone_calls states place c.index.result.now at c.requires in
     record {
       before = c.if-self.false;
       after = c.if-self.false;
       words = refl;
-      made = ran_well (roll_calls c.from_ref-alone.result.now) (length (writes_of_place slots place) + 3) _ _ _ calls
+      made = ran_well (roll_calls c.from_ref-alone.result.now) (length (writes_of_place states place) + 3) _ _ _ calls
           (sym c.is_err.ensures.value ∙ c.if-is_err.false) c.roll_forward.ensures.calls;
     }
 
 pub returns-clause-staged : goal.returns-clause-staged
 returns-clause-staged g c =
-    let at = slot_at c.args.self.now.slots.items c.args.place.0 c.index_mut.result.now Sealed c.index_mut.ensures.value c.requires (λ e. cc) in
-    staged_as c.args.self.now.slots.items c.args.place.0 c.index_mut.result.now _ at refl
+    let at = state_at c.args.self.now.states.items c.args.place.0 c.index_mut.result.now Sealed c.index_mut.ensures.value c.requires (λ e. cc) in
+    staged_as c.args.self.now.states.items c.args.place.0 c.index_mut.result.now _ at refl
 
 pub index_mut-requires : goal.index_mut-requires
 index_mut-requires g c =
-    let there = slot_there c.args.self.now.slots.items c.args.place.0 Sealed c.requires (λ e. cc) in
+    let there = state_there c.args.self.now.states.items c.args.place.0 Sealed c.requires (λ e. cc) in
     omega (arith, there)
 
 pub returns-then-is_err-clause-safe : goal.returns-then-is_err-clause-safe
@@ -54,15 +54,15 @@ returns-then-is_err-clause-safe g c honest contents doubt was =
     let old = g.D.Disk.facts c.args.self.now.disk in
     let new = g.D.Disk.facts c.roll_forward.new.disk in
     let words = c.args.self.now.words in
-    let slots = c.args.self.now.slots.items in
+    let states = c.args.self.now.states.items in
     let place = c.args.place.0 in
     let s = c.index.result.now in
     let durable = was.inside c.if-self.false in
-    let there = slot_there slots place Sealed c.requires (λ e. cc) in
-    let at = slot_at slots place s Sealed c.index.ensures c.requires (λ e. cc) in
+    let there = state_there states place Sealed c.requires (λ e. cc) in
+    let at = state_at states place s Sealed c.index.ensures c.requires (λ e. cc) in
     let is = c.from_ref-alone.ensures.value in
-    let can = subst (λ (ss : List Slot). CanRoll old words (length slots) place ss contents) (sym is) (settle_can old new words contents slots place durable there honest s at) in
-    let moments = settle_moments old new words contents slots place durable there honest s at (c.roll_forward.ensures.moments (length slots) contents can) in
+    let can = subst (λ (ss : List PlaceState). CanRoll old words (length states) place ss contents) (sym is) (settle_can old new words contents states place durable there honest s at) in
+    let moments = settle_moments old new words contents states place durable there honest s at (c.roll_forward.ensures.moments (length states) contents can) in
     safe_failed g.D.Disk.facts c.args.self.now _ contents doubt doubt was refl refl refl (leaves_wider old new (λ image file. inl file) moments)
 
 pub returns-clause-safe : goal.returns-clause-safe
@@ -70,20 +70,20 @@ returns-clause-safe g c honest contents doubt was =
     let old = g.D.Disk.facts c.args.self.now.disk in
     let new = g.D.Disk.facts c.roll_forward.new.disk in
     let words = c.args.self.now.words in
-    let slots = c.args.self.now.slots.items in
+    let states = c.args.self.now.states.items in
     let place = c.args.place.0 in
     let s = c.index.result.now in
     let durable = was.inside c.if-self.false in
-    let there = slot_there slots place Sealed c.requires (λ e. cc) in
-    let at = slot_at slots place s Sealed c.index.ensures c.requires (λ e. cc) in
+    let there = state_there states place Sealed c.requires (λ e. cc) in
+    let at = state_at states place s Sealed c.index.ensures c.requires (λ e. cc) in
     let is = c.from_ref-alone.ensures.value in
-    let can = subst (λ (ss : List Slot). CanRoll old words (length slots) place ss contents) (sym is) (settle_can old new words contents slots place durable there honest s at) in
-    let moments = settle_moments old new words contents slots place durable there honest s at (c.roll_forward.ensures.moments (length slots) contents can) in
+    let can = subst (λ (ss : List PlaceState). CanRoll old words (length states) place ss contents) (sym is) (settle_can old new words contents states place durable there honest s at) in
+    let moments = settle_moments old new words contents states place durable there honest s at (c.roll_forward.ensures.moments (length states) contents can) in
     let well = sym c.is_err.ensures.value ∙ c.if-is_err.false in
-    let done = went_well c.roll_forward.result _ well c.roll_forward.ensures.done (length slots) contents can in
-    let rolled = subst (λ (ss : List Slot). IsRolled words place ss old new) is done in
-    let has = c.roll_forward.ensures.read (length slots) contents can in
-    let is_staged = staged_as slots place c.index_mut.result.now _ (slot_at slots place c.index_mut.result.now Sealed c.index_mut.ensures.value c.requires (λ e. cc)) refl in
-    let now = settle_durable old new words contents slots place durable there honest s at _ has rolled c.requires is_staged in
+    let done = went_well c.roll_forward.result _ well c.roll_forward.ensures.done (length states) contents can in
+    let rolled = subst (λ (ss : List PlaceState). IsRolled words place ss old new) is done in
+    let has = c.roll_forward.ensures.read (length states) contents can in
+    let is_staged = staged_as states place c.index_mut.result.now _ (state_at states place c.index_mut.result.now Sealed c.index_mut.ensures.value c.requires (λ e. cc)) refl in
+    let now = settle_durable old new words contents states place durable there honest s at _ has rolled c.requires is_staged in
     safe_same g.D.Disk.facts c.args.self.now _ contents doubt (was.certain c.if-self.false)
     (safe_well g.D.Disk.facts c.args.self.now _ contents [] contents (leaves_wider old new (λ image file. inl file) moments) was.count now)

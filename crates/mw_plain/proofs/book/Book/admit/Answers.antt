@@ -1,6 +1,6 @@
 use Rattle.std.proofs.Common.{◌+◌, sym, ap, ◌∙◌, refl, is_err, arith}
-use Rattle.mw_file.specs.File.{slots_of}
-use Rattle.mw_file.specs.declared.slots.Stage.TheVariants.{Prepared as PreparedStage}
+use Rattle.mw_file.specs.File.{states_of}
+use Rattle.mw_file.specs.declared.place_states.Stage.TheVariants.{Prepared as PreparedStage}
 use Rattle.mw_plain.proofs.Ready.{has_room, one_more, none_sealed}
 use Rattle.mw_plain.proofs.Starting.{unprepared, prepared}
 use Rattle.mw_plain.specs.Cases.{Unprepared, Prepared}
@@ -9,7 +9,7 @@ use Rattle.mw_plain.proofs.book.Book.admit.Goals as goal
 pub prepare-requires-clause-room : goal.prepare-requires-clause-room
 prepare-requires-clause-room g c =
     let book = c.args.self.now in
-    has_room (slots_of book.file) book.used c.args.quota (book.counted c.requires.up) (omega (arith, c.requires.within, c.if-self-quota.false)) c.requires.room
+    has_room (states_of book.file) book.used c.args.quota (book.counted c.requires.up) (omega (arith, c.requires.within, c.if-self-quota.false)) c.requires.room
 
 pub invariant_of-self-2 : goal.invariant_of-self-2
 invariant_of-self-2 g c =
@@ -18,8 +18,8 @@ invariant_of-self-2 g c =
     record {
       same_words = book.same_words ∙ sym file.ends.words;
       sound = λ up. file.ends.after;
-      counted = λ up. one_more (slots_of book.file) (slots_of c.prepare.new.self) _ _ file.lowest file.staged ∙ ap (λ n. n + 1) (book.counted up);
-      unsealed = λ up. none_sealed (slots_of book.file) (slots_of c.prepare.new.self) _ PreparedStage _ (λ e. cc) (book.unsealed up) file.staged;
+      counted = λ up. one_more (states_of book.file) (states_of c.prepare.new.self) _ _ file.lowest file.staged ∙ ap (λ n. n + 1) (book.counted up);
+      unsealed = λ up. none_sealed (states_of book.file) (states_of c.prepare.new.self) _ PreparedStage _ (λ e. cc) (book.unsealed up) file.staged;
     }
 
 pub returns-in_default-clause-ends : goal.returns-in_default-clause-ends

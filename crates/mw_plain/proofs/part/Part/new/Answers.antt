@@ -2,7 +2,7 @@ use Rattle.std.proofs.Common.{Option, subst, ◌∙◌}
 use Rattle.std.specs.Prelude.{Vec, ℕ}
 use Rattle.std.specs.declared.alloc.Global.{Global}
 use Rattle.mw_file.specs.declared.tenant_file.TenantFile.{TenantFile}
-use Rattle.mw_file.specs.File.{slots_of}
+use Rattle.mw_file.specs.File.{states_of}
 use Rattle.mw_plain.specs.Lines.{FitsLine}
 use Rattle.mw_plain.proofs.Ready.{taken_none, none_taken}
 use Rattle.mw_plain.proofs.part.Part.new.Goals as goal
@@ -13,6 +13,6 @@ invariant_of-book g c =
     record {
       same_words = c.in-Some.words.ok.0 ∙ fresh.read;
       sound = λ _. fresh.sound;
-      counted = λ _. taken_none (slots_of c.in-Some.file) fresh.free;
-      unsealed = λ _. none_taken (slots_of c.in-Some.file) fresh.free;
+      counted = λ _. taken_none (states_of c.in-Some.file) fresh.free;
+      unsealed = λ _. none_taken (states_of c.in-Some.file) fresh.free;
     }

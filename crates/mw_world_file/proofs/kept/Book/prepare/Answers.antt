@@ -2,7 +2,7 @@ use Rattle.std.proofs.Common.{◌∙◌, ◌≤◌, length, sym, ap, refl, arith
 use Rattle.mw_words.specs.declared.limits.TheConstants.{MAX_POOL}
 use Rattle.mw_look.specs.declared.steps.Call.TheVariants.{Prepare}
 use Rattle.mw_record.specs.Layout.{pairs_of}
-use Rattle.mw_file.specs.declared.slots.Stage.TheVariants.{Prepared as PreparedStage}
+use Rattle.mw_file.specs.declared.place_states.Stage.TheVariants.{Prepared as PreparedStage}
 use Rattle.mw_world_file.specs.declared.places.Place.TheVariants.{Prepared as KeptPrepared}
 use Rattle.mw_world_file.specs.Working.{may_end}
 use Rattle.mw_world_file.proofs.WorkedFiles.{none_empty, place_within, kept_after, prepare_done, prepare_broken, refused}

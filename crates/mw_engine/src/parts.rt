@@ -9,7 +9,7 @@ use mw_words::MAX_TENANTS;
 
 /// An engine that has no name yet. Whoever has a name for it starts it.
 #[derive(Drop)]
-pub struct Unstarted<D, H> {
+pub struct EngineParts<D, H> {
     pub(crate) lines: ArrayVec<Listed, MAX_TENANTS>,
     pub(crate) plain: Plain<D>,
     pub(crate) hold: H,

@@ -11,10 +11,10 @@ use std::alloc::{AllocError, Global};
 pub enum Stage {
     /// There is none.
     Free,
-    /// Its record is written and its gate shut. After a seal that the device failed in, the gate may
-    /// be open.
+    /// Its record is written and its commit byte clear. After a seal that the device failed in, the commit byte
+    /// may be set.
     Prepared,
-    /// Its gate is open: the change is in the file.
+    /// Its commit byte is set: the change is in the file.
     Sealed,
 }
 
@@ -23,7 +23,7 @@ pub type Writes = ArrayVec<(u16, u64), MAX_ENTRIES>;
 
 /// A place of a file.
 #[derive(Debug, Drop)]
-pub struct Slot {
+pub struct PlaceState {
     /// How far its change is.
     pub stage: Stage,
     /// What the change writes. Of a free place it means nothing.
@@ -43,25 +43,25 @@ pub(crate) fn writes_to(entries: &Entries) -> Writes
 }
 
 /// The same slots once more. The only error is want of memory.
-pub(crate) fn copies(alloc: Global, slots: &[Slot]) -> Result<Vec<Slot>, AllocError>
-    ensures { IfOk result (λ copies. copies.items ≡ slots.now) }
+pub(crate) fn copies(alloc: Global, states: &[PlaceState]) -> Result<Vec<PlaceState>, AllocError>
+    ensures { IfOk result (λ copies. copies.items ≡ states.now) }
 {
-    let mut copies = Vec::with_capacity(alloc, slots.len())?;
-    for slot in slots {
-        copies.push(slot.copy())?;
+    let mut copies = Vec::with_capacity(alloc, states.len())?;
+    for state in states {
+        copies.push(state.copy())?;
     }
     Ok(copies)
 }
 
-impl Slot {
-    fn copy(&self) -> Slot
+impl PlaceState {
+    fn copy(&self) -> PlaceState
         ensures { result ≡ self.now }
     {
         let mut writes = Writes::new();
         for write in self.writes.as_slice() {
             writes.push(*write);
         }
-        Slot {
+        PlaceState {
             stage: self.stage,
             writes,
         }

@@ -1,7 +1,0 @@
-use Rattle.std.proofs.Common.{◌≡◌, vec_len, true}
-use Rattle.mw_file.specs.Slots.{all_free}
-use Rattle.mw_file.proofs.opening.free_slots.Given as goal
-
--- as many as were made, and all are free
-abbrev pub invariant-loop : goal.invariant-loop
-invariant-loop l = (all_free l.slots.items ≡ true) × (vec_len l.slots ≡ l.counter)
