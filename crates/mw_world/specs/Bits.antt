@@ -3,7 +3,7 @@ use Rattle.std.specs.Prelude.{ℕ, ◌≡◌, ◌+◌, ◌*◌, Bool, cond, nat_
 use Rattle.std.specs.declared.option.Option.{Option}
 use Rattle.mw_words.specs.declared.limits.TheConstants.{MAX_ENTRIES}
 use Rattle.mw_words.specs.declared.places.At.{At}
-use Rattle.mw_words.specs.declared.places.At.TheVariants.{Door as AtDoor, Gate as AtCommit, Row as AtRow, Data, Status as AtStatus, Count, Addr, Expected, New}
+use Rattle.mw_words.specs.declared.places.At.TheVariants.{Door as AtDoor, Gate as AtGate, Row as AtRow, Data, Status as AtStatus, Count, Addr, Expected, New}
 
 -- The bits of each shared word.
 pub record Bits : Type 0 where
@@ -42,7 +42,7 @@ with_word words tenant address bits = slice_set words tenant (slice_set (slice_i
 -- the bits at a place; None where there is no such place
 abbrev pub bits_at : Bits → At → Option ℕ
 bits_at bits (AtDoor tenant) = slice_get bits.doors tenant
-bits_at bits (AtCommit slot) = slice_get bits.gates slot
+bits_at bits (AtGate slot) = slice_get bits.gates slot
 bits_at bits (AtRow worker) = slice_get bits.rows worker
 bits_at bits (Data tenant address) = word_bits bits.words tenant address
 bits_at bits (AtStatus slot) = slice_get bits.statuses slot
@@ -54,7 +54,7 @@ bits_at bits (New slot entry) = entry_at bits.news slot entry
 -- the bits once these stand at a place; nothing changes where there is no such place
 abbrev pub put_bits : Bits → At → ℕ → Bits
 put_bits bits (AtDoor tenant) put = record bits { doors = slice_set bits.doors tenant put }
-put_bits bits (AtCommit slot) put = record bits { gates = slice_set bits.gates slot put }
+put_bits bits (AtGate slot) put = record bits { gates = slice_set bits.gates slot put }
 put_bits bits (AtRow worker) put = record bits { rows = slice_set bits.rows worker put }
 put_bits bits (Data tenant address) put = record bits { words = with_word bits.words tenant address put }
 put_bits bits (AtStatus slot) put = record bits { statuses = slice_set bits.statuses slot put }

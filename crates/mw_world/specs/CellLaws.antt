@@ -3,7 +3,7 @@ use Rattle.std.specs.Prelude.{ℕ, ◌≡◌, ◌≢◌}
 use Rattle.std.proofs.Common.{refl, ap, arith}
 use Rattle.std.proofs.lemmas.Bool.Decides.{nat_tests}
 use Rattle.mw_words.specs.declared.places.At.{At}
-use Rattle.mw_words.specs.declared.places.At.TheVariants.{Door as AtDoor, Gate as AtCommit, Row as AtRow, Data, Status as AtStatus, Count, Addr, Expected, New}
+use Rattle.mw_words.specs.declared.places.At.TheVariants.{Door as AtDoor, Gate as AtGate, Row as AtRow, Data, Status as AtStatus, Count, Addr, Expected, New}
 use Rattle.mw_look.specs.Places.{Val}
 use Rattle.mw_world_file.specs.Maps.{upd, upd_two}
 use Rattle.mw_world.specs.Cells.{Cells, read, write}
@@ -31,7 +31,7 @@ upd_two_other f i j k l x apart = grind (arith, nat_tests, apart)
 
 pub read-same : ReadSame
 read-same cells (AtDoor tenant) x = upd_same cells.doors tenant x
-read-same cells (AtCommit slot) x = upd_same cells.gates slot x
+read-same cells (AtGate slot) x = upd_same cells.gates slot x
 read-same cells (AtRow worker) x = upd_same cells.rows worker x
 read-same cells (Data tenant address) x = upd_two_same cells.words tenant address x
 read-same cells (AtStatus slot) x = upd_same cells.statuses slot x
@@ -42,7 +42,7 @@ read-same cells (New slot entry) x = upd_two_same cells.news slot entry x
 
 pub read-other : ReadOther
 read-other cells (AtDoor i) (AtDoor k) x apart = upd_other cells.doors i k x (λ p. apart (ap AtDoor p))
-read-other cells (AtDoor i) (AtCommit k) x apart = refl
+read-other cells (AtDoor i) (AtGate k) x apart = refl
 read-other cells (AtDoor i) (AtRow k) x apart = refl
 read-other cells (AtDoor i) (Data k l) x apart = refl
 read-other cells (AtDoor i) (AtStatus k) x apart = refl
@@ -50,17 +50,17 @@ read-other cells (AtDoor i) (Count k) x apart = refl
 read-other cells (AtDoor i) (Addr k l) x apart = refl
 read-other cells (AtDoor i) (Expected k l) x apart = refl
 read-other cells (AtDoor i) (New k l) x apart = refl
-read-other cells (AtCommit i) (AtDoor k) x apart = refl
-read-other cells (AtCommit i) (AtCommit k) x apart = upd_other cells.gates i k x (λ p. apart (ap AtCommit p))
-read-other cells (AtCommit i) (AtRow k) x apart = refl
-read-other cells (AtCommit i) (Data k l) x apart = refl
-read-other cells (AtCommit i) (AtStatus k) x apart = refl
-read-other cells (AtCommit i) (Count k) x apart = refl
-read-other cells (AtCommit i) (Addr k l) x apart = refl
-read-other cells (AtCommit i) (Expected k l) x apart = refl
-read-other cells (AtCommit i) (New k l) x apart = refl
+read-other cells (AtGate i) (AtDoor k) x apart = refl
+read-other cells (AtGate i) (AtGate k) x apart = upd_other cells.gates i k x (λ p. apart (ap AtGate p))
+read-other cells (AtGate i) (AtRow k) x apart = refl
+read-other cells (AtGate i) (Data k l) x apart = refl
+read-other cells (AtGate i) (AtStatus k) x apart = refl
+read-other cells (AtGate i) (Count k) x apart = refl
+read-other cells (AtGate i) (Addr k l) x apart = refl
+read-other cells (AtGate i) (Expected k l) x apart = refl
+read-other cells (AtGate i) (New k l) x apart = refl
 read-other cells (AtRow i) (AtDoor k) x apart = refl
-read-other cells (AtRow i) (AtCommit k) x apart = refl
+read-other cells (AtRow i) (AtGate k) x apart = refl
 read-other cells (AtRow i) (AtRow k) x apart = upd_other cells.rows i k x (λ p. apart (ap AtRow p))
 read-other cells (AtRow i) (Data k l) x apart = refl
 read-other cells (AtRow i) (AtStatus k) x apart = refl
@@ -69,7 +69,7 @@ read-other cells (AtRow i) (Addr k l) x apart = refl
 read-other cells (AtRow i) (Expected k l) x apart = refl
 read-other cells (AtRow i) (New k l) x apart = refl
 read-other cells (Data i j) (AtDoor k) x apart = refl
-read-other cells (Data i j) (AtCommit k) x apart = refl
+read-other cells (Data i j) (AtGate k) x apart = refl
 read-other cells (Data i j) (AtRow k) x apart = refl
 read-other cells (Data i j) (Data k l) x apart = upd_two_other cells.words i j k l x (λ p q. apart (λ d. Data (p d) (q d)))
 read-other cells (Data i j) (AtStatus k) x apart = refl
@@ -78,7 +78,7 @@ read-other cells (Data i j) (Addr k l) x apart = refl
 read-other cells (Data i j) (Expected k l) x apart = refl
 read-other cells (Data i j) (New k l) x apart = refl
 read-other cells (AtStatus i) (AtDoor k) x apart = refl
-read-other cells (AtStatus i) (AtCommit k) x apart = refl
+read-other cells (AtStatus i) (AtGate k) x apart = refl
 read-other cells (AtStatus i) (AtRow k) x apart = refl
 read-other cells (AtStatus i) (Data k l) x apart = refl
 read-other cells (AtStatus i) (AtStatus k) x apart = upd_other cells.statuses i k x (λ p. apart (ap AtStatus p))
@@ -87,7 +87,7 @@ read-other cells (AtStatus i) (Addr k l) x apart = refl
 read-other cells (AtStatus i) (Expected k l) x apart = refl
 read-other cells (AtStatus i) (New k l) x apart = refl
 read-other cells (Count i) (AtDoor k) x apart = refl
-read-other cells (Count i) (AtCommit k) x apart = refl
+read-other cells (Count i) (AtGate k) x apart = refl
 read-other cells (Count i) (AtRow k) x apart = refl
 read-other cells (Count i) (Data k l) x apart = refl
 read-other cells (Count i) (AtStatus k) x apart = refl
@@ -96,7 +96,7 @@ read-other cells (Count i) (Addr k l) x apart = refl
 read-other cells (Count i) (Expected k l) x apart = refl
 read-other cells (Count i) (New k l) x apart = refl
 read-other cells (Addr i j) (AtDoor k) x apart = refl
-read-other cells (Addr i j) (AtCommit k) x apart = refl
+read-other cells (Addr i j) (AtGate k) x apart = refl
 read-other cells (Addr i j) (AtRow k) x apart = refl
 read-other cells (Addr i j) (Data k l) x apart = refl
 read-other cells (Addr i j) (AtStatus k) x apart = refl
@@ -105,7 +105,7 @@ read-other cells (Addr i j) (Addr k l) x apart = upd_two_other cells.addrs i j k
 read-other cells (Addr i j) (Expected k l) x apart = refl
 read-other cells (Addr i j) (New k l) x apart = refl
 read-other cells (Expected i j) (AtDoor k) x apart = refl
-read-other cells (Expected i j) (AtCommit k) x apart = refl
+read-other cells (Expected i j) (AtGate k) x apart = refl
 read-other cells (Expected i j) (AtRow k) x apart = refl
 read-other cells (Expected i j) (Data k l) x apart = refl
 read-other cells (Expected i j) (AtStatus k) x apart = refl
@@ -114,7 +114,7 @@ read-other cells (Expected i j) (Addr k l) x apart = refl
 read-other cells (Expected i j) (Expected k l) x apart = upd_two_other cells.expecteds i j k l x (λ p q. apart (λ d. Expected (p d) (q d)))
 read-other cells (Expected i j) (New k l) x apart = refl
 read-other cells (New i j) (AtDoor k) x apart = refl
-read-other cells (New i j) (AtCommit k) x apart = refl
+read-other cells (New i j) (AtGate k) x apart = refl
 read-other cells (New i j) (AtRow k) x apart = refl
 read-other cells (New i j) (Data k l) x apart = refl
 read-other cells (New i j) (AtStatus k) x apart = refl

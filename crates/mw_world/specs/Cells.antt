@@ -1,7 +1,7 @@
 -- The shared words, each with what stands there in place of its bits.
 use Rattle.std.specs.Prelude.{ℕ}
 use Rattle.mw_words.specs.declared.places.At.{At}
-use Rattle.mw_words.specs.declared.places.At.TheVariants.{Door as AtDoor, Gate as AtCommit, Row as AtRow, Data, Status as AtStatus, Count, Addr, Expected, New}
+use Rattle.mw_words.specs.declared.places.At.TheVariants.{Door as AtDoor, Gate as AtGate, Row as AtRow, Data, Status as AtStatus, Count, Addr, Expected, New}
 use Rattle.mw_words.specs.declared.doors.Door.{Door}
 use Rattle.mw_words.specs.declared.gates.Gate.{Gate}
 use Rattle.mw_words.specs.declared.rows.Row.{Row}
@@ -31,7 +31,7 @@ pub record Cells : Type 0 where
 -- what stands at a place
 abbrev pub read : Cells → (at : At) → Val at
 read cells (AtDoor tenant) = cells.doors tenant
-read cells (AtCommit slot) = cells.gates slot
+read cells (AtGate slot) = cells.gates slot
 read cells (AtRow worker) = cells.rows worker
 read cells (Data tenant address) = cells.words tenant address
 read cells (AtStatus slot) = cells.statuses slot
@@ -43,7 +43,7 @@ read cells (New slot entry) = cells.news slot entry
 -- the shared words once this stands at a place
 abbrev pub write : Cells → (at : At) → Val at → Cells
 write cells (AtDoor tenant) door = record cells { doors = upd cells.doors tenant door }
-write cells (AtCommit slot) gate = record cells { gates = upd cells.gates slot gate }
+write cells (AtGate slot) gate = record cells { gates = upd cells.gates slot gate }
 write cells (AtRow worker) row = record cells { rows = upd cells.rows worker row }
 write cells (Data tenant address) word = record cells { words = upd_two cells.words tenant address word }
 write cells (AtStatus slot) status = record cells { statuses = upd cells.statuses slot status }

@@ -1,7 +1,7 @@
 -- What a step does to what stands at its place, and what it finds there.
 use Rattle.std.specs.Prelude.{◌-◌, ◌==◌, true, cond}
 use Rattle.mw_words.specs.declared.places.At.{At}
-use Rattle.mw_words.specs.declared.places.At.TheVariants.{Door as AtDoor, Gate as AtCommit}
+use Rattle.mw_words.specs.declared.places.At.TheVariants.{Door as AtDoor, Gate as AtGate}
 use Rattle.mw_pool.specs.Moves.{after_unpin}
 use Rattle.mw_look.specs.declared.steps.Kind.{Kind}
 use Rattle.mw_look.specs.declared.steps.Kind.TheVariants.{Fill as FillKind, Unpin as UnpinKind, Free as FreeKind, Drop as DropKind, Row as RowKind, Fault as FaultKind}
@@ -30,7 +30,7 @@ shape_of kind = Exchange
 
 -- What a fetch makes of what it finds: a gate with a pin less, a door that counts a slot less, a door with the fault.
 abbrev pub fetched : Kind → (at : At) → Val at → Val at
-fetched UnpinKind (AtCommit slot) gate = after_unpin gate
+fetched UnpinKind (AtGate slot) gate = after_unpin gate
 fetched DropKind (AtDoor tenant) door = record door { used = door.used - 1 }
 fetched FaultKind (AtDoor tenant) door = record door { fault = true }
 fetched kind at x = x

@@ -2,7 +2,7 @@
 use Rattle.std.specs.Prelude.{ℕ, ◌&&◌, Bool, nat_lt}
 use Rattle.mw_words.specs.declared.limits.TheConstants.{MAX_ENTRIES}
 use Rattle.mw_words.specs.declared.places.At.{At}
-use Rattle.mw_words.specs.declared.places.At.TheVariants.{Door as AtDoor, Gate as AtCommit, Row as AtRow, Data, Status as AtStatus, Count, Addr, Expected, New}
+use Rattle.mw_words.specs.declared.places.At.TheVariants.{Door as AtDoor, Gate as AtGate, Row as AtRow, Data, Status as AtStatus, Count, Addr, Expected, New}
 use Rattle.mw_world.specs.declared.config.Config.{Config}
 use Rattle.mw_world.specs.State.{tenant_at, tenants_of}
 
@@ -16,7 +16,7 @@ has_entry config slot entry = has_slot config slot && nat_lt entry MAX_ENTRIES
 -- there is a shared word at this place
 abbrev pub has_place : Config → At → Bool
 has_place config (AtDoor tenant) = nat_lt tenant (tenants_of config)
-has_place config (AtCommit slot) = has_slot config slot
+has_place config (AtGate slot) = has_slot config slot
 has_place config (AtRow worker) = nat_lt worker config.workers
 has_place config (Data tenant address) = nat_lt address (tenant_at config tenant).words
 has_place config (AtStatus slot) = has_slot config slot

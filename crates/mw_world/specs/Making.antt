@@ -3,7 +3,7 @@ use Rattle.std.specs.Prelude.{ℕ, ◌≡◌, ◌-◌, ◌==◌, Bool, true, fal
 use Rattle.std.specs.declared.option.Option.{Option}
 use Rattle.std.specs.Option.{option_map_or}
 use Rattle.mw_words.specs.declared.places.At.{At}
-use Rattle.mw_words.specs.declared.places.At.TheVariants.{Door as AtDoor, Gate as AtCommit}
+use Rattle.mw_words.specs.declared.places.At.TheVariants.{Door as AtDoor, Gate as AtGate}
 use Rattle.mw_words.specs.Patterns.{packed_door, packed_gate, unpacked_door, unpacked_gate}
 use Rattle.mw_pool.specs.Moves.{after_unpin}
 use Rattle.mw_look.specs.declared.steps.Kind.{Kind}
@@ -24,7 +24,7 @@ use Rattle.mw_look.specs.Steps.{StepFits}
 -- What a fetch makes of the bits that it finds: a gate with a pin less, a door that counts a slot less, a door with the fault.
 -- Bits that are no pattern stay.
 abbrev pub fetched_bits : Kind → At → ℕ → ℕ
-fetched_bits UnpinKind (AtCommit slot) bits = option_map_or (λ gate. packed_gate (after_unpin gate)) (unpacked_gate bits) bits
+fetched_bits UnpinKind (AtGate slot) bits = option_map_or (λ gate. packed_gate (after_unpin gate)) (unpacked_gate bits) bits
 fetched_bits DropKind (AtDoor tenant) bits = option_map_or (λ door. packed_door (record door { used = door.used - 1 })) (unpacked_door bits) bits
 fetched_bits FaultKind (AtDoor tenant) bits = option_map_or (λ door. packed_door (record door { fault = true })) (unpacked_door bits) bits
 fetched_bits kind at bits = bits
