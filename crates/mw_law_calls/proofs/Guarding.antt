@@ -22,10 +22,10 @@ use Rattle.mw_world_file.specs.declared.outcomes.Outcome.TheVariants.{Good, Fail
 use Rattle.mw_world.specs.declared.config.Config.{Config}
 use Rattle.mw_world.specs.declared.notes.Phase.{Phase}
 use Rattle.mw_world.specs.declared.notes.Phase.TheVariants.{Fresh, Keeping}
-use Rattle.mw_world.specs.Calls.{Called, called_at, starts_from, fails_on}
-use Rattle.mw_world.specs.History.{Resting, Stands, Idle, Armed, Standing, Arm, has, entry_for, standing_at, arm_at}
-use Rattle.mw_world.specs.Invariant.{IsEntryOf}
-use Rattle.mw_world.specs.State.{State}
+use Rattle.mw_world.specs.Definition.Calls.{Called, called_at, starts_from, fails_on}
+use Rattle.mw_world.specs.Definition.History.{Resting, Stands, Idle, Armed, Standing, Arm, has, entry_for, standing_at, arm_at}
+use Rattle.mw_world.specs.Claim.Invariant.{IsEntryOf}
+use Rattle.mw_world.specs.Definition.State.{State}
 use Rattle.mw_law_moves.specs.Guards.{Guards, IsLive, MayPrepare, MayPose, MaySetDoor}
 use Rattle.mw_law_moves.specs.Moves.{Prepare as PrepareMove, Seal as SealMove, Settle as SettleMove, Cancel as CancelMove, SetDoor, Spoil, made}
 use Rattle.mw_law_moves.specs.Stepped.{faulted, moves_called, moves_of_call, status_moves, pose}

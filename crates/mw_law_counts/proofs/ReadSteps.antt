@@ -17,10 +17,10 @@ use Rattle.mw_look.specs.Runs.{if_same}
 use Rattle.mw_actor.specs.declared.points.Point.TheVariants.{Read}
 use Rattle.mw_actor.specs.Acting.{Acting}
 use Rattle.mw_world.specs.declared.config.Config.{Config}
-use Rattle.mw_world.specs.Cells.{Cells, write}
+use Rattle.mw_world.specs.Definition.Cells.{Cells, write}
 use Rattle.mw_world_file.specs.Maps.{upd}
-use Rattle.mw_world.specs.State.{State}
-use Rattle.mw_world.specs.Turns.{made_of, turned}
+use Rattle.mw_world.specs.Definition.State.{State}
+use Rattle.mw_world.specs.Definition.Turns.{made_of, turned}
 use Rattle.mw_law_counts.specs.Standing.{CountsStand, CountsRestOn}
 use Rattle.mw_law_counts.proofs.Effects.{lowers, pins, unpins, frees, quiet, upd_here, upd_else}
 use Rattle.mw_law_counts.proofs.Points.{read_goes}

@@ -20,8 +20,8 @@ use Rattle.mw_actor.specs.Acting.{Acting}
 use Rattle.mw_actor.specs.Finishing.{resumed}
 use Rattle.mw_actor.specs.BalanceLaws.{pins_after}
 use Rattle.mw_world.specs.declared.config.Config.{Config}
-use Rattle.mw_world.specs.Counting.{pins_held, frees_at}
-use Rattle.mw_world.specs.State.{State}
+use Rattle.mw_world.specs.Definition.Counting.{pins_held, frees_at}
+use Rattle.mw_world.specs.Definition.State.{State}
 use Rattle.mw_law_moves.specs.Guards.{Guards}
 use Rattle.mw_law_moves.specs.Relying.{Later}
 use Rattle.mw_law_moves.specs.Stepped.{moves_told}

@@ -29,7 +29,7 @@ use Rattle.mw_actor.specs.Helping.{others_read}
 use Rattle.mw_actor.specs.Program.{goes}
 use Rattle.mw_actor.specs.StageLaws.{goes_leads}
 use Rattle.mw_actor.specs.Stages.{Stage, Outside, Entering, Seeking, Claiming, WritingStatus, WritingCount, WritingAddr, WritingExpected, WritingNew, Preparing, Checking, Inspecting, Holding, Deciding, Working, Nearing, Pinning, Fetching, Leaving, Freeing, Lowering, GivingUp, stage, Resumes, OnTask, Scans, Leads}
-use Rattle.mw_world.specs.State.{State}
+use Rattle.mw_world.specs.Definition.State.{State}
 use Rattle.mw_law_facts.specs.Laws.{LiveSlotsGoOn}
 use Rattle.mw_law_facts.specs.Live.{IsLiveTask, AreLiveAfter, AreLiveAt, IsLiveHold, AreLiveInRead, AreLive, TakesNoPinAt, TakesNoPinInRead}
 

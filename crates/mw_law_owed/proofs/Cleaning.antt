@@ -29,8 +29,8 @@ use Rattle.mw_actor.specs.Helping.{turns_to, helps, pinned, other_gate_read, cou
 use Rattle.mw_actor.specs.Inspecting.{status_read, next_word, attempts, dirty_seen, held_seen, inspected, attempt_met, attempt_confirmed, dirty_gate_read, dirty_confirmed}
 use Rattle.mw_actor.specs.StageLaws.{both_same}
 use Rattle.mw_actor.specs.Sweeping.{next_sweep, sweep_over, swept, sweep_confirmed}
-use Rattle.mw_world.specs.Owing.{IsFrom, CleansFrom, GoesOn, CleansAt}
-use Rattle.mw_world.specs.State.{State}
+use Rattle.mw_world.specs.Claim.Owing.{IsFrom, CleansFrom, GoesOn, CleansAt}
+use Rattle.mw_world.specs.Definition.State.{State}
 use Rattle.mw_law_owed.proofs.Apart.{plain_dirty, planted_dirty, held_dirty}
 use Rattle.mw_law_owed.proofs.Rounds.{none_from, cleans_next}
 

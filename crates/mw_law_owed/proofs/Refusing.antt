@@ -26,10 +26,10 @@ use Rattle.mw_actor.specs.Inspecting.{status_read}
 use Rattle.mw_actor.specs.Sweeping.{next_sweep, sweep_over, swept, sweep_confirmed}
 use Rattle.mw_world_file.specs.Maps.{upd_two}
 use Rattle.mw_world.specs.declared.config.Config.{Config}
-use Rattle.mw_world.specs.History.{entry_for}
-use Rattle.mw_world.specs.Invariant.{IsRefused}
-use Rattle.mw_world.specs.Owing.{IsFrom, ComesTo, OwesAt}
-use Rattle.mw_world.specs.State.{State}
+use Rattle.mw_world.specs.Definition.History.{entry_for}
+use Rattle.mw_world.specs.Claim.Invariant.{IsRefused}
+use Rattle.mw_world.specs.Claim.Owing.{IsFrom, ComesTo, OwesAt}
+use Rattle.mw_world.specs.Definition.State.{State}
 use Rattle.mw_law_facts.specs.Facts.{WorksOn}
 use Rattle.mw_law_facts.specs.Informed.{IsInformed, ChangesNoWord, ChangesAWord}
 use Rattle.mw_law_facts.specs.Points.{without_point}

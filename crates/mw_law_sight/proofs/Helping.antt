@@ -10,7 +10,7 @@ use Rattle.mw_actor.specs.declared.points.Task.{Task}
 use Rattle.mw_actor.specs.Acting.{Acting, own_entries, entry_at, is_alone}
 use Rattle.mw_actor.specs.Helping.{count_read, addr_read, expected_read, next_read, new_read}
 use Rattle.mw_world.specs.declared.config.Config.{Config}
-use Rattle.mw_world.specs.State.{State}
+use Rattle.mw_world.specs.Definition.State.{State}
 use Rattle.mw_law_moves.specs.Guards.{IsLive}
 use Rattle.mw_law_moves.specs.Memory.{Memory}
 use Rattle.mw_law_facts.specs.Facts.{IsAtWork, WorksOn, AreFirstOf, HasRead, next_of_others}

@@ -24,9 +24,9 @@ use Rattle.mw_actor.specs.Inspecting.{status_read, next_word, attempts, dirty_se
 use Rattle.mw_actor.specs.StageLaws.{both_same}
 use Rattle.mw_world.specs.declared.config.Config.{Config}
 use Rattle.mw_world.specs.declared.notes.Phase.TheVariants.{Keeping}
-use Rattle.mw_world.specs.History.{Resting, Stands}
-use Rattle.mw_world.specs.Invariant.{IsRefused}
-use Rattle.mw_world.specs.State.{State}
+use Rattle.mw_world.specs.Definition.History.{Resting, Stands}
+use Rattle.mw_world.specs.Claim.Invariant.{IsRefused}
+use Rattle.mw_world.specs.Definition.State.{State}
 use Rattle.mw_law_moves.specs.Memory.{Memory}
 use Rattle.mw_law_facts.specs.Facts.{MayBeMet, WorksOn, AtEntry, HoldsUpTo, phase_at, IsDecidedAs, IsSweptUpTo, Sweeps, IsAnothers, IsForChangeAt}
 use Rattle.mw_law_facts.specs.Points.{Knows, without_point}

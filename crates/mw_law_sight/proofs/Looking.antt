@@ -29,9 +29,9 @@ use Rattle.mw_actor.specs.Asks.{asks_at}
 use Rattle.mw_actor.specs.Helping.{others_read, pinned}
 use Rattle.mw_actor.specs.Program.{goes}
 use Rattle.mw_world.specs.declared.config.Config.{Config}
-use Rattle.mw_world.specs.Changes.{Exchange, Store, Fetch}
-use Rattle.mw_world.specs.State.{State}
-use Rattle.mw_world.specs.Turns.{next_attempt}
+use Rattle.mw_world.specs.Definition.Changes.{Exchange, Store, Fetch}
+use Rattle.mw_world.specs.Definition.State.{State}
+use Rattle.mw_world.specs.Definition.Turns.{next_attempt}
 use Rattle.mw_law_facts.specs.Facts.{IsGiven, IsForChange}
 use Rattle.mw_law_facts.specs.Informed.{IsInformed, ChangesNoWord}
 use Rattle.mw_law_facts.specs.Live.{TakesNoPin, TakesNoPinInRead}

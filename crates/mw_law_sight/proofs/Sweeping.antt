@@ -21,9 +21,9 @@ use Rattle.mw_actor.specs.StageLaws.{both_same}
 use Rattle.mw_actor.specs.Sweeping.{sweep_over, next_sweep, attempt_swept, swept, sweep_confirmed}
 use Rattle.mw_world.specs.declared.config.Config.{Config}
 use Rattle.mw_world.specs.declared.notes.Phase.TheVariants.{Fresh, Keeping}
-use Rattle.mw_world.specs.History.{new}
-use Rattle.mw_world.specs.Invariant.{IsMade}
-use Rattle.mw_world.specs.State.{State}
+use Rattle.mw_world.specs.Definition.History.{new}
+use Rattle.mw_world.specs.Claim.Invariant.{IsMade}
+use Rattle.mw_world.specs.Definition.State.{State}
 use Rattle.mw_law_moves.specs.Guards.{IsLive}
 use Rattle.mw_law_moves.specs.Memory.{Memory}
 use Rattle.mw_law_facts.specs.Facts.{WorksOn, phase_at, IsDecidedAs, IsSweptUpTo, Sweeps, Releases, LooksInto, IsOver, IsForChangeAt}

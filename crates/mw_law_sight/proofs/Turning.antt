@@ -14,7 +14,7 @@ use Rattle.mw_actor.specs.Acting.{Acting, own_entries, is_alone, alone, same_slo
 use Rattle.mw_actor.specs.Finishing.{works, resumed, gives_up, finishes}
 use Rattle.mw_actor.specs.Helping.{turns_to, helps}
 use Rattle.mw_actor.specs.StageLaws.{both_same}
-use Rattle.mw_world.specs.State.{State}
+use Rattle.mw_world.specs.Definition.State.{State}
 use Rattle.mw_law_facts.specs.Facts.{IsKnown, MayBeMet, IsReadied, IsAtWork, WorksOn, IsOver, Follows}
 use Rattle.mw_law_facts.specs.Points.{Knows, without_point}
 

@@ -1,6 +1,6 @@
 //! Plays the lines of a schedule on a world.
 ghost use Rattle.std.specs.Prelude.{◌≡◌};
-ghost use Rattle.mw_world.specs.State.{IsConfig};
+ghost use Rattle.mw_world.specs.Definition.State.{IsConfig};
 
 use mw_actor::Actor;
 use mw_line::Say;

@@ -1,7 +1,7 @@
 //! The lines of a schedule that tell what is to happen.
 ghost use Rattle.std.specs.Prelude.{◌≡◌, ◌<◌, IfOk, IfSome};
 ghost use Rattle.mw_words.specs.declared.limits.TheConstants.{MAX_WORKERS as most_workers};
-ghost use Rattle.mw_world.specs.State.{tenants_of};
+ghost use Rattle.mw_world.specs.Definition.State.{tenants_of};
 ghost use Rattle.mw_schedule.specs.Playing.{IsPlayable};
 
 use crate::fields::{cut, number, number_within};

@@ -2,7 +2,7 @@
 ghost use Rattle.std.specs.Prelude.{◌≡◌, ◌≤◌, IsTrue, bytes_eq, IfOk, IfSome};
 ghost use Rattle.std.specs.List.{list_any};
 ghost use Rattle.mw_words.specs.Name as name_spec;
-ghost use Rattle.mw_world.specs.State.{IsConfig};
+ghost use Rattle.mw_world.specs.Definition.State.{IsConfig};
 ghost use Rattle.mw_schedule.specs.Playing.{AreNamed, AreTenants, IsNext};
 
 use crate::fields::{behind, cut, number_within};

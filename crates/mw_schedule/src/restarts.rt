@@ -1,7 +1,7 @@
 //! How each tenant's file is stopped and opened again, as a schedule tells it.
 ghost use Rattle.std.specs.Prelude.{◌≡◌, ◌==◌, ◌<◌, ◌≤◌, length, IfOk, IfSome};
 ghost use Rattle.std.specs.List.{list_any};
-ghost use Rattle.mw_world.specs.State.{tenants_of};
+ghost use Rattle.mw_world.specs.Definition.State.{tenants_of};
 ghost use Rattle.mw_schedule.specs.Playing.{AreStops, IsOfWorker};
 
 use crate::commands::{tenant_of, worker_of};

@@ -13,11 +13,11 @@ use Rattle.mw_words.specs.Patterns.{packed_door, packed_gate}
 use Rattle.mw_words.specs.Change.{AreWords, word_at}
 use Rattle.mw_world.specs.declared.config.Config.{Config}
 use Rattle.mw_world.specs.declared.config.Tenant.{Tenant}
-use Rattle.mw_world.specs.State.{IsConfig, no_tenant, tenant_at, tenants_of, first_cells}
-use Rattle.mw_world.specs.Bits.{Bits, entry_at, word_bits}
-use Rattle.mw_world.specs.Ties.{Tie, AllFit}
-use Rattle.mw_world.specs.BitPlaces.{HasPlacesOf}
-use Rattle.mw_world.specs.Openings.{Openings, opening_at, AreOpenings, Gave, first_words, first_door, AreFirstWords}
+use Rattle.mw_world.specs.Definition.State.{IsConfig, no_tenant, tenant_at, tenants_of, first_cells}
+use Rattle.mw_world.specs.Memory.Bits.{Bits, entry_at, word_bits}
+use Rattle.mw_world.specs.Memory.Ties.{Tie, AllFit}
+use Rattle.mw_world.specs.Memory.BitPlaces.{HasPlacesOf}
+use Rattle.mw_world.specs.Memory.Openings.{Openings, opening_at, AreOpenings, Gave, first_words, first_door, AreFirstWords}
 
 -- The shared words were made so.
 pub record StartsAs (config : Config) (openings : Openings) (bits : Bits) : Type 0 where

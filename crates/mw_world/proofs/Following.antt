@@ -11,8 +11,8 @@ use Rattle.mw_world_file.specs.declared.device.Device.{Device}
 use Rattle.mw_world_file.specs.declared.device.Device.TheVariants.{Open, Shut}
 use Rattle.mw_world_file.specs.Devices.{disk_under, StandsFor}
 use Rattle.mw_world.specs.declared.accounts.Account.{Account as AccountInMemory}
-use Rattle.mw_world.specs.Headline.{EveryRunServesAlone, EqualMarksHaveEqualReplies, EveryImageIsOfStore, IsFileOfEither, store_words}
-use Rattle.mw_world.specs.State.{tenant_at, tenants_of, marks_of}
+use Rattle.mw_world.specs.Claim.Headline.{EveryRunServesAlone, EqualMarksHaveEqualReplies, EveryImageIsOfStore, IsFileOfEither, store_words}
+use Rattle.mw_world.specs.Definition.State.{tenant_at, tenants_of, marks_of}
 
 -- the replies are a function of the number of words, the quota and the marks
 pub equal_marks : EveryRunServesAlone → EqualMarksHaveEqualReplies

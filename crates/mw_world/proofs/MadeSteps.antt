@@ -21,12 +21,12 @@ use Rattle.mw_look.specs.News.{news_of, news_of_bits, seen}
 use Rattle.mw_look.specs.Places.{Val, Fits, pack}
 use Rattle.mw_look.specs.PlaceLaws.{packs_are_seen}
 use Rattle.mw_look.specs.Steps.{Step, Load, Change, File, op_of, place}
-use Rattle.mw_world.specs.Cells.{Cells, read, write}
-use Rattle.mw_world.specs.Changes.{Shape, Exchange, Store, Fetch, shape_of, fetched, changed, done}
-use Rattle.mw_world.specs.Bits.{Bits, bits_at, put_bits, is_there, SamePlaces}
-use Rattle.mw_world.specs.Ties.{Tie, AllFit}
+use Rattle.mw_world.specs.Definition.Cells.{Cells, read, write}
+use Rattle.mw_world.specs.Definition.Changes.{Shape, Exchange, Store, Fetch, shape_of, fetched, changed, done}
+use Rattle.mw_world.specs.Memory.Bits.{Bits, bits_at, put_bits, is_there, SamePlaces}
+use Rattle.mw_world.specs.Memory.Ties.{Tie, AllFit}
 use Rattle.mw_look.specs.Steps.{StepFits}
-use Rattle.mw_world.specs.Making.{fetched_bits, bits_changed, got_by, bits_after, got_after, is_step_there, cells_after, news_after, Makes}
+use Rattle.mw_world.specs.Memory.Making.{fetched_bits, bits_changed, got_by, bits_after, got_after, is_step_there, cells_after, news_after, Makes}
 use Rattle.mw_world.proofs.Tying.{put_ties, write_fits, put_keeps_places}
 
 -- what a fetch makes of what stands at a place is in range

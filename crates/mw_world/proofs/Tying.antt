@@ -9,10 +9,10 @@ use Rattle.mw_words.specs.declared.limits.TheConstants.{MAX_ENTRIES}
 use Rattle.mw_words.specs.declared.places.At.{At}
 use Rattle.mw_words.specs.declared.places.At.TheVariants.{Door as AtDoor, Gate as AtGate, Row as AtRow, Data, Status as AtStatus, Count, Addr, Expected, New}
 use Rattle.mw_look.specs.Places.{Val, Fits, pack}
-use Rattle.mw_world.specs.Cells.{Cells, read, write}
-use Rattle.mw_world.specs.CellLaws.{read-same, read-other}
-use Rattle.mw_world.specs.Bits.{Bits, bits_at, put_bits, is_there, entry_at, with_entry, word_bits, with_word, SamePlaces}
-use Rattle.mw_world.specs.Ties.{Tie, AllFit}
+use Rattle.mw_world.specs.Definition.Cells.{Cells, read, write}
+use Rattle.mw_world.proofs.PlacesApart.{read-same, read-other}
+use Rattle.mw_world.specs.Memory.Bits.{Bits, bits_at, put_bits, is_there, entry_at, with_entry, word_bits, with_word, SamePlaces}
+use Rattle.mw_world.specs.Memory.Ties.{Tie, AllFit}
 
 -- an element that was set, if there is one
 got_same : (xs : List ℕ) (i x : ℕ) → IfSome (slice_get (slice_set xs i x) i) (λ y. y ≡ x)

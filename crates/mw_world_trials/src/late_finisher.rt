@@ -1,7 +1,7 @@
 //! A worker that is late: it plants its attempt after another change has come and gone. The events of
 //! that schedule are given to a world at once, and the tenant's marks to a new store alone.
 ghost use Rattle.std.specs.Prelude.{◌≡◌, ◌<◌, length};
-ghost use Rattle.mw_world.specs.State.{IsConfig};
+ghost use Rattle.mw_world.specs.Definition.State.{IsConfig};
 
 use super::*;
 use arrayvec::ArrayVec;
