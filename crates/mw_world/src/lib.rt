@@ -31,6 +31,3 @@ pub use laws::{
 };
 pub use notes::{Note, Phase};
 pub use world::World;
-
-#[cfg(test)]
-mod tests;
