@@ -17,6 +17,3 @@ pub use laws::{
     replies_give_back, requests_stay_with_their_tenant, steps_come_in_turn,
 };
 pub use points::{After, Attempt, Point, Slot, Sweep, Task};
-
-#[cfg(test)]
-mod tests;

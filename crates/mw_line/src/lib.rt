@@ -11,6 +11,3 @@ mod requests;
 pub use laws::{number_texts, numbers_as_printed, one_spelling};
 pub use replies::{ErrCode, MAX_REPLY, Say};
 pub use requests::{LineFault, Request, read_line};
-
-#[cfg(test)]
-mod tests;

@@ -19,6 +19,3 @@ pub use look::Look;
 pub use news::{Got, News, Told};
 pub use points::{After, Point, Trail};
 pub use steps::{Call, Kind, Op};
-
-#[cfg(test)]
-mod tests;

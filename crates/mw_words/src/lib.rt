@@ -26,8 +26,3 @@ pub use replies::Reply;
 pub use rows::Row;
 pub use statuses::Status;
 pub use words::Word;
-
-#[cfg(test)]
-mod pattern_tests;
-#[cfg(test)]
-mod tests;

@@ -1,4 +1,4 @@
-use super::*;
+use mw_lone::*;
 use mw_words::{Entries, Entry, Job, Reply};
 use std::test::Fail;
 

@@ -1,5 +1,5 @@
 //! Files with one fault each, and a file that is read.
-use crate::{COMMITTED, Damage, MAX_FILE, body, decode, header, home_at, place_at, size};
+use mw_record::{COMMITTED, Damage, MAX_FILE, body, decode, header, home_at, place_at, size};
 use mw_words::{Entries, Entry};
 use std::test::Fail;
 

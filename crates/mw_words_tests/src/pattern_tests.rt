@@ -1,4 +1,4 @@
-use super::*;
+use mw_words::*;
 
 #[test]
 fn words(rt: HostRuntime) {

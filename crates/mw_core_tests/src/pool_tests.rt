@@ -1,4 +1,4 @@
-use super::*;
+use mw_pool::*;
 use mw_words::{Door, Gate, MAX_PINS, WORN_NUMBER};
 
 fn gate(taken: bool, pins: u16, seq: u64) -> Gate {

@@ -1,4 +1,4 @@
-use super::*;
+use mw_disk::*;
 use std::cell::Cell;
 use std::fs::{Metadata, OpenFile, OpenOptions};
 use std::io::ErrorKind;

@@ -1,4 +1,4 @@
-use super::*;
+use mw_words::*;
 
 fn entry(addr: u16, new: u64) -> Entry {
     Entry {

@@ -3,10 +3,10 @@ ghost use Rattle.mw_words.specs.Change.{is_well_formed};
 ghost use Rattle.mw_plain.specs.Lines.{FitsLine};
 ghost use Rattle.mw_plain.specs.Parts.{tenants, words_at};
 
-use super::*;
 use mw_config::TenantLine;
 use mw_disk::MemDisk;
 use mw_file::TenantFile;
+use mw_plain::*;
 use mw_record::{header, size};
 use mw_words::{Entries, Entry, Job, Reply};
 use std::alloc::{AllocError, Global};

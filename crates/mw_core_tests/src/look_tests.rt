@@ -1,4 +1,4 @@
-use super::*;
+use mw_look::*;
 use mw_words::{At, Reply};
 
 const DOOR: At = At::Door(2);

@@ -1,4 +1,4 @@
-use super::*;
+use mw_line::*;
 use mw_words::{Entries, Entry, Job, MAX_LINE, Name, Reply};
 
 /// A change of words that hold 0, with these addresses and new values.

@@ -1,7 +1,7 @@
 ghost use Rattle.std.specs.Prelude.{◌≤◌};
 ghost use Rattle.mw_report.specs.Table.{IsWithinLimits};
 
-use super::*;
+use mw_report::*;
 use mw_words::{MAX_QUOTA, MAX_WORDS, Name};
 
 /// A tenant with no slot in use.

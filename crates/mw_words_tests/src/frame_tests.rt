@@ -1,5 +1,5 @@
-use super::*;
 use arrayvec::ArrayVec;
+use mw_frame::*;
 use mw_words::MAX_LINE;
 use std::test::Fail;
 

@@ -1,4 +1,4 @@
-use super::*;
+use mw_actor::*;
 use mw_look::{Call, Got, Kind, Op, Told};
 use mw_words::{At, Entries, Entry, Job, Reply, WORN_NUMBER};
 
