@@ -6,13 +6,13 @@ use Rattle.mw_words.specs.declared.jobs.Entry.{Entry}
 use Rattle.mw_words.specs.Change.{is_change}
 use Rattle.mw_disk.specs.Runs.{SameBut}
 use Rattle.mw_record.specs.declared.layout.TheConstants.{HEAD_SIZE, PLACE_SIZE, BODY_SIZE, COMMITTED}
-use Rattle.mw_record.specs.Layout.{place_at, size, body, pairs_of}
+use Rattle.mw_record.specs.Layout.{place_at, size, body, pairs_of, SameBytes}
 use Rattle.mw_record.specs.Records.{Pairs, holds, record_at, body_at, home, put_pairs}
-use Rattle.mw_record.specs.Reading.{SameBytes, shut_stays, record_open, record_shut, body_same, length_body}
-use Rattle.mw_record.specs.ReadAgain.{body_again, record_of_change, values_of_change, numbers_of_change, length_of_change}
-use Rattle.mw_record.specs.Below.{few_entries}
-use Rattle.mw_record.specs.Faults.{sizes_are}
-use Rattle.mw_record.specs.Images.{words_stay, words_put}
+use Rattle.mw_record.proofs.Reading.{shut_stays, record_open, record_shut, body_same, length_body}
+use Rattle.mw_record.proofs.ReadAgain.{body_again, record_of_change, values_of_change, numbers_of_change, length_of_change}
+use Rattle.mw_record.proofs.Below.{few_entries}
+use Rattle.mw_record.proofs.Faults.{sizes_are}
+use Rattle.mw_record.proofs.ChangedBytes.{words_stay, words_put}
 use Rattle.mw_record.specs.Stands.{HasWords}
 use Rattle.mw_file.specs.declared.place_states.PlaceState.{PlaceState}
 use Rattle.mw_file.specs.declared.place_states.Stage.{Stage}

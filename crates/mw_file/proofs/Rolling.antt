@@ -3,13 +3,13 @@ use Rattle.std.proofs.Common.{◌≡◌, ◌⊎◌, ℕ, ◌+◌, ◌-◌, ◌<�
 use Rattle.std.proofs.lemmas.Bool.{cases_Bool, cases_eq, cases_lt, both_ways}
 use Rattle.mw_disk.specs.Runs.{SameBut}
 use Rattle.mw_record.specs.declared.layout.TheConstants.{HEAD_SIZE, WORD_SIZE, PLACE_SIZE, COMMITTED}
-use Rattle.mw_record.specs.Layout.{home_at, place_at}
+use Rattle.mw_record.specs.Layout.{home_at, place_at, SameBytes}
 use Rattle.mw_record.specs.Records.{Pairs, holds, over, all_over, is_covered, record_at, body_at, home}
-use Rattle.mw_record.specs.Reading.{SameBytes, record_open, record_shut, body_same, length_body, commit_set}
-use Rattle.mw_record.specs.Below.{few_entries}
-use Rattle.mw_record.specs.Over.{Covers, covers, covered, all_hit}
-use Rattle.mw_record.specs.Changes.{Agrees, StaysOrShut}
-use Rattle.mw_record.specs.Images.{words_stay}
+use Rattle.mw_record.proofs.Reading.{record_open, record_shut, body_same, length_body, commit_set}
+use Rattle.mw_record.proofs.Below.{few_entries}
+use Rattle.mw_record.proofs.Over.{Covers, covers, covered, all_hit}
+use Rattle.mw_record.proofs.Changes.{Agrees, StaysOrShut}
+use Rattle.mw_record.proofs.ChangedBytes.{words_stay}
 use Rattle.mw_record.specs.Stands.{HasWords, Apart}
 use Rattle.mw_words.specs.declared.limits.TheConstants.{MAX_ENTRIES}
 use Rattle.mw_file.specs.declared.place_states.PlaceState.{PlaceState}

@@ -3,8 +3,8 @@ use Rattle.std.proofs.Common.{◌≡◌, ◌⊎◌, ℕ, ◌+◌, ◌-◌, ◌<�
 use Rattle.mw_disk.specs.Runs.{SameBut}
 use Rattle.mw_record.specs.Layout.{place_at}
 use Rattle.mw_record.specs.Records.{Pairs, record_at}
-use Rattle.mw_record.specs.Writes.{record_same}
-use Rattle.mw_record.specs.Below.{few_entries}
+use Rattle.mw_record.proofs.Writes.{record_same}
+use Rattle.mw_record.proofs.Below.{few_entries}
 use Rattle.mw_record.specs.Stands.{HasWords}
 use Rattle.mw_file.specs.declared.place_states.PlaceState.{PlaceState}
 use Rattle.mw_file.specs.declared.place_states.Stage.{Stage}

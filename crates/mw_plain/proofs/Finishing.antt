@@ -4,7 +4,8 @@ use Rattle.std.specs.List.{slice_get}
 use Rattle.std.proofs.lemmas.List.{take_at}
 use Rattle.arrayvec.specs.ArrayVec.{ArrayVec}
 use Rattle.mw_disk.specs.Facts.{Facts}
-use Rattle.mw_disk.specs.Runs.{Later, LeavesOnly, later_trans, was_honest, still_honest, leaves_wider, leaves_more, good_trans}
+use Rattle.mw_disk.specs.Runs.{Later, LeavesOnly}
+use Rattle.mw_disk.proofs.RunLaws.{later_trans, was_honest, still_honest, leaves_wider, leaves_more, good_trans}
 use Rattle.mw_words.specs.declared.jobs.Entry.{Entry}
 use Rattle.mw_words.specs.declared.replies.Reply.TheVariants.{No, Yes, Fault}
 use Rattle.mw_words.specs.Change.{word_at, fits, put}
@@ -18,9 +19,9 @@ use Rattle.mw_file.specs.Keeps.{Keeps, CrashSafe, ContentsStay, ChangeIsSealed, 
 use Rattle.mw_file.specs.PlaceStates.{writes_of_place, IsStaged}
 use Rattle.mw_record.specs.Layout.{pairs_of}
 use Rattle.mw_record.specs.Records.{Pairs, put_pairs}
-use Rattle.mw_record.specs.ReadAgain.{put-put_pairs}
+use Rattle.mw_record.proofs.ReadAgain.{put-put_pairs}
 use Rattle.mw_lone.specs.Store.{Store}
-use Rattle.mw_lone.specs.Sound.{length-put}
+use Rattle.mw_lone.proofs.SoundStores.{length-put}
 use Rattle.mw_plain.specs.declared.book.Book.{Book}
 use Rattle.mw_plain.specs.Books.{IsPrepared}
 use Rattle.mw_plain.specs.Misses.{IsFirstMiss}

@@ -15,7 +15,7 @@ use Rattle.mw_words.specs.declared.jobs.Job.TheVariants.{Get, Cas}
 use Rattle.mw_words.specs.declared.replies.Reply.{Reply}
 use Rattle.mw_words.specs.declared.replies.Reply.TheVariants.{Val, Yes, No, Busy as SaysBusy, Fault}
 use Rattle.mw_words.specs.Change.{word_at, fits, put, is_well_formed}
-use Rattle.mw_lone.specs.Sound.{Requests, get-insert_same, get-insert_other}
+use Rattle.mw_lone.proofs.SoundStores.{Requests, get-insert_same, get-insert_other}
 use Rattle.mw_lone.specs.Store.{Store, RequestState, step, run, outgoing, replies_from, request, with_request, asked, admit, refuse_busy, look_at, miss_at, seal, fail_seal, give_up, retire, hand_out, due_reply, may_seal, may_be_interrupted, entries_in_doubt, store_after_start, entries_of, is_cas}
 use Rattle.mw_lone.specs.declared.marks.Mark.{Mark}
 use Rattle.mw_lone.specs.declared.marks.Mark.TheVariants.{Ask, Admit, Busy, Look, Miss, Seal, SealFail, FileFail, GiveUp, Retire, Reply as HandOut}

@@ -3,7 +3,8 @@ use Rattle.std.proofs.Common.{◌≡◌, ℕ, ◌+◌, ◌<◌, true, false, len
 use Rattle.std.proofs.lemmas.Bool.{cases_eq}
 use Rattle.arrayvec.specs.ArrayVec.{ArrayVec}
 use Rattle.mw_disk.specs.Facts.{Facts}
-use Rattle.mw_disk.specs.Runs.{Later, was_honest}
+use Rattle.mw_disk.specs.Runs.{Later}
+use Rattle.mw_disk.proofs.RunLaws.{was_honest}
 use Rattle.mw_words.specs.declared.jobs.Entry.{Entry}
 use Rattle.mw_words.specs.declared.jobs.Job.TheVariants.{Cas}
 use Rattle.mw_words.specs.declared.replies.Reply.TheVariants.{Fault}

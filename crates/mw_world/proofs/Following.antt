@@ -4,7 +4,7 @@ use Rattle.mw_words.specs.declared.jobs.Entry.{Entry}
 use Rattle.mw_disk.specs.Facts.{MayLeave}
 use Rattle.mw_disk.specs.Memory.{memory_facts}
 use Rattle.mw_record.specs.Layout.{pairs_of}
-use Rattle.mw_record.specs.ReadAgain.{put-put_pairs}
+use Rattle.mw_record.proofs.ReadAgain.{put-put_pairs}
 use Rattle.mw_file.specs.Keeps.{IsEither}
 use Rattle.mw_lone.specs.Store.{replies as replies_of_marks}
 use Rattle.mw_world_file.specs.declared.device.Device.{Device}

@@ -8,7 +8,7 @@ use Rattle.std.proofs.lemmas.List.{get_or_append_left, get_or_past, length_push}
 use Rattle.std.proofs.lemmas.Option.{slice_get_cases, slice_get_within}
 use Rattle.mw_words.specs.Change.{AreWords}
 use Rattle.mw_record.specs.Damages.{file_words, words_of, places_of}
-use Rattle.mw_record.specs.Sound.{are_words, words_iff}
+use Rattle.mw_record.proofs.Sound.{are_words, words_iff}
 use Rattle.mw_world.specs.declared.accounts.Account.{Account as AccountInMemory}
 use Rattle.mw_world.specs.declared.config.Config.{Config}
 use Rattle.mw_world.specs.declared.events.Stop.{Stop}

@@ -7,7 +7,7 @@ use Rattle.mw_disk.specs.Memory.{Memory, memory_facts}
 use Rattle.mw_record.specs.declared.layout.TheConstants.{MAX_FILE}
 use Rattle.mw_record.specs.Damages.{damage_of, places_of, pairs_in}
 use Rattle.mw_record.specs.Layout.{size}
-use Rattle.mw_record.specs.Longer.{places_of_first, damage_of_first, pairs_in_first}
+use Rattle.mw_record.proofs.Longer.{places_of_first, damage_of_first, pairs_in_first}
 use Rattle.mw_file.specs.declared.place_states.PlaceState.{PlaceState}
 use Rattle.mw_file.specs.declared.tenant_file.TenantFile.{TenantFile}
 use Rattle.mw_file.specs.File.{states_of}

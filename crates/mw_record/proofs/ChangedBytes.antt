@@ -1,14 +1,14 @@
 -- Which changes of a file's bytes keep its words, and which put a record over them.
 use Rattle.std.proofs.Common.{◌≡◌, ℕ, ◌<◌, ◌≤◌, List, length, refl, inl, arith}
 use Rattle.mw_record.specs.declared.layout.TheConstants.{HEAD_SIZE, WORD_SIZE, PLACE_SIZE}
-use Rattle.mw_record.specs.Layout.{home_at, place_at, size}
+use Rattle.mw_record.specs.Layout.{home_at, place_at, size, SameBytes}
 use Rattle.mw_record.specs.Records.{Pairs, put_pairs, record_at, home}
 use Rattle.mw_record.specs.Stands.{HasWords}
-use Rattle.mw_record.specs.Changes.{StaysOrShut, StaysOrCovered, Opens, stands_same, stands_more}
-use Rattle.mw_record.specs.Below.{few_entries}
-use Rattle.mw_record.specs.Reading.{SameBytes, home_same}
-use Rattle.mw_record.specs.ReadAgain.{head_same, within}
-use Rattle.mw_record.specs.Writes.{record_same}
+use Rattle.mw_record.proofs.Changes.{StaysOrShut, StaysOrCovered, Opens, stands_same, stands_more}
+use Rattle.mw_record.proofs.Below.{few_entries}
+use Rattle.mw_record.proofs.Reading.{home_same}
+use Rattle.mw_record.proofs.ReadAgain.{head_same, within}
+use Rattle.mw_record.proofs.Writes.{record_same}
 
 module _ (words places : ℕ) (contents image image2 : List ℕ)
     (was : HasWords words places contents image)

@@ -3,7 +3,7 @@ use Rattle.std.proofs.Common.{◌≡◌, ℕ, zero, suc, ◌+◌, ◌<◌, ◌�
 use Rattle.std.proofs.lemmas.Bool.{cases_Bool, cases_eq, cond-true, cond-false, both_ways, and_parts, or_cases, or_parts, or_left, or_right, or_from, leb-true, eq-eqb, ne_eqb}
 use Rattle.mw_words.specs.declared.limits.TheConstants.{MAX_VALUE}
 use Rattle.mw_record.specs.Records.{Pairs, Kept, over, record_over, all_over, holds, is_covered, has_values, rises_below}
-use Rattle.mw_record.specs.Below.{has, covered_at}
+use Rattle.mw_record.proofs.Below.{has, covered_at}
 use Rattle.mw_record.specs.Stands.{Apart}
 
 -- one record put over a value

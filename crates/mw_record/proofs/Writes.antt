@@ -1,14 +1,14 @@
--- What a write leaves of a file: a home word that is written, a place whose bytes stay, and a commit byte that is torn.
-use Rattle.std.proofs.Common.{◌≡◌, ℕ, ◌+◌, ◌-◌, ◌*◌, ◌^◌, [], ◌∷◌, replicate, ◌<◌, ◌≤◌, ◌==◌, ◌⊎◌, if◌then◌else◌, Option, Some, None, List, length, take, drop, get_or, slice_index, refl, sym, ap, ◌∙◌, inl, inr, arith, add-zero}
+-- What a write leaves of a file: a home word that is written, and a place whose bytes stay.
+use Rattle.std.proofs.Common.{◌≡◌, ℕ, ◌+◌, ◌-◌, ◌*◌, ◌^◌, [], ◌∷◌, replicate, ◌<◌, ◌≤◌, ◌==◌, if◌then◌else◌, Option, Some, None, List, length, take, drop, get_or, slice_index, refl, sym, ap, ◌∙◌, inl, inr, arith, add-zero}
 use Rattle.std.proofs.lemmas.Bool.{cases_eq, cases_lt, cond-true, cond-false, eq-eqb, ne_eqb}
 use Rattle.std.proofs.lemmas.List.{length-take-le, length-append, length-replicate}
 use Rattle.std.specs.List.{flat_map}
 use Rattle.mw_words.specs.declared.jobs.Entry.{Entry}
 use Rattle.mw_words.specs.declared.limits.TheConstants.{MAX_ENTRIES}
-use Rattle.mw_record.specs.declared.layout.TheConstants.{BODY_SIZE, ENTRY_SIZE, COMMITTED, PLACE_SIZE}
-use Rattle.mw_record.specs.Layout.{home_at, place_at, number_bytes, entry_bytes, body, patched}
-use Rattle.mw_record.specs.Records.{Pairs, body_at, record_at, home}
-use Rattle.mw_record.specs.Reading.{SameBytes, number_written, length-number_bytes, get_patched_before, get_patched_after, body_same, home_same, record_open, record_shut, shut_stays, record_stays}
+use Rattle.mw_record.specs.declared.layout.TheConstants.{BODY_SIZE, ENTRY_SIZE, PLACE_SIZE}
+use Rattle.mw_record.specs.Layout.{home_at, place_at, number_bytes, entry_bytes, body, patched, SameBytes}
+use Rattle.mw_record.specs.Records.{Pairs, record_at, home}
+use Rattle.mw_record.proofs.Reading.{number_written, length-number_bytes, get_patched_before, get_patched_after, home_same, shut_stays, record_stays}
 
 -- the home word that is written is the number
 home_here : (bytes : List ℕ) (a v : ℕ) → v < 256 ^ 8 → home_at a + 8 ≤ length bytes → home (patched bytes (home_at a) (number_bytes 8 v)) a ≡ v
@@ -49,17 +49,6 @@ record_same_as xs ys words place (Some ps) same is few = record_stays xs ys word
 pub record_same : (xs ys : List ℕ) (words place : ℕ) → SameBytes PLACE_SIZE (place_at words place) (place_at words place) xs ys
     → ((ps : Pairs) → record_at ys words place ≡ Some ps → length ps ≤ MAX_ENTRIES) → record_at xs words place ≡ record_at ys words place
 record_same xs ys words place same few = record_same_as xs ys words place (record_at ys words place) same refl few
-
--- Where the body of a place stays, whatever became of its commit byte, the place is closed or has the entries of its body.
-pub commit_torn : (xs ys : List ℕ) (words place : ℕ) → SameBytes BODY_SIZE (place_at words place + 1) (place_at words place + 1) xs ys
-    → slice_index ys (place_at words place + 1) ≤ MAX_ENTRIES
-    → (record_at xs words place ≡ None) ⊎ (record_at xs words place ≡ Some (body_at ys (place_at words place)))
-commit_torn xs ys words place same few =
-    let at : ℕ = place_at words place in
-    elim (cases_eq (slice_index xs at) COMMITTED) [
-      | inl commit ↦ inr (record_open xs words place at refl commit ∙ ap Some (body_same xs ys at at few same))
-      | inr shut ↦ inl (record_shut xs words place at refl shut)
-    ]
 
 -- the entries of a record take as many bytes as there is room for
 length-entries : (entries : List Entry) → length (flat_map entry_bytes entries) ≡ ENTRY_SIZE * length entries

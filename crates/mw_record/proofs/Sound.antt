@@ -13,9 +13,9 @@ use Rattle.mw_record.specs.declared.damages.Damage.{Damage}
 use Rattle.mw_record.specs.Layout.{size}
 use Rattle.mw_record.specs.Records.{Pairs, Kept, all_over, holds, is_covered, has_values, is_record, rises_below, is_formed, is_apart, are_apart, are_formed, records_fit, homes_fit, home}
 use Rattle.mw_record.specs.Damages.{damage_of, words_of, places_of, records_of, word_at, words_in, file_words, has_all_bytes}
-use Rattle.mw_record.specs.Faults.{passes, undamaged}
-use Rattle.mw_record.specs.Below.{has, each_at, each_from, covered_at, address_below, formed_at}
-use Rattle.mw_record.specs.Over.{Covers, covers, all_miss, all_hit, over_small, over_at, holds_at}
+use Rattle.mw_record.proofs.Faults.{passes, undamaged}
+use Rattle.mw_record.proofs.Below.{has, each_at, each_from, covered_at, address_below, formed_at}
+use Rattle.mw_record.proofs.Over.{Covers, covers, all_miss, all_hit, over_small, over_at, holds_at}
 use Rattle.mw_record.specs.Stands.{Apart, Stands, HasWords}
 
 -- a test of every item of a list, and of each

@@ -5,18 +5,18 @@ use Rattle.std.proofs.lemmas.List.{get_or-take, length-take, take-take}
 use Rattle.mw_words.specs.declared.limits.TheConstants.{MAX_ENTRIES, MAX_WORDS, MAX_PLACES}
 use Rattle.mw_record.specs.declared.layout.TheConstants.{HEAD_SIZE, WORD_SIZE, PLACE_SIZE, COMMITTED}
 use Rattle.mw_record.specs.declared.damages.Damage.{Damage}
-use Rattle.mw_record.specs.Layout.{home_at, place_at, size}
+use Rattle.mw_record.specs.Layout.{home_at, place_at, size, SameBytes}
 use Rattle.mw_record.specs.Records.{Pairs, record_at, body_at, home, is_formed, are_formed, are_apart, records_fit, homes_fit}
 use Rattle.mw_record.specs.Damages.{damage_of, has_mark, has_sizes, has_all_bytes, has_formed_records, has_records_apart, has_small_values, words_of, places_of, records_of, words_in, file_words, pairs_in}
-use Rattle.mw_record.specs.Reading.{SameBytes, number_same, home_same, commit_set, shut_stays, record_open, record_stays, length_body}
-use Rattle.mw_record.specs.ReadAgain.{within, mark_same}
-use Rattle.mw_record.specs.Faults.{AreSizes, sizes_are, passes}
-use Rattle.mw_record.specs.Below.{few_entries, formed_at}
-use Rattle.mw_record.specs.Agree.{SameRecords, each_same, apart_same, records_fit_same, homes_fit_same, too_many}
+use Rattle.mw_record.proofs.Reading.{number_same, home_same, commit_set, shut_stays, record_open, record_stays, length_body}
+use Rattle.mw_record.proofs.ReadAgain.{within, mark_same}
+use Rattle.mw_record.proofs.Faults.{AreSizes, sizes_are, passes}
+use Rattle.mw_record.proofs.Below.{few_entries, formed_at}
+use Rattle.mw_record.proofs.Agree.{SameRecords, each_same, apart_same, records_fit_same, homes_fit_same, too_many}
 use Rattle.mw_record.specs.Stands.{HasWords}
-use Rattle.mw_record.specs.Sound.{has_words, same_words}
-use Rattle.mw_record.specs.Images.{has_words_same}
-use Rattle.mw_record.specs.Writes.{commit_same, record_same}
+use Rattle.mw_record.proofs.Sound.{has_words, same_words}
+use Rattle.mw_record.proofs.ChangedBytes.{has_words_same}
+use Rattle.mw_record.proofs.Writes.{commit_same, record_same}
 
 -- a place whose bytes stay is as well formed as it was
 formed_same_as : (words place : ℕ) (xs ys : List ℕ) (kept : Option Pairs) → SameBytes PLACE_SIZE (place_at words place) (place_at words place) xs ys

@@ -4,7 +4,7 @@ use Rattle.std.proofs.lemmas.Bool.{and_left, and_right, lt-leb}
 use Rattle.std.specs.Option.{option_map_or}
 use Rattle.mw_words.specs.declared.limits.TheConstants.{MAX_ENTRIES, MAX_VALUE}
 use Rattle.mw_record.specs.Records.{Pairs, Kept, is_record, rises_below, each_below, is_covered, is_apart, are_apart, has_values, records_fit, homes_fit}
-use Rattle.mw_record.specs.Below.{has}
+use Rattle.mw_record.proofs.Below.{has}
 
 -- the records of the first places are the same
 abbrev pub SameRecords : ℕ → Kept → Kept → Type 0

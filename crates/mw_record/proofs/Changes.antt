@@ -5,7 +5,7 @@ use Rattle.std.proofs.lemmas.List.{length-set, get_or-set_same, get_or-set_other
 use Rattle.mw_words.specs.declared.limits.TheConstants.{MAX_VALUE}
 use Rattle.mw_record.specs.Records.{Pairs, Kept, over, all_over, holds, put_pairs, is_covered, has_values, is_record}
 use Rattle.mw_record.specs.Stands.{Apart, Stands}
-use Rattle.mw_record.specs.Over.{Covers, covers, covered, all_miss, all_hit, over_small, over_hit, over_miss}
+use Rattle.mw_record.proofs.Over.{Covers, covers, covered, all_miss, all_hit, over_small, over_hit, over_miss}
 
 -- A record stays, or is shut while its values stand in the new home words.
 abbrev pub Agrees : Pairs → (ℕ → ℕ) → Type 0

@@ -6,12 +6,8 @@ use Rattle.byteorder.specs.Endian.{little_from}
 use Rattle.byteorder.specs.Numbers.{length-bytes_low_first, little_number-reads_back}
 use Rattle.mw_words.specs.declared.limits.TheConstants.{MAX_ENTRIES}
 use Rattle.mw_record.specs.declared.layout.TheConstants.{BODY_SIZE, COMMITTED, PLACE_SIZE, WORD_SIZE}
-use Rattle.mw_record.specs.Layout.{home_at, place_at, number_at, number_bytes, patched}
+use Rattle.mw_record.specs.Layout.{home_at, place_at, number_at, number_bytes, patched, SameBytes}
 use Rattle.mw_record.specs.Records.{Pairs, pairs_at, body_at, record_at, home}
-
--- n bytes from i on in one list are those from j on in another
-abbrev pub SameBytes : ℕ → ℕ → ℕ → List ℕ → List ℕ → Type 0
-SameBytes n i j xs ys = (k : ℕ) → k < n → get_or xs (i + k) 0 ≡ get_or ys (j + k) 0
 
 little_same : (n i j : ℕ) (xs ys : List ℕ) → SameBytes n i j xs ys → little_from i n xs ≡ little_from j n ys
 little_same zero i j xs ys same = refl
@@ -68,7 +64,7 @@ pub length_body : (image : List ℕ) (at : ℕ) → length (body_at image at) �
 unfolding body_at
 length_body image at = length_pairs image (at + 8) (slice_index image (at + 1))
 
--- the record of a place whose commit byte is set, or shut, where the place begins at an offset
+-- the record of a place whose commit byte is set, or clear, where the place begins at an offset
 pub record_open : (image : List ℕ) (words place at : ℕ) → at ≡ place_at words place → slice_index image at ≡ COMMITTED → record_at image words place ≡ Some (body_at image at)
 unfolding record_at
 record_open image words place at is commit =
@@ -153,7 +149,7 @@ body_same xs ys i j few same =
 pub home_same : (xs ys : List ℕ) (addr : ℕ) → SameBytes WORD_SIZE (home_at addr) (home_at addr) xs ys → home xs addr ≡ home ys addr
 home_same xs ys addr same = number_same 8 (home_at addr) (home_at addr) xs ys same
 
--- the commit byte of a closed place isn't open, and of an open one is
+-- the commit byte of a closed place is clear, and that of an open one is set
 pub commit_clear : (image : List ℕ) (words place : ℕ) → record_at image words place ≡ None → slice_index image (place_at words place) ≡ COMMITTED → ⊥
 commit_clear image words place none commit = (let e = record_open image words place (place_at words place) refl commit in cc)
 

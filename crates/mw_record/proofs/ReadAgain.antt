@@ -1,21 +1,21 @@
 -- What is written is read again: the head of a file, a record, and a new file.
 use Rattle.std.proofs.Common.{◌≡◌, ℕ, zero, suc, ◌+◌, ◌-◌, ◌*◌, ◌^◌, ◌<◌, ◌≤◌, ◌&&◌, ◌||◌, nat_eq, nat_le, nat_lt, Bool, true, false, Some, None, List, [], ◌∷◌, ◌++◌, length, get_or, take, set, replicate, slice_index, refl, sym, ap, ◌∙◌, subst, arith, append_assoc, add-zero}
 use Rattle.std.specs.Cmp.Lexicographic.{pointwise}
-use Rattle.std.specs.List.{flat_map, list_all, AllByRecursion}
+use Rattle.std.specs.List.{flat_map, list_all}
 use Rattle.std.proofs.lemmas.Bool.{and_parts, and_from, leb-true, ltb-true}
 use Rattle.std.proofs.lemmas.List.{append-nil, get_or-take, length-append, length-replicate, length-take-le, length-map, ext_get_or, get_or-append_right}
-use Rattle.mw_words.specs.declared.limits.TheConstants.{MAX_ENTRIES, MAX_VALUE, MAX_WORDS, MAX_PLACES}
+use Rattle.mw_words.specs.declared.limits.TheConstants.{MAX_ENTRIES, MAX_VALUE, MAX_WORDS}
 use Rattle.mw_words.specs.declared.jobs.Entry.{Entry}
 use Rattle.mw_words.specs.Change.{is_in_range, rises_from, is_change, put}
 use Rattle.mw_record.specs.declared.layout.TheConstants.{HEAD_SIZE, BODY_SIZE, ENTRY_SIZE, COMMITTED, MAGIC}
-use Rattle.mw_record.specs.Layout.{home_at, place_at, number_at, number_bytes, header, entry_bytes, body, pairs_of, new_file}
+use Rattle.mw_record.specs.Layout.{home_at, place_at, number_at, number_bytes, header, entry_bytes, body, pairs_of, new_file, AreNumbers, SameBytes}
 use Rattle.mw_record.specs.Records.{pairs_at, body_at, record_at, home, put_pairs, is_covered, is_record, rises_below, has_values}
 use Rattle.mw_record.specs.Damages.{has_mark, words_of, places_of}
-use Rattle.mw_record.specs.Faults.{sizes_are, are_sizes}
-use Rattle.mw_record.specs.Below.{has}
-use Rattle.mw_record.specs.Over.{all_miss}
-use Rattle.mw_record.specs.Stands.{IsHead, HasWords}
-use Rattle.mw_record.specs.Reading.{SameBytes, number_same, number_zero, number_written, pairs_same, record_open, record_shut, length-number_bytes}
+use Rattle.mw_record.proofs.Faults.{sizes_are, are_sizes}
+use Rattle.mw_record.proofs.Below.{has}
+use Rattle.mw_record.proofs.Over.{all_miss}
+use Rattle.mw_record.specs.Stands.{MayHave, IsHead, HasWords}
+use Rattle.mw_record.proofs.Reading.{number_same, number_zero, number_written, pairs_same, record_open, record_shut, length-number_bytes}
 
 -- the head, with what follows it
 mark_of_head : (words places : ℕ) (rest : List ℕ) → has_mark (header words places ++ rest) ≡ true
@@ -41,13 +41,6 @@ places_of_head words places rest fits =
 second_layout_of_head : (words places : ℕ) (rest : List ℕ) → slice_index (header words places ++ rest) 15 ≡ 0
 unfolding number_bytes
 second_layout_of_head words places rest = refl
-
--- the sizes that a file may have
-pub record MayHave (words places : ℕ) : Type 0 where
-  pub some_word : 1 ≤ words
-  pub words_fit : words ≤ MAX_WORDS
-  pub some_place : 1 ≤ places
-  pub places_fit : places ≤ MAX_PLACES
 
 pub head_of_header : (words places : ℕ) (rest : List ℕ) → MayHave words places → IsHead words places (header words places ++ rest)
 head_of_header words places rest may =
@@ -131,9 +124,6 @@ header_again image words places may long same =
     head_same words places image (header words places) long (omega (arith, n)) same h
 
 -- The entries that stand one behind the other are read again.
-abbrev pub AreNumbers : List Entry → Type 0
-AreNumbers entries = AllByRecursion (λ e. (e.addr < 256 ^ 8) × (e.new < 256 ^ 8)) entries
-
 pairs_written : (front rest : List ℕ) (entries : List Entry) (i : ℕ) → length front ≡ i → AreNumbers entries
     → pairs_at (front ++ (flat_map entry_bytes entries ++ rest)) i (length entries) ≡ pairs_of entries
 pairs_written front rest [] i long fits = refl
@@ -171,7 +161,7 @@ body_again image at entries few fits same =
     ap (λ a. get_or image a 0) e ∙ same (7 + k) (omega (arith, few, lt)) ∙ ap (λ a. get_or (body entries) a 0) f) in
     ap (pairs_at image (at + 8)) count ∙ pairs ∙ pairs_written head zeros entries 7 refl fits
 
--- Where a record's body stands behind a set commit byte, its entries are the record of the place.
+-- Where a record's body stands behind a commit byte that is set, its entries are the record of the place.
 pub record_again : (image : List ℕ) (words place : ℕ) (entries : List Entry) → length entries ≤ MAX_ENTRIES → AreNumbers entries
     → slice_index image (place_at words place) ≡ COMMITTED → SameBytes BODY_SIZE (place_at words place + 1) 0 image (body entries)
     → record_at image words place ≡ Some (pairs_of entries)
