@@ -15,7 +15,7 @@ mod words;
 
 pub use doors::Door;
 pub use gates::Gate;
-pub use jobs::{Entries, Entry, Job, copy_of, is_change};
+pub use jobs::{Entries, Entry, Job, copy_of, is_change, rises};
 pub use limits::{
     MAX_CONNECTIONS, MAX_ENTRIES, MAX_LINE, MAX_NAME, MAX_PATH, MAX_PINS, MAX_PLACES, MAX_POOL,
     MAX_QUOTA, MAX_TENANTS, MAX_TENANTS_FILE, MAX_VALUE, MAX_WORDS, MAX_WORKERS, WORN_NUMBER,
