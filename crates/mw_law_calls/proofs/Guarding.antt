@@ -13,7 +13,7 @@ use Rattle.mw_actor.specs.declared.points.Point.{Point}
 use Rattle.mw_actor.specs.declared.points.After.TheVariants.{GiveUp as ThenGiveUp}
 use Rattle.mw_actor.specs.declared.points.Point.TheVariants.{Prepare, ReadTargetStatus, Seal, Settle, Cancel, GiveUp, Unpin}
 use Rattle.mw_actor.specs.Finishing.{gives_up}
-use Rattle.mw_look.specs.RangeLaws.{either_way}
+use Rattle.mw_look.proofs.RangeLaws.{either_way}
 use Rattle.mw_actor.specs.declared.points.Slot.{Slot}
 use Rattle.mw_actor.specs.declared.points.Task.{Task}
 use Rattle.mw_actor.specs.Acting.{Acting, own_entries, entry_at, is_alone}

@@ -12,7 +12,7 @@ use Rattle.mw_pool.specs.Moves.{Admits, after_unpin}
 use Rattle.mw_look.specs.declared.news.News.{News}
 use Rattle.mw_look.specs.declared.news.News.TheVariants.{SawDoor, SawGate, SawStatus, Won, Lost}
 use Rattle.mw_look.specs.Program.{freed as freed_gate}
-use Rattle.mw_look.specs.RangeLaws.{either_way}
+use Rattle.mw_look.proofs.RangeLaws.{either_way}
 use Rattle.mw_look.specs.Runs.{if_same}
 use Rattle.mw_actor.specs.declared.points.After.{After}
 use Rattle.mw_actor.specs.declared.points.Slot.{Slot}
@@ -20,7 +20,7 @@ use Rattle.mw_actor.specs.declared.points.Task.{Task}
 use Rattle.mw_actor.specs.declared.points.Point.{Point}
 use Rattle.mw_actor.specs.declared.points.Point.TheVariants.{Admit, Claim, PinOther, Unpin, FreeSlot, LowerDoor, GiveUp, Replied}
 use Rattle.mw_actor.specs.Acting.{Acting}
-use Rattle.mw_actor.specs.BalanceLaws.{pins_after, task_pins}
+use Rattle.mw_actor.specs.Balance.{pins_after, task_pins}
 use Rattle.mw_actor.specs.Program.{goes}
 use Rattle.mw_world.specs.declared.config.Config.{Config}
 use Rattle.mw_world.specs.Definition.Cells.{Cells, write}

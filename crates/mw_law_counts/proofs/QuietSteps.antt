@@ -17,7 +17,7 @@ use Rattle.mw_look.specs.declared.steps.Kind.{Kind}
 use Rattle.mw_look.specs.Places.{Val, pack}
 use Rattle.mw_look.specs.Program.{asks_at as look_asks}
 use Rattle.mw_look.specs.News.{seen}
-use Rattle.mw_look.specs.RangeLaws.{either_way}
+use Rattle.mw_look.proofs.RangeLaws.{either_way}
 use Rattle.mw_look.specs.Steps.{Step, Load, Change, File}
 use Rattle.mw_actor.specs.declared.points.Slot.{Slot}
 use Rattle.mw_actor.specs.declared.points.Sweep.{Sweep}

@@ -13,7 +13,7 @@ use Rattle.mw_actor.specs.declared.points.Slot.{Slot}
 use Rattle.mw_actor.specs.declared.points.Task.{Task}
 use Rattle.mw_actor.specs.Acting.{Acting}
 use Rattle.mw_actor.specs.Asks.{row_of}
-use Rattle.mw_actor.specs.StageLaws.{goes_leads}
+use Rattle.mw_actor.proofs.StageLaws.{goes_leads}
 use Rattle.mw_world_file.specs.Maps.{upd}
 use Rattle.mw_world.specs.declared.config.Config.{Config}
 use Rattle.mw_world.specs.Definition.State.{State, Seat}

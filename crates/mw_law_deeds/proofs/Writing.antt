@@ -11,7 +11,7 @@ use Rattle.mw_words.specs.declared.statuses.Status.{Status}
 use Rattle.mw_words.specs.declared.statuses.Status.TheVariants.{Draft}
 use Rattle.mw_words.specs.Change.{is_change}
 use Rattle.mw_look.specs.declared.news.News.TheVariants.{Won}
-use Rattle.mw_look.specs.RangeLaws.{either_way}
+use Rattle.mw_look.proofs.RangeLaws.{either_way}
 use Rattle.mw_actor.specs.declared.points.Point.{Point}
 use Rattle.mw_actor.specs.declared.points.Point.TheVariants.{Claim, FillStatus, FillCount, FillAddr, FillExpected, FillNew, Prepare}
 use Rattle.mw_actor.specs.declared.points.Slot.{Slot}

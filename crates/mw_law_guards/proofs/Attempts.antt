@@ -7,7 +7,7 @@ use Rattle.mw_words.specs.declared.statuses.Status.TheVariants.{Draft, Open, Yes
 use Rattle.mw_words.specs.declared.words.Word.{Word}
 use Rattle.mw_words.specs.declared.words.Word.TheVariants.{Plain, Planted, Held}
 use Rattle.mw_look.specs.Program.{same_word}
-use Rattle.mw_look.specs.RangeLaws.{either_way}
+use Rattle.mw_look.proofs.RangeLaws.{either_way}
 use Rattle.mw_actor.specs.declared.points.Attempt.{Attempt}
 use Rattle.mw_actor.specs.declared.points.Point.{Point}
 use Rattle.mw_actor.specs.declared.points.Point.TheVariants.{ReadTargetStatus, CheckThenResolve}

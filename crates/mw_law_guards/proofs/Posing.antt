@@ -16,7 +16,7 @@ use Rattle.mw_pool.specs.Moves.{after_admit, after_claim, after_pin}
 use Rattle.mw_look.specs.declared.news.News.{News}
 use Rattle.mw_look.specs.declared.news.News.TheVariants.{SawDoor, SawGate, SawRow, SawWord, SawStatus, SawNumber, Won, Lost, Filed}
 use Rattle.mw_look.specs.Program.{same_word}
-use Rattle.mw_look.specs.RangeLaws.{either_way}
+use Rattle.mw_look.proofs.RangeLaws.{either_way}
 use Rattle.mw_actor.specs.declared.points.After.{After}
 use Rattle.mw_actor.specs.declared.points.After.TheVariants.{Work, GiveUp as ThenGiveUp, Reply as ThenReply}
 use Rattle.mw_actor.specs.declared.points.Attempt.{Attempt}

@@ -6,7 +6,7 @@ use Rattle.mw_words.specs.declared.places.At.TheVariants.{Gate as AtGate}
 use Rattle.mw_words.specs.declared.gates.Gate.{Gate}
 use Rattle.mw_words.specs.declared.statuses.Status.TheVariants.{Draft}
 use Rattle.mw_pool.specs.Moves.{after_unpin}
-use Rattle.mw_pool.specs.MoveLaws.{unpin_is}
+use Rattle.mw_pool.proofs.MoveLaws.{unpin_is}
 use Rattle.mw_actor.specs.declared.points.Slot.{Slot}
 use Rattle.mw_world.specs.declared.config.Config.{Config}
 use Rattle.mw_world.specs.declared.notes.Phase.TheVariants.{Fresh}

@@ -5,7 +5,7 @@ use Rattle.std.proofs.lemmas.Bool.Decides.{nat_tests}
 use Rattle.mw_words.specs.declared.limits.TheConstants.{MAX_VALUE}
 use Rattle.mw_words.specs.declared.replies.Reply.{Reply}
 use Rattle.mw_words.specs.Change.{word_at}
-use Rattle.mw_look.specs.PlaceLaws.{packs_are_apart}
+use Rattle.mw_look.proofs.PlaceLaws.{packs_are_apart}
 use Rattle.mw_look.specs.Places.{pack}
 use Rattle.mw_actor.specs.Acting.{Acting}
 use Rattle.mw_actor.specs.Program.{replied}

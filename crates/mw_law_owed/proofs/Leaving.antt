@@ -17,7 +17,7 @@ use Rattle.mw_actor.specs.declared.points.Point.{Point}
 use Rattle.mw_actor.specs.declared.points.Point.TheVariants.{Read, CheckThenResolve, Resolve, Unpin}
 use Rattle.mw_actor.specs.declared.points.Slot.{Slot}
 use Rattle.mw_actor.specs.Acting.{Acting, entry_of}
-use Rattle.mw_actor.specs.BalanceLaws.{task_pins}
+use Rattle.mw_actor.specs.Balance.{task_pins}
 use Rattle.mw_world.specs.declared.config.Config.{Config}
 use Rattle.mw_world.specs.Definition.Counting.{pins_held, over_workers}
 use Rattle.mw_world.specs.Definition.History.{Resting, Stands, standing_at}

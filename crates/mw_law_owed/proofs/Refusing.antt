@@ -11,7 +11,7 @@ use Rattle.mw_words.specs.declared.words.Word.TheVariants.{Plain, Planted, Held,
 use Rattle.mw_look.specs.declared.news.News.{News}
 use Rattle.mw_look.specs.declared.news.News.TheVariants.{SawRow, SawWord, SawStatus, SawNumber, Won, Lost, Filed}
 use Rattle.mw_look.specs.Program.{same_word}
-use Rattle.mw_look.specs.RangeLaws.{either_way}
+use Rattle.mw_look.proofs.RangeLaws.{either_way}
 use Rattle.mw_actor.specs.declared.points.Attempt.{Attempt}
 use Rattle.mw_actor.specs.declared.points.Point.{Point}
 use Rattle.mw_actor.specs.declared.points.Point.TheVariants.{Read, ReadDoor, Admit, ScanGate, Claim, FillStatus, FillCount, FillAddr, FillExpected, FillNew, Prepare, ReadTargetStatus, Inspect, ReadOtherRow, ConfirmAttempt, ReadDirtyGate, ConfirmDirty, ReadOtherGate, PinOther, Seal, Clean, Settle, Unpin, FreeSlot, LowerDoor, GiveUp, Replied, DecideYes, DecideNo, AnnounceRow, Plant, CheckThenResolve, Resolve, ReadCount, ReadAddr, ReadExpected, ReadNew, SweepWord, Release, SweepRow, SweepConfirm, SweepResolve, Cancel}

@@ -16,7 +16,7 @@ use Rattle.mw_look.specs.declared.news.News.TheVariants.{SawDoor, SawGate, SawRo
 use Rattle.mw_look.specs.declared.points.Point.{Point as ReadPoint}
 use Rattle.mw_look.specs.declared.points.Point.TheVariants.{Pin as PinOfRead}
 use Rattle.mw_look.specs.Program.{asks_at as read_asks_at}
-use Rattle.mw_look.specs.RangeLaws.{either_way}
+use Rattle.mw_look.proofs.RangeLaws.{either_way}
 use Rattle.mw_actor.specs.declared.points.After.TheVariants.{Reply as ThenReply}
 use Rattle.mw_actor.specs.declared.points.Point.{Point}
 use Rattle.mw_actor.specs.declared.points.Point.TheVariants.{Read, ReadDoor, Admit, ScanGate, Claim, FillStatus, FillCount, FillAddr, FillExpected, FillNew, Prepare, ReadTargetStatus, Inspect, AnnounceRow, Plant, ReadOtherRow, ConfirmAttempt, ReadDirtyGate, ConfirmDirty, DecideYes, DecideNo, CheckThenResolve, Resolve, ReadOtherGate, PinOther, ReadCount, ReadAddr, ReadExpected, ReadNew, Seal, SweepWord, Release, Clean, SweepRow, SweepConfirm, SweepResolve, Settle, Cancel, Unpin, FreeSlot, LowerDoor, GiveUp, Replied}

@@ -15,7 +15,7 @@ use Rattle.mw_look.specs.Runs.{holds_at}
 use Rattle.mw_actor.specs.declared.points.Point.{Point}
 use Rattle.mw_actor.specs.declared.points.Point.TheVariants.{Read, Replied}
 use Rattle.mw_actor.specs.Acting.{Acting, first, first_point}
-use Rattle.mw_actor.specs.JobLaws.{begins_in_range, well_formed_is_formed}
+use Rattle.mw_actor.proofs.JobLaws.{begins_in_range, well_formed_is_formed}
 use Rattle.mw_actor.specs.Program.{replied, reply_at}
 use Rattle.mw_actor.specs.Ranges.{IsInRange}
 use Rattle.mw_world.specs.declared.config.Config.{Config}

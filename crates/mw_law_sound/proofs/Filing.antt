@@ -10,7 +10,7 @@ use Rattle.mw_look.specs.declared.steps.Call.TheVariants.{Prepare as PrepareCall
 use Rattle.mw_look.specs.News.{IsNewsInRange}
 use Rattle.mw_actor.specs.declared.points.Slot.{Slot}
 use Rattle.mw_actor.specs.Acting.{Acting, own_entries}
-use Rattle.mw_actor.specs.RangeLaws.{tells_in_range}
+use Rattle.mw_actor.proofs.RangeLaws.{tells_in_range}
 use Rattle.mw_world_file.specs.declared.outcomes.Outcome.{Outcome}
 use Rattle.mw_world_file.specs.declared.outcomes.Outcome.TheVariants.{Good, Fail}
 use Rattle.mw_world.specs.declared.config.Config.{Config}

@@ -7,7 +7,7 @@ use Rattle.std.proofs.lemmas.Option.{same_Some}
 use Rattle.mw_words.specs.declared.places.At.{At}
 use Rattle.mw_words.specs.declared.places.At.TheVariants.{Door as AtDoor, Gate as AtGate, Status as AtStatus}
 use Rattle.mw_words.specs.Patterns.{packed_door, packed_gate, unpacked_status}
-use Rattle.mw_words.specs.PatternLaws.{door_round, gate_round, status_round}
+use Rattle.mw_words.proofs.PatternLaws.{door_round, gate_round, status_round}
 use Rattle.mw_pool.specs.Moves.{after_unpin}
 use Rattle.mw_look.specs.declared.steps.Kind.{Kind}
 use Rattle.mw_look.specs.declared.steps.Kind.TheVariants.{Unpin as UnpinKind, Drop as DropKind, Fault as FaultKind}
@@ -19,7 +19,7 @@ use Rattle.mw_look.specs.declared.news.News.{News}
 use Rattle.mw_look.specs.declared.news.News.TheVariants.{Won, Lost}
 use Rattle.mw_look.specs.News.{news_of, news_of_bits, seen}
 use Rattle.mw_look.specs.Places.{Val, Fits, pack}
-use Rattle.mw_look.specs.PlaceLaws.{packs_are_seen}
+use Rattle.mw_look.proofs.PlaceLaws.{packs_are_seen}
 use Rattle.mw_look.specs.Steps.{Step, Load, Change, File, op_of, place}
 use Rattle.mw_world.specs.Definition.Cells.{Cells, read, write}
 use Rattle.mw_world.specs.Definition.Changes.{Shape, Exchange, Store, Fetch, shape_of, fetched, changed, done}

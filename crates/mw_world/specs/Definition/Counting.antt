@@ -7,7 +7,7 @@ use Rattle.mw_actor.specs.declared.points.Point.{Point}
 use Rattle.mw_actor.specs.declared.points.Point.TheVariants.{Read}
 use Rattle.mw_actor.specs.Acting.{Acting}
 use Rattle.mw_actor.specs.Stages.{stage}
-use Rattle.mw_actor.specs.BalanceLaws.{pins_at, to_free, to_lower}
+use Rattle.mw_actor.specs.Balance.{pins_at, to_free, to_lower}
 use Rattle.mw_world.specs.Definition.State.{State, Seat}
 
 -- 1 for a pin of this slot

@@ -18,7 +18,7 @@ use Rattle.mw_look.specs.Steps.{Step, Load, Change, fetch, store}
 use Rattle.mw_look.specs.Program.{freed, asks as read_asks}
 use Rattle.mw_look.specs.declared.points.Point.{Point as ReadPoint}
 use Rattle.mw_look.specs.declared.points.Point.TheVariants.{ReadDoor as ReadDoorOfRead}
-use Rattle.mw_look.specs.RangeLaws.{either_way}
+use Rattle.mw_look.proofs.RangeLaws.{either_way}
 use Rattle.mw_look.specs.Runs.{Event, times, if_same, takes_back, takes_last, frees, frees_any, lowers}
 use Rattle.mw_actor.specs.declared.points.Slot.{Slot}
 use Rattle.mw_actor.specs.declared.points.Task.{Task}
@@ -28,56 +28,13 @@ use Rattle.mw_actor.specs.declared.points.Point.{Point}
 use Rattle.mw_actor.specs.declared.points.Point.TheVariants.{Read, ReadDoor, Admit, Claim, Prepare, PinOther, Seal, Settle, Cancel, Unpin, FreeSlot, LowerDoor, GiveUp, Replied}
 use Rattle.mw_actor.specs.Acting.{Acting, first, is_alone, alone, same_slot}
 use Rattle.mw_actor.specs.Asks.{asks, asks_at}
+use Rattle.mw_actor.specs.Balance.{task_pins, pins_after, pins_at, to_free, to_lower}
 use Rattle.mw_actor.specs.Helping.{others_read}
 use Rattle.mw_actor.specs.Program.{goes, reply_at}
 use Rattle.mw_actor.specs.Stages.{Stage, Reading, Outside, Entering, Seeking, Claiming, WritingStatus, WritingCount, WritingAddr, WritingExpected, WritingNew, Preparing, Checking, Inspecting, Holding, Deciding, Working, Nearing, Pinning, Fetching, Leaving, Freeing, Lowering, GivingUp, Over, stage, Resumes, turned, OnTask, Scans, Leads}
-use Rattle.mw_actor.specs.StageLaws.{both_same, goes_leads}
-use Rattle.mw_actor.specs.RunLaws.{AreAt, runs_are}
+use Rattle.mw_actor.proofs.StageLaws.{both_same, goes_leads}
+use Rattle.mw_actor.proofs.RunLaws.{AreAt, runs_are}
 use Rattle.mw_actor.specs.Runs.{Heard, after, past, made, WasWon, WasClaimed, wins_pin, admits, claims, IsOfPinnedSlot, FileCallsAreOfPinnedSlots, IsGateMove, GatesAreMovedByTheRules, GivesBack, none, one_of, EndsBy, RepliesGiveBack}
-
--- the pins of a slot that are held in the work on a change
-abbrev pub task_pins : ℕ → Task → ℕ
-task_pins slot task = if_same task.own.slot slot + cond (is_alone task) 0 (if_same task.target.slot slot)
-
--- those that are held where this follows
-abbrev pub pins_after : ℕ → After → ℕ
-pins_after slot (Work task) = task_pins slot task
-pins_after slot (ThenGiveUp own undecided) = if_same own.slot slot
-pins_after slot (ThenReply reply) = 0
-
--- those that are held at a stage
-abbrev pub pins_at : ℕ → Stage → ℕ
-pins_at slot (WritingStatus own) = if_same own.slot slot
-pins_at slot (WritingCount own) = if_same own.slot slot
-pins_at slot (WritingAddr own entry) = if_same own.slot slot
-pins_at slot (WritingExpected own entry) = if_same own.slot slot
-pins_at slot (WritingNew own entry) = if_same own.slot slot
-pins_at slot (Preparing own) = if_same own.slot slot
-pins_at slot (GivingUp own) = if_same own.slot slot
-pins_at slot (Checking task) = task_pins slot task
-pins_at slot (Inspecting task entry) = task_pins slot task
-pins_at slot (Holding task entry) = task_pins slot task
-pins_at slot (Deciding task) = task_pins slot task
-pins_at slot (Working task) = task_pins slot task
-pins_at slot (Nearing task other) = task_pins slot task
-pins_at slot (Pinning task other from to) = task_pins slot task
-pins_at slot (Fetching task) = task_pins slot task
-pins_at slot (Leaving given onward) = if_same given.slot slot + pins_after slot onward
-pins_at slot (Freeing given onward) = pins_after slot onward
-pins_at slot (Lowering onward) = pins_after slot onward
-pins_at slot now = 0
-
--- 1 for a slot that is to be freed
-abbrev pub to_free : ℕ → Stage → ℕ
-to_free slot (Freeing given onward) = if_same given.slot slot
-to_free slot now = 0
-
--- 1 where the door counts a slot that isn't claimed or that is freed
-abbrev pub to_lower : Stage → ℕ
-to_lower Seeking = 1
-to_lower (Claiming slot from to) = 1
-to_lower (Lowering onward) = 1
-to_lower now = 0
 
 -- So many pins are held, so many slots are to be freed, and so many to be counted off the door.
 pub record IsBalanced (pins slots : ℕ → ℕ) (door : ℕ) (events : List Event) : Type 0 where

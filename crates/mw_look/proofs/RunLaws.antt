@@ -24,7 +24,7 @@ use Rattle.mw_look.specs.declared.steps.Kind.TheVariants.{Free as FreeKind}
 use Rattle.mw_look.specs.Steps.{Step, place, store}
 use Rattle.mw_look.specs.Program.{first, freed, asks_at, asks, reply_at, word_of, slot_of, seq_of, same_word, word_seen, pinned, first_entry, next_entry, resumed, goes}
 use Rattle.mw_look.specs.Runs.{after, past, ChangesOnlyPins, ReadsChangeOnlyPins, IsPlaceFor, ReadsStayAtTheirWord, Hold, hold_of, holds_at, IsUnderPin, ReadsAreUnderPin, WinsPin, TakesPinBack, PinsAreHeldUntilTakenBack, if_same, wins_pin, takes_back, takes_last, frees, frees_any, lowers, times, RepliesGiveBack, RepliesStay}
-use Rattle.mw_look.specs.RangeLaws.{either_way}
+use Rattle.mw_look.proofs.RangeLaws.{either_way}
 
 -- a read keeps its tenant and its address
 pub keeps_tenant : (tenant address : ℕ) (news : List News) → (after (first tenant address) news).tenant ≡ tenant

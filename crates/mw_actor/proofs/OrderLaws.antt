@@ -23,9 +23,9 @@ use Rattle.mw_actor.specs.Acting.{Acting, first, entries_of_job, own_entries, en
 use Rattle.mw_actor.specs.Asks.{asks, asks_at}
 use Rattle.mw_actor.specs.Helping.{others_read}
 use Rattle.mw_actor.specs.Stages.{Stage, Reading, Outside, Entering, Seeking, Claiming, WritingStatus, WritingCount, WritingAddr, WritingExpected, WritingNew, Preparing, Checking, Inspecting, Holding, Deciding, Working, Nearing, Pinning, Fetching, Leaving, Freeing, Lowering, GivingUp, Over, stage, Resumes, OnTask, Scans, Leads}
-use Rattle.mw_actor.specs.StageLaws.{goes_leads}
+use Rattle.mw_actor.proofs.StageLaws.{goes_leads}
 use Rattle.mw_actor.specs.Runs.{Heard, after, past, made}
-use Rattle.mw_actor.specs.RunLaws.{tenant_stays}
+use Rattle.mw_actor.proofs.RunLaws.{tenant_stays}
 use Rattle.mw_actor.specs.Order.{won, Entrance, claim, draft, written, prepared, HasDone, WasAdmitted, IsInTurn, StepsComeInTurn}
 
 -- what happened, happened by later as well

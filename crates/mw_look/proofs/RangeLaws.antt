@@ -10,7 +10,7 @@ use Rattle.mw_words.specs.declared.words.Word.TheVariants.{Plain, Planted, Held,
 use Rattle.mw_words.specs.declared.statuses.Status.{Status}
 use Rattle.mw_words.specs.Patterns.{IsGateInRange}
 use Rattle.mw_pool.specs.Moves.{Pins, after_pin}
-use Rattle.mw_pool.specs.MoveLaws.{pin_is}
+use Rattle.mw_pool.proofs.MoveLaws.{pin_is}
 use Rattle.mw_look.specs.declared.news.News.{News}
 use Rattle.mw_look.specs.declared.news.News.TheVariants.{SawDoor, SawGate, SawWord, SawStatus, SawRow, SawNumber, Won, Lost}
 use Rattle.mw_look.specs.declared.points.Trail.{Trail}

@@ -23,8 +23,8 @@ use Rattle.mw_look.specs.declared.points.Point.TheVariants.{ReadDoor, ReadWord, 
 use Rattle.mw_look.specs.Program.{first, asks_at, asks, reply_at, word_of, slot_of, seq_of, same_word, word_seen, pinned, first_entry, next_entry, answer, resumed, goes}
 use Rattle.mw_look.specs.Program.{is_over, value_of}
 use Rattle.mw_look.specs.Runs.{Event, after, past, this_try, Happened, loaded, JustLoaded, IsEntryFound, SeenAgain, RepliesAreOfTheWord}
-use Rattle.mw_look.specs.RangeLaws.{either_way}
-use Rattle.mw_look.specs.RunLaws.{keeps_tenant, keeps_address}
+use Rattle.mw_look.proofs.RangeLaws.{either_way}
+use Rattle.mw_look.proofs.RunLaws.{keeps_tenant, keeps_address}
 
 -- the row of an attempt was loaded
 abbrev IsRowSeen : Trail → List Event → Type 0

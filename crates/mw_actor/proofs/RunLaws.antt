@@ -26,7 +26,7 @@ use Rattle.mw_actor.specs.Finishing.{resumed}
 use Rattle.mw_actor.specs.Helping.{others_read}
 use Rattle.mw_actor.specs.Program.{goes, tells}
 use Rattle.mw_actor.specs.Stages.{Stage, Reading, Outside, Entering, Seeking, Claiming, WritingStatus, WritingCount, WritingAddr, WritingExpected, WritingNew, Preparing, Checking, Inspecting, Holding, Deciding, Working, Nearing, Pinning, Fetching, Leaving, Freeing, Lowering, GivingUp, Over, stage, Resumes, OnTask, Scans, Leads}
-use Rattle.mw_actor.specs.StageLaws.{goes_leads}
+use Rattle.mw_actor.proofs.StageLaws.{goes_leads}
 use Rattle.mw_actor.specs.Runs.{Heard, after, past, made, IsPlaceFor, RequestsStayWithTheirTenant, WinsSlot, WasWon, ClaimsSlot, WasClaimed, IsFollowed, LastPinsAreFreed}
 
 -- One thing is true of one's own change, and another of the one that is worked on.

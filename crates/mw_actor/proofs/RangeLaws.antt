@@ -32,10 +32,10 @@ use Rattle.std.proofs.lemmas.Bool.Decides.{nat_tests}
 use Rattle.std.proofs.lemmas.List.Elements.{All-push}
 use Rattle.mw_words.specs.Patterns.{IsWordInRange}
 use Rattle.mw_pool.specs.Moves.{Says, Claims, Pins}
-use Rattle.mw_pool.specs.MoveLaws.{admit_says, claim_is, pin_is}
+use Rattle.mw_pool.proofs.MoveLaws.{admit_says, claim_is, pin_is}
 use Rattle.mw_look.specs.News.{IsNewsInRange}
 use Rattle.mw_look.specs.Program.{Reading}
-use Rattle.mw_look.specs.RangeLaws.{either_way}
+use Rattle.mw_look.proofs.RangeLaws.{either_way}
 use Rattle.mw_actor.specs.Acting.{Acting, own_entries, is_alone, alone, entries_of, entry_of, same_slot, planted}
 use Rattle.mw_actor.specs.Admitting.{admitted, round_over, next_gate, is_worn, claiming, next_fill, prepared}
 use Rattle.mw_actor.specs.Finishing.{works, resumed, unpinned, gives_up, refusal, finishes}

@@ -8,7 +8,7 @@ use Rattle.mw_words.specs.declared.statuses.Status.TheVariants.{Open}
 use Rattle.mw_look.specs.declared.news.News.{News}
 use Rattle.mw_look.specs.declared.news.News.TheVariants.{SawDoor, SawGate, SawWord, SawStatus, Won, Lost, Filed}
 use Rattle.mw_look.specs.Steps.{Step, Load}
-use Rattle.mw_look.specs.RangeLaws.{either_way}
+use Rattle.mw_look.proofs.RangeLaws.{either_way}
 use Rattle.mw_look.specs.Runs.{Event, Happened, loaded}
 use Rattle.mw_actor.specs.declared.points.Slot.{Slot}
 use Rattle.mw_actor.specs.declared.points.Task.{Task}
@@ -20,11 +20,11 @@ use Rattle.mw_actor.specs.Acting.{Acting, first, own_entries, entry_at, is_alone
 use Rattle.mw_actor.specs.Asks.{asks, asks_at}
 use Rattle.mw_actor.specs.Helping.{others_read}
 use Rattle.mw_actor.specs.Stages.{Stage, Reading, Outside, Entering, Seeking, Claiming, WritingStatus, WritingCount, WritingAddr, WritingExpected, WritingNew, Preparing, Checking, Inspecting, Holding, Deciding, Working, Nearing, Pinning, Fetching, Leaving, Freeing, Lowering, GivingUp, stage, Resumes, turned, OnTask, Scans, Leads}
-use Rattle.mw_actor.specs.StageLaws.{goes_leads}
+use Rattle.mw_actor.proofs.StageLaws.{goes_leads}
 use Rattle.mw_actor.specs.Runs.{Heard, after, past, made}
-use Rattle.mw_actor.specs.RunLaws.{tenant_stays}
-use Rattle.mw_actor.specs.BalanceLaws.{own_alone}
-use Rattle.mw_actor.specs.OrderLaws.{is_below, is_not_below, one_more, is_last, some_stay}
+use Rattle.mw_actor.proofs.RunLaws.{tenant_stays}
+use Rattle.mw_actor.proofs.BalanceLaws.{own_alone}
+use Rattle.mw_actor.proofs.OrderLaws.{is_below, is_not_below, one_more, is_last, some_stay}
 use Rattle.mw_actor.specs.Rising.{loads_status, this_look, seen_held, IsNextToHold, IsInRising, PlantsRise}
 
 -- the entries of the change that is worked on, by those that were read of another's
