@@ -1,4 +1,4 @@
--- What a write into one place of a file leaves: of a record behind its shut commit byte, and of the commit byte.
+-- What a write into one place of a file leaves: of a record behind a clear commit byte, and of the commit byte itself.
 use Rattle.std.proofs.Common.{◌≡◌, ◌⊎◌, ℕ, ◌+◌, ◌<◌, ◌≤◌, List, length, Some, None, Option, true, false, slice_index, refl, sym, ap, ◌∙◌, inl, inr, arith}
 use Rattle.std.proofs.lemmas.Bool.{cases_eq, cases_lt, both_ways}
 use Rattle.mw_words.specs.declared.limits.TheConstants.{MAX_ENTRIES, MAX_WORDS}
@@ -96,7 +96,7 @@ module _ (b c : List ℕ) (words : ℕ) (contents : List ℕ) (states : List Pla
     long : size words (length states) ≤ length c
     long = still_long words (length states) contents b c (InRange (place_at words place) 1) was.has same
 
-    -- shut, the words are those before
+    -- clear: the words are those before
     pub seal_shut : (slice_index c (place_at words place) ≡ COMMITTED → ⊥) → HasWords words (length states) contents c
     seal_shut commit =
         words_stay words (length states) contents b c was.has long head_stays

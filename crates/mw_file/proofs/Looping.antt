@@ -1,4 +1,4 @@
--- One place more of those that are put into the home words, or whose commit bytes are shut.
+-- One place more of those that are put into the home words, or whose commit bytes are cleared.
 use Rattle.std.proofs.Common.{◌≡◌, ℕ, ◌+◌, ◌<◌, List, length, Some, Option, Result, Ok, Err, OnOk, slice_index, slice_get, get_or, sym, ap, ◌∙◌, inl, inr, arith, subst}
 use Rattle.std.proofs.lemmas.Bool.{cases_eq}
 use Rattle.std.proofs.lemmas.Option.{slice_get-get_or}

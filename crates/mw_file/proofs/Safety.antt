@@ -123,7 +123,7 @@ module _ (old new : Facts) (words : ℕ) (contents : List ℕ) (states : List Pl
               ∙ get_patched old.reads at block k (omega (arith, fits)) (omega (arith, l, long, size_is)) ∙ ap (λ b. slice_index b k) is_block ∙ ap (slice_index (body entries)) (let e : k ≡ 0 + k = omega arith in e)) staged;
         }
 
-  -- a commit byte was opened
+  -- a commit byte was set
   module _ (at : ℕ) (is_at : at ≡ place_at words place) (may : MaySeal states place) (touched : Touched (InRange at 1) old new) where
     seal_same : (c : List ℕ) → SameBut (InRange at 1) old.reads c → SameBut (InRange (place_at words place) 1) old.reads c
     seal_same c same = subst (λ (k : ℕ). SameBut (InRange k 1) old.reads c) is_at same

@@ -26,7 +26,7 @@ sealed_open b words place Sealed w is placed = placed
 sealed_open b words place Free w is placed = cc
 sealed_open b words place Prepared w is placed = cc
 
--- the slots of a file tell which of its records are open
+-- the states of a file tell which of its records are open
 pub tells_all : (b : List ℕ) (words : ℕ) (contents : List ℕ) (states : List PlaceState) → Stores b words contents states → Tells b words 0 states
 tells_all b words contents states was = record {
   recorded = λ place lt sealed.
