@@ -1,7 +1,7 @@
 //! `mwreplay [--trace] FILE` plays a schedule.
 #![tactic(auto)]
 
-use mw_programs::replay_args;
+use mw_player::replay_args;
 use std::io::ErrorKind;
 use std::process::ExitCode;
 use std::{env, io};

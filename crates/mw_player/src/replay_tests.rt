@@ -1,7 +1,7 @@
 //! What playing schedules gives.
 use crate::player::{Halt, Player};
 use crate::replaying::{replay, replay_args};
-use crate::schedules::{PLAYED, SLOT_RECYCLED};
+use crate::schedule_tests::{PLAYED, SLOT_RECYCLED};
 use mw_look::Kind;
 use mw_schedule::{Command, StepKind, read_schedule};
 use std::io::{self, ErrorKind, Read};
