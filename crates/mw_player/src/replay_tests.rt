@@ -1,14 +1,20 @@
 //! What playing schedules gives.
 use crate::player::{Halt, Player};
 use crate::replaying::{replay, replay_args};
-use crate::schedule_tests::{PLAYED, SLOT_RECYCLED};
+use crate::schedule_tests::{
+    CLAIM_LOST, HEAD, SLOT_RECYCLED, lines_without_arrival, of_files, of_late_workers, of_requests,
+    steps_not_enabled, stops_not_enabled, workers_not_enabled, wrong_lines,
+};
 use mw_look::Kind;
 use mw_schedule::{Command, StepKind, read_schedule};
+use std::alloc::{AllocError, Global};
 use std::io::{self, ErrorKind, Read};
+use std::process::Abort;
+use std::rt::Files;
 use std::test::Fail;
 
 /// What a program gave: its exit status, and what it wrote to its two outputs.
-#[derive(Debug, PartialEq, Eq, Drop)]
+#[derive(Debug, Drop)]
 struct Played {
     status: u8,
     out: String,
@@ -16,198 +22,175 @@ struct Played {
 }
 
 impl Played {
-    fn new(rt: &HostRuntime, status: u8, out: &str, err: &str) -> Result<Played, Fail> {
+    /// What a program gave that ended with this status.
+    fn new(status: u8, out: Vec<u8>, err: Vec<u8>) -> Result<Played, Fail> {
         Ok(Played {
             status,
-            out: String::from_str(rt.alloc(), out)?,
-            err: String::from_str(rt.alloc(), err)?,
+            out: String::from_utf8(out)?,
+            err: String::from_utf8(err)?,
         })
     }
 
     /// What playing the schedule that is read from here gives.
-    fn of<I: Read>(rt: &HostRuntime, input: &mut I, trace: bool) -> Result<Played, Fail> {
+    fn of<R: AllocGlobal, I: Read>(rt: &R, input: &mut I, trace: bool) -> Result<Played, Fail> {
         let mut out = Vec::new(rt.alloc());
         let mut err = Vec::new(rt.alloc());
         let status = replay(rt, input, trace, &mut out, &mut err);
-        Ok(Played {
-            status,
-            out: String::from_utf8(out)?,
-            err: String::from_utf8(err)?,
-        })
+        Played::new(status, out, err)
+    }
+
+    /// What playing a schedule with these lines behind [`HEAD`] gives.
+    fn behind_head<R: AllocGlobal>(rt: &R, lines: &str) -> Result<Played, Fail> {
+        let mut schedule = String::from_str(rt.alloc(), HEAD)?;
+        schedule.push_str(lines)?;
+        Played::of(rt, &mut schedule.as_bytes(), false)
     }
 
     /// What a command line gives.
-    fn of_words(rt: &HostRuntime, words: &[&str]) -> Result<Played, Fail> {
-        let mut line = Vec::new(rt.alloc());
-        for word in words {
-            line.push(String::from_str(rt.alloc(), word)?)?;
-        }
+    fn of_args<R: Files + AllocGlobal>(rt: &R, args: &[&str]) -> Result<Played, Fail> {
+        let args = strings(rt.alloc(), args)?;
         let mut out = Vec::new(rt.alloc());
         let mut err = Vec::new(rt.alloc());
-        let status = replay_args(rt, &line, &mut out, &mut err);
-        Ok(Played {
-            status,
-            out: String::from_utf8(out)?,
-            err: String::from_utf8(err)?,
-        })
+        let status = replay_args(rt, &args, &mut out, &mut err);
+        Played::new(status, out, err)
+    }
+
+    /// True if the program gave just this.
+    fn is(&self, status: u8, out: &str, err: &str) -> bool {
+        self.status == status && self.out.as_str() == out && self.err.as_str() == err
     }
 }
 
+fn strings(alloc: Global, texts: &[&str]) -> Result<Vec<String>, AllocError> {
+    let mut strings = Vec::new(alloc);
+    for text in texts {
+        strings.push(String::from_str(alloc, text)?)?;
+    }
+    Ok(strings)
+}
+
 #[test]
-fn command_lines(rt: HostRuntime) -> Result<(), Fail> {
-    let absent = Played::of_words(&rt, &["mwreplay", "no-such-schedule"])?;
-    assert_eq!(rt; absent, Played::new(&rt, 1, "", "mwreplay: cannot read\n")?);
-    let unnamed = Played::of_words(&rt, &["mwreplay", "--trace"])?;
+fn an_absent_schedule(rt: HostRuntime) -> Result<(), Fail> {
+    let absent = Played::of_args(&rt, &["mwreplay", "no-such-schedule"])?;
+    assert!(rt; absent.is(1, "", "mwreplay: cannot read\n"), "{absent:?}");
+    Ok(())
+}
+
+#[test]
+fn a_command_line_without_a_schedule(rt: HostRuntime) -> Result<(), Fail> {
+    let unnamed = Played::of_args(&rt, &["mwreplay", "--trace"])?;
     assert_eq!(rt; unnamed.status, 2);
     assert!(rt; unnamed.out.is_empty() && !unnamed.err.is_empty());
-    let help = Played::of_words(&rt, &["mwreplay", "--help"])?;
+    Ok(())
+}
+
+#[test]
+fn a_command_line_that_asks_for_help(rt: HostRuntime) -> Result<(), Fail> {
+    let help = Played::of_args(&rt, &["mwreplay", "--help"])?;
     assert_eq!(rt; help.status, 0);
     assert!(rt; help.err.is_empty() && !help.out.is_empty());
     Ok(())
 }
 
-#[test]
-fn schedules_that_are_played(rt: HostRuntime) -> Result<(), Fail> {
-    for (name, schedule, out) in PLAYED {
-        let played = Played::of(&rt, &mut schedule.as_bytes(), false)?;
-        assert_eq!(rt; played, Played::new(&rt, 0, out, "")?, "{name}");
+/// Plays each of these schedules, which is told with its name and with what is to be printed.
+fn play_each<R: Abort + AllocGlobal>(rt: &R, schedules: &[(&str, &str, &str)]) -> Result<(), Fail> {
+    for (name, schedule, out) in schedules {
+        let played = Played::of(rt, &mut schedule.as_bytes(), false)?;
+        assert!(rt; played.is(0, out, ""), "{name}: {played:?}");
     }
     Ok(())
+}
+
+#[test]
+fn schedules_of_requests(rt: HostRuntime) -> Result<(), Fail> {
+    play_each(&rt, &of_requests())
+}
+
+#[test]
+fn schedules_of_files(rt: HostRuntime) -> Result<(), Fail> {
+    play_each(&rt, &of_files())
+}
+
+#[test]
+fn schedules_of_late_workers(rt: HostRuntime) -> Result<(), Fail> {
+    play_each(&rt, &of_late_workers())
 }
 
 #[test]
 fn claims_that_are_traced(rt: HostRuntime) -> Result<(), Fail> {
     let traced = "claim 0 0 t\n0 t YES\nclaim 0 1 u\n0 u YES\n";
     let played = Played::of(&rt, &mut SLOT_RECYCLED.as_bytes(), true)?;
-    assert_eq!(rt; played, Played::new(&rt, 0, traced, "")?);
+    assert!(rt; played.is(0, traced, ""), "{played:?}");
+    Ok(())
+}
+
+#[test]
+fn claims_that_are_not_traced(rt: HostRuntime) -> Result<(), Fail> {
     let played = Played::of(&rt, &mut SLOT_RECYCLED.as_bytes(), false)?;
-    assert_eq!(rt; played, Played::new(&rt, 0, "0 t YES\n0 u YES\n", "")?);
+    assert!(rt; played.is(0, "0 t YES\n0 u YES\n", ""), "{played:?}");
     Ok(())
 }
 
 #[test]
 fn claims_that_are_lost(rt: HostRuntime) -> Result<(), Fail> {
-    let schedule =
-        "pool 2\nworkers 2\ntenant t 2 2\ncome 0 t CAS 0:0:1\ncome 1 t CAS 1:0:1\nbefore 0 claim\nto 1 claim\nto 0 claim\nend 0\nend 1\n";
     let traced = "claim 0 0 t\nclaim 1 0 t\n0 t YES\n1 t YES\n";
-    let played = Played::of(&rt, &mut schedule.as_bytes(), true)?;
-    assert_eq!(rt; played, Played::new(&rt, 0, traced, "")?);
+    let played = Played::of(&rt, &mut CLAIM_LOST.as_bytes(), true)?;
+    assert!(rt; played.is(0, traced, ""), "{played:?}");
     Ok(())
 }
 
-/// The first four lines of the schedules below.
-const HEAD: &str = "pool 3\nworkers 2\ntenant t 2 2\ntenant u 1 1\n";
-
-/// What playing a schedule with these lines behind the first four gives.
-fn played_behind(rt: &HostRuntime, lines: &str) -> Result<Played, Fail> {
-    let mut schedule = String::from_str(rt.alloc(), HEAD)?;
-    schedule.push_str(lines)?;
-    Played::of(rt, &mut schedule.as_bytes(), false)
+/// Plays schedules with each of these lines behind [`HEAD`]. Each is to end with this status, to print
+/// nothing, and to say what stands beside its lines.
+fn end_each<R: Abort + AllocGlobal>(
+    rt: &R,
+    status: u8,
+    cases: &[(&str, &str)],
+) -> Result<(), Fail> {
+    for (lines, err) in cases {
+        let played = Played::behind_head(rt, lines)?;
+        assert!(rt; played.is(status, "", err), "{lines}: {played:?}");
+    }
+    Ok(())
 }
 
 #[test]
 fn lines_that_are_wrong(rt: HostRuntime) -> Result<(), Fail> {
-    let cases = [
-        ("step 0\n\n", "line 6 wrong\n"),
-        ("come 0 t GET 0\nend 0\nend 0", "line 7 wrong\n"),
-        ("come 0 t GET 0\nend 0\nend 0 \nstep\n", "line 7 wrong\n"),
-        ("come 0 t GET 2\n", "line 5 wrong\n"),
-        ("come 0 t CAS 1:0:1 0:0:1\n", "line 5 wrong\n"),
-        ("end 64\n", "line 5 wrong\n"),
-        ("to 0 ready\n", "line 5 wrong\n"),
-        ("restart t=-,-, t=-,-,\n", "line 5 wrong\n"),
-        ("tenant t 1 1\n", "line 5 wrong\n"),
-    ];
-    for (lines, err) in cases {
-        let want = Played::new(&rt, 2, "", err)?;
-        assert_eq!(rt; played_behind(&rt, lines)?, want, "{lines}");
-    }
+    end_each(&rt, 2, &wrong_lines())
+}
+
+#[test]
+fn a_first_line_that_is_missing(rt: HostRuntime) -> Result<(), Fail> {
     let missing = Played::of(&rt, &mut b"pool 1\nworkers 1\n".as_slice(), false)?;
-    assert_eq!(rt; missing, Played::new(&rt, 2, "", "line 3 wrong\n")?);
+    assert!(rt; missing.is(2, "", "line 3 wrong\n"), "{missing:?}");
     Ok(())
 }
 
 #[test]
-fn lines_that_are_not_enabled(rt: HostRuntime) -> Result<(), Fail> {
-    let cases = [
-        ("step 0\n", "line 5 not enabled\n"),
-        ("end 0\n", "line 5 not enabled\n"),
-        ("before 0 load\n", "line 5 not enabled\n"),
-        ("to 1 load\n", "line 5 not enabled\n"),
-        ("file 0 good\n", "line 5 not enabled\n"),
-        ("step 2\n", "line 5 not enabled\n"),
-        ("end 63\n", "line 5 not enabled\n"),
-        ("come 2 t GET 0\n", "line 5 not enabled\n"),
-        ("come 0 t GET 0\ncome 0 u GET 0\n", "line 6 not enabled\n"),
-        ("come 0 t GET 0\nfile 0 good\n", "line 6 not enabled\n"),
-        (
-            "come 0 t GET 0\nstep 0\nstep 0\nstep 0\n",
-            "line 8 not enabled\n",
-        ),
-        (
-            "come 0 t CAS 0:0:1\nbefore 0 prepare\nstep 0\n",
-            "line 7 not enabled\n",
-        ),
-        (
-            "come 0 t CAS 0:0:1\nbefore 0 prepare\nfile 0 0\n",
-            "line 7 not enabled\n",
-        ),
-        (
-            "come 0 t CAS 0:0:1\nbefore 0 prepare\nfile 0 3\n",
-            "line 7 not enabled\n",
-        ),
-        (
-            "come 0 t CAS 0:0:1\nbefore 0 seal\nrestart t=0,3,\n",
-            "line 7 not enabled\n",
-        ),
-        (
-            "come 0 t CAS 0:0:1\nbefore 0 seal\nrestart u=0,1,\n",
-            "line 7 not enabled\n",
-        ),
-        (
-            "come 0 t CAS 0:0:1\nbefore 0 plant\nrestart t=0,0,\n",
-            "line 7 not enabled\n",
-        ),
-        ("restart t=1,0,\n", "line 5 not enabled\n"),
-        ("restart t=-,-,,0\n", "line 5 not enabled\n"),
-        ("restart t=-,-,,3\n", "line 5 not enabled\n"),
-    ];
-    for (lines, err) in cases {
-        let want = Played::new(&rt, 3, "", err)?;
-        assert_eq!(rt; played_behind(&rt, lines)?, want, "{lines}");
-    }
-    Ok(())
+fn lines_of_workers_that_can_not_go_on(rt: HostRuntime) -> Result<(), Fail> {
+    end_each(&rt, 3, &workers_not_enabled())
+}
+
+#[test]
+fn lines_of_other_steps(rt: HostRuntime) -> Result<(), Fail> {
+    end_each(&rt, 3, &steps_not_enabled())
+}
+
+#[test]
+fn stops_that_can_not_happen(rt: HostRuntime) -> Result<(), Fail> {
+    end_each(&rt, 3, &stops_not_enabled())
 }
 
 #[test]
 fn lines_that_do_not_arrive(rt: HostRuntime) -> Result<(), Fail> {
-    let cases = [
-        (
-            "come 0 t GET 0\nbefore 0 plant\n",
-            "line 6 did not arrive\n",
-        ),
-        (
-            "come 0 t CAS 0:0:1\nto 0 cancel\n",
-            "line 6 did not arrive\n",
-        ),
-        (
-            "come 0 t GET 0\nto 0 load\nto 0 load\nbefore 0 load\n",
-            "line 8 did not arrive\n",
-        ),
-    ];
-    for (lines, err) in cases {
-        let want = Played::new(&rt, 4, "", err)?;
-        assert_eq!(rt; played_behind(&rt, lines)?, want, "{lines}");
-    }
-    Ok(())
+    end_each(&rt, 4, &lines_without_arrival())
 }
 
 #[test]
 fn replies_before_a_halt_stay(rt: HostRuntime) -> Result<(), Fail> {
-    let played = played_behind(&rt, "come 0 t GET 0\nend 0\nstep 0\nend 0\n")?;
-    assert_eq!(rt;
-        played,
-        Played::new(&rt, 3, "0 t VAL 0\n", "line 7 not enabled\n")?
+    let played = Played::behind_head(&rt, "come 0 t GET 0\nend 0\nstep 0\nend 0\n")?;
+    assert!(rt;
+        played.is(3, "0 t VAL 0\n", "line 7 not enabled\n"),
+        "{played:?}"
     );
     Ok(())
 }
@@ -254,7 +237,7 @@ fn a_reader_that_fails(rt: HostRuntime) -> Result<(), Fail> {
         rest: SLOT_RECYCLED.as_bytes(),
     };
     let played = Played::of(&rt, &mut input, false)?;
-    assert_eq!(rt; played, Played::new(&rt, 1, "", "mwreplay: cannot read\n")?);
+    assert!(rt; played.is(1, "", "mwreplay: cannot read\n"), "{played:?}");
     Ok(())
 }
 
