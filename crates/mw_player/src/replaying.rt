@@ -15,21 +15,21 @@ use thiserror::Error;
 enum ReplayFault {
     /// The command line is wrong, or asks for help.
     #[error("{0}")]
-    Words(clap::Error),
+    Args(clap::Error),
     /// The schedule can't be read.
-    #[error("mwreplay: cannot read\n")]
+    #[error("mwreplay: cannot read")]
     CannotRead,
     /// Memory was refused.
-    #[error("mwreplay: memory\n")]
+    #[error("mwreplay: memory")]
     Memory,
     /// The line with this number is wrong, and none before it.
-    #[error("line {0} wrong\n")]
+    #[error("line {0} wrong")]
     Wrong(u64),
     /// What the line with this number tells can't happen where the world is.
-    #[error("line {0} not enabled\n")]
+    #[error("line {0} not enabled")]
     NotEnabled(u64),
     /// The worker of the line with this number does not come to what the line tells.
-    #[error("line {0} did not arrive\n")]
+    #[error("line {0} did not arrive")]
     DidNotArrive(u64),
     /// The output takes no more, of which nothing is said.
     #[error("")]
@@ -51,7 +51,7 @@ impl ReplayFault {
     fn status(&self) -> u8 {
         match self {
             ReplayFault::CannotRead | ReplayFault::Memory | ReplayFault::Output => 1,
-            ReplayFault::Words(_) | ReplayFault::Wrong(_) => 2,
+            ReplayFault::Args(_) | ReplayFault::Wrong(_) => 2,
             ReplayFault::NotEnabled(_) => 3,
             ReplayFault::DidNotArrive(_) => 4,
         }
@@ -77,7 +77,7 @@ impl From<clap::Error> for ReplayFault {
     fn from(fault: clap::Error) -> Self {
         match fault.kind() {
             ErrorKind::OutOfMemory => ReplayFault::Memory,
-            _ => ReplayFault::Words(fault),
+            _ => ReplayFault::Args(fault),
         }
     }
 }
@@ -91,20 +91,20 @@ impl From<io::Error> for ReplayFault {
     }
 }
 
-/// Plays the schedule that the command line `words`, the program's own name first, names:
+/// Plays the schedule that the command line `args`, the program's own name first, names:
 /// `mwreplay [--trace] FILE`, as [`replay`] does.
 ///
 /// Gives the exit status: that of [`replay`]; 1 where the file can't be opened; 2 for a wrong command
 /// line. What went wrong is written to `err`.
 pub fn replay_args<R: Files + AllocGlobal, O: Write, E: Write>(
     rt: &R,
-    words: &[String],
+    args: &[String],
     out: &mut O,
     err: &mut E,
 ) -> u8 {
-    match play_file(rt, words, out) {
+    match play_file(rt, args, out) {
         Ok(()) => 0,
-        Err(ReplayFault::Words(fault)) if !fault.use_stderr() => {
+        Err(ReplayFault::Args(fault)) if !fault.use_stderr() => {
             u8::from(write!(out, "{fault}").is_err())
         }
         Err(fault) => tell(&fault, err),
@@ -134,16 +134,21 @@ pub fn replay<R: AllocGlobal, I: Read, O: Write, E: Write>(
 }
 
 fn tell<E: Write>(fault: &ReplayFault, err: &mut E) -> u8 {
-    let _ = write!(err, "{fault}");
+    let _ = match fault {
+        // The text that clap makes ends with a line feed.
+        ReplayFault::Args(fault) => write!(err, "{fault}"),
+        ReplayFault::Output => Ok(()),
+        _ => writeln!(err, "{fault}"),
+    };
     fault.status()
 }
 
 fn play_file<R: Files + AllocGlobal, O: Write>(
     rt: &R,
-    words: &[String],
+    args: &[String],
     out: &mut O,
 ) -> Result<(), ReplayFault> {
-    let matches = command(rt.alloc())?.try_get_matches_from(words)?;
+    let matches = command(rt.alloc())?.try_get_matches_from(args)?;
     let Some(path) = matches.get_str("FILE") else {
         return Err(ReplayFault::CannotRead);
     };
