@@ -1,5 +1,5 @@
 use Rattle.std.proofs.Common.{◌≡◌, take}
-use Rattle.mw_file.proofs.states.copies.Given as goal
+use Rattle.mw_file.proofs.place_states.copies.Given as goal
 
 -- the slots so far
 abbrev pub invariant-loop-state : goal.invariant-loop-state
