@@ -52,7 +52,7 @@ pairs_of entries = map (λ e. (e.addr, e.new)) entries
 abbrev pub new_file : ℕ → ℕ → List ℕ
 new_file words places = header words places ++ replicate (WORD_SIZE * words + PLACE_SIZE * places) 0
 
--- each address and each new value has a number's eight bytes
+-- each address and each new value fits in eight bytes
 abbrev pub AreNumbers : List Entry → Type 0
 AreNumbers entries = AllByRecursion (λ e. (e.addr < 256 ^ 8) × (e.new < 256 ^ 8)) entries
 

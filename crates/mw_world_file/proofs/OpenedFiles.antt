@@ -34,9 +34,9 @@ zero_there (suc n) zero = refl
 zero_there (suc n) (suc k) = zero_there n k
 
 -- free places are kept as empty ones
-pub free_kept : (slots : List PlaceState) (places : List KeptPlace) (n : ℕ) → IsTrue (all_free slots) → places ≡ replicate n KeptEmpty → AreKept slots places
-free_kept slots places n free empty = record {
-  stages = λ place. stage_of-all_free slots place free ∙ sym (ap stage_told (there place));
+pub free_kept : (states : List PlaceState) (places : List KeptPlace) (n : ℕ) → IsTrue (all_free states) → places ≡ replicate n KeptEmpty → AreKept states places
+free_kept states places n free empty = record {
+  stages = λ place. stage_of-all_free states place free ∙ sym (ap stage_told (there place));
   writes = λ place busy. absurd (let e : true ≡ false = sym (ap is_empty (there place)) ∙ busy in cc);
 } where
   there : (place : ℕ) → place_in places place ≡ Empty
