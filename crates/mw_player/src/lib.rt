@@ -8,6 +8,8 @@ mod replaying;
 pub use replaying::{replay, replay_args};
 
 #[cfg(test)]
+mod line_tests;
+#[cfg(test)]
 mod replay_tests;
 #[cfg(test)]
 mod schedule_tests;

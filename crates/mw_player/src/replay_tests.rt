@@ -1,10 +1,11 @@
 //! What playing schedules gives.
+use crate::line_tests::{
+    HEAD, lines_without_arrival, steps_not_enabled, stops_not_enabled, workers_not_enabled,
+    wrong_lines,
+};
 use crate::player::{Halt, Player};
 use crate::replaying::{replay, replay_args};
-use crate::schedule_tests::{
-    CLAIM_LOST, HEAD, SLOT_RECYCLED, lines_without_arrival, of_files, of_late_workers, of_requests,
-    steps_not_enabled, stops_not_enabled, workers_not_enabled, wrong_lines,
-};
+use crate::schedule_tests::{CLAIM_LOST, SLOT_RECYCLED, of_files, of_late_workers, of_requests};
 use mw_look::Kind;
 use mw_schedule::{Command, StepKind, read_schedule};
 use std::alloc::{AllocError, Global};
