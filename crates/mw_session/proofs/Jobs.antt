@@ -1,6 +1,6 @@
 -- A job that some tenant may ask for is well formed for a tenant where its addresses are below the tenant's words, which
 -- the last of them decides.
-use Rattle.std.proofs.Common.{◌≡◌, ℕ, zero, suc, ◌+◌, ◌-◌, ◌<◌, ◌≤◌, Bool, true, false, ◌&&◌, List, [], ◌∷◌, length, nat_le, nat_lt, Some, None, slice_get, IsTrue, refl, sym, ap, subst, ◌∙◌, inl, inr, arith, leb-true, lt-ltb, le-ltb}
+use Rattle.std.proofs.Common.{◌≡◌, ℕ, zero, suc, ◌+◌, ◌-◌, ◌<◌, ◌≤◌, Bool, true, false, ◌&&◌, List, [], ◌∷◌, length, nat_le, nat_lt, Some, slice_get, IsTrue, refl, sym, ap, subst, ◌∙◌, inl, inr, arith, leb-true, lt-ltb, le-ltb}
 use Rattle.std.specs.List.{list_all}
 use Rattle.std.proofs.lemmas.Bool.{and_parts, cases_lt}
 use Rattle.std.proofs.lemmas.Option.{same_Some}
