@@ -18,7 +18,7 @@ use mw_config::TenantLine;
 use mw_disk::Disk;
 use mw_file::TenantFile;
 use mw_plain::Plain;
-use mw_words::{MAX_TENANTS, Name};
+use mw_words::{MAX_TENANTS, copy_of_name};
 use std::alloc::{AllocError, Global};
 use std::marker::PhantomData;
 use std::sync::Mutex;
@@ -97,21 +97,10 @@ fn listed(lines: &[TenantLine]) -> ArrayVec<Listed, MAX_TENANTS>
     let mut kept = ArrayVec::new();
     for line in lines {
         kept.push(Listed {
-            name: copy_of(&line.name),
+            name: copy_of_name(&line.name),
             words: line.words,
             quota: line.quota,
         });
     }
     kept
-}
-
-/// The same name once more.
-fn copy_of(name: &Name) -> Name
-    ensures { result ≡ name.now }
-{
-    let mut copy = Name::new();
-    for i in 0..name.len() {
-        copy.push(name[i]);
-    }
-    copy
 }

@@ -100,7 +100,7 @@ module _ {D : Type 0} (facts : D → Facts) where
     };
     keeps = λ s n keeps honest. (crash s keeps (was_honest _ _ later honest)).after;
     moments = λ s keeps honest. (crash s keeps honest).moments;
-    places = λ so_many. ap length (met_fault facts 2 old.file new.file r bad (old.sound up) ends).slots;
+    places = λ so_many. ap length (met_fault facts 2 old.file new.file r bad (old.sound up) ends).states;
     kept = λ other others apart was now. absurd (let no : true ≡ false = sym faulted ∙ now in cc);
   } where
     crash : (s : Store) → IsKept facts (Some old) s → IsTrue (facts (disk_of old.file)).honest → CrashSafe facts old.file new.file s.words (pairs_of entries.items) s.words (pairs_of entries.items)
@@ -167,7 +167,7 @@ module _ {D : Type 0} (facts : D → Facts) where
       after = λ s n backs. record { used = backs.used ∙ sym used; faulted = sym faulted; words = sealed_words s backs };
       keeps = λ s n. sealed_keeps s;
       moments = sealed_moments;
-      places = λ so_many. ap length (met_fault facts _ between new.file settling bad seal.after ends).slots ∙ c.places;
+      places = λ so_many. ap length (met_fault facts _ between new.file settling bad seal.after ends).states ∙ c.places;
       kept = λ other others apart was now. absurd (let no : true ≡ false = sym faulted ∙ now in cc);
     }
 

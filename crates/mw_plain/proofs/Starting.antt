@@ -46,7 +46,7 @@ module _ {D : Type 0} (facts : D → Facts) where
     keeps = λ s keeps honest. let before = was_honest _ _ later honest in (safe before s.words (pairs_of s.in_doubt) (keeps before)).after;
     moments = λ s keeps honest. (safe honest s.words (pairs_of s.in_doubt) (keeps honest)).moments;
     ended = refl;
-    places = λ so_many. ap length (met_fault facts 2 old.file new.file r bad (old.sound up) ends).slots;
+    places = λ so_many. ap length (met_fault facts 2 old.file new.file r bad (old.sound up) ends).states;
     opened = tt;
     kept = λ place others was now. absurd (let no : true ≡ false = sym faulted ∙ now in cc);
   }

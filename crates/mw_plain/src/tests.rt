@@ -163,11 +163,6 @@ fn tasks_in_order(rt: HostRuntime) -> Result<(), Fail> {
     let replies = store.run(alloc, &tasks)?;
     let wanted = [Reply::Yes, Reply::No(0, 1), Reply::Val(0)];
     assert_eq!(rt; replies.as_slice(), wanted.as_slice());
-    let u: [u8; 1] = *b"u";
-    match mw_words::Name::try_from(u.as_slice()) {
-        Ok(name) => assert_eq!(rt; store.find(&name), Some((1, 2))),
-        Err(_) => assert!(rt; false, "there is room"),
-    }
     Ok(())
 }
 

@@ -37,6 +37,10 @@ fn changes_that_are_well_formed_and_not(rt: HostRuntime) {
 fn names(rt: HostRuntime) {
     for name in ["t", "a-0", "abcdefghijklmnop"] {
         assert!(rt; is_name(name.as_bytes()), "{name}");
+        match Name::try_from(name.as_bytes()) {
+            Ok(name) => assert_eq!(rt; copy_of_name(&name), name),
+            Err(_) => assert!(rt; false, "there is room"),
+        }
     }
     for text in ["", "T", "0a", "-a", "a b", "aB", "abcdefghijklmnopq"] {
         assert!(rt; !is_name(text.as_bytes()), "{text}");
