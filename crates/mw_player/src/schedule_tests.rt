@@ -141,6 +141,32 @@ come 0 u GET 0
 end 0
 ";
 
+const FAILED_SEAL_NOT_WRITTEN: &str = "\
+pool 1
+workers 1
+tenant t 1 1
+come 0 t CAS 0:0:1
+before 0 seal
+file 0 1
+end 0
+restart
+come 0 t GET 0
+end 0
+";
+
+const FAILED_SEAL_NOT_SYNCED: &str = "\
+pool 1
+workers 1
+tenant t 1 1
+come 0 t CAS 0:0:1
+before 0 seal
+file 0 2
+end 0
+restart
+come 0 t GET 0
+end 0
+";
+
 const FAILED_SEAL_OTHER_BYTE: &str = "\
 pool 2
 workers 1
@@ -439,7 +465,7 @@ pub fn of_requests() -> [Schedule; 6] {
 }
 
 /// Schedules of files that stop or fail, each with its name and what is printed.
-pub fn of_files() -> [Schedule; 7] {
+pub fn of_files() -> [Schedule; 9] {
     [
         ("torn-gate", TORN_GATE, "0 t VAL 1\n0 t VAL 2\n"),
         (
@@ -461,6 +487,16 @@ pub fn of_files() -> [Schedule; 7] {
             "failed-seal, the other byte",
             FAILED_SEAL_OTHER_BYTE,
             "0 t FAULT\n0 t FAULT\n0 u YES\n0 t VAL 0\n0 u VAL 1\n",
+        ),
+        (
+            "failed-seal, not written",
+            FAILED_SEAL_NOT_WRITTEN,
+            "0 t FAULT\n0 t VAL 0\n",
+        ),
+        (
+            "failed-seal, not synced",
+            FAILED_SEAL_NOT_SYNCED,
+            "0 t FAULT\n0 t VAL 1\n",
         ),
         (
             "settle-failure",
