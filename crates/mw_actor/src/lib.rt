@@ -4,6 +4,29 @@
 //! tenant's file, and tells the machine what the step found, until a reply stands. A change is
 //! written down in a slot of the pool. A change that finds another in its way works on that one, as its
 //! own worker does, before it goes on; a read only looks.
+//!
+//! A change follows the multi-word compare-and-swap of Harris, Fraser and Pratt ("A practical multi-word
+//! compare-and-swap operation", 2002). A slot is what they call a descriptor, and turning to the change
+//! in the way is their helping. Planting is their restricted double-compare single-swap, RDCSS: an
+//! attempt is planted in a word, then the change's status is loaded, and the attempt becomes the held
+//! word only if the change was open, else the old value again. Of this crate's own are the tenant's
+//! file, which holds the change before any word has its new value, and the pins and sequence numbers
+//! under which slots are used again.
+//!
+//! The statuses of a change. The two decisions are exchanges, which any worker on the change may win;
+//! prepare, seal, settle and cancel are calls on the file.
+//!
+//! ```text
+//! Draft --prepare--> Open --decide yes--> YesDirty --seal--> Yes --settle--> DoneYes
+//!                     |
+//!                     +-----decide no---> No --cancel--> DoneNo
+//! ```
+//!
+//! The definitions, in the order of reading: `specs/Acting` (a request), `specs/Asks` (its step at each
+//! point), `specs/Program` (where it goes from there, with `Admitting`, `Inspecting`, `Helping`,
+//! `Sweeping` and `Finishing` for the parts of it), and then what is claimed: `specs/Ranges` of its
+//! numbers, `specs/Runs`, `specs/Order` and `specs/Rising` of its runs. `specs/Parts` divides the points
+//! among the functions of the code; `specs/Stages` and `specs/Balance` group them by what is held there.
 #![tactic(auto)]
 
 mod actor;
@@ -17,6 +40,3 @@ pub use laws::{
     replies_give_back, requests_stay_with_their_tenant, steps_come_in_turn,
 };
 pub use points::{After, Attempt, Point, Slot, Sweep, Task};
-
-#[cfg(test)]
-mod tests;

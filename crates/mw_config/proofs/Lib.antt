@@ -1,4 +1,3 @@
-pub mod Narrowly
 pub mod Spelled
 pub mod Taken
 mod OneAnswer

@@ -1,18 +1,16 @@
 -- The text of a line is read as that line, and what is read as a line is its text.
-use Rattle.std.proofs.Common.{◌≡◌, ℕ, ◌+◌, Bool, true, false, cond, eqb, List, [], ◌∷◌, ◌++◌, length, take, drop, Some, None, refl, sym, ap, subst, ◌∙◌, inl, inr, ◌⊎◌, arith, append_assoc, eqb-true, ◌&&◌, eq-eqb, lt-ltb, le-ltb, ltb, suc}
-use Rattle.std.specs.Prelude.{codes, position, option_map}
-use Rattle.std.specs.List.{position_or_len}
+use Rattle.std.proofs.Common.{◌≡◌, ℕ, ◌+◌, Bool, true, false, cond, eqb, List, [], ◌∷◌, ◌++◌, length, take, drop, Some, None, refl, sym, ap, subst, ◌∙◌, inl, inr, arith, append_assoc, eqb-true, ◌&&◌, eq-eqb}
+use Rattle.std.specs.Prelude.{codes}
 use Rattle.std.specs.List.{list_all}
 use Rattle.std.proofs.lemmas.Option.{none-some, same_Some, some_pair_parts}
-use Rattle.std.proofs.lemmas.Bool.{cases_lt}
 use Rattle.mw_words.specs.Name.{is_name, is_name_byte}
 use Rattle.mw_line.specs.Number.{numeral}
-use Rattle.mw_line.specs.Reading.{◌>>=◌, behind, number_at}
+use Rattle.mw_line.specs.Reading.{◌>>=◌, behind, field_at, number_at}
 use Rattle.mw_line.proofs.Entries.{bind_some, cases_cond_is}
-use Rattle.mw_line.proofs.Fronts.{behind_found}
+use Rattle.mw_line.proofs.Fronts.{behind_found, cases_eqb}
 use Rattle.mw_line.proofs.Numerals.{number_again, number_found, IsNumberRead}
 use Rattle.mw_config.specs.Spelling.{Line, IsLine, HasNoLine, spelling, is_path, is_path_byte}
-use Rattle.mw_config.specs.Reading.{field_at, line_at}
+use Rattle.mw_config.specs.Reading.{line_at}
 
 pub both_true : (a b : Bool) → (a && b) ≡ true → (a ≡ true) × (b ≡ true)
 both_true true b h = (refl, h)
@@ -25,9 +23,6 @@ true_false b t f = absurd cc
 
 eq_self : (n : ℕ) → eqb n n ≡ true
 eq_self n = eq-eqb n n refl
-
-cases_eqb : (a b : ℕ) → (eqb a b ≡ true) ⊎ (eqb a b ≡ false)
-cases_eqb a b = elim (eqb a b) as (λ v. (v ≡ true) ⊎ (v ≡ false)) [ true ↦ inl refl | false ↦ inr refl ]
 
 -- where a test that the end doesn't pass holds of all bytes of a field, the field is read
 pub field_again : (p : ℕ → Bool) (end : ℕ) (field after : List ℕ) → p end ≡ false → list_all p field ≡ true → field_at end (field ++ (end ∷ after)) ≡ Some (field, after)
@@ -133,25 +128,3 @@ line_found see text m after e =
 pub none_there : (see : ℕ → ℕ) (text : List ℕ) → line_at see text ≡ None → HasNoLine text
 none_there see text none line after formed spelled =
     absurd (none-some (seen_line see line, after) (sym none ∙ ap (line_at see) spelled ∙ line_again see line after formed))
-
--- ---- a field by the place of its end
-
--- the field before the end at this place, and what is behind it
-abbrev pub cut_at : List ℕ → ℕ → List ℕ × List ℕ
-cut_at bytes k = (take k bytes, drop (k + 1) bytes)
-
-one_further : (b : ℕ) (bs : List ℕ) (n k : ℕ) → k ≡ suc n → (option_map (cut_at bs) (cond (ltb n (length bs)) (Some n) None) >>= λ r. Some (b ∷ r.0, r.1)) ≡ option_map (cut_at (b ∷ bs)) (cond (ltb k (length (b ∷ bs))) (Some k) None)
-one_further b bs n k next =
-    let place : suc n + 1 ≡ suc (n + 1) = omega arith in
-    elim (cases_lt n (length bs)) [
-      | inl low ↦ rw (next, lt-ltb n (length bs) low, lt-ltb (suc n) (suc (length bs)) (omega arith)) (ap (λ (k : ℕ). Some (b ∷ take n bs, drop k (b ∷ bs))) (sym place))
-      | inr high ↦ rw (next, le-ltb n (length bs) high, le-ltb (suc n) (suc (length bs)) (omega arith)) refl
-    ]
-
-pub field_by_place : (end : ℕ) (bytes : List ℕ) → field_at end bytes ≡ option_map (cut_at bytes) (position (λ b. eqb b end) bytes)
-field_by_place end [] = refl
-field_by_place end (b ∷ bs) =
-    elim (cases_eqb b end) [
-      | inl same ↦ rw (same, lt-ltb 0 (suc (length bs)) (omega arith)) refl
-      | inr other ↦ rw (other, field_by_place end bs) (one_further b bs (position_or_len (λ x. eqb x end) bs) _ (omega arith))
-    ]

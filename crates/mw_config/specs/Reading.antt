@@ -1,9 +1,9 @@
 -- Reading a line from left to right, by a reader that may see a large number as a smaller one. The
 -- steps of the reader cite this; what it owes to others is said by Spelling, Limits and Judging alone.
-use Rattle.std.specs.Prelude.{ℕ, Bool, nat_le, ◌≡◌, ◌<◌, ◌==◌, ◌&&◌, ◌+◌, List, [], ◌∷◌, ◌++◌, length, if◌then◌else◌, codes, Option, Some, None, Result, Ok, Err}
+use Rattle.std.specs.Prelude.{ℕ, Bool, nat_le, ◌≡◌, ◌<◌, ◌&&◌, ◌+◌, List, ◌++◌, length, if◌then◌else◌, codes, Option, Some, None, Result, Ok, Err}
 use Rattle.std.specs.Borrow.{Bor}
 use Rattle.mw_words.specs.Name.{is_name}
-use Rattle.mw_line.specs.Reading.{◌>>=◌, behind, number_at}
+use Rattle.mw_line.specs.Reading.{◌>>=◌, behind, field_at, number_at}
 use Rattle.mw_words.specs.declared.limits.TheConstants.{MAX_TENANTS}
 use Rattle.mw_config.specs.declared.lines.TenantLine.{TenantLine}
 use Rattle.mw_config.specs.declared.lines.Told.{Told}
@@ -11,11 +11,6 @@ use Rattle.mw_config.specs.declared.refusals.Refusal.{Refusal}
 use Rattle.mw_config.specs.Spelling.{Line, IsLine, is_path, line_of, spelling}
 use Rattle.mw_config.specs.Limits.{HasWords, HasQuota, IsNew}
 use Rattle.mw_config.specs.Judging.{IsAtLine, IsWrong}
-
--- the bytes before the first end, and those behind it
-abbrev pub field_at : ℕ → List ℕ → Option (List ℕ × List ℕ)
-field_at end [] = None
-field_at end (b ∷ bytes) = if b == end then Some ([], bytes) else (field_at end bytes >>= λ r. Some (b ∷ r.0, r.1))
 
 -- the line in front, with its numbers as the reader sees them, and the bytes behind it
 unfoldable pub line_at : (ℕ → ℕ) → List ℕ → Option (Line × List ℕ)

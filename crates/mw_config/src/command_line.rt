@@ -40,7 +40,7 @@ pub enum ArgFault {
     Refused(clap::Error),
     /// It hasn't exactly one of `--listen` and `--script`, or has `--connections` with `--script`.
     #[error("mwserve: refused 1 command")]
-    Words,
+    Mode,
     /// Memory was refused.
     #[error("mwserve: memory")]
     Memory,
@@ -61,26 +61,26 @@ impl From<clap::Error> for ArgFault {
     }
 }
 
-/// Reads the command line `words`, the program's own name first:
+/// Reads the command line `args`, the program's own name first:
 /// `mwserve --tenants FILE [--pool P] [--workers N]` with either `--listen ADDR [--connections C]` or
 /// `--script FILE`. P is 1 to [`MAX_POOL`], and that where it isn't given; N is 1 to [`MAX_WORKERS`],
 /// and 4 where it isn't given; C is 1 to [`MAX_CONNECTIONS`].
 ///
 /// # Errors
 ///
-/// [`ArgFault::Refused`] where clap refuses the words, or they ask for the help; [`ArgFault::Words`]
+/// [`ArgFault::Refused`] where clap refuses them, or they ask for the help; [`ArgFault::Mode`]
 /// where they haven't exactly one of `--listen` and `--script`, or have `--connections` with
-/// `--script`; [`ArgFault::Memory`] where memory was refused. The words are only read.
-pub fn read_args(alloc: Global, words: &[String]) -> Result<Args, ArgFault>
+/// `--script`; [`ArgFault::Memory`] where memory was refused. `args` is only read.
+pub fn read_args(alloc: Global, args: &[String]) -> Result<Args, ArgFault>
     ensures permitted { IfOk result (λ args. ArePermittedArgs args) }
 {
-    let matches = command(alloc)?.try_get_matches_from(words)?;
+    let matches = command(alloc)?.try_get_matches_from(args)?;
     let (Some(tenants), Some(pool), Some(workers)) = (
         matches.get_str("tenants"),
         number_of(&matches, "pool", u32::from(MAX_POOL)),
         number_of(&matches, "workers", u32::from(MAX_WORKERS)),
     ) else {
-        return Err(ArgFault::Words);
+        return Err(ArgFault::Mode);
     };
     Ok(Args {
         tenants: String::from_str(alloc, tenants)?,
@@ -101,7 +101,7 @@ fn mode_of(alloc: Global, matches: &ArgMatches<'_>) -> Result<Mode, ArgFault>
         (None, Some(script)) if connections.is_none() => {
             Ok(Mode::Script(String::from_str(alloc, script)?))
         }
-        _ => Err(ArgFault::Words),
+        _ => Err(ArgFault::Mode),
     }
 }
 
@@ -127,7 +127,7 @@ fn command<'a>(alloc: Global) -> Result<Command<'a>, clap::Error> {
         .help("how many changes of all tenants may be under way at a time, 1 to 256");
     let workers = number(alloc, "workers", "N", u64::from(MAX_WORKERS))
         .default_value("4")
-        .help("how many workers make the changes, 1 to 64");
+        .help("how many clients are served at once, 1 to 64");
     let listen = Arg::new(alloc, "listen")
         .long("listen")
         .value_name("ADDR")

@@ -2,7 +2,6 @@
 #![tactic(auto)]
 
 mod command_line;
-mod fields;
 mod laws;
 mod lines;
 mod refusals;

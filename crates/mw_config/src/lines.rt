@@ -9,8 +9,8 @@ ghost use Rattle.mw_config.specs.Limits as limits;
 ghost use Rattle.mw_config.specs.Reading as spec;
 ghost use Rattle.mw_config.specs.Reading.{told_line};
 
-use crate::fields::{behind, field, number_at};
 use arrayvec::ArrayString;
+use mw_line::{address_at as number_at, behind, field};
 use mw_words::{MAX_PATH, Name, is_name};
 use std::str;
 

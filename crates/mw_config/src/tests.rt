@@ -152,15 +152,15 @@ fn texts_of_refusals(rt: HostRuntime) -> Result<(), Fail> {
 }
 
 /// What a command line gives: what it asks for, or the name of its fault.
-fn read(alloc: Global, words: &[&str]) -> Result<String, AllocError> {
+fn read(alloc: Global, args: &[&str]) -> Result<String, AllocError> {
     let mut given = Vec::new(alloc);
-    for word in words {
-        given.push(String::from_str(alloc, word)?)?;
+    for arg in args {
+        given.push(String::from_str(alloc, arg)?)?;
     }
     match read_args(alloc, &given) {
         Ok(args) => format!(in alloc; "{args:?}"),
         Err(ArgFault::Refused(_)) => String::from_str(alloc, "refused"),
-        Err(ArgFault::Words) => String::from_str(alloc, "words"),
+        Err(ArgFault::Mode) => String::from_str(alloc, "mode"),
         Err(ArgFault::Memory) => Err(AllocError),
     }
 }
@@ -206,8 +206,8 @@ const LINES: [(&[&str], &str); 4] = [
 
 #[test]
 fn command_lines_that_are_accepted(rt: HostRuntime) -> Result<(), Fail> {
-    for (words, wanted) in LINES {
-        let text = read(rt.alloc(), words)?;
+    for (args, wanted) in LINES {
+        let text = read(rt.alloc(), args)?;
         assert_eq!(rt; text.as_str(), wanted);
     }
     Ok(())
@@ -236,9 +236,9 @@ fn command_lines_without_one_mode(rt: HostRuntime) -> Result<(), Fail> {
             "1",
         ],
     ];
-    for words in cases {
-        let text = read(rt.alloc(), words)?;
-        assert_eq!(rt; text.as_str(), "words");
+    for args in cases {
+        let text = read(rt.alloc(), args)?;
+        assert_eq!(rt; text.as_str(), "mode");
     }
     Ok(())
 }
@@ -300,8 +300,8 @@ fn command_lines_that_are_refused(rt: HostRuntime) -> Result<(), Fail> {
         &["mwserve", "--tenants", "t", "--script", "s", "--what"],
         &["mwserve", "--tenants", "t", "--script", "s", "more"],
     ];
-    for words in cases {
-        let text = read(rt.alloc(), words)?;
+    for args in cases {
+        let text = read(rt.alloc(), args)?;
         assert_eq!(rt; text.as_str(), "refused");
     }
     Ok(())
@@ -310,19 +310,19 @@ fn command_lines_that_are_refused(rt: HostRuntime) -> Result<(), Fail> {
 /// Where memory is refused the answer is want of memory, and never another one.
 #[test]
 fn no_other_answer_for_want_of_memory(rt: HostRuntime) {
-    for (words, wanted) in LINES {
-        if let Ok(text) = read(rt.alloc(), words) {
+    for (args, wanted) in LINES {
+        if let Ok(text) = read(rt.alloc(), args) {
             assert_eq!(rt; text.as_str(), wanted);
         }
     }
 }
 
-/// The text of the fault that a command line of one word has.
-fn fault_of(alloc: Global, word: &str) -> Result<String, AllocError> {
-    let mut words = Vec::new(alloc);
-    words.push(String::from_str(alloc, "mwserve")?)?;
-    words.push(String::from_str(alloc, word)?)?;
-    match read_args(alloc, &words) {
+/// The text of the fault that a command line of one argument has.
+fn fault_of(alloc: Global, arg: &str) -> Result<String, AllocError> {
+    let mut args = Vec::new(alloc);
+    args.push(String::from_str(alloc, "mwserve")?)?;
+    args.push(String::from_str(alloc, arg)?)?;
+    match read_args(alloc, &args) {
         Ok(_) => String::from_str(alloc, "none"),
         Err(fault) => format!(in alloc; "{fault}"),
     }

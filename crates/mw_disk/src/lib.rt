@@ -11,6 +11,3 @@ mod spans;
 pub use device::{Disk, DiskFault};
 pub use file::FileDisk;
 pub use memory::MemDisk;
-
-#[cfg(test)]
-mod tests;

@@ -1,9 +1,9 @@
 //! The engine: the tenants' words, asked by many workers at once.
 //!
-//! An [`EngineParts`] engine is made with a pass for each worker, and becomes an [`Engine`] when it is
-//! started. Each worker serves one request at a time with its pass. Which tenants there are, and how
-//! many words each has, stays for the engine's whole life, so a job that was judged by what
-//! [`Engine::find`] told is well formed whenever it is served.
+//! [`EngineParts`] are made with a pass for each worker, and become an [`Engine`] by
+//! [`EngineParts::into_engine`]. Each worker serves one request at a time with its pass. Which tenants
+//! there are, and how many words each has, stays for the engine's whole life, so a job that was judged
+//! by what [`Engine::find`] told is well formed whenever it is served.
 #![tactic(auto)]
 
 mod brand;

@@ -1,4 +1,4 @@
-//! How an engine is made and started.
+//! How an engine's parts are made, and an engine of them.
 ghost use Rattle.std.specs.Prelude.{◌≡◌, ◌≤◌, length, map, vec_len, All, IfOk};
 ghost use Rattle.mw_words.specs.declared.limits.TheConstants.{MAX_POOL};
 ghost use Rattle.mw_plain.specs.Lines.{FitLines, quotas_in};
@@ -18,16 +18,16 @@ use mw_config::TenantLine;
 use mw_disk::Disk;
 use mw_file::TenantFile;
 use mw_plain::Plain;
-use mw_words::{MAX_TENANTS, Name};
+use mw_words::{MAX_TENANTS, copy_of_name};
 use std::alloc::{AllocError, Global};
 use std::marker::PhantomData;
 use std::sync::Mutex;
 
 impl<D: Disk + Drop, H: Hold + Drop> EngineParts<D, H> {
-    /// An engine of the tenants with these lines, each over its file and the words that it was opened
-    /// with, and a pass for each of so many workers, in order of number. A tenant whose file didn't
-    /// open, or isn't as its line says, has faulted from the start. The tenants share a pool of so many
-    /// slots. The hold is told of the points that a worker comes to.
+    /// The parts of an engine of the tenants with these lines, each over its file and the words that it
+    /// was opened with, and a pass for each of so many workers, in order of number. A tenant whose file
+    /// didn't open, or isn't as its line says, has faulted from the start. The tenants share a pool of
+    /// so many slots. The engine tells the hold the points that a worker comes to.
     ///
     /// # Errors
     ///
@@ -59,7 +59,7 @@ impl<D: Disk + Drop, H: Hold + Drop> EngineParts<D, H> {
         Ok((parts, passes))
     }
 
-    /// The engine, which serves from now on.
+    /// The engine of these parts, which serves from now on.
     pub fn into_engine<J: EngineBrand>(self) -> Engine<J, D, H>
         requires { identity_of self ≡ J.identity }
     {
@@ -97,21 +97,10 @@ fn listed(lines: &[TenantLine]) -> ArrayVec<Listed, MAX_TENANTS>
     let mut kept = ArrayVec::new();
     for line in lines {
         kept.push(Listed {
-            name: copy_of(&line.name),
+            name: copy_of_name(&line.name),
             words: line.words,
             quota: line.quota,
         });
     }
     kept
-}
-
-/// The same name once more.
-fn copy_of(name: &Name) -> Name
-    ensures { result ≡ name.now }
-{
-    let mut copy = Name::new();
-    for i in 0..name.len() {
-        copy.push(name[i]);
-    }
-    copy
 }

@@ -1,4 +1,4 @@
-//! An engine before it serves.
+//! The parts of an engine.
 ghost use Rattle.std.specs.Prelude.{◌≡◌, map};
 ghost use Rattle.mw_engine.specs.Lines.{line_of, identity_over};
 
@@ -7,7 +7,7 @@ use arrayvec::ArrayVec;
 use mw_plain::Plain;
 use mw_words::MAX_TENANTS;
 
-/// An engine that has no name yet. Whoever has a name for it starts it.
+/// What an engine is made of, which has no brand yet. [`EngineParts::into_engine`] gives it one.
 #[derive(Drop)]
 pub struct EngineParts<D, H> {
     pub(crate) lines: ArrayVec<Listed, MAX_TENANTS>,

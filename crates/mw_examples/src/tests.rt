@@ -12,7 +12,7 @@ use std::time::Clock;
 use std::{env, fs, io, process, thread};
 
 /// What a program gave: its exit status, and what it wrote to its two outputs.
-#[derive(Debug, PartialEq, Eq, Drop)]
+#[derive(Debug, Drop)]
 struct Outcome {
     status: u8,
     out: String,
@@ -20,12 +20,18 @@ struct Outcome {
 }
 
 impl Outcome {
-    fn new(alloc: Global, status: u8, out: &str, err: &str) -> Result<Outcome, AllocError> {
+    /// What a program gave that ended with this status.
+    fn new(status: u8, out: Vec<u8>, err: Vec<u8>) -> Result<Outcome, Fail> {
         Ok(Outcome {
             status,
-            out: String::from_str(alloc, out)?,
-            err: String::from_str(alloc, err)?,
+            out: String::from_utf8(out)?,
+            err: String::from_utf8(err)?,
         })
+    }
+
+    /// True if the program gave just this.
+    fn is(&self, status: u8, out: &str, err: &str) -> bool {
+        self.status == status && self.out.as_str() == out && self.err.as_str() == err
     }
 }
 
@@ -38,10 +44,21 @@ fn new_folder(rt: &HostRuntime, name: &str) -> Result<String, Fail> {
     Ok(String::from_str(rt.alloc(), path.as_path().as_str())?)
 }
 
-fn strings(alloc: Global, words: &[&str]) -> Result<Vec<String>, AllocError> {
+/// Removes a test's folder.
+fn remove_folder(rt: &HostRuntime, folder: &str) -> Result<(), Fail> {
+    fs::remove_dir_all(rt, folder)?;
+    Ok(())
+}
+
+/// The path of a file in a folder.
+fn path_in(alloc: Global, folder: &str, name: &str) -> Result<String, AllocError> {
+    format!(in alloc; "{folder}/{name}")
+}
+
+fn strings(alloc: Global, texts: &[&str]) -> Result<Vec<String>, AllocError> {
     let mut strings = Vec::new(alloc);
-    for word in words {
-        strings.push(String::from_str(alloc, word)?)?;
+    for text in texts {
+        strings.push(String::from_str(alloc, text)?)?;
     }
     Ok(strings)
 }
@@ -54,31 +71,48 @@ fn make_file<R: Files + AllocGlobal>(
     words: &str,
     places: &str,
 ) -> Result<Outcome, Fail> {
-    let path = format!(in rt.alloc(); "{folder}/{name}")?;
-    let words = strings(rt.alloc(), &["mwinit", path.as_str(), words, places])?;
+    let path = path_in(rt.alloc(), folder, name)?;
+    let args = strings(rt.alloc(), &["mwinit", path.as_str(), words, places])?;
     let mut out = Vec::new(rt.alloc());
     let mut err = Vec::new(rt.alloc());
-    let status = init(rt, &words, &mut out, &mut err);
-    Ok(Outcome {
-        status,
-        out: String::from_utf8(out)?,
-        err: String::from_utf8(err)?,
-    })
+    let status = init(rt, &args, &mut out, &mut err);
+    Outcome::new(status, out, err)
 }
 
-/// Writes the files `tenants`, in which `DIR` stands for the folder, and `script` of a folder.
-fn write_files<R: Files + AllocGlobal>(
-    rt: &R,
-    folder: &str,
-    tenants: &str,
-    script: &str,
-) -> Result<(), Fail> {
+/// Writes the file `tenants` of a folder, in which `DIR` stands for the folder.
+fn write_tenants<R: Files + AllocGlobal>(rt: &R, folder: &str, tenants: &str) -> Result<(), Fail> {
     let tenants = tenants.replace(rt.alloc(), "DIR", folder)?;
-    let tenants_path = format!(in rt.alloc(); "{folder}/tenants")?;
-    let script_path = format!(in rt.alloc(); "{folder}/script")?;
-    fs::write(rt, tenants_path.as_str(), tenants.as_str())?;
-    fs::write(rt, script_path.as_str(), script)?;
+    let path = path_in(rt.alloc(), folder, "tenants")?;
+    fs::write(rt, path.as_str(), tenants.as_str())?;
     Ok(())
+}
+
+/// Writes the file `script` of a folder.
+fn write_script<R: Files + AllocGlobal>(rt: &R, folder: &str, script: &str) -> Result<(), Fail> {
+    let path = path_in(rt.alloc(), folder, "script")?;
+    fs::write(rt, path.as_str(), script)?;
+    Ok(())
+}
+
+/// The command line that serves the script of a folder to the tenants of its tenants file, with these
+/// options.
+fn script_args(alloc: Global, folder: &str, options: &[&str]) -> Result<Vec<String>, AllocError> {
+    let tenants = path_in(alloc, folder, "tenants")?;
+    let script = path_in(alloc, folder, "script")?;
+    let mut args = strings(
+        alloc,
+        &[
+            "mwserve",
+            "--tenants",
+            tenants.as_str(),
+            "--script",
+            script.as_str(),
+        ],
+    )?;
+    for option in options {
+        args.push(String::from_str(alloc, option)?)?;
+    }
+    Ok(args)
 }
 
 /// Serves the script of a folder to the tenants of its tenants file, with these options.
@@ -92,29 +126,11 @@ where
         + Sync,
     R::File: FileExt + Send,
 {
-    let tenants = format!(in rt.alloc(); "{folder}/tenants")?;
-    let script = format!(in rt.alloc(); "{folder}/script")?;
-    let mut words = strings(
-        rt.alloc(),
-        &[
-            "mwserve",
-            "--tenants",
-            tenants.as_str(),
-            "--script",
-            script.as_str(),
-        ],
-    )?;
-    for option in options {
-        words.push(String::from_str(rt.alloc(), option)?)?;
-    }
+    let args = script_args(rt.alloc(), folder, options)?;
     let mut out = Vec::new(rt.alloc());
     let mut err = Vec::new(rt.alloc());
-    let status = serve(rt, &words, &mut out, &mut err);
-    Ok(Outcome {
-        status,
-        out: String::from_utf8(out)?,
-        err: String::from_utf8(err)?,
-    })
+    let status = serve(rt, &args, &mut out, &mut err);
+    Outcome::new(status, out, err)
 }
 
 /// Serves a script with a tenants file, in which `DIR` stands for the folder.
@@ -128,49 +144,66 @@ where
         + Sync,
     R::File: FileExt + Send,
 {
-    write_files(rt, folder, tenants, script)?;
+    write_tenants(rt, folder, tenants)?;
+    write_script(rt, folder, script)?;
     serve_files(rt, folder, &[])
 }
 
 const ONE_TENANT: &str = "t 2 1 DIR/t.mw\n";
 
+/// The bytes of a new file of two words and one place.
+fn new_file() -> [u8; 184] {
+    let mut bytes = [0; 184];
+    bytes[..16].copy_from_slice(b"MWCASF1\n\x02\0\0\0\x01\0\0\0");
+    bytes
+}
+
+/// True if a file has just these bytes.
+fn has_bytes(rt: &HostRuntime, path: &str, bytes: &[u8]) -> Result<bool, Fail> {
+    let found = fs::read(rt, path)?;
+    Ok(found.as_slice() == bytes)
+}
+
 #[test]
 fn fresh_file(rt: HostRuntime) -> Result<(), Fail> {
-    let alloc = rt.alloc();
     let folder = new_folder(&rt, "fresh-file")?;
+    let path = path_in(rt.alloc(), folder.as_str(), "t.mw")?;
     let made = make_file(&rt, folder.as_str(), "t.mw", "2", "1")?;
-    assert_eq!(rt; made, Outcome::new(alloc, 0, "made 184\n", "")?);
-    let path = format!(in alloc; "{folder}/t.mw")?;
-    let bytes = fs::read(&rt, path.as_str())?;
-    let mut wanted = vec![in alloc; 0; 184]?;
-    for (to, from) in wanted.iter_mut().zip(b"MWCASF1\n\x02\0\0\0\x01\0\0\0") {
-        *to = *from;
-    }
-    assert_eq!(rt; bytes, wanted);
+    assert!(rt; made.is(0, "made 184\n", ""), "{made:?}");
+    assert!(rt; has_bytes(&rt, path.as_str(), &new_file())?);
+    remove_folder(&rt, folder.as_str())
+}
 
+#[test]
+fn a_file_that_is_there(rt: HostRuntime) -> Result<(), Fail> {
+    let folder = new_folder(&rt, "a-file-that-is-there")?;
+    let path = path_in(rt.alloc(), folder.as_str(), "t.mw")?;
+    make_file(&rt, folder.as_str(), "t.mw", "2", "1")?;
     let again = make_file(&rt, folder.as_str(), "t.mw", "3", "1")?;
-    assert_eq!(rt; again, Outcome::new(alloc, 1, "", "mwinit: cannot make\n")?);
-    assert_eq!(rt; fs::read(&rt, path.as_str())?, wanted);
-    fs::remove_dir_all(&rt, folder.as_str())?;
-    Ok(())
+    assert!(rt; again.is(1, "", "mwinit: cannot make\n"), "{again:?}");
+    assert!(rt; has_bytes(&rt, path.as_str(), &new_file())?);
+    remove_folder(&rt, folder.as_str())
+}
+
+/// The session that asks for a change of tenant t and for its word 0.
+fn change_and_get(alloc: Global, change: &str) -> Result<String, AllocError> {
+    format!(in alloc; "TENANT t\n{change}\nGET 0\n")
 }
 
 #[test]
 fn first_run(rt: HostRuntime) -> Result<(), Fail> {
     let folder = new_folder(&rt, "first-run")?;
     make_file(&rt, folder.as_str(), "t.mw", "2", "1")?;
-    let runs = [
+    for (change, wanted) in [
         ("CAS 0:0:1", "OK 2\nYES\nVAL 1\n"),
         ("CAS 0:0:1", "OK 2\nNO 0 1\nVAL 1\n"),
         ("CAS 0:1:2", "OK 2\nYES\nVAL 2\n"),
-    ];
-    for (change, wanted) in runs {
-        let script = format!(in rt.alloc(); "TENANT t\n{change}\nGET 0\n")?;
+    ] {
+        let script = change_and_get(rt.alloc(), change)?;
         let ran = run_script(&rt, folder.as_str(), ONE_TENANT, script.as_str())?;
-        assert_eq!(rt; ran, Outcome::new(rt.alloc(), 0, wanted, "")?, "{change}");
+        assert!(rt; ran.is(0, wanted, ""), "{change}: {ran:?}");
     }
-    fs::remove_dir_all(&rt, folder.as_str())?;
-    Ok(())
+    remove_folder(&rt, folder.as_str())
 }
 
 /// Serves a script to tenant t, whose new file in this folder has so many words and one place.
@@ -190,76 +223,93 @@ where
 }
 
 #[test]
-fn sessions(rt: HostRuntime) -> Result<(), Fail> {
-    let cases = [
-        ("empty lines: no byte", "2", "", ""),
-        ("empty lines: a line feed", "2", "\n", "ERR 2\n"),
-        ("empty lines: no line feed", "2", "TENANT t", ""),
+fn empty_lines(rt: HostRuntime) -> Result<(), Fail> {
+    for (script, wanted) in [("", ""), ("\n", "ERR 2\n"), ("TENANT t", "")] {
+        let folder = new_folder(&rt, "empty-lines")?;
+        let ran = fresh_session(&rt, folder.as_str(), "2", script)?;
+        assert!(rt; ran.is(0, wanted, ""), "{script}: {ran:?}");
+        remove_folder(&rt, folder.as_str())?;
+    }
+    Ok(())
+}
+
+/// Changes of a tenant with so many words, and what is answered.
+fn changes() -> [(&'static str, &'static str, &'static str); 5] {
+    [
         (
-            "largest value",
             "2",
             "TENANT t\nCAS 0:0:281474976710655\nGET 0\nCAS 0:281474976710655:281474976710656\n",
             "OK 2\nYES\nVAL 281474976710655\nERR 9\n",
         ),
         (
-            "last entry differs",
             "8",
             "TENANT t\nCAS 0:0:1 1:0:1 2:0:1 3:0:1 4:0:1 5:0:1 6:0:1 7:5:1\nGET 0\n",
             "OK 8\nNO 7 0\nVAL 0\n",
         ),
         (
-            "eight entries",
             "8",
             "TENANT t\nCAS 0:0:1 1:0:1 2:0:1 3:0:1 4:0:1 5:0:1 6:0:1 7:0:1\nGET 7\n",
             "OK 8\nYES\nVAL 1\n",
         ),
         (
-            "address order",
             "4",
             "TENANT t\nCAS 3:0:1 3:1:2\nCAS 3:0:1 2:0:1\nCAS 0:9:1 1:9:1\n",
             "OK 4\nERR 7\nERR 7\nNO 0 0\n",
         ),
         (
-            "fault order",
-            "2",
-            "GET 0\nGET 5000\nTENANT x\nTENANT t\nTENANT x\nREPORT\nGET 2\nGET 01\nGET 0\r\nQUIT\nGET 0\n",
-            "ERR 3\nERR 6\nERR 5\nOK 2\nERR 4\nERR 10\nERR 6\nERR 2\nERR 2\nBYE\n",
-        ),
-        (
-            "bad changes",
             "2",
             "TENANT t\nCAS\nCAS 0:0:1 \nCAS 0:0:1 0:0:1 0:0:1 0:0:1 0:0:1 0:0:1 0:0:1 0:0:1 0:0:1\n",
             "OK 2\nERR 2\nERR 2\nERR 8\n",
         ),
-        (
-            "report of one tenant",
-            "2",
-            "ADMIN\nGET 0\nREPORT\nADMIN\n",
-            "OK ADMIN\nERR 10\nt                   2  1  0 up\nfree 256\nERR 4\n",
-        ),
-    ];
-    for (name, words, script, wanted) in cases {
-        let folder = new_folder(&rt, "sessions")?;
+    ]
+}
+
+#[test]
+fn changes_of_a_session(rt: HostRuntime) -> Result<(), Fail> {
+    for (words, script, wanted) in changes() {
+        let folder = new_folder(&rt, "changes")?;
         let ran = fresh_session(&rt, folder.as_str(), words, script)?;
-        assert_eq!(rt; ran, Outcome::new(rt.alloc(), 0, wanted, "")?, "{name}");
-        fs::remove_dir_all(&rt, folder.as_str())?;
+        assert!(rt; ran.is(0, wanted, ""), "{script}: {ran:?}");
+        remove_folder(&rt, folder.as_str())?;
     }
     Ok(())
 }
 
 #[test]
+fn the_order_of_faults(rt: HostRuntime) -> Result<(), Fail> {
+    let script =
+        "GET 0\nGET 5000\nTENANT x\nTENANT t\nTENANT x\nREPORT\nGET 2\nGET 01\nGET 0\r\nQUIT\nGET 0\n";
+    let wanted = "ERR 3\nERR 6\nERR 5\nOK 2\nERR 4\nERR 10\nERR 6\nERR 2\nERR 2\nBYE\n";
+    let folder = new_folder(&rt, "the-order-of-faults")?;
+    let ran = fresh_session(&rt, folder.as_str(), "2", script)?;
+    assert!(rt; ran.is(0, wanted, ""), "{ran:?}");
+    remove_folder(&rt, folder.as_str())
+}
+
+#[test]
+fn report_one_tenant(rt: HostRuntime) -> Result<(), Fail> {
+    let script = "ADMIN\nGET 0\nREPORT\nADMIN\n";
+    let wanted = "OK ADMIN\nERR 10\nt                   2  1  0 up\nfree 256\nERR 4\n";
+    let folder = new_folder(&rt, "report-one-tenant")?;
+    let ran = fresh_session(&rt, folder.as_str(), "2", script)?;
+    assert!(rt; ran.is(0, wanted, ""), "{ran:?}");
+    remove_folder(&rt, folder.as_str())
+}
+
+/// A line of so many bytes, and `TENANT t` behind it.
+fn long_script(alloc: Global, bytes: usize) -> Result<String, AllocError> {
+    let line = "A".repeat(alloc, bytes)?;
+    format!(in alloc; "{line}\nTENANT t\n")
+}
+
+#[test]
 fn long_line(rt: HostRuntime) -> Result<(), Fail> {
-    for (count, wanted) in [(320, "ERR 2\nOK 2\n"), (321, "ERR 1\n")] {
+    for (bytes, wanted) in [(320, "ERR 2\nOK 2\n"), (321, "ERR 1\n")] {
         let folder = new_folder(&rt, "long-line")?;
-        let line = "A".repeat(rt.alloc(), count)?;
-        let script = format!(in rt.alloc(); "{line}\nTENANT t\n")?;
+        let script = long_script(rt.alloc(), bytes)?;
         let ran = fresh_session(&rt, folder.as_str(), "2", script.as_str())?;
-        assert_eq!(rt;
-            ran,
-            Outcome::new(rt.alloc(), 0, wanted, "")?,
-            "{count} bytes"
-        );
-        fs::remove_dir_all(&rt, folder.as_str())?;
+        assert!(rt; ran.is(0, wanted, ""), "{bytes} bytes: {ran:?}");
+        remove_folder(&rt, folder.as_str())?;
     }
     Ok(())
 }
@@ -268,44 +318,40 @@ fn long_line(rt: HostRuntime) -> Result<(), Fail> {
 fn two_sessions(rt: HostRuntime) -> Result<(), Fail> {
     let folder = new_folder(&rt, "two-sessions")?;
     make_file(&rt, folder.as_str(), "t.mw", "2", "1")?;
-    let sessions = [
+    for (script, wanted) in [
         ("TENANT t\nCAS 0:0:1 1:0:2\n", "OK 2\nYES\n"),
         ("TENANT t\nGET 1\n", "OK 2\nVAL 2\n"),
-    ];
-    for (script, wanted) in sessions {
+    ] {
         let ran = run_script(&rt, folder.as_str(), ONE_TENANT, script)?;
-        assert_eq!(rt; ran, Outcome::new(rt.alloc(), 0, wanted, "")?, "{script}");
+        assert!(rt; ran.is(0, wanted, ""), "{script}: {ran:?}");
     }
-    fs::remove_dir_all(&rt, folder.as_str())?;
-    Ok(())
+    remove_folder(&rt, folder.as_str())
+}
+
+/// Makes the files of two tenants in a folder, and a script that asks for the report.
+fn write_two_tenants(rt: &HostRuntime, folder: &str) -> Result<(), Fail> {
+    make_file(rt, folder, "t.mw", "2", "1")?;
+    make_file(rt, folder, "u.mw", "4096", "32")?;
+    write_tenants(rt, folder, "t 2 1 DIR/t.mw\nu 4096 32 DIR/u.mw\n")?;
+    write_script(rt, folder, "ADMIN\nREPORT\n")
 }
 
 #[test]
 fn report_two_tenants(rt: HostRuntime) -> Result<(), Fail> {
     let folder = new_folder(&rt, "report-two-tenants")?;
-    make_file(&rt, folder.as_str(), "t.mw", "2", "1")?;
-    make_file(&rt, folder.as_str(), "u.mw", "4096", "32")?;
-    let tenants = "t 2 1 DIR/t.mw\nu 4096 32 DIR/u.mw\n";
-    write_files(&rt, folder.as_str(), tenants, "ADMIN\nREPORT\n")?;
+    write_two_tenants(&rt, folder.as_str())?;
     let report =
         "OK ADMIN\nt                   2  1  0 up\nu                4096 32  0 up\nfree 33\n";
-    let cases = [
-        ("33", 0, report, ""),
-        ("32", 2, "", "mwserve: refused 9 pool\n"),
-    ];
-    for (pool, status, out, err) in cases {
-        let ran = serve_files(&rt, folder.as_str(), &["--pool", pool])?;
-        assert_eq!(rt; ran, Outcome::new(rt.alloc(), status, out, err)?, "{pool}");
-    }
-    fs::remove_dir_all(&rt, folder.as_str())?;
-    Ok(())
+    let ran = serve_files(&rt, folder.as_str(), &["--pool", "33"])?;
+    assert!(rt; ran.is(0, report, ""), "{ran:?}");
+    let ran = serve_files(&rt, folder.as_str(), &["--pool", "32"])?;
+    assert!(rt; ran.is(2, "", "mwserve: refused 9 pool\n"), "{ran:?}");
+    remove_folder(&rt, folder.as_str())
 }
 
-#[test]
-fn refused_tenants(rt: HostRuntime) -> Result<(), Fail> {
-    let folder = new_folder(&rt, "refused-tenants")?;
-    make_file(&rt, folder.as_str(), "t.mw", "2", "1")?;
-    let cases = [
+/// Tenants files that are refused, and what is said of them.
+fn refusals() -> [(&'static str, &'static str); 5] {
+    [
         ("", "mwserve: refused 8 none\n"),
         ("t 2 1 DIR/t.mw", "mwserve: refused 3 form line 1\n"),
         ("t 4097 1 DIR/t.mw\n", "mwserve: refused 4 words line 1\n"),
@@ -314,57 +360,82 @@ fn refused_tenants(rt: HostRuntime) -> Result<(), Fail> {
             "t 2 1 DIR/t.mw\nt 2 1 DIR/u.mw\n",
             "mwserve: refused 6 twice line 2\n",
         ),
-    ];
-    for (tenants, wanted) in cases {
+    ]
+}
+
+#[test]
+fn refused_tenants(rt: HostRuntime) -> Result<(), Fail> {
+    let folder = new_folder(&rt, "refused-tenants")?;
+    make_file(&rt, folder.as_str(), "t.mw", "2", "1")?;
+    for (tenants, wanted) in refusals() {
         let ran = run_script(&rt, folder.as_str(), tenants, "TENANT t\n")?;
-        assert_eq!(rt; ran, Outcome::new(rt.alloc(), 2, "", wanted)?, "{tenants}");
+        assert!(rt; ran.is(2, "", wanted), "{tenants}: {ran:?}");
     }
-    fs::remove_dir_all(&rt, folder.as_str())?;
-    Ok(())
+    remove_folder(&rt, folder.as_str())
 }
 
 #[test]
 fn what_is_not_there(rt: HostRuntime) -> Result<(), Fail> {
     let folder = new_folder(&rt, "not-there")?;
     let ran = serve_files(&rt, folder.as_str(), &[])?;
-    assert_eq!(rt;
-        ran,
-        Outcome::new(rt.alloc(), 2, "", "mwserve: refused 2 file\n")?
-    );
-    let tenants = format!(in rt.alloc(); "{folder}/tenants")?;
-    fs::write(&rt, tenants.as_str(), "t 2 1 t.mw\n")?;
+    assert!(rt; ran.is(2, "", "mwserve: refused 2 file\n"), "{ran:?}");
+    write_tenants(&rt, folder.as_str(), "t 2 1 t.mw\n")?;
     let ran = serve_files(&rt, folder.as_str(), &[])?;
     let wanted = "tenant t: disk\nmwserve: cannot read\n";
-    assert_eq!(rt; ran, Outcome::new(rt.alloc(), 1, "", wanted)?);
-    fs::remove_dir_all(&rt, folder.as_str())?;
+    assert!(rt; ran.is(1, "", wanted), "{ran:?}");
+    remove_folder(&rt, folder.as_str())
+}
+
+/// Writes these bytes to the file `t.mw` of a folder.
+fn write_bytes<R: Files + AllocGlobal>(rt: &R, folder: &str, bytes: &[u8]) -> Result<(), Fail> {
+    let path = path_in(rt.alloc(), folder, "t.mw")?;
+    fs::write(rt, path.as_str(), bytes)?;
     Ok(())
 }
 
+/// What is asked of a tenant whose file does not open.
+const SCRIPT: &str = "TENANT t\nGET 0\nGET 2\nCAS 0:0:1\n";
+
+/// What a tenant whose file does not open is answered.
+const NO_FILE: &str = "OK 2\nFAULT\nERR 6\nFAULT\n";
+
+/// The bytes of a file of which a change has nine entries.
+fn file_of_nine_entries() -> [u8; 184] {
+    let mut bytes = new_file();
+    bytes[48..50].copy_from_slice(b"\xa5\x09");
+    bytes
+}
+
 #[test]
-fn files_that_do_not_open(rt: HostRuntime) -> Result<(), Fail> {
-    let folder = new_folder(&rt, "files-that-do-not-open")?;
-    let path = format!(in rt.alloc(); "{folder}/t.mw")?;
-    make_file(&rt, folder.as_str(), "u.mw", "2", "1")?;
-    let mut nine_entries = [0; 184];
-    nine_entries[..16].copy_from_slice(b"MWCASF1\n\x02\0\0\0\x01\0\0\0");
-    nine_entries[48..50].copy_from_slice(b"\xa5\x09");
+fn files_that_are_damaged(rt: HostRuntime) -> Result<(), Fail> {
+    let folder = new_folder(&rt, "files-that-are-damaged")?;
+    let nine_entries = file_of_nine_entries();
     let no_file: &[u8] = b"no file of words, but long enough for a head";
-    let cases = [
-        (b"".as_slice(), "t 2 1 DIR/t.mw\n", "tenant t: damage 6\n"),
-        (no_file, "t 2 1 DIR/t.mw\n", "tenant t: damage 1\n"),
-        (&nine_entries, "t 2 1 DIR/t.mw\n", "tenant t: damage 4\n"),
-        (b"".as_slice(), "t 2 1 DIR/no.mw\n", "tenant t: disk\n"),
-        (b"".as_slice(), "t 2 2 DIR/u.mw\n", "tenant t: misfit\n"),
-    ];
-    for (bytes, tenants, note) in cases {
-        fs::write(&rt, path.as_str(), bytes)?;
-        let script = "TENANT t\nGET 0\nGET 2\nCAS 0:0:1\n";
-        let ran = run_script(&rt, folder.as_str(), tenants, script)?;
-        let wanted = "OK 2\nFAULT\nERR 6\nFAULT\n";
-        assert_eq!(rt; ran, Outcome::new(rt.alloc(), 0, wanted, note)?, "{note}");
+    for (bytes, note) in [
+        (b"".as_slice(), "tenant t: damage 6\n"),
+        (no_file, "tenant t: damage 1\n"),
+        (nine_entries.as_slice(), "tenant t: damage 4\n"),
+    ] {
+        write_bytes(&rt, folder.as_str(), bytes)?;
+        let ran = run_script(&rt, folder.as_str(), ONE_TENANT, SCRIPT)?;
+        assert!(rt; ran.is(0, NO_FILE, note), "{note}: {ran:?}");
     }
-    fs::remove_dir_all(&rt, folder.as_str())?;
-    Ok(())
+    remove_folder(&rt, folder.as_str())
+}
+
+#[test]
+fn files_that_do_not_fit(rt: HostRuntime) -> Result<(), Fail> {
+    let folder = new_folder(&rt, "files-that-do-not-fit")?;
+    write_bytes(&rt, folder.as_str(), b"")?;
+    make_file(&rt, folder.as_str(), "u.mw", "2", "1")?;
+    for (tenants, note) in [
+        ("t 2 1 DIR/no.mw\n", "tenant t: disk\n"),
+        ("t 2 2 DIR/u.mw\n", "tenant t: misfit\n"),
+    ] {
+        let ran = run_script(&rt, folder.as_str(), tenants, SCRIPT)?;
+        assert!(rt; ran.is(0, NO_FILE, note), "{note}: {ran:?}");
+    }
+    remove_folder(&rt, folder.as_str())
 }
 
 #[test]
@@ -372,19 +443,15 @@ fn a_tenant_without_a_file(rt: HostRuntime) -> Result<(), Fail> {
     let folder = new_folder(&rt, "a-tenant-without-a-file")?;
     make_file(&rt, folder.as_str(), "v.mw", "2", "2")?;
     let tenants = "t 3 1 DIR/t.mw\nu 2 2 DIR/u.mw\nv 2 2 DIR/v.mw\n";
+    let notes = "tenant t: disk\ntenant u: disk\n";
     let script = "TENANT v\nCAS 0:0:1\nGET 0\nQUIT\n";
     let ran = run_script(&rt, folder.as_str(), tenants, script)?;
-    let notes = "tenant t: disk\ntenant u: disk\n";
-    assert_eq!(rt;
-        ran,
-        Outcome::new(rt.alloc(), 0, "OK 2\nYES\nVAL 1\nBYE\n", notes)?
-    );
+    assert!(rt; ran.is(0, "OK 2\nYES\nVAL 1\nBYE\n", notes), "{ran:?}");
     let report =
         "OK ADMIN\nt                   3  1  0 down\nu                   2  2  0 down\nv                   2  2  0 up\nfree 256\n";
     let ran = run_script(&rt, folder.as_str(), tenants, "ADMIN\nREPORT\n")?;
-    assert_eq!(rt; ran, Outcome::new(rt.alloc(), 0, report, notes)?);
-    fs::remove_dir_all(&rt, folder.as_str())?;
-    Ok(())
+    assert!(rt; ran.is(0, report, notes), "{ran:?}");
+    remove_folder(&rt, folder.as_str())
 }
 
 /// Serves the tenants of a folder's tenants file over loopback by two workers, until two clients are
@@ -399,8 +466,8 @@ where
         + Sync,
     R::File: FileExt + Send,
 {
-    let tenants = format!(in rt.alloc(); "{folder}/tenants")?;
-    let words = strings(
+    let tenants = path_in(rt.alloc(), folder, "tenants")?;
+    let args = strings(
         rt.alloc(),
         &[
             "mwserve",
@@ -416,7 +483,7 @@ where
     )?;
     let mut notice = Notice::new(rt.alloc(), port);
     let mut err = Vec::new(rt.alloc());
-    Ok(serve(rt, &words, &mut notice, &mut err))
+    Ok(serve(rt, &args, &mut notice, &mut err))
 }
 
 /// Two clients of the server, of whom the second begins once the first has ended. True if they hear
@@ -453,7 +520,7 @@ fn two_clients(rt: HostRuntime) -> Result<(), Fail> {
     let folder = new_folder(&rt, "two-clients")?;
     let tenants = "t 2 2 DIR/t.mw\n";
     make_file(&rt, folder.as_str(), "t.mw", "2", "2")?;
-    write_files(&rt, folder.as_str(), tenants, "")?;
+    write_tenants(&rt, folder.as_str(), tenants)?;
     let port = AtomicU16::new(0);
     let (heard, status) = thread::join(
         &rt,
@@ -463,7 +530,6 @@ fn two_clients(rt: HostRuntime) -> Result<(), Fail> {
     assert!(rt; heard?, "a client heard something else");
     assert_eq!(rt; status?, 0);
     let ran = run_script(&rt, folder.as_str(), tenants, "TENANT t\nGET 0\n")?;
-    assert_eq!(rt; ran, Outcome::new(rt.alloc(), 0, "OK 2\nVAL 1\n", "")?);
-    fs::remove_dir_all(&rt, folder.as_str())?;
-    Ok(())
+    assert!(rt; ran.is(0, "OK 2\nVAL 1\n", ""), "{ran:?}");
+    remove_folder(&rt, folder.as_str())
 }

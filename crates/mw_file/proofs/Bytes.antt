@@ -4,11 +4,11 @@ use Rattle.std.proofs.lemmas.Bool.{cases_eq, and_parts, or_cases, eqb-true, ltb-
 use Rattle.mw_words.specs.declared.limits.TheConstants.{MAX_ENTRIES}
 use Rattle.mw_disk.specs.Runs.{SameBut}
 use Rattle.mw_record.specs.declared.layout.TheConstants.{WORD_SIZE, PLACE_SIZE}
-use Rattle.mw_record.specs.Layout.{home_at, place_at, size}
+use Rattle.mw_record.specs.Layout.{home_at, place_at, size, SameBytes}
 use Rattle.mw_record.specs.Records.{Pairs, holds, record_at, home, is_record, rises_below}
-use Rattle.mw_record.specs.Reading.{SameBytes, body_same, length_body, home_same}
-use Rattle.mw_record.specs.Writes.{record_same}
-use Rattle.mw_record.specs.Below.{few_entries}
+use Rattle.mw_record.proofs.Reading.{body_same, length_body, home_same}
+use Rattle.mw_record.proofs.Writes.{record_same}
+use Rattle.mw_record.proofs.Below.{few_entries}
 use Rattle.mw_record.specs.Stands.{HasWords}
 use Rattle.mw_file.specs.declared.place_states.PlaceState.{PlaceState}
 use Rattle.mw_file.specs.declared.place_states.Stage.{Stage}

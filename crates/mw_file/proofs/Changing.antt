@@ -1,4 +1,4 @@
--- What a write into one place of a file leaves: of a record behind its shut commit byte, and of the commit byte.
+-- What a write into one place of a file leaves: of a record behind a clear commit byte, and of the commit byte itself.
 use Rattle.std.proofs.Common.{◌≡◌, ◌⊎◌, ℕ, ◌+◌, ◌<◌, ◌≤◌, List, length, Some, None, Option, true, false, slice_index, refl, sym, ap, ◌∙◌, inl, inr, arith}
 use Rattle.std.proofs.lemmas.Bool.{cases_eq, cases_lt, both_ways}
 use Rattle.mw_words.specs.declared.limits.TheConstants.{MAX_ENTRIES, MAX_WORDS}
@@ -6,13 +6,13 @@ use Rattle.mw_words.specs.declared.jobs.Entry.{Entry}
 use Rattle.mw_words.specs.Change.{is_change}
 use Rattle.mw_disk.specs.Runs.{SameBut}
 use Rattle.mw_record.specs.declared.layout.TheConstants.{HEAD_SIZE, PLACE_SIZE, BODY_SIZE, COMMITTED}
-use Rattle.mw_record.specs.Layout.{place_at, size, body, pairs_of}
+use Rattle.mw_record.specs.Layout.{place_at, size, body, pairs_of, SameBytes}
 use Rattle.mw_record.specs.Records.{Pairs, holds, record_at, body_at, home, put_pairs}
-use Rattle.mw_record.specs.Reading.{SameBytes, shut_stays, record_open, record_shut, body_same, length_body}
-use Rattle.mw_record.specs.ReadAgain.{body_again, record_of_change, values_of_change, numbers_of_change, length_of_change}
-use Rattle.mw_record.specs.Below.{few_entries}
-use Rattle.mw_record.specs.Faults.{sizes_are}
-use Rattle.mw_record.specs.Images.{words_stay, words_put}
+use Rattle.mw_record.proofs.Reading.{shut_stays, record_open, record_shut, body_same, length_body}
+use Rattle.mw_record.proofs.ReadAgain.{body_again, record_of_change, values_of_change, numbers_of_change, length_of_change}
+use Rattle.mw_record.proofs.Below.{few_entries}
+use Rattle.mw_record.proofs.Faults.{sizes_are}
+use Rattle.mw_record.proofs.ChangedBytes.{words_stay, words_put}
 use Rattle.mw_record.specs.Stands.{HasWords}
 use Rattle.mw_file.specs.declared.place_states.PlaceState.{PlaceState}
 use Rattle.mw_file.specs.declared.place_states.Stage.{Stage}
@@ -96,7 +96,7 @@ module _ (b c : List ℕ) (words : ℕ) (contents : List ℕ) (states : List Pla
     long : size words (length states) ≤ length c
     long = still_long words (length states) contents b c (InRange (place_at words place) 1) was.has same
 
-    -- shut, the words are those before
+    -- clear: the words are those before
     pub seal_shut : (slice_index c (place_at words place) ≡ COMMITTED → ⊥) → HasWords words (length states) contents c
     seal_shut commit =
         words_stay words (length states) contents b c was.has long head_stays

@@ -1,12 +1,13 @@
--- One place more of those that are put into the home words, or whose commit bytes are shut.
+-- One place more of those that are put into the home words, or whose commit bytes are cleared.
 use Rattle.std.proofs.Common.{◌≡◌, ℕ, ◌+◌, ◌<◌, List, length, Some, Option, Result, Ok, Err, OnOk, slice_index, slice_get, get_or, sym, ap, ◌∙◌, inl, inr, arith, subst}
 use Rattle.std.proofs.lemmas.Bool.{cases_eq}
 use Rattle.std.proofs.lemmas.Option.{slice_get-get_or}
 use Rattle.mw_disk.specs.Facts.{Facts}
-use Rattle.mw_disk.specs.Runs.{Later, Touched, Fits, touched_trans, touched_wider, fits_after, fits_less, still_honest}
+use Rattle.mw_disk.specs.Runs.{Later, Touched, Fits}
+use Rattle.mw_disk.proofs.RunLaws.{touched_trans, touched_wider, fits_after, fits_less, still_honest}
 use Rattle.mw_record.specs.Layout.{home_at, place_at}
 use Rattle.mw_record.specs.Records.{Pairs, home, record_over, all_over}
-use Rattle.mw_record.specs.Below.{over_more}
+use Rattle.mw_record.proofs.Below.{over_more}
 use Rattle.mw_file.specs.declared.place_states.PlaceState.{PlaceState}
 use Rattle.mw_file.specs.declared.place_states.Stage.TheVariants.{Sealed}
 use Rattle.mw_file.specs.PlaceStates.{stage_of, stage_at, writes_in}

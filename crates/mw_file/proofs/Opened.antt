@@ -4,18 +4,19 @@ use Rattle.std.proofs.lemmas.List.{take-append-le, take_all, ext_get_or, get_or-
 use Rattle.std.proofs.lemmas.Bool.{cases_lt}
 use Rattle.mw_words.specs.declared.limits.TheConstants.{MAX_WORDS, MAX_PLACES}
 use Rattle.mw_disk.specs.Facts.{Facts, IsAtRest}
-use Rattle.mw_disk.specs.Runs.{SameBut, Later, Touched, LeavesOnly, leaves, leaves_more, leaves_wider, still_honest}
+use Rattle.mw_disk.specs.Runs.{SameBut, Later, Touched, LeavesOnly}
+use Rattle.mw_disk.proofs.RunLaws.{leaves, leaves_more, leaves_wider, still_honest}
 use Rattle.mw_record.specs.declared.layout.TheConstants.{MAX_FILE}
 use Rattle.mw_record.specs.declared.damages.Damage.{Damage}
 use Rattle.mw_record.specs.Layout.{size, place_at}
 use Rattle.mw_record.specs.Records.{record_at}
 use Rattle.mw_record.specs.Damages.{damage_of, file_words, words_in, words_of, places_of}
 use Rattle.mw_record.specs.Stands.{HasWords}
-use Rattle.mw_record.specs.Sound.{has_words}
-use Rattle.mw_record.specs.Faults.{sizes_are}
-use Rattle.mw_record.specs.Below.{few_entries}
-use Rattle.mw_record.specs.Writes.{record_same}
-use Rattle.mw_record.specs.Longer.{damage_of_first, words_of_first, places_of_first, words_in_first, file_words_first}
+use Rattle.mw_record.proofs.Sound.{has_words}
+use Rattle.mw_record.proofs.Faults.{sizes_are}
+use Rattle.mw_record.proofs.Below.{few_entries}
+use Rattle.mw_record.proofs.Writes.{record_same}
+use Rattle.mw_record.proofs.Longer.{damage_of_first, words_of_first, places_of_first, words_in_first, file_words_first}
 use Rattle.mw_file.specs.Run.{IsUntouched}
 use Rattle.mw_file.specs.Rolls.{Nowhere, CanFinish}
 use Rattle.mw_file.specs.Keeps.{IsFile}

@@ -8,7 +8,7 @@ use Rattle.mw_file.specs.declared.place_states.Stage.TheVariants.{Free, Sealed}
 use Rattle.mw_file.specs.Free.{free_stage_at}
 use Rattle.mw_file.specs.PlaceStates.{free_place, stage_at, stage_of, writes_in, writes_of_place, if_sealed, roll_calls, IsStaged}
 
--- what is read at a place that isn't free is the slot there
+-- what is read at a place that isn't free is its state
 pub state_at : (states : List PlaceState) (p : ℕ) (s : PlaceState) (stage : Stage) → s ≡ get_or states p s → stage_of states p ≡ stage → (stage ≡ Free → ⊥) → slice_get states p ≡ Some s
 state_at states p s stage read is busy = elim ((slice_get_cases states p).1) [
   | inl there ↦

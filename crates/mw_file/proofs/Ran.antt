@@ -1,7 +1,8 @@
 -- Runs of device calls, one after another.
 use Rattle.std.proofs.Common.{◌≡◌, ◌⊎◌, ℕ, ◌+◌, ◌<◌, ◌≤◌, min, inl, inr, arith, subst, sym, IsTrue, is_ok, Result, Ok, Err, IsErr, is_err, true, false}
 use Rattle.mw_disk.specs.Facts.{Facts, Called, Spares, most_counted}
-use Rattle.mw_disk.specs.Runs.{Good, Bad, good_call, bad_call, good_trans, then_bad, bad_wider}
+use Rattle.mw_disk.specs.Runs.{Good, Bad}
+use Rattle.mw_disk.proofs.RunLaws.{good_call, bad_call, good_trans, then_bad, bad_wider}
 use Rattle.std.proofs.lemmas.Bool.{cases_lt}
 use Rattle.mw_file.specs.Run.{Ran, IsDoomed}
 

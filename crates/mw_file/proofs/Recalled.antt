@@ -22,7 +22,7 @@ pub open_pairs : (r : Option Pairs) → (length (unwrap_or r []) ≡ 0 → ⊥) 
 open_pairs None some = absurd (some refl)
 open_pairs (Some ps) some = refl
 
--- the slot at a place, and what a number of it is
+-- the state of a place, and what a number of it is
 module _ (f : PlaceState → ℕ) (states : List PlaceState) (k : ℕ) (lt : k < length states) where
   state_here : (s : PlaceState) × (slice_get states k ≡ Some s)
   state_here = elim ((slice_get_cases states k).1) [
@@ -52,7 +52,7 @@ records_open Prepared w some = refl
 records_open Sealed w some = let l = some refl in omega (arith, l)
 
 module _ (image : List ℕ) (states : List PlaceState) (recalled : IsRecalled image states) where
-  -- the entries of a place are what its slot writes, if it is sealed
+  -- the entries of a place are what it writes, if it is sealed
   entries_here : (k : ℕ) (s : PlaceState) → k < length states → slice_get states k ≡ Some s → if_open s.stage s.writes.items ≡ record_at image (words_of image) k
   entries_here k s lt at = sym (ap (λ o. if_open (stage_at o) (writes_in o)) at) ∙ recalled.each k (let e = recalled.count in omega arith)
 

@@ -1,10 +1,11 @@
 -- The roll of sealed changes into the home words, on a disk: its two halves, with a sync between them.
 use Rattle.std.proofs.Common.{◌≡◌, ◌⊎◌, ℕ, ◌+◌, ◌<◌, List, length, slice_index, sym, inl, inr, arith, subst}
 use Rattle.mw_disk.specs.Facts.{Facts, IsAtRest, MayLeave}
-use Rattle.mw_disk.specs.Runs.{same_but_trans, same_but_wider, Touched, Fits, fits_rest, fits_after, LeavesOnly, leaves, leaves_more}
+use Rattle.mw_disk.proofs.RunLaws.{same_but_trans, same_but_wider, fits_rest, fits_after, leaves, leaves_more}
+use Rattle.mw_disk.specs.Runs.{Touched, Fits, LeavesOnly}
 use Rattle.mw_record.specs.Layout.{home_at, place_at}
 use Rattle.mw_record.specs.Records.{home, all_over}
-use Rattle.mw_record.specs.Changes.{Agrees}
+use Rattle.mw_record.proofs.Changes.{Agrees}
 use Rattle.mw_record.specs.Stands.{HasWords}
 use Rattle.mw_file.specs.declared.place_states.PlaceState.{PlaceState}
 use Rattle.mw_file.specs.declared.place_states.Stage.TheVariants.{Sealed}

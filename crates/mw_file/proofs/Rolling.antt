@@ -1,15 +1,15 @@
--- What a file stands for while sealed changes are put into its home words and their commit bytes shut.
+-- What a file stands for while sealed changes are put into its home words and their commit bytes are cleared.
 use Rattle.std.proofs.Common.{◌≡◌, ◌⊎◌, ℕ, ◌+◌, ◌-◌, ◌<◌, ◌≤◌, List, length, Some, None, true, false, slice_index, refl, sym, ap, ◌∙◌, inl, inr, arith, subst}
 use Rattle.std.proofs.lemmas.Bool.{cases_Bool, cases_eq, cases_lt, both_ways}
 use Rattle.mw_disk.specs.Runs.{SameBut}
 use Rattle.mw_record.specs.declared.layout.TheConstants.{HEAD_SIZE, WORD_SIZE, PLACE_SIZE, COMMITTED}
-use Rattle.mw_record.specs.Layout.{home_at, place_at}
+use Rattle.mw_record.specs.Layout.{home_at, place_at, SameBytes}
 use Rattle.mw_record.specs.Records.{Pairs, holds, over, all_over, is_covered, record_at, body_at, home}
-use Rattle.mw_record.specs.Reading.{SameBytes, record_open, record_shut, body_same, length_body, commit_set}
-use Rattle.mw_record.specs.Below.{few_entries}
-use Rattle.mw_record.specs.Over.{Covers, covers, covered, all_hit}
-use Rattle.mw_record.specs.Changes.{Agrees, StaysOrShut}
-use Rattle.mw_record.specs.Images.{words_stay}
+use Rattle.mw_record.proofs.Reading.{record_open, record_shut, body_same, length_body, commit_set}
+use Rattle.mw_record.proofs.Below.{few_entries}
+use Rattle.mw_record.proofs.Over.{Covers, covers, covered, all_hit}
+use Rattle.mw_record.proofs.Changes.{Agrees, StaysOrShut}
+use Rattle.mw_record.proofs.ChangedBytes.{words_stay}
 use Rattle.mw_record.specs.Stands.{HasWords, Apart}
 use Rattle.mw_words.specs.declared.limits.TheConstants.{MAX_ENTRIES}
 use Rattle.mw_file.specs.declared.place_states.PlaceState.{PlaceState}
@@ -31,7 +31,7 @@ sealed_or_not Free = inr (λ e. cc)
 sealed_or_not Prepared = inr (λ e. cc)
 sealed_or_not Sealed = inl refl
 
--- These slots tell which records of the file are open, from the first place on.
+-- These states tell which records of the file are open, from the first place on.
 pub record Tells (b : List ℕ) (words first : ℕ) (states : List PlaceState) : Type 0 where
   pub recorded : (place : ℕ) → place < length states → stage_of states place ≡ Sealed → record_at b words (first + place) ≡ Some (writes_of_place states place)
 
@@ -165,7 +165,7 @@ module _ (b : List ℕ) (words places first : ℕ) (states : List PlaceState) (c
         ])
         (λ a lt. inl (homes_still a lt))
 
-  -- After the roll a place whose record was not written has the bytes that it had, and one whose record was is shut.
+  -- After the roll a place whose record was not written has the bytes that it had, and one whose record was written is closed.
   module _ (c : List ℕ) (same : SameBut (λ k. InHomes states k ⊎ AtCommits words first states k) b c) where
     pub rolled_others : (j : ℕ) → (first ≤ j → j < first + length states → stage_of states (j - first) ≡ Sealed → ⊥)
         → SameBytes PLACE_SIZE (place_at words j) (place_at words j) c b
@@ -174,7 +174,7 @@ module _ (b : List ℕ) (words places first : ℕ) (states : List PlaceState) (c
       | inr g ↦ not_at j none k lt g
     ])
 
-    -- where all commit bytes that were written are shut, each place is shut now or had no open record
+    -- where all commit bytes that were written are clear, each place is closed now or had no open record
     pub rolled_shut : ((place : ℕ) → place < length states → stage_of states place ≡ Sealed → slice_index c (place_at words (first + place)) ≡ 0)
         → (j : ℕ) → j < places → (first ≤ j → j < first + length states → stage_of states (j - first) ≡ Sealed → ⊥) ⊎ (record_at c words j ≡ None)
     rolled_shut shut j lt = elim (commit_cases j) [

@@ -3,14 +3,15 @@ use Rattle.std.proofs.Common.{◌≡◌, ℕ, ◌+◌, ◌<◌, ◌≤◌, List,
 use Rattle.mw_words.specs.declared.jobs.Entry.{Entry}
 use Rattle.mw_words.specs.Change.{is_change}
 use Rattle.mw_disk.specs.Facts.{Facts, IsAtRest, MayLeave}
-use Rattle.mw_disk.specs.Runs.{SameBut, Touched, Fits, fits_rest, LeavesOnly, leaves, leaves_same, leaves_now, leaves_wider}
+use Rattle.mw_disk.specs.Runs.{SameBut, Touched, Fits, LeavesOnly}
+use Rattle.mw_disk.proofs.RunLaws.{fits_rest, leaves, leaves_same, leaves_now, leaves_wider}
 use Rattle.mw_record.specs.declared.layout.TheConstants.{BODY_SIZE, COMMITTED}
 use Rattle.mw_record.specs.Layout.{place_at, patched, body, pairs_of}
 use Rattle.mw_record.specs.Records.{Pairs, put_pairs, record_at}
-use Rattle.mw_record.specs.Reading.{get_patched}
+use Rattle.mw_record.proofs.Reading.{get_patched}
 use Rattle.mw_record.specs.Damages.{places_of}
 use Rattle.mw_record.specs.Stands.{HasWords}
-use Rattle.mw_record.specs.Sound.{words_iff}
+use Rattle.mw_record.proofs.Sound.{words_iff}
 use Rattle.mw_file.specs.declared.place_states.PlaceState.{PlaceState}
 use Rattle.mw_file.specs.declared.place_states.Stage.TheVariants.{Free, Prepared, Sealed}
 use Rattle.mw_file.specs.declared.tenant_file.TenantFile.{TenantFile}
@@ -122,7 +123,7 @@ module _ (old new : Facts) (words : ℕ) (contents : List ℕ) (states : List Pl
               ∙ get_patched old.reads at block k (omega (arith, fits)) (omega (arith, l, long, size_is)) ∙ ap (λ b. slice_index b k) is_block ∙ ap (slice_index (body entries)) (let e : k ≡ 0 + k = omega arith in e)) staged;
         }
 
-  -- a commit byte was opened
+  -- a commit byte was set
   module _ (at : ℕ) (is_at : at ≡ place_at words place) (may : MaySeal states place) (touched : Touched (InRange at 1) old new) where
     seal_same : (c : List ℕ) → SameBut (InRange at 1) old.reads c → SameBut (InRange (place_at words place) 1) old.reads c
     seal_same c same = subst (λ (k : ℕ). SameBut (InRange k 1) old.reads c) is_at same

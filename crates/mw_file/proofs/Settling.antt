@@ -3,8 +3,8 @@ use Rattle.std.proofs.Common.{◌≡◌, ◌⊎◌, ℕ, ◌+◌, ◌-◌, ◌<�
 use Rattle.mw_disk.specs.Runs.{SameBut}
 use Rattle.mw_record.specs.Layout.{place_at}
 use Rattle.mw_record.specs.Records.{Pairs, record_at}
-use Rattle.mw_record.specs.Writes.{record_same}
-use Rattle.mw_record.specs.Below.{few_entries}
+use Rattle.mw_record.proofs.Writes.{record_same}
+use Rattle.mw_record.proofs.Below.{few_entries}
 use Rattle.mw_record.specs.Stands.{HasWords}
 use Rattle.mw_file.specs.declared.place_states.PlaceState.{PlaceState}
 use Rattle.mw_file.specs.declared.place_states.Stage.{Stage}
@@ -26,7 +26,7 @@ sealed_open b words place Sealed w is placed = placed
 sealed_open b words place Free w is placed = cc
 sealed_open b words place Prepared w is placed = cc
 
--- the slots of a file tell which of its records are open
+-- the states of a file tell which of its records are open
 pub tells_all : (b : List ℕ) (words : ℕ) (contents : List ℕ) (states : List PlaceState) → Stores b words contents states → Tells b words 0 states
 tells_all b words contents states was = record {
   recorded = λ place lt sealed.

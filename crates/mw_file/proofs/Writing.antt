@@ -3,13 +3,14 @@ use Rattle.std.proofs.Common.{◌≡◌, ℕ, ◌+◌, ◌^◌, ◌<◌, ◌≤�
 use Rattle.std.proofs.lemmas.List.{take_more}
 use Rattle.std.proofs.lemmas.Option.{slice_get-get_or}
 use Rattle.mw_disk.specs.Facts.{Facts, Called, TearsAt, Torn}
-use Rattle.mw_disk.specs.Runs.{Touched, touched_none, touched_trans, touched_write, fits_after, fits_less}
+use Rattle.mw_disk.specs.Runs.{Touched}
+use Rattle.mw_disk.proofs.RunLaws.{touched_none, touched_trans, touched_write, fits_after, fits_less}
 use Rattle.mw_record.specs.declared.layout.TheConstants.{WORD_SIZE}
 use Rattle.mw_record.specs.Layout.{home_at, number_bytes, patched}
 use Rattle.mw_record.specs.Records.{Pairs, holds, home, over}
-use Rattle.mw_record.specs.Reading.{length-number_bytes}
-use Rattle.mw_record.specs.Writes.{home_written}
-use Rattle.mw_record.specs.Over.{holds_at}
+use Rattle.mw_record.proofs.Reading.{length-number_bytes}
+use Rattle.mw_record.proofs.Writes.{home_written}
+use Rattle.mw_record.proofs.Over.{holds_at}
 use Rattle.mw_file.specs.Rolls.{InRecord, HasHomes, IsBelow}
 
 -- one change more put over a value

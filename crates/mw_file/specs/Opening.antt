@@ -26,7 +26,7 @@ WasRead f image = IsTrue f.honest → image ≡ front f
 abbrev pub read_calls : List ℕ → ℕ
 read_calls image = 1 + min 1 (length image)
 
--- how many entries the open record of a place has, 0 where it is shut
+-- how many entries the open record of a place has, 0 where it is closed
 abbrev pub entries_in : List ℕ → ℕ → ℕ
 entries_in image place = length (pairs_in image place)
 

@@ -68,7 +68,7 @@ commit_writes states = sum_by commit_writes_of states
 abbrev pub roll_calls : List PlaceState → ℕ
 roll_calls states = (home_writes states + 1) + (commit_writes states + 1)
 
--- This place's slot is now at this stage, with these writes; all other slots are as they were.
+-- This place is now at this stage, with these writes; all other places are as they were.
 pub record IsStaged (old new : List PlaceState) (place : ℕ) (stage : Stage) (writes : List (ℕ × ℕ)) : Type 0 where
   pub count : length new ≡ length old
   pub stage_here : stage_of new place ≡ stage

@@ -47,7 +47,7 @@ pub record InHomes (states : List PlaceState) (k : ℕ) : Type 0 where
   pub within : place < length states
   pub in_record : InRecord (kept_of states place) k
 
--- the commit byte of a sealed place; slot i is place first + i
+-- the commit byte of a sealed place; state i is that of place first + i
 pub record AtCommits (words first : ℕ) (states : List PlaceState) (k : ℕ) : Type 0 where
   pub place : ℕ
   pub within : place < length states
@@ -72,8 +72,8 @@ pub record HasHomes (f : Facts) (words : ℕ) : Type 0 where
 abbrev pub AreBelow : ℕ → List PlaceState → Type 0
 AreBelow words states = (place : ℕ) → place < length states → IsBelow words (kept_of states place)
 
--- The disk keeps the model and is at rest, what a read gives is a file with these words, and each of these slots that is sealed has
--- its record open there; slot i is place first + i.
+-- The disk keeps the model and is at rest, what a read gives is a file with these words, and each of these places that is sealed has
+-- its record open there; state i is that of place first + i.
 pub record CanRoll (f : Facts) (words places first : ℕ) (states : List PlaceState) (contents : List ℕ) : Type 0 where
   pub honest : IsTrue f.honest
   pub rest : IsAtRest f
@@ -87,7 +87,7 @@ pub record IsRolled (words first : ℕ) (states : List PlaceState) (old new : Fa
   pub same : SameBut (λ k. InHomes states k ⊎ AtCommits words first states k) old.reads new.reads
   pub shut : (place : ℕ) → place < length states → stage_of states place ≡ Sealed → slice_index new.reads (place_at words (first + place)) ≡ 0
 
--- These slots are the places of a file that was read: sealed where its record is open, with that record, else free.
+-- These are the states of the places of a file that was read: sealed where its record is open, with that record, else free.
 pub record IsRecalled (image : List ℕ) (states : List PlaceState) : Type 0 where
   pub count : length states ≡ places_of image
   pub each : (place : ℕ) → place < places_of image → kept_of states place ≡ record_at image (words_of image) place

@@ -16,7 +16,7 @@ pub record IsWritten (image : List ℕ) (words place : ℕ) (writes : Pairs) : T
   pub formed : is_record words writes ≡ true
   pub values : has_values writes ≡ true
 
--- The bytes of a place by how far its change is: shut, shut with the change's record behind the commit byte, or open with it.
+-- The bytes of a place by how far its change is: closed, closed with the change's record behind the clear commit byte, or open with that record.
 abbrev pub PlacedAs : List ℕ → ℕ → ℕ → Stage → Pairs → Type 0
 PlacedAs image words place Free writes = record_at image words place ≡ None
 PlacedAs image words place Prepared writes = IsWritten image words place writes

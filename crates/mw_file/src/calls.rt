@@ -100,8 +100,9 @@ impl<D: Disk> TenantFile<D> {
         Ok(())
     }
 
-    /// Puts a sealed change's values into their home words and syncs, then clears its commit byte and syncs. Its
-    /// place is free then. A crash at any moment leaves the words as they were, with this change.
+    /// Puts a sealed change's values into their home words and syncs, then clears its commit byte and
+    /// syncs. Its place is free then. A crash at any moment leaves the words as they were, with this
+    /// change.
     ///
     /// # Errors
     ///

@@ -1,17 +1,16 @@
 //! A tenant's file of words: changes are made durable in it, each wholly or not at all.
 //!
-//! A change goes through a place of the file. `prepare` writes its record there, `seal` sets the
-//! record's commit byte, from when on the change is in the file, `settle` puts its values into the home
-//! words and clears it again. `cancel` gives up a change that was prepared. `open` reads a
-//! file and finishes the changes that were sealed and not settled.
+//! A change goes through a place of the file. `prepare` writes its record there, `seal` sets the place's
+//! commit byte, from when on the change is in the file, and `settle` puts its values into the home words
+//! and clears the commit byte again. `cancel` gives up a change that was prepared. `open` reads a file
+//! and finishes the changes that were sealed and not settled.
 //!
 //! On a device that keeps the model of [`mw_disk::Disk`] a crash at any moment of any of these calls,
 //! of an opening and of the next one too, leaves the words with every sealed change, and with the one
 //! that was being sealed wholly or not at all.
 //!
-//! The words in the field's terms: a place is a slot of a redo log and its commit byte the commit byte, a
-//! home word is the data in place, `seal` commits, `settle` is a checkpoint of one change, and `open`
-//! recovers by redoing what was committed.
+//! The words in the field's terms: the places are a redo log, a home word is the data in place, `seal`
+//! commits, `settle` is a checkpoint of one change, and `open` recovers by redoing what was committed.
 #![tactic(auto)]
 
 mod calls;

@@ -90,7 +90,7 @@ struct Room {
     bytes: Vec<u8>,
     /// As many words as a file may have.
     words: Vec<u64>,
-    /// As many free slots as a file may have places.
+    /// As many free states as a file may have places.
     states: Vec<PlaceState>,
 }
 

@@ -11,8 +11,8 @@ use std::alloc::{AllocError, Global};
 pub enum Stage {
     /// There is none.
     Free,
-    /// Its record is written and its commit byte clear. After a seal that the device failed in, the commit byte
-    /// may be set.
+    /// Its record is written and its commit byte is clear. After a seal that the device failed in, the
+    /// commit byte may be set.
     Prepared,
     /// Its commit byte is set: the change is in the file.
     Sealed,
@@ -21,7 +21,7 @@ pub enum Stage {
 /// What a change writes: addresses in rising order, each with its new value.
 pub type Writes = ArrayVec<(u16, u64), MAX_ENTRIES>;
 
-/// A place of a file.
+/// The state of a place of a file.
 #[derive(Debug, Drop)]
 pub struct PlaceState {
     /// How far its change is.
@@ -42,7 +42,7 @@ pub(crate) fn writes_to(entries: &Entries) -> Writes
     writes
 }
 
-/// The same slots once more. The only error is want of memory.
+/// The same states once more. The only error is want of memory.
 pub(crate) fn copies(alloc: Global, states: &[PlaceState]) -> Result<Vec<PlaceState>, AllocError>
     ensures { IfOk result (λ copies. copies.items ≡ states.now) }
 {

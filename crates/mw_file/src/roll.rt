@@ -16,9 +16,9 @@ use crate::place_states::{PlaceState, Stage, Writes};
 use mw_disk::{Disk, DiskFault};
 use mw_record::{NOT_COMMITTED, home_at, home_word, place_at};
 
-/// Puts the values of the sealed places among `slots`, the first of which is place `first`, into
-/// their home words and syncs; then clears their commit bytes and syncs. Until the second sync went well
-/// the commit bytes may be found set, which is no harm: the values stand in the home words already.
+/// Puts the values of the sealed places among `states`, the first of which is that of place `first`,
+/// into their home words and syncs; then clears their commit bytes and syncs. Until the second sync went
+/// well the commit bytes may be found set, which is no harm: the values stand in the home words already.
 pub(crate) fn roll_forward<D: Disk>(
     disk: &mut D,
     words: u16,

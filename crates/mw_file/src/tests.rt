@@ -10,7 +10,7 @@ use std::alloc::{AllocError, Global};
 use std::test::Fail;
 
 /// Four bytes that a crash leaves, over and over, in what was not synced: none are given, all are
-/// zero, all are ones, and a mixture that begins with a clear commit byte or with an open one.
+/// zero, all are ones, and a mixture that begins with a clear commit byte or with a set one.
 const TORN: [&[u8]; 5] = [
     &[],
     &[0x00, 0x00, 0x00, 0x00],

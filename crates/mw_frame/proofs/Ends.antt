@@ -11,8 +11,8 @@ use Rattle.mw_frame.specs.declared.lines.Line.TheVariants.{Text, TooLong}
 use Rattle.mw_frame.specs.Lines.{IsText, is_text_byte, lines, text_line}
 use Rattle.mw_frame.specs.Kept.{stream_of, text_len}
 use Rattle.mw_frame.specs.Stream.{Stream, Open, fed, lines_of}
-use Rattle.mw_frame.specs.Texts.{is_part}
-use Rattle.mw_frame.specs.Given.{answers_text, answers_too_long, answers_none, first_and_behind}
+use Rattle.mw_frame.proofs.CutTexts.{is_part}
+use Rattle.mw_frame.proofs.GivenLines.{answers_text, answers_too_long, answers_none, first_and_behind}
 
 -- those in front that are known to pass, and then those behind them
 prefix_len_from : (p : ℕ → Bool) (xs : List ℕ) (n : ℕ) → n ≤ prefix_len p xs → n + prefix_len p (drop n xs) ≡ prefix_len p xs

@@ -1,1 +1,3 @@
+pub mod CutTexts
 pub mod Ends
+pub mod GivenLines

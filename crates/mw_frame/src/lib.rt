@@ -25,6 +25,3 @@ mod lines;
 pub use framing::Feed;
 pub use laws::{call_by_call, however_cut, lines_stay, texts_are_lines};
 pub use lines::Line;
-
-#[cfg(test)]
-mod tests;

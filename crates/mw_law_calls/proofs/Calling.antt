@@ -15,8 +15,8 @@ use Rattle.mw_actor.specs.Finishing.{gives_up}
 use Rattle.mw_world_file.specs.declared.outcomes.Outcome.{Outcome}
 use Rattle.mw_world_file.specs.declared.outcomes.Outcome.TheVariants.{Good, Fail}
 use Rattle.mw_world.specs.declared.config.Config.{Config}
-use Rattle.mw_world.specs.Calls.{Called, called_at, starts_from, fails_on}
-use Rattle.mw_world.specs.State.{State}
+use Rattle.mw_world.specs.Definition.Calls.{Called, called_at, starts_from, fails_on}
+use Rattle.mw_world.specs.Definition.State.{State}
 use Rattle.mw_law_moves.specs.Guards.{Guards, IsLive}
 use Rattle.mw_law_moves.specs.Moves.{Move, made_all}
 use Rattle.mw_law_moves.specs.Relying.{Later}

@@ -13,7 +13,7 @@ use Rattle.mw_actor.specs.declared.points.Point.{Point}
 use Rattle.mw_actor.specs.declared.points.After.TheVariants.{GiveUp as ThenGiveUp}
 use Rattle.mw_actor.specs.declared.points.Point.TheVariants.{Prepare, ReadTargetStatus, Seal, Settle, Cancel, GiveUp, Unpin}
 use Rattle.mw_actor.specs.Finishing.{gives_up}
-use Rattle.mw_look.specs.RangeLaws.{either_way}
+use Rattle.mw_look.proofs.RangeLaws.{either_way}
 use Rattle.mw_actor.specs.declared.points.Slot.{Slot}
 use Rattle.mw_actor.specs.declared.points.Task.{Task}
 use Rattle.mw_actor.specs.Acting.{Acting, own_entries, entry_at, is_alone}
@@ -22,10 +22,10 @@ use Rattle.mw_world_file.specs.declared.outcomes.Outcome.TheVariants.{Good, Fail
 use Rattle.mw_world.specs.declared.config.Config.{Config}
 use Rattle.mw_world.specs.declared.notes.Phase.{Phase}
 use Rattle.mw_world.specs.declared.notes.Phase.TheVariants.{Fresh, Keeping}
-use Rattle.mw_world.specs.Calls.{Called, called_at, starts_from, fails_on}
-use Rattle.mw_world.specs.History.{Resting, Stands, Idle, Armed, Standing, Arm, has, entry_for, standing_at, arm_at}
-use Rattle.mw_world.specs.Invariant.{IsEntryOf}
-use Rattle.mw_world.specs.State.{State}
+use Rattle.mw_world.specs.Definition.Calls.{Called, called_at, starts_from, fails_on}
+use Rattle.mw_world.specs.Definition.History.{Resting, Stands, Idle, Armed, Standing, Arm, has, entry_for, standing_at, arm_at}
+use Rattle.mw_world.specs.Claim.Invariant.{IsEntryOf}
+use Rattle.mw_world.specs.Definition.State.{State}
 use Rattle.mw_law_moves.specs.Guards.{Guards, IsLive, MayPrepare, MayPose, MaySetDoor}
 use Rattle.mw_law_moves.specs.Moves.{Prepare as PrepareMove, Seal as SealMove, Settle as SettleMove, Cancel as CancelMove, SetDoor, Spoil, made}
 use Rattle.mw_law_moves.specs.Stepped.{faulted, moves_called, moves_of_call, status_moves, pose}

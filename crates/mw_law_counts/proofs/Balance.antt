@@ -9,7 +9,7 @@ use Rattle.mw_words.specs.declared.limits.TheConstants.{WORN_NUMBER}
 use Rattle.mw_pool.specs.declared.doors.Admission.TheVariants.{Fault as HasFailed, Busy as IsBusy, To}
 use Rattle.mw_look.specs.declared.news.News.{News}
 use Rattle.mw_look.specs.declared.news.News.TheVariants.{SawDoor, SawGate, SawStatus, Won, Lost, Filed}
-use Rattle.mw_look.specs.RangeLaws.{either_way}
+use Rattle.mw_look.proofs.RangeLaws.{either_way}
 use Rattle.mw_look.specs.Runs.{if_same}
 use Rattle.mw_actor.specs.declared.points.Slot.{Slot}
 use Rattle.mw_actor.specs.declared.points.Task.{Task}
@@ -22,8 +22,9 @@ use Rattle.mw_actor.specs.Admitting.{admitted}
 use Rattle.mw_actor.specs.Helping.{others_read}
 use Rattle.mw_actor.specs.Program.{goes}
 use Rattle.mw_actor.specs.Stages.{Stage, Reading, Outside, Entering, Seeking, Claiming, WritingStatus, WritingCount, WritingAddr, WritingExpected, WritingNew, Preparing, Checking, Inspecting, Holding, Deciding, Working, Nearing, Pinning, Fetching, Leaving, Freeing, Lowering, GivingUp, stage, Resumes, turned, OnTask, Scans, Leads}
-use Rattle.mw_actor.specs.StageLaws.{goes_leads}
-use Rattle.mw_actor.specs.BalanceLaws.{task_pins, pins_after, pins_at, to_free, to_lower, own_alone}
+use Rattle.mw_actor.proofs.StageLaws.{goes_leads}
+use Rattle.mw_actor.specs.Balance.{task_pins, pins_after, pins_at, to_free, to_lower}
+use Rattle.mw_actor.proofs.BalanceLaws.{own_alone}
 use Rattle.mw_law_counts.specs.Ready.{IsReadyAt}
 use Rattle.mw_law_counts.specs.Then.{pins_then, frees_then, waits_then}
 

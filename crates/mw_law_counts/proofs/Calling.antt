@@ -13,13 +13,13 @@ use Rattle.mw_actor.specs.Acting.{Acting, own_entries}
 use Rattle.mw_world.specs.declared.config.Config.{Config}
 use Rattle.mw_world_file.specs.declared.outcomes.Outcome.{Outcome}
 use Rattle.mw_world_file.specs.declared.outcomes.Outcome.TheVariants.{Good, Fail}
-use Rattle.mw_world.specs.Calls.{Called, called_at, starts_from, fails_on, place_for, can_be_made, calls_made, is_made, good_note, fault_note, skips, breaks, works, makes_none, ends, calling, moved_if, call_if, call}
-use Rattle.mw_world.specs.Extent.{has_slot}
+use Rattle.mw_world.specs.Definition.Calls.{Called, called_at, starts_from, fails_on, place_for, can_be_made, calls_made, is_made, good_note, fault_note, skips, breaks, works, makes_none, ends, calling, moved_if, call_if, call}
+use Rattle.mw_world.specs.Definition.Extent.{has_slot}
 use Rattle.mw_world_file.specs.Files.{File}
 use Rattle.mw_world_file.specs.Maps.{upd}
-use Rattle.mw_world.specs.Noting.{noted}
-use Rattle.mw_world.specs.State.{State, tenant_at}
-use Rattle.mw_world.specs.Turns.{Made, moved}
+use Rattle.mw_world.specs.Definition.Noting.{noted}
+use Rattle.mw_world.specs.Definition.State.{State, tenant_at}
+use Rattle.mw_world.specs.Definition.Turns.{Made, moved}
 use Rattle.mw_law_counts.specs.Standing.{CountsStand}
 use Rattle.mw_law_counts.proofs.Points.{IsQuiet}
 use Rattle.mw_law_counts.proofs.QuietSteps.{IsSilent, quiet_move}

@@ -9,9 +9,9 @@ use Rattle.mw_pool.specs.Moves.{Admits, Claims, Pins, after_unpin}
 use Rattle.mw_look.specs.Program.{freed as freed_gate}
 use Rattle.mw_look.specs.Runs.{if_same}
 use Rattle.mw_world.specs.declared.config.Config.{Config}
-use Rattle.mw_world.specs.Invariant.{IsPinnedAs}
+use Rattle.mw_world.specs.Claim.Invariant.{IsPinnedAs}
 use Rattle.mw_world_file.specs.Maps.{upd, upd_two}
-use Rattle.mw_world.specs.State.{State, tenant_at, tenants_of}
+use Rattle.mw_world.specs.Definition.State.{State, tenant_at, tenants_of}
 use Rattle.mw_law_counts.specs.Standing.{CountsStand}
 use Rattle.mw_law_counts.specs.Sides.{left_pin, idle}
 use Rattle.mw_law_counts.proofs.Shifts.{of_tenant, Shifts, of_gate, of_door}

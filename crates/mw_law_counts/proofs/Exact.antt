@@ -3,7 +3,7 @@ use Rattle.std.specs.Prelude.{ℕ}
 use Rattle.std.proofs.Common.{arith}
 use Rattle.mw_words.specs.declared.places.At.TheVariants.{Door as AtDoor, Gate as AtGate}
 use Rattle.mw_words.specs.Patterns.{IsDoorInRange, IsGateInRange}
-use Rattle.mw_words.specs.PatternLaws.{packed_door_injective, packed_gate_injective}
+use Rattle.mw_words.proofs.PatternLaws.{packed_door_injective, packed_gate_injective}
 use Rattle.mw_look.specs.declared.points.Point.{Point as ReadPoint}
 use Rattle.mw_look.specs.declared.points.Point.TheVariants.{Pin as PinOfRead, Unpin as UnpinOfRead, FreeSlot as FreeOfRead, LowerDoor as LowerOfRead}
 use Rattle.mw_look.specs.Places.{nil}
@@ -13,8 +13,8 @@ use Rattle.mw_actor.specs.declared.points.Point.TheVariants.{Read, Admit, Claim,
 use Rattle.mw_actor.specs.Acting.{Acting}
 use Rattle.mw_actor.specs.Asks.{asks_at}
 use Rattle.mw_actor.specs.Ranges.{IsPointInRange}
-use Rattle.mw_world.specs.Cells.{Cells}
-use Rattle.mw_world.specs.Ties.{AllFit}
+use Rattle.mw_world.specs.Definition.Cells.{Cells}
+use Rattle.mw_world.specs.Memory.Ties.{AllFit}
 use Rattle.mw_law_counts.specs.Exact.{IsLookInRange, ExchangesAreExact}
 use Rattle.mw_law_counts.specs.Standing.{IsExact}
 

@@ -12,7 +12,7 @@ use Rattle.mw_pool.specs.Moves.{Admits, after_unpin}
 use Rattle.mw_look.specs.declared.news.News.{News}
 use Rattle.mw_look.specs.declared.news.News.TheVariants.{SawDoor, SawGate, SawStatus, Won, Lost}
 use Rattle.mw_look.specs.Program.{freed as freed_gate}
-use Rattle.mw_look.specs.RangeLaws.{either_way}
+use Rattle.mw_look.proofs.RangeLaws.{either_way}
 use Rattle.mw_look.specs.Runs.{if_same}
 use Rattle.mw_actor.specs.declared.points.After.{After}
 use Rattle.mw_actor.specs.declared.points.Slot.{Slot}
@@ -20,17 +20,17 @@ use Rattle.mw_actor.specs.declared.points.Task.{Task}
 use Rattle.mw_actor.specs.declared.points.Point.{Point}
 use Rattle.mw_actor.specs.declared.points.Point.TheVariants.{Admit, Claim, PinOther, Unpin, FreeSlot, LowerDoor, GiveUp, Replied}
 use Rattle.mw_actor.specs.Acting.{Acting}
-use Rattle.mw_actor.specs.BalanceLaws.{pins_after, task_pins}
+use Rattle.mw_actor.specs.Balance.{pins_after, task_pins}
 use Rattle.mw_actor.specs.Program.{goes}
 use Rattle.mw_world.specs.declared.config.Config.{Config}
-use Rattle.mw_world.specs.Cells.{Cells, write}
-use Rattle.mw_world.specs.Counting.{pins_held, frees_at, waits_at, waits_for}
-use Rattle.mw_world.specs.History.{History}
+use Rattle.mw_world.specs.Definition.Cells.{Cells, write}
+use Rattle.mw_world.specs.Definition.Counting.{pins_held, frees_at, waits_at, waits_for}
+use Rattle.mw_world.specs.Definition.History.{History}
 use Rattle.mw_world_file.specs.Maps.{upd_two}
-use Rattle.mw_world.specs.Notes.{give_up_note}
-use Rattle.mw_world.specs.Noting.{noted}
-use Rattle.mw_world.specs.State.{State, tenant_at}
-use Rattle.mw_world.specs.Turns.{made_of, turned, next_attempt}
+use Rattle.mw_world.specs.Definition.Notes.{give_up_note}
+use Rattle.mw_world.specs.Definition.Noting.{noted}
+use Rattle.mw_world.specs.Definition.State.{State, tenant_at}
+use Rattle.mw_world.specs.Definition.Turns.{made_of, turned, next_attempt}
 use Rattle.mw_law_counts.specs.Standing.{CountsStand, CountsRestOn}
 use Rattle.mw_law_counts.proofs.Effects.{admits, lowers, claims, pins, unpins, frees, leaves, quiet, upd_here, upd_else}
 use Rattle.mw_law_counts.proofs.Points.{change_goes}

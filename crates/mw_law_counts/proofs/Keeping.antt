@@ -3,9 +3,9 @@ use Rattle.std.specs.Prelude.{◌≡◌, List, [], ◌∷◌, ◌++◌, Option, 
 use Rattle.std.specs.Option.{option_and_then}
 use Rattle.std.proofs.Common.{refl, ap, subst, ◌∙◌}
 use Rattle.mw_world.specs.declared.config.Config.{Config}
-use Rattle.mw_world.specs.Happenings.{Happening, Come, Step, File, Hand, Restart}
-use Rattle.mw_world.specs.State.{State, new_world, first_account}
-use Rattle.mw_world.specs.World.{step, run}
+use Rattle.mw_world.specs.Definition.Happenings.{Happening, Come, Step, File, Hand, Restart}
+use Rattle.mw_world.specs.Definition.State.{State, new_world, first_account}
+use Rattle.mw_world.specs.Definition.World.{step, run}
 use Rattle.mw_law_counts.specs.Standing.{CountsStand, CountsRestOn}
 use Rattle.mw_law_counts.specs.Laws.{EventsKeepCounts, RunsKeepCounts, RunsLeaveRoom}
 use Rattle.mw_law_counts.proofs.Calling.{call_keeps}

@@ -11,7 +11,7 @@ use Rattle.mw_actor.specs.declared.points.Point.TheVariants.{Read, Admit, Claim,
 use Rattle.mw_actor.specs.Acting.{Acting}
 use Rattle.mw_actor.specs.Program.{goes}
 use Rattle.mw_actor.specs.Stages.{stage}
-use Rattle.mw_world.specs.Counting.{pins_held, frees_at, waits_at, pin_of, frees_by_read, waits_in_read}
+use Rattle.mw_world.specs.Definition.Counting.{pins_held, frees_at, waits_at, pin_of, frees_by_read, waits_in_read}
 use Rattle.mw_law_counts.specs.Ready.{IsReadyAt, IsReady}
 use Rattle.mw_law_counts.proofs.Balance.{Holds, goes_on_with}
 use Rattle.mw_law_counts.specs.Then.{pins_then, frees_then, waits_then}

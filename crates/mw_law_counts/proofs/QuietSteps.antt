@@ -17,7 +17,7 @@ use Rattle.mw_look.specs.declared.steps.Kind.{Kind}
 use Rattle.mw_look.specs.Places.{Val, pack}
 use Rattle.mw_look.specs.Program.{asks_at as look_asks}
 use Rattle.mw_look.specs.News.{seen}
-use Rattle.mw_look.specs.RangeLaws.{either_way}
+use Rattle.mw_look.proofs.RangeLaws.{either_way}
 use Rattle.mw_look.specs.Steps.{Step, Load, Change, File}
 use Rattle.mw_actor.specs.declared.points.Slot.{Slot}
 use Rattle.mw_actor.specs.declared.points.Sweep.{Sweep}
@@ -29,15 +29,15 @@ use Rattle.mw_actor.specs.Asks.{asks, asks_at}
 use Rattle.mw_actor.specs.Helping.{others_read}
 use Rattle.mw_actor.specs.Program.{goes, tells}
 use Rattle.mw_world.specs.declared.config.Config.{Config}
-use Rattle.mw_world.specs.Cells.{Cells, read, write}
-use Rattle.mw_world.specs.Changes.{Shape, Exchange, Store, Fetch, shape_of, fetched, changed, done}
-use Rattle.mw_world.specs.Counting.{pins_held, frees_at, waits_at}
-use Rattle.mw_world.specs.History.{History}
-use Rattle.mw_world.specs.Invariant.{IsOfWorker}
-use Rattle.mw_world.specs.Notes.{note_of, door_note, inspect_note, resolve_note, release_note, read_note, read_door_note, read_word_note, read_status_note, answer_note, recheck_note, read_point, won_note, exchange_note}
-use Rattle.mw_world.specs.Noting.{noted, seated}
-use Rattle.mw_world.specs.State.{State, Seat}
-use Rattle.mw_world.specs.Turns.{Made, made_of, moved, turned, next_attempt, goes_on as goes_on_as}
+use Rattle.mw_world.specs.Definition.Cells.{Cells, read, write}
+use Rattle.mw_world.specs.Definition.Changes.{Shape, Exchange, Store, Fetch, shape_of, fetched, changed, done}
+use Rattle.mw_world.specs.Definition.Counting.{pins_held, frees_at, waits_at}
+use Rattle.mw_world.specs.Definition.History.{History}
+use Rattle.mw_world.specs.Claim.Invariant.{IsOfWorker}
+use Rattle.mw_world.specs.Definition.Notes.{note_of, door_note, inspect_note, resolve_note, release_note, read_note, read_door_note, read_word_note, read_status_note, answer_note, recheck_note, read_point, won_note, exchange_note}
+use Rattle.mw_world.specs.Definition.Noting.{noted, seated}
+use Rattle.mw_world.specs.Definition.State.{State, Seat}
+use Rattle.mw_world.specs.Definition.Turns.{Made, made_of, moved, turned, next_attempt, goes_on as goes_on_as}
 use Rattle.mw_law_counts.specs.Ready.{IsReady}
 use Rattle.mw_law_counts.specs.Standing.{CountsStand}
 use Rattle.mw_law_counts.proofs.Effects.{quiet as moves_nothing}

@@ -17,9 +17,9 @@ use Rattle.mw_look.specs.declared.points.Point.TheVariants.{ReadDoor, ReadWord, 
 use Rattle.mw_look.specs.declared.points.Trail.{Trail}
 use Rattle.mw_look.specs.declared.points.Trail.TheVariants.{Held as ByHeld, Planted as ByPlanted}
 use Rattle.mw_look.specs.Program.{goes, same_word, word_of, word_seen, slot_of, seq_of, pinning, pinned, first_entry, next_entry, address_seen, resumed}
-use Rattle.mw_look.specs.RangeLaws.{either_way}
+use Rattle.mw_look.proofs.RangeLaws.{either_way}
 use Rattle.mw_look.specs.Runs.{holds_at, if_same}
-use Rattle.mw_world.specs.Counting.{pin_of, frees_by_read, waits_in_read}
+use Rattle.mw_world.specs.Definition.Counting.{pin_of, frees_by_read, waits_in_read}
 use Rattle.mw_law_counts.specs.Ready.{IsReadReady}
 
 -- At a point of a read so many pins of each slot are held, so many slots are to be freed, and the door counts so many that aren't taken.

@@ -12,15 +12,15 @@ use Rattle.mw_look.specs.declared.points.Trail.{Trail}
 use Rattle.mw_look.specs.declared.points.Point.{Point as ReadPoint}
 use Rattle.mw_look.specs.declared.points.Point.TheVariants.{Pin, Unpin, FreeSlot, LowerDoor}
 use Rattle.mw_look.specs.Program.{Reading, freed as freed_gate, slot_of, seq_of}
-use Rattle.mw_look.specs.RangeLaws.{either_way}
+use Rattle.mw_look.proofs.RangeLaws.{either_way}
 use Rattle.mw_look.specs.Runs.{if_same}
 use Rattle.mw_actor.specs.declared.points.Point.TheVariants.{Read}
 use Rattle.mw_actor.specs.Acting.{Acting}
 use Rattle.mw_world.specs.declared.config.Config.{Config}
-use Rattle.mw_world.specs.Cells.{Cells, write}
+use Rattle.mw_world.specs.Definition.Cells.{Cells, write}
 use Rattle.mw_world_file.specs.Maps.{upd}
-use Rattle.mw_world.specs.State.{State}
-use Rattle.mw_world.specs.Turns.{made_of, turned}
+use Rattle.mw_world.specs.Definition.State.{State}
+use Rattle.mw_world.specs.Definition.Turns.{made_of, turned}
 use Rattle.mw_law_counts.specs.Standing.{CountsStand, CountsRestOn}
 use Rattle.mw_law_counts.proofs.Effects.{lowers, pins, unpins, frees, quiet, upd_here, upd_else}
 use Rattle.mw_law_counts.proofs.Points.{read_goes}

@@ -7,10 +7,10 @@ use Rattle.std.proofs.lemmas.List.Sums.{sum_by-cons}
 use Rattle.mw_actor.specs.Acting.{Acting}
 use Rattle.mw_world.specs.declared.config.Config.{Config}
 use Rattle.mw_world.specs.declared.config.Tenant.{Tenant}
-use Rattle.mw_world.specs.Counting.{pins_held, frees_at, waits_at, waits_for, counted, over_workers, slots_taken_for, taken_slots, used_slots}
-use Rattle.mw_world.specs.Headline.{FreeSlot}
-use Rattle.mw_world.specs.Invariant.{IsOfWorker}
-use Rattle.mw_world.specs.State.{State, no_tenant, tenants_of}
+use Rattle.mw_world.specs.Definition.Counting.{pins_held, frees_at, waits_at, waits_for, counted, over_workers, slots_taken_for, taken_slots, used_slots}
+use Rattle.mw_world.specs.Claim.Headline.{FreeSlot}
+use Rattle.mw_world.specs.Claim.Invariant.{IsOfWorker}
+use Rattle.mw_world.specs.Definition.State.{State, no_tenant, tenants_of}
 use Rattle.mw_law_counts.specs.Alone.{WhoFreesIsAlone, DoorsCountTheTaken, WhoWaitsHasRoom}
 use Rattle.mw_law_counts.specs.Standing.{CountsStand}
 use Rattle.mw_law_counts.proofs.Effects.{none_left, taken_and_unpinned}

@@ -5,10 +5,10 @@ use Rattle.std.proofs.lemmas.Bool.{cases_eq}
 use Rattle.std.proofs.lemmas.Bool.Decides.{nat_tests}
 use Rattle.mw_actor.specs.Acting.{Acting}
 use Rattle.mw_world.specs.declared.config.Config.{Config}
-use Rattle.mw_world.specs.Counting.{pins_held, frees_at, waits_for, waits_at, counted, over_workers, slots_taken_for}
-use Rattle.mw_world.specs.Invariant.{IsPinnedAs, IsOfWorker}
+use Rattle.mw_world.specs.Definition.Counting.{pins_held, frees_at, waits_for, waits_at, counted, over_workers, slots_taken_for}
+use Rattle.mw_world.specs.Claim.Invariant.{IsPinnedAs, IsOfWorker}
 use Rattle.mw_world_file.specs.Maps.{upd}
-use Rattle.mw_world.specs.State.{State, Seat, tenant_at, tenants_of}
+use Rattle.mw_world.specs.Definition.State.{State, Seat, tenant_at, tenants_of}
 use Rattle.mw_law_counts.specs.Ready.{IsReady}
 use Rattle.mw_law_counts.specs.Sides.{left_pin, idle}
 use Rattle.mw_law_counts.specs.Standing.{CountsStand}

@@ -13,15 +13,15 @@ use Rattle.mw_actor.specs.declared.points.Point.TheVariants.{Read, Replied}
 use Rattle.mw_actor.specs.Acting.{Acting, first}
 use Rattle.mw_actor.specs.Program.{replied, reply_at}
 use Rattle.mw_world.specs.declared.config.Config.{Config}
-use Rattle.mw_world.specs.Counting.{pins_held, frees_at, waits_for, over_workers, slots_taken_for}
-use Rattle.mw_world.specs.Happenings.{Found}
-use Rattle.mw_world.specs.Invariant.{IsOfWorker}
-use Rattle.mw_world.specs.Restarts.{restart, restarted, reopened, found_of, under_way, may_all_be_found}
-use Rattle.mw_world.specs.Stepping.{came, gave}
+use Rattle.mw_world.specs.Definition.Counting.{pins_held, frees_at, waits_for, over_workers, slots_taken_for}
+use Rattle.mw_world.specs.Definition.Happenings.{Found}
+use Rattle.mw_world.specs.Claim.Invariant.{IsOfWorker}
+use Rattle.mw_world.specs.Definition.Restarts.{restart, restarted, reopened, found_of, under_way, may_all_be_found}
+use Rattle.mw_world.specs.Memory.Stepping.{came, gave}
 use Rattle.mw_world.specs.declared.config.TheConstants.{MOST_REQUESTS}
 use Rattle.mw_words.specs.Change.{is_well_formed}
-use Rattle.mw_world.specs.State.{State, Account, started, idle_seat, tenant_at, tenants_of}
-use Rattle.mw_world.specs.World.{come, may_come, begun, hand, handed}
+use Rattle.mw_world.specs.Definition.State.{State, Account, started, idle_seat, tenant_at, tenants_of}
+use Rattle.mw_world.specs.Definition.World.{come, may_come, begun, hand, handed}
 use Rattle.mw_law_counts.specs.Ready.{IsReady}
 use Rattle.mw_law_counts.specs.Standing.{CountsStand}
 use Rattle.mw_law_counts.proofs.Effects.{quiet}

@@ -4,9 +4,9 @@ use Rattle.std.proofs.Common.{refl, ap, ◌∙◌, inl, inr, arith}
 use Rattle.std.proofs.lemmas.Bool.{cases_eq}
 use Rattle.std.proofs.lemmas.Bool.Decides.{nat_tests}
 use Rattle.mw_actor.specs.Acting.{Acting}
-use Rattle.mw_world.specs.Counting.{counted, over_workers, slots_taken_for}
+use Rattle.mw_world.specs.Definition.Counting.{counted, over_workers, slots_taken_for}
 use Rattle.mw_world_file.specs.Maps.{upd}
-use Rattle.mw_world.specs.State.{State, Seat}
+use Rattle.mw_world.specs.Definition.State.{State, Seat}
 
 upd_here : (seats : ℕ → Seat) (worker : ℕ) (seat : Seat) → upd seats worker seat worker ≡ seat
 upd_here seats worker seat = grind (arith, nat_tests)

@@ -10,8 +10,8 @@ use Rattle.mw_actor.specs.Acting.{Acting}
 use Rattle.mw_actor.specs.Asks.{asks}
 use Rattle.mw_actor.specs.Program.{replied}
 use Rattle.mw_world.specs.declared.config.Config.{Config}
-use Rattle.mw_world.specs.State.{State}
-use Rattle.mw_world.specs.Turns.{turned, turn, may_make}
+use Rattle.mw_world.specs.Definition.State.{State}
+use Rattle.mw_world.specs.Definition.Turns.{turned, turn, may_make}
 use Rattle.mw_law_counts.specs.Standing.{CountsStand, CountsRestOn}
 use Rattle.mw_law_counts.proofs.GateSteps.{below, admit, claim, pin, unpin, free, lower, leave}
 use Rattle.mw_law_counts.proofs.ReadSteps.{pin as pin_of_read, unpin as unpin_of_read, free as free_of_read, lower as lower_of_read}

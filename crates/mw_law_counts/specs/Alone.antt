@@ -2,9 +2,9 @@
 use Rattle.std.specs.Prelude.{ℕ, ◌≡◌, ◌≢◌, ◌≤◌, true, false, Some}
 use Rattle.mw_actor.specs.Acting.{Acting}
 use Rattle.mw_world.specs.declared.config.Config.{Config}
-use Rattle.mw_world.specs.Counting.{pins_held, frees_at, waits_at, taken_slots, used_slots}
-use Rattle.mw_world.specs.Headline.{FreeSlot}
-use Rattle.mw_world.specs.State.{State, IsConfig, tenants_of}
+use Rattle.mw_world.specs.Definition.Counting.{pins_held, frees_at, waits_at, taken_slots, used_slots}
+use Rattle.mw_world.specs.Claim.Headline.{FreeSlot}
+use Rattle.mw_world.specs.Definition.State.{State, IsConfig, tenants_of}
 use Rattle.mw_law_counts.specs.Standing.{CountsStand}
 
 -- The worker is alone with the slot: the slot is taken and has no pin, none was left behind, no request of any worker holds one, and no

@@ -2,11 +2,11 @@
 use Rattle.std.specs.Prelude.{ℕ, ◌≡◌, ◌≤◌, List, ◌++◌, Some}
 use Rattle.mw_world.specs.declared.config.Config.{Config}
 use Rattle.mw_actor.specs.Acting.{Acting}
-use Rattle.mw_world.specs.Counting.{waits_at, taken_slots, used_slots}
-use Rattle.mw_world.specs.Headline.{IsPlayed, FreeSlot}
-use Rattle.mw_world.specs.Happenings.{Happening}
-use Rattle.mw_world.specs.State.{State, new_world, tenants_of}
-use Rattle.mw_world.specs.World.{step, run}
+use Rattle.mw_world.specs.Definition.Counting.{waits_at, taken_slots, used_slots}
+use Rattle.mw_world.specs.Claim.Headline.{IsPlayed, FreeSlot}
+use Rattle.mw_world.specs.Definition.Happenings.{Happening}
+use Rattle.mw_world.specs.Definition.State.{State, new_world, tenants_of}
+use Rattle.mw_world.specs.Definition.World.{step, run}
 use Rattle.mw_law_counts.specs.Standing.{CountsStand, CountsRestOn}
 
 -- In a new world the counts stand.

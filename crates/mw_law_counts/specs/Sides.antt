@@ -1,6 +1,6 @@
 -- What the counts of a slot are compared with: its pin that was left behind, and whether it is to be freed. Only proofs speak of these.
 use Rattle.std.specs.Prelude.{ℕ, ◌==◌, ◌&&◌, if◌then◌else◌}
-use Rattle.mw_world.specs.State.{State}
+use Rattle.mw_world.specs.Definition.State.{State}
 
 -- 1 for the pin of a slot that was left behind
 abbrev pub left_pin : State → ℕ → ℕ

@@ -9,10 +9,10 @@ use Rattle.mw_words.specs.declared.replies.Reply.{Reply}
 use Rattle.mw_actor.specs.Acting.{Acting}
 use Rattle.mw_actor.specs.Asks.{asks}
 use Rattle.mw_world.specs.declared.config.Config.{Config}
-use Rattle.mw_world.specs.Cells.{Cells}
-use Rattle.mw_world.specs.Counting.{frees_at}
-use Rattle.mw_world.specs.Invariant.{CountsAreRight, IsOfWorker}
-use Rattle.mw_world.specs.State.{State, tenants_of}
+use Rattle.mw_world.specs.Definition.Cells.{Cells}
+use Rattle.mw_world.specs.Definition.Counting.{frees_at}
+use Rattle.mw_world.specs.Claim.Invariant.{CountsAreRight, IsOfWorker}
+use Rattle.mw_world.specs.Definition.State.{State, tenants_of}
 use Rattle.mw_law_counts.specs.Ready.{IsReady}
 
 -- The counts are right; a gate that isn't taken has no pins; a slot that is taken is taken for one of the tenants; and each request is its

@@ -4,7 +4,7 @@ use Rattle.mw_look.specs.declared.news.News.{News}
 use Rattle.mw_look.specs.declared.news.News.TheVariants.{SawDoor, SawGate, SawStatus, Won}
 use Rattle.mw_look.specs.Runs.{if_same}
 use Rattle.mw_actor.specs.Stages.{Stage, Entering, Claiming, Pinning, Leaving, Freeing, Lowering, GivingUp}
-use Rattle.mw_actor.specs.BalanceLaws.{task_pins, pins_after, pins_at, to_free, to_lower}
+use Rattle.mw_actor.specs.Balance.{task_pins, pins_after, pins_at, to_free, to_lower}
 
 -- the pins of a slot that are held after a step
 abbrev pub pins_then : ℕ → Stage → News → ℕ

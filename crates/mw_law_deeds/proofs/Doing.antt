@@ -11,7 +11,7 @@ use Rattle.mw_actor.specs.declared.points.Point.TheVariants.{Read, Admit, Claim,
 use Rattle.mw_actor.specs.Acting.{Acting}
 use Rattle.mw_actor.specs.Asks.{asks_at}
 use Rattle.mw_world.specs.declared.config.Config.{Config}
-use Rattle.mw_world.specs.State.{State}
+use Rattle.mw_world.specs.Definition.State.{State}
 use Rattle.mw_law_moves.specs.Guards.{Guards}
 use Rattle.mw_law_moves.specs.Stepped.{moves_told}
 use Rattle.mw_law_counts.specs.Standing.{CountsStand}

@@ -13,10 +13,10 @@ use Rattle.mw_actor.specs.declared.points.Slot.{Slot}
 use Rattle.mw_actor.specs.declared.points.Task.{Task}
 use Rattle.mw_actor.specs.Acting.{Acting}
 use Rattle.mw_actor.specs.Asks.{row_of}
-use Rattle.mw_actor.specs.StageLaws.{goes_leads}
+use Rattle.mw_actor.proofs.StageLaws.{goes_leads}
 use Rattle.mw_world_file.specs.Maps.{upd}
 use Rattle.mw_world.specs.declared.config.Config.{Config}
-use Rattle.mw_world.specs.State.{State, Seat}
+use Rattle.mw_world.specs.Definition.State.{State, Seat}
 use Rattle.mw_law_moves.specs.Guards.{Guards, IsLive}
 use Rattle.mw_law_moves.specs.Stepped.{moves_told}
 use Rattle.mw_law_facts.specs.Facts.{IsKnown, IsAtWork}

@@ -11,17 +11,17 @@ use Rattle.mw_look.specs.declared.points.After.TheVariants.{Again, Answer}
 use Rattle.mw_look.specs.declared.points.Point.TheVariants.{Pin as PinOfRead, Unpin as UnpinOfRead, FreeSlot as FreeOfRead, LowerDoor as LowerOfRead}
 use Rattle.mw_look.specs.declared.points.Trail.{Trail}
 use Rattle.mw_look.specs.Program.{Reading, resumed as read_resumed, freed, slot_of}
-use Rattle.mw_look.specs.RangeLaws.{either_way}
+use Rattle.mw_look.proofs.RangeLaws.{either_way}
 use Rattle.mw_look.specs.Runs.{if_same}
 use Rattle.mw_actor.specs.declared.points.After.{After}
 use Rattle.mw_actor.specs.declared.points.Point.TheVariants.{Read, Unpin, FreeSlot, LowerDoor}
 use Rattle.mw_actor.specs.declared.points.Slot.{Slot}
 use Rattle.mw_actor.specs.Acting.{Acting}
 use Rattle.mw_actor.specs.Finishing.{resumed}
-use Rattle.mw_actor.specs.BalanceLaws.{pins_after}
+use Rattle.mw_actor.specs.Balance.{pins_after}
 use Rattle.mw_world.specs.declared.config.Config.{Config}
-use Rattle.mw_world.specs.Counting.{pins_held, frees_at}
-use Rattle.mw_world.specs.State.{State}
+use Rattle.mw_world.specs.Definition.Counting.{pins_held, frees_at}
+use Rattle.mw_world.specs.Definition.State.{State}
 use Rattle.mw_law_moves.specs.Guards.{Guards}
 use Rattle.mw_law_moves.specs.Relying.{Later}
 use Rattle.mw_law_moves.specs.Stepped.{moves_told}

@@ -11,7 +11,7 @@ use Rattle.mw_actor.specs.Acting.{Acting, entry_of}
 use Rattle.mw_world.specs.declared.config.Config.{Config}
 use Rattle.mw_world.specs.declared.notes.Phase.{Phase}
 use Rattle.mw_world.specs.declared.notes.Phase.TheVariants.{Fresh, Keeping, Inked}
-use Rattle.mw_world.specs.State.{State}
+use Rattle.mw_world.specs.Definition.State.{State}
 use Rattle.mw_law_moves.specs.Guards.{Guards}
 use Rattle.mw_law_moves.specs.Stepped.{moves_told}
 use Rattle.mw_law_facts.specs.Facts.{phase_at}

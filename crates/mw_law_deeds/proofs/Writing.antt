@@ -11,7 +11,7 @@ use Rattle.mw_words.specs.declared.statuses.Status.{Status}
 use Rattle.mw_words.specs.declared.statuses.Status.TheVariants.{Draft}
 use Rattle.mw_words.specs.Change.{is_change}
 use Rattle.mw_look.specs.declared.news.News.TheVariants.{Won}
-use Rattle.mw_look.specs.RangeLaws.{either_way}
+use Rattle.mw_look.proofs.RangeLaws.{either_way}
 use Rattle.mw_actor.specs.declared.points.Point.{Point}
 use Rattle.mw_actor.specs.declared.points.Point.TheVariants.{Claim, FillStatus, FillCount, FillAddr, FillExpected, FillNew, Prepare}
 use Rattle.mw_actor.specs.declared.points.Slot.{Slot}
@@ -19,10 +19,10 @@ use Rattle.mw_actor.specs.Acting.{Acting, own_entries, entries_of_job, entry_at}
 use Rattle.mw_actor.specs.Ranges.{IsFormed}
 use Rattle.mw_world_file.specs.Maps.{upd}
 use Rattle.mw_world.specs.declared.config.Config.{Config}
-use Rattle.mw_world.specs.Cells.{Cells}
-use Rattle.mw_world.specs.History.{Standing, Arm}
-use Rattle.mw_world.specs.Invariant.{IsEntryOf}
-use Rattle.mw_world.specs.State.{State}
+use Rattle.mw_world.specs.Definition.Cells.{Cells}
+use Rattle.mw_world.specs.Definition.History.{Standing, Arm}
+use Rattle.mw_world.specs.Claim.Invariant.{IsEntryOf}
+use Rattle.mw_world.specs.Definition.State.{State}
 use Rattle.mw_law_moves.specs.Guards.{IsLive}
 use Rattle.mw_law_moves.proofs.Phases.{claimed_draft}
 use Rattle.mw_law_counts.specs.Standing.{CountsStand}

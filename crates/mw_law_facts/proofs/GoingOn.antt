@@ -17,7 +17,7 @@ use Rattle.mw_look.specs.declared.points.Point.TheVariants as read
 use Rattle.mw_look.specs.declared.points.Trail.{Trail}
 use Rattle.mw_look.specs.declared.points.Trail.TheVariants.{Held as ByHeld, Planted as ByPlanted}
 use Rattle.mw_look.specs.Program.{goes as read_goes, word_seen, pinned, first_entry, next_entry, address_seen, resumed, same_word, word_of, slot_of, seq_of}
-use Rattle.mw_look.specs.RangeLaws.{either_way}
+use Rattle.mw_look.proofs.RangeLaws.{either_way}
 use Rattle.mw_look.specs.Runs.{holds_at}
 use Rattle.mw_actor.specs.declared.points.After.{After}
 use Rattle.mw_actor.specs.declared.points.After.TheVariants.{Work, GiveUp as ThenGiveUp, Reply as ThenReply}
@@ -27,9 +27,9 @@ use Rattle.mw_actor.specs.declared.points.Task.{Task}
 use Rattle.mw_actor.specs.Acting.{Acting}
 use Rattle.mw_actor.specs.Helping.{others_read}
 use Rattle.mw_actor.specs.Program.{goes}
-use Rattle.mw_actor.specs.StageLaws.{goes_leads}
+use Rattle.mw_actor.proofs.StageLaws.{goes_leads}
 use Rattle.mw_actor.specs.Stages.{Stage, Outside, Entering, Seeking, Claiming, WritingStatus, WritingCount, WritingAddr, WritingExpected, WritingNew, Preparing, Checking, Inspecting, Holding, Deciding, Working, Nearing, Pinning, Fetching, Leaving, Freeing, Lowering, GivingUp, stage, Resumes, OnTask, Scans, Leads}
-use Rattle.mw_world.specs.State.{State}
+use Rattle.mw_world.specs.Definition.State.{State}
 use Rattle.mw_law_facts.specs.Laws.{LiveSlotsGoOn}
 use Rattle.mw_law_facts.specs.Live.{IsLiveTask, AreLiveAfter, AreLiveAt, IsLiveHold, AreLiveInRead, AreLive, TakesNoPinAt, TakesNoPinInRead}
 

@@ -11,10 +11,10 @@ use Rattle.mw_actor.specs.declared.points.Point.TheVariants.{Read}
 use Rattle.mw_actor.specs.declared.points.Slot.{Slot}
 use Rattle.mw_actor.specs.declared.points.Task.{Task}
 use Rattle.mw_actor.specs.Acting.{is_alone}
-use Rattle.mw_actor.specs.BalanceLaws.{task_pins, pins_after, pins_at, to_free}
+use Rattle.mw_actor.specs.Balance.{task_pins, pins_after, pins_at, to_free}
 use Rattle.mw_actor.specs.Stages.{Stage, Reading, WritingStatus, WritingCount, WritingAddr, WritingExpected, WritingNew, Preparing, Checking, Inspecting, Holding, Deciding, Working, Nearing, Pinning, Fetching, Leaving, Freeing, Lowering, GivingUp, stage}
-use Rattle.mw_world.specs.Counting.{pin_of, frees_by_read}
-use Rattle.mw_world.specs.State.{State}
+use Rattle.mw_world.specs.Definition.Counting.{pin_of, frees_by_read}
+use Rattle.mw_world.specs.Definition.State.{State}
 use Rattle.mw_law_moves.specs.Guards.{IsLive}
 use Rattle.mw_law_facts.specs.Laws.{StaysTaken, LiveSlotsStay}
 use Rattle.mw_law_facts.specs.Live.{IsLiveTask, AreLiveAfter, AreLiveAt, IsLiveHold, AreLiveInRead}

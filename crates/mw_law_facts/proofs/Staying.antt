@@ -11,7 +11,7 @@ use Rattle.mw_actor.specs.declared.points.Point.TheVariants.{Read, FillStatus, F
 use Rattle.mw_actor.specs.declared.points.Slot.{Slot}
 use Rattle.mw_actor.specs.declared.points.Sweep.TheVariants.{Yes as SweepYes, No as SweepNo, DoneYes as SweepDoneYes}
 use Rattle.mw_actor.specs.Acting.{Acting, own_entries, entries_of, entry_of}
-use Rattle.mw_world.specs.State.{State}
+use Rattle.mw_world.specs.Definition.State.{State}
 use Rattle.mw_law_moves.specs.Guards.{IsLive}
 use Rattle.mw_law_moves.specs.Relying.{Later, SameSlot}
 use Rattle.mw_law_facts.specs.Facts.{IsOwn, IsDrafted}

@@ -16,10 +16,10 @@ use Rattle.mw_actor.specs.declared.points.Sweep.{Sweep}
 use Rattle.mw_actor.specs.declared.points.Sweep.TheVariants.{Yes as SweepYes, DoneYes as SweepDoneYes, No as SweepNo, DoneNo as SweepDoneNo}
 use Rattle.mw_actor.specs.declared.points.Task.{Task}
 use Rattle.mw_actor.specs.Acting.{Acting, own_entries, entry_at}
-use Rattle.mw_world.specs.History.{entry_for}
-use Rattle.mw_world.specs.Invariant.{IsEntryOf, IsRefused}
-use Rattle.mw_world.specs.Owing.{IsEntryAt}
-use Rattle.mw_world.specs.State.{State}
+use Rattle.mw_world.specs.Definition.History.{entry_for}
+use Rattle.mw_world.specs.Claim.Invariant.{IsEntryOf, IsRefused}
+use Rattle.mw_world.specs.Claim.Owing.{IsEntryAt}
+use Rattle.mw_world.specs.Definition.State.{State}
 use Rattle.mw_law_moves.specs.Guards.{IsLive}
 use Rattle.mw_law_moves.specs.Relying.{Later, SameSlot}
 use Rattle.mw_law_facts.specs.Keeping.{KeepsOwn, KeepsPins}

@@ -20,10 +20,10 @@ use Rattle.mw_actor.specs.Acting.{Acting, own_entries, entries_of, entry_at, ent
 use Rattle.mw_actor.specs.Finishing.{refusal}
 use Rattle.mw_world.specs.declared.notes.Phase.{Phase}
 use Rattle.mw_world.specs.declared.notes.Phase.TheVariants.{Fresh, Keeping}
-use Rattle.mw_world.specs.History.{has}
-use Rattle.mw_world.specs.Invariant.{IsEntryOf, IsRefused}
-use Rattle.mw_world.specs.Owing.{IsEntryAt}
-use Rattle.mw_world.specs.State.{State}
+use Rattle.mw_world.specs.Definition.History.{has}
+use Rattle.mw_world.specs.Claim.Invariant.{IsEntryOf, IsRefused}
+use Rattle.mw_world.specs.Claim.Owing.{IsEntryAt}
+use Rattle.mw_world.specs.Definition.State.{State}
 
 -- Changes.
 

@@ -13,11 +13,11 @@ use Rattle.mw_actor.specs.declared.points.Point.TheVariants.{Read}
 use Rattle.mw_actor.specs.Acting.{Acting}
 use Rattle.mw_actor.specs.Ranges.{IsInRange}
 use Rattle.mw_world.specs.declared.config.Config.{Config}
-use Rattle.mw_world.specs.Cells.{Cells, read}
-use Rattle.mw_world.specs.Changes.{Shape, Exchange, Store, Fetch, shape_of}
-use Rattle.mw_world.specs.History.{standing_at, arm_at}
-use Rattle.mw_world.specs.Invariant.{IsOfWorker}
-use Rattle.mw_world.specs.State.{State}
+use Rattle.mw_world.specs.Definition.Cells.{Cells, read}
+use Rattle.mw_world.specs.Definition.Changes.{Shape, Exchange, Store, Fetch, shape_of}
+use Rattle.mw_world.specs.Definition.History.{standing_at, arm_at}
+use Rattle.mw_world.specs.Claim.Invariant.{IsOfWorker}
+use Rattle.mw_world.specs.Definition.State.{State}
 use Rattle.mw_law_moves.specs.Memory.{Memory}
 use Rattle.mw_law_counts.specs.Exact.{IsLookInRange}
 use Rattle.mw_law_counts.specs.Ready.{IsReady}

@@ -4,8 +4,8 @@ use Rattle.mw_actor.specs.declared.points.Point.{Point}
 use Rattle.mw_look.specs.declared.news.News.{News}
 use Rattle.mw_actor.specs.Acting.{Acting}
 use Rattle.mw_actor.specs.Program.{goes}
-use Rattle.mw_world.specs.Counting.{pins_held, frees_at}
-use Rattle.mw_world.specs.State.{State}
+use Rattle.mw_world.specs.Definition.Counting.{pins_held, frees_at}
+use Rattle.mw_world.specs.Definition.State.{State}
 use Rattle.mw_law_moves.specs.Relying.{Later}
 use Rattle.mw_law_facts.specs.Keeping.{KeepsOwn}
 use Rattle.mw_law_facts.specs.Live.{AreLive, TakesNoPin}

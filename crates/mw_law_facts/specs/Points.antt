@@ -10,8 +10,8 @@ use Rattle.mw_actor.specs.declared.points.Point.TheVariants.{Read, ReadDoor, Fil
 use Rattle.mw_actor.specs.declared.points.Sweep.TheVariants.{Yes as SweepYes, No as SweepNo, DoneYes as SweepDoneYes}
 use Rattle.mw_actor.specs.Acting.{Acting, own_entries, entries_of, entry_at, entry_of, is_alone}
 use Rattle.mw_actor.specs.Asks.{row_of}
-use Rattle.mw_world.specs.Invariant.{IsMade}
-use Rattle.mw_world.specs.State.{State}
+use Rattle.mw_world.specs.Claim.Invariant.{IsMade}
+use Rattle.mw_world.specs.Definition.State.{State}
 use Rattle.mw_law_facts.specs.Facts.{IsKnown, MayBeMet, IsOwn, IsDrafted, IsWritten, IsWriting, IsAtWork, WorksOn, AtEntry, HasRead, next_of_others, HoldsUpTo, Sweeps, IsDecidedAs, IsSweptUpTo, Releases, LooksInto, IsGiven, IsAnothers, IsForChangeAt, HasRow, IsNext, CameBy, Follows, EndsWith}
 
 -- what a read knows that is to confirm its word: the row of the attempt's worker; one that came by a held word never is at this point

@@ -1,7 +1,7 @@
 -- A request after a step, in the world after it.
 use Rattle.mw_look.specs.declared.news.News.{News}
 use Rattle.mw_actor.specs.Acting.{Acting}
-use Rattle.mw_world.specs.State.{State}
+use Rattle.mw_world.specs.Definition.State.{State}
 use Rattle.mw_law_moves.specs.Moves.{made_all}
 use Rattle.mw_law_moves.specs.Stepped.{next_of, moves_told}
 use Rattle.mw_law_facts.specs.Live.{AreLive}

@@ -7,7 +7,7 @@ use Rattle.mw_words.specs.declared.statuses.Status.TheVariants.{Draft, Open, Yes
 use Rattle.mw_words.specs.declared.words.Word.{Word}
 use Rattle.mw_words.specs.declared.words.Word.TheVariants.{Plain, Planted, Held}
 use Rattle.mw_look.specs.Program.{same_word}
-use Rattle.mw_look.specs.RangeLaws.{either_way}
+use Rattle.mw_look.proofs.RangeLaws.{either_way}
 use Rattle.mw_actor.specs.declared.points.Attempt.{Attempt}
 use Rattle.mw_actor.specs.declared.points.Point.{Point}
 use Rattle.mw_actor.specs.declared.points.Point.TheVariants.{ReadTargetStatus, CheckThenResolve}
@@ -18,8 +18,8 @@ use Rattle.mw_actor.specs.Helping.{helps}
 use Rattle.mw_actor.specs.Inspecting.{attempt_met, attempt_confirmed, is_open}
 use Rattle.mw_world_file.specs.Maps.{upd_two}
 use Rattle.mw_world.specs.declared.config.Config.{Config}
-use Rattle.mw_world.specs.History.{Standing, Resting, Stands, Arm, Idle, Armed, own_attempt, armed_if, standing_at, arm_at}
-use Rattle.mw_world.specs.State.{State}
+use Rattle.mw_world.specs.Definition.History.{Standing, Resting, Stands, Arm, Idle, Armed, own_attempt, armed_if, standing_at, arm_at}
+use Rattle.mw_world.specs.Definition.State.{State}
 use Rattle.mw_law_moves.specs.Guards.{IsLive, MayPose, MayArm}
 use Rattle.mw_law_moves.specs.Memory.{Memory}
 use Rattle.mw_law_moves.specs.Moves.{Plant, made}

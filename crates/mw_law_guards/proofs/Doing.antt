@@ -23,10 +23,10 @@ use Rattle.mw_actor.specs.Asks.{asks_at, row_of}
 use Rattle.mw_actor.specs.Ranges.{IsEntryInRange, IsInRange}
 use Rattle.mw_world_file.specs.Maps.{upd_two}
 use Rattle.mw_world.specs.declared.config.Config.{Config}
-use Rattle.mw_world.specs.History.{Resting, Stands, standing_at, arm_at}
-use Rattle.mw_world.specs.Invariant.{IsOfWorker}
-use Rattle.mw_world.specs.State.{State, tenant_at}
-use Rattle.mw_world.specs.Turns.{next_attempt, may_make}
+use Rattle.mw_world.specs.Definition.History.{Resting, Stands, standing_at, arm_at}
+use Rattle.mw_world.specs.Claim.Invariant.{IsOfWorker}
+use Rattle.mw_world.specs.Definition.State.{State, tenant_at}
+use Rattle.mw_world.specs.Definition.Turns.{next_attempt, may_make}
 use Rattle.mw_law_moves.specs.Guards.{Guards, MayPose}
 use Rattle.mw_law_moves.specs.Moves.{SetDoor, FillStatus as StatusMove, FillCount as CountMove, FillAddr as AddrMove, FillExpected as ExpectedMove, FillNew as NewMove, SetRow, Claim as ClaimMove, Pin, Unpin as UnpinMove, Free, SayYes, SayNo, TakeBack, Hold, Ink, LetGo, Clean as CleanMove, made}
 use Rattle.mw_law_moves.specs.Stepped.{lowered, moves_told, next_of}

@@ -17,10 +17,10 @@ use Rattle.mw_actor.specs.declared.points.Point.TheVariants.{Claim}
 use Rattle.mw_actor.specs.declared.points.Slot.{Slot}
 use Rattle.mw_actor.specs.declared.points.Task.{Task}
 use Rattle.mw_actor.specs.Acting.{entries_of_job, is_alone}
-use Rattle.mw_actor.specs.BalanceLaws.{task_pins}
-use Rattle.mw_actor.specs.StageLaws.{both_same}
+use Rattle.mw_actor.specs.Balance.{task_pins}
+use Rattle.mw_actor.proofs.StageLaws.{both_same}
 use Rattle.mw_world.specs.declared.config.Config.{Config}
-use Rattle.mw_world.specs.State.{State, tenant_at, tenants_of}
+use Rattle.mw_world.specs.Definition.State.{State, tenant_at, tenants_of}
 use Rattle.mw_law_moves.specs.Guards.{IsLive, MaySetDoor, MayClaim, MayPin, MayFree}
 use Rattle.mw_law_moves.specs.Stepped.{lowered}
 use Rattle.mw_law_facts.specs.Informed.{IsPointFor}

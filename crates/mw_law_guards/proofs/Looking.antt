@@ -14,10 +14,10 @@ use Rattle.mw_actor.specs.declared.points.Slot.{Slot}
 use Rattle.mw_actor.specs.Acting.{Acting, entry_of}
 use Rattle.mw_actor.specs.Asks.{asks_at}
 use Rattle.mw_world.specs.declared.config.Config.{Config}
-use Rattle.mw_world.specs.Changes.{Exchange, Store, Fetch}
-use Rattle.mw_world.specs.History.{Resting, Idle}
-use Rattle.mw_world.specs.State.{State}
-use Rattle.mw_world.specs.Turns.{next_attempt}
+use Rattle.mw_world.specs.Definition.Changes.{Exchange, Store, Fetch}
+use Rattle.mw_world.specs.Definition.History.{Resting, Idle}
+use Rattle.mw_world.specs.Definition.State.{State}
+use Rattle.mw_world.specs.Definition.Turns.{next_attempt}
 use Rattle.mw_law_moves.specs.Guards.{Guards, MayPose}
 use Rattle.mw_law_moves.specs.Moves.{Forgo, Pose, made}
 use Rattle.mw_law_moves.specs.Stepped.{read_moves, give_up_moves, moves_told, next_of}

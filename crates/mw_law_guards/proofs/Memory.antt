@@ -7,17 +7,17 @@ use Rattle.mw_words.specs.declared.jobs.Entry.{Entry}
 use Rattle.mw_words.specs.declared.limits.TheConstants.{MAX_POOL}
 use Rattle.mw_words.specs.declared.statuses.Status.TheVariants.{Draft}
 use Rattle.mw_words.specs.Change.{is_change, rises_from}
-use Rattle.mw_look.specs.RangeLaws.{either_way}
+use Rattle.mw_look.proofs.RangeLaws.{either_way}
 use Rattle.mw_actor.specs.declared.points.Slot.{Slot}
 use Rattle.mw_actor.specs.declared.points.Task.{Task}
 use Rattle.mw_actor.specs.Acting.{Acting, own_entries, entries_of, entry_at, entry_of, is_alone}
 use Rattle.mw_actor.specs.Ranges.{IsEntryInRange, AreEntriesInRange, IsInRange}
 use Rattle.mw_world.specs.declared.config.Config.{Config}
-use Rattle.mw_world.specs.Counting.{pins_held}
-use Rattle.mw_world.specs.History.{has, new, expected, entry_for}
-use Rattle.mw_world.specs.Invariant.{HasWord}
-use Rattle.mw_world.specs.Owing.{IsEntryAt, IsFrom}
-use Rattle.mw_world.specs.State.{State, tenant_at}
+use Rattle.mw_world.specs.Definition.Counting.{pins_held}
+use Rattle.mw_world.specs.Definition.History.{has, new, expected, entry_for}
+use Rattle.mw_world.specs.Claim.Invariant.{HasWord}
+use Rattle.mw_world.specs.Claim.Owing.{IsEntryAt, IsFrom}
+use Rattle.mw_world.specs.Definition.State.{State, tenant_at}
 use Rattle.mw_law_moves.specs.Guards.{IsLive}
 use Rattle.mw_law_moves.specs.Memory.{Memory}
 use Rattle.mw_law_moves.proofs.Finding.{entry_found}

@@ -16,7 +16,7 @@ use Rattle.mw_pool.specs.Moves.{after_admit, after_claim, after_pin}
 use Rattle.mw_look.specs.declared.news.News.{News}
 use Rattle.mw_look.specs.declared.news.News.TheVariants.{SawDoor, SawGate, SawRow, SawWord, SawStatus, SawNumber, Won, Lost, Filed}
 use Rattle.mw_look.specs.Program.{same_word}
-use Rattle.mw_look.specs.RangeLaws.{either_way}
+use Rattle.mw_look.proofs.RangeLaws.{either_way}
 use Rattle.mw_actor.specs.declared.points.After.{After}
 use Rattle.mw_actor.specs.declared.points.After.TheVariants.{Work, GiveUp as ThenGiveUp, Reply as ThenReply}
 use Rattle.mw_actor.specs.declared.points.Attempt.{Attempt}
@@ -33,8 +33,8 @@ use Rattle.mw_actor.specs.Helping.{turns_to, helps, pinned, next_read}
 use Rattle.mw_actor.specs.Inspecting.{status_read, next_word, attempts, dirty_seen, held_seen, inspected}
 use Rattle.mw_actor.specs.Program.{goes}
 use Rattle.mw_actor.specs.Sweeping.{sweep_over, next_sweep, held_swept, dirty_swept, attempt_swept, swept}
-use Rattle.mw_world.specs.History.{Resting, Stands, Idle, Armed, standing_at, arm_at}
-use Rattle.mw_world.specs.State.{State}
+use Rattle.mw_world.specs.Definition.History.{Resting, Stands, Idle, Armed, standing_at, arm_at}
+use Rattle.mw_world.specs.Definition.State.{State}
 use Rattle.mw_law_moves.specs.Guards.{MayPose}
 
 pub rests_not : {tenant address number : ℕ} → Resting ≡ Stands tenant address number → ⊥

@@ -16,9 +16,9 @@ use Rattle.mw_actor.specs.Asks.{row_of}
 use Rattle.mw_actor.specs.Ranges.{IsEntryInRange}
 use Rattle.mw_world.specs.declared.config.Config.{Config}
 use Rattle.mw_world.specs.declared.notes.Phase.TheVariants.{Keeping}
-use Rattle.mw_world.specs.History.{Resting, has, expected}
-use Rattle.mw_world.specs.Invariant.{IsPinnedAs, IsRefused}
-use Rattle.mw_world.specs.State.{State}
+use Rattle.mw_world.specs.Definition.History.{Resting, has, expected}
+use Rattle.mw_world.specs.Claim.Invariant.{IsPinnedAs, IsRefused}
+use Rattle.mw_world.specs.Definition.State.{State}
 use Rattle.mw_law_moves.specs.Guards.{IsLive, IsDraftOf, MaySetRow, MaySayYes, MaySayNo, MayPlant, MayTakeBack, MayInk, MayLetGo, MayClean}
 use Rattle.mw_law_moves.specs.Memory.{Memory}
 use Rattle.mw_law_facts.specs.Facts.{IsDrafted, WorksOn, AtEntry, HoldsUpTo, IsDecidedAs, IsForChangeAt}

@@ -5,8 +5,8 @@ use Rattle.std.specs.Option.{option_and_then, option_map}
 use Rattle.mw_words.specs.declared.replies.Reply.TheVariants.{Yes, No}
 use Rattle.mw_lone.specs.declared.marks.Mark.{Mark}
 use Rattle.mw_lone.specs.declared.marks.Mark.TheVariants.{Ask, Admit, Miss, Seal}
-use Rattle.mw_lone.specs.Laws.{run-extend}
-use Rattle.mw_lone.specs.Sound.{get-insert_same, get-insert_other}
+use Rattle.mw_lone.proofs.KeptRuns.{run-extend}
+use Rattle.mw_lone.proofs.SoundStores.{get-insert_same, get-insert_other}
 use Rattle.mw_lone.specs.Store.{Store, RequestState, request, with_request, with_reply, asked, step, run, admit, seal, miss_at, entries_of}
 use Rattle.std.specs.List.{slice_get}
 use Rattle.mw_law_late.specs.Examples.{change, five, lines, refusal, LateMarkComesOut}

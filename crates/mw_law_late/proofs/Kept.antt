@@ -10,7 +10,7 @@ use Rattle.std.specs.Option.{option_and_then}
 use Rattle.mw_words.specs.declared.replies.Reply.{Reply}
 use Rattle.mw_lone.specs.declared.marks.Mark.{Mark}
 use Rattle.mw_lone.specs.declared.marks.Mark.TheVariants.{Ask, Admit, Busy, Look, Miss, Seal, SealFail, FileFail, GiveUp, Retire, Reply as HandOut, Restart}
-use Rattle.mw_lone.specs.Sound.{get-insert_same, get-insert_other}
+use Rattle.mw_lone.proofs.SoundStores.{get-insert_same, get-insert_other}
 use Rattle.mw_lone.specs.Store.{Store, RequestState, request, with_reply, entries_of, step, run}
 use Rattle.mw_law_late.specs.Late.{marks_in, IsNumbered, Reads, Differs, WouldAnswer}
 use Rattle.mw_law_late.specs.Laws.{PlaceIsKept, KeptBesideALine, KeptBesideALateMark}

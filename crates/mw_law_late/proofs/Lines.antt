@@ -5,7 +5,7 @@ use Rattle.std.specs.Option.{option_and_then, option_to_list}
 use Rattle.std.proofs.lemmas.Grind.{flat_map-append}
 use Rattle.std.proofs.lemmas.List.{take-append-drop}
 use Rattle.mw_lone.specs.declared.marks.Mark.{Mark}
-use Rattle.mw_lone.specs.Laws.{run-extend}
+use Rattle.mw_lone.proofs.KeptRuns.{run-extend}
 use Rattle.mw_lone.specs.Store.{Store, step, run}
 use Rattle.mw_law_late.specs.Late.{marks_in, more, run_lines}
 use Rattle.mw_law_late.specs.Laws.{LinesAreRun, LinesExtend, EmptyPlaceAddsNothing}

@@ -10,7 +10,7 @@ use Rattle.mw_words.specs.declared.replies.Reply.TheVariants.{Val, Yes, No, Busy
 use Rattle.mw_words.specs.Change.{word_at, put}
 use Rattle.mw_lone.specs.declared.marks.Mark.{Mark}
 use Rattle.mw_lone.specs.declared.marks.Mark.TheVariants.{Ask, Admit, Busy, Look, Miss, Seal, SealFail, FileFail, GiveUp, Retire, Reply as HandOut, Restart}
-use Rattle.mw_lone.specs.Sound.{Requests, get-insert_same, get-insert_other}
+use Rattle.mw_lone.proofs.SoundStores.{Requests, get-insert_same, get-insert_other}
 use Rattle.mw_lone.specs.Store.{Store, RequestState, request, with_request, with_reply, asked, entries_of}
 use Rattle.mw_law_late.specs.Doing.{Waits, Fits, Does}
 use Rattle.mw_law_late.specs.Late.{names}

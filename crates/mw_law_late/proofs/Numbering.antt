@@ -7,7 +7,7 @@ use Rattle.std.specs.Ordering.{nat_cmp}
 use Rattle.mw_words.specs.declared.jobs.Job.{Job}
 use Rattle.mw_lone.specs.declared.marks.Mark.{Mark}
 use Rattle.mw_lone.specs.declared.marks.Mark.TheVariants.{Ask, Admit, Busy, Look, Miss, Seal, SealFail, FileFail, GiveUp, Retire, Reply as HandOut, Restart}
-use Rattle.mw_lone.specs.Sound.{Requests, get-insert_other}
+use Rattle.mw_lone.proofs.SoundStores.{Requests, get-insert_other}
 use Rattle.mw_lone.specs.Store.{Store, RequestState, new_store, request, asked, step, run}
 use Rattle.mw_law_late.specs.Doing.{Does}
 use Rattle.mw_law_late.specs.Late.{IsNumbered}

@@ -12,7 +12,7 @@ use Rattle.mw_words.specs.declared.jobs.Job.TheVariants.{Get}
 use Rattle.mw_words.specs.declared.replies.Reply.{Reply}
 use Rattle.mw_lone.specs.declared.marks.Mark.{Mark}
 use Rattle.mw_lone.specs.declared.marks.Mark.TheVariants.{Ask, Admit, Busy, Look, Miss, Seal, SealFail, FileFail, GiveUp, Retire, Reply as HandOut, Restart}
-use Rattle.mw_lone.specs.Sound.{Requests, get-insert_same, get-insert_other}
+use Rattle.mw_lone.proofs.SoundStores.{Requests, get-insert_same, get-insert_other}
 use Rattle.mw_lone.specs.Store.{Store, RequestState, new_store, request, with_reply, asked, is_cas, is_waiting, step, run}
 use Rattle.mw_law_late.specs.Doing.{Waits, Does}
 use Rattle.mw_law_late.specs.Late.{marks_in, names, IsNumbered, IsOpen, Reads, Differs, WouldAnswer}

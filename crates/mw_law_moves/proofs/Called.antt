@@ -11,16 +11,16 @@ use Rattle.mw_actor.specs.Acting.{Acting, own_entries}
 use Rattle.mw_world.specs.declared.config.Config.{Config}
 use Rattle.mw_world_file.specs.declared.outcomes.Outcome.{Outcome}
 use Rattle.mw_world_file.specs.declared.outcomes.Outcome.TheVariants.{Good, Fail}
-use Rattle.mw_world.specs.Calls.{Called, call, called_at, call_if, starts_from, fails_on, calling, ends, moved_if, place_for, can_be_made, calls_made, is_made, skips, faults, goes_well, breaks}
-use Rattle.mw_world.specs.Extent.{has_slot}
+use Rattle.mw_world.specs.Definition.Calls.{Called, call, called_at, call_if, starts_from, fails_on, calling, ends, moved_if, place_for, can_be_made, calls_made, is_made, skips, faults, goes_well, breaks}
+use Rattle.mw_world.specs.Definition.Extent.{has_slot}
 use Rattle.mw_world_file.specs.Maps.{upd}
-use Rattle.mw_world.specs.State.{State, Seat, tenant_at}
-use Rattle.mw_world.specs.Turns.{Made, moved}
+use Rattle.mw_world.specs.Definition.State.{State, Seat, tenant_at}
+use Rattle.mw_world.specs.Definition.Turns.{Made, moved}
 use Rattle.mw_law_moves.specs.Moves.{Move, made_all}
 use Rattle.mw_law_moves.specs.Stepped.{SameMemory, CallsAreMoves, moves_called}
 use Rattle.mw_actor.specs.declared.points.Point.{Point}
 use Rattle.mw_actor.specs.declared.points.Point.TheVariants.{Plant as PlantPoint}
-use Rattle.mw_world.specs.Turns.{next_attempt}
+use Rattle.mw_world.specs.Definition.Turns.{next_attempt}
 use Rattle.mw_world.specs.declared.notes.Note.TheVariants.{Nothing}
 
 some_same : (one next : State) → Some one ≡ Some next → one ≡ next

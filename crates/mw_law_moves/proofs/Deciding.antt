@@ -5,7 +5,7 @@ use Rattle.mw_words.specs.declared.places.At.TheVariants.{Status as AtStatus}
 use Rattle.mw_words.specs.declared.statuses.Status.TheVariants.{Open, YesDirty, Yes, No, DoneYes, DoneNo}
 use Rattle.mw_actor.specs.declared.points.Slot.{Slot}
 use Rattle.mw_world.specs.declared.config.Config.{Config}
-use Rattle.mw_world.specs.State.{State}
+use Rattle.mw_world.specs.Definition.State.{State}
 use Rattle.mw_law_moves.specs.Moves.{Prepare, SayYes, SayNo, Seal, Settle, Cancel, made}
 use Rattle.mw_law_moves.specs.Guards.{Guard}
 use Rattle.mw_law_moves.specs.Memory.{Memory}

@@ -5,7 +5,7 @@ use Rattle.mw_words.specs.declared.places.At.TheVariants.{Door as AtDoor, Status
 use Rattle.mw_words.specs.declared.doors.Door.{Door}
 use Rattle.mw_words.specs.declared.statuses.Status.TheVariants.{Draft}
 use Rattle.mw_world.specs.declared.config.Config.{Config}
-use Rattle.mw_world.specs.State.{State}
+use Rattle.mw_world.specs.Definition.State.{State}
 use Rattle.mw_law_moves.specs.Moves.{SetDoor, FillStatus, FillCount, FillAddr, FillExpected, FillNew, made}
 use Rattle.mw_law_moves.specs.Guards.{Guard}
 use Rattle.mw_law_moves.specs.Memory.{Memory}

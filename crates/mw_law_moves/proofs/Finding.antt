@@ -6,10 +6,10 @@ use Rattle.std.proofs.lemmas.Bool.Decides.{nat_tests}
 use Rattle.mw_words.specs.declared.jobs.Entry.{Entry}
 use Rattle.mw_words.specs.Change.{rises_from}
 use Rattle.mw_actor.specs.Acting.{entry_at}
-use Rattle.mw_world.specs.Cells.{Cells}
-use Rattle.mw_world.specs.History.{entry_for}
-use Rattle.mw_world.specs.Invariant.{IsEntryOf}
-use Rattle.mw_world.specs.Logical.{index_from}
+use Rattle.mw_world.specs.Definition.Cells.{Cells}
+use Rattle.mw_world.specs.Definition.History.{entry_for}
+use Rattle.mw_world.specs.Claim.Invariant.{IsEntryOf}
+use Rattle.mw_world.specs.Definition.Logical.{index_from}
 
 -- the values of an entry of a word stand at an index of a slot
 pub record ValuesAt (cells : Cells) (slot address index : ℕ) (entries : List Entry) : Type 0 where

@@ -6,12 +6,12 @@ use Rattle.mw_words.specs.declared.places.At.TheVariants.{Gate as AtGate}
 use Rattle.mw_words.specs.declared.gates.Gate.{Gate}
 use Rattle.mw_words.specs.declared.statuses.Status.TheVariants.{Draft}
 use Rattle.mw_pool.specs.Moves.{after_unpin}
-use Rattle.mw_pool.specs.MoveLaws.{unpin_is}
+use Rattle.mw_pool.proofs.MoveLaws.{unpin_is}
 use Rattle.mw_actor.specs.declared.points.Slot.{Slot}
 use Rattle.mw_world.specs.declared.config.Config.{Config}
 use Rattle.mw_world.specs.declared.notes.Phase.TheVariants.{Fresh}
-use Rattle.mw_world.specs.History.{new}
-use Rattle.mw_world.specs.State.{State}
+use Rattle.mw_world.specs.Definition.History.{new}
+use Rattle.mw_world.specs.Definition.State.{State}
 use Rattle.mw_law_moves.specs.Moves.{Claim, Pin, Unpin, Free, made}
 use Rattle.mw_law_moves.specs.Guards.{Guard}
 use Rattle.mw_law_moves.specs.Memory.{Memory}

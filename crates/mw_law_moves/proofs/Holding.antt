@@ -6,8 +6,8 @@ use Rattle.mw_words.specs.declared.words.Word.TheVariants.{Plain, Held, Dirty}
 use Rattle.mw_actor.specs.declared.points.Slot.{Slot}
 use Rattle.mw_world.specs.declared.config.Config.{Config}
 use Rattle.mw_world.specs.declared.notes.Phase.TheVariants.{Keeping}
-use Rattle.mw_world.specs.Invariant.{MayBe}
-use Rattle.mw_world.specs.State.{State}
+use Rattle.mw_world.specs.Claim.Invariant.{MayBe}
+use Rattle.mw_world.specs.Definition.State.{State}
 use Rattle.mw_law_moves.specs.Moves.{Hold, Ink, LetGo, Clean, made}
 use Rattle.mw_law_moves.specs.Guards.{Guard}
 use Rattle.mw_law_moves.specs.Memory.{Memory}

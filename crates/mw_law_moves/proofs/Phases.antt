@@ -7,8 +7,8 @@ use Rattle.mw_actor.specs.declared.points.Slot.{Slot}
 use Rattle.mw_world.specs.declared.config.Config.{Config}
 use Rattle.mw_world.specs.declared.notes.Phase.{Phase}
 use Rattle.mw_world.specs.declared.notes.Phase.TheVariants.{Fresh, Keeping, Inked, Gone}
-use Rattle.mw_world.specs.Invariant.{MayBe, IsRefused}
-use Rattle.mw_world.specs.State.{State}
+use Rattle.mw_world.specs.Claim.Invariant.{MayBe, IsRefused}
+use Rattle.mw_world.specs.Definition.State.{State}
 use Rattle.mw_law_moves.specs.Memory.{Memory}
 
 open_or : (phase : Phase) → MayBe Open phase → phase ≢ Keeping → phase ≡ Fresh

@@ -1,7 +1,7 @@
 -- What others may rely on over one stretch and then another, and at each move.
 use Rattle.std.proofs.Common.{ℕ, [], ◌∷◌, arith}
 use Rattle.std.proofs.lemmas.Bool.Decides.{nat_tests}
-use Rattle.mw_world.specs.State.{State}
+use Rattle.mw_world.specs.Definition.State.{State}
 use Rattle.mw_law_moves.specs.Moves.{SetDoor, FillStatus, FillCount, FillAddr, FillExpected, FillNew, SetRow, Claim, Pin, Unpin, Free, Prepare, SayYes, SayNo, Seal, Settle, Cancel, Plant, Forgo, TakeBack, Hold, Ink, LetGo, Clean, LeavePin, Spoil, Pose, made, made_all}
 use Rattle.mw_law_moves.specs.Relying.{Later, OthersRely, OthersRelyOnAll, RelianceGoesOn}
 use Rattle.mw_law_moves.proofs.Keeping.{move_keeps}

@@ -13,11 +13,11 @@ use Rattle.mw_actor.specs.declared.points.Slot.{Slot}
 use Rattle.mw_world.specs.declared.config.Config.{Config}
 use Rattle.mw_world.specs.declared.notes.Phase.{Phase}
 use Rattle.mw_world.specs.declared.notes.Phase.TheVariants.{Fresh, Keeping, Inked, Gone}
-use Rattle.mw_world.specs.Invariant.{MayBe, IsRefused}
-use Rattle.mw_world.specs.History.{has, expected, new}
-use Rattle.mw_world.specs.Logical.{held_value}
+use Rattle.mw_world.specs.Claim.Invariant.{MayBe, IsRefused}
+use Rattle.mw_world.specs.Definition.History.{has, expected, new}
+use Rattle.mw_world.specs.Definition.Logical.{held_value}
 use Rattle.mw_world_file.specs.Maps.{upd_two}
-use Rattle.mw_world.specs.State.{State}
+use Rattle.mw_world.specs.Definition.State.{State}
 use Rattle.mw_law_moves.specs.Guards.{Guard}
 use Rattle.mw_law_moves.specs.Memory.{Memory}
 use Rattle.mw_law_moves.specs.Moves.{Move, SetDoor, FillStatus, FillCount, FillAddr, FillExpected, FillNew, SetRow, Claim, Pin, Unpin, Free, Prepare, SayYes, SayNo, Seal, Settle, Cancel, Plant, Forgo, TakeBack, Hold, Ink, LetGo, Clean, LeavePin, Spoil, Pose, made}

@@ -5,16 +5,16 @@ use Rattle.std.proofs.lemmas.Bool.Decides.{nat_tests}
 use Rattle.mw_words.specs.declared.limits.TheConstants.{MAX_VALUE}
 use Rattle.mw_words.specs.declared.replies.Reply.{Reply}
 use Rattle.mw_words.specs.Change.{word_at}
-use Rattle.mw_look.specs.PlaceLaws.{packs_are_apart}
+use Rattle.mw_look.proofs.PlaceLaws.{packs_are_apart}
 use Rattle.mw_look.specs.Places.{pack}
 use Rattle.mw_actor.specs.Acting.{Acting}
 use Rattle.mw_actor.specs.Program.{replied}
-use Rattle.mw_world.specs.Cells.{read}
+use Rattle.mw_world.specs.Definition.Cells.{read}
 use Rattle.mw_world_file.specs.Maps.{upd}
-use Rattle.mw_world.specs.Restarts.{restarted, found_of, may_all_be_found, reopened, under_way, opened_file}
-use Rattle.mw_world.specs.State.{State, Seat, tenants_of}
-use Rattle.mw_world.specs.Stepping.{came, gave}
-use Rattle.mw_world.specs.World.{may_come, handed, hand}
+use Rattle.mw_world.specs.Definition.Restarts.{restarted, found_of, may_all_be_found, reopened, under_way, opened_file}
+use Rattle.mw_world.specs.Definition.State.{State, Seat, tenants_of}
+use Rattle.mw_world.specs.Memory.Stepping.{came, gave}
+use Rattle.mw_world.specs.Definition.World.{may_come, handed, hand}
 use Rattle.mw_law_moves.specs.Memory.{Memory}
 use Rattle.mw_law_moves.specs.Moves.{made_all}
 use Rattle.mw_law_moves.specs.Stepped.{SameMemory, moves_of_turn, moves_of_call}

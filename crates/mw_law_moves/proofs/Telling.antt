@@ -21,19 +21,19 @@ use Rattle.mw_world.specs.declared.config.Config.{Config}
 use Rattle.mw_world_file.specs.declared.outcomes.Outcome.{Outcome}
 use Rattle.mw_world.specs.declared.notes.Note.{Note}
 use Rattle.mw_world.specs.declared.notes.Note.TheVariants.{GaveUp}
-use Rattle.mw_world.specs.Calls.{Called, call, call_if, called_at, calling, moved_if}
-use Rattle.mw_world.specs.Cells.{Cells, read, write}
-use Rattle.mw_world.specs.Changes.{Shape, Exchange, Store, Fetch, changed, done, shape_of, fetched}
-use Rattle.mw_world.specs.Extent.{has_slot}
-use Rattle.mw_world.specs.Happenings.{Found, Come, Step as StepEvent, File, Hand, Restart}
-use Rattle.mw_world.specs.History.{History, Resting, Idle, Standing, Arm, standing_at, arm_at}
+use Rattle.mw_world.specs.Definition.Calls.{Called, call, call_if, called_at, calling, moved_if}
+use Rattle.mw_world.specs.Definition.Cells.{Cells, read, write}
+use Rattle.mw_world.specs.Definition.Changes.{Shape, Exchange, Store, Fetch, changed, done, shape_of, fetched}
+use Rattle.mw_world.specs.Definition.Extent.{has_slot}
+use Rattle.mw_world.specs.Definition.Happenings.{Found, Come, Step as StepEvent, File, Hand, Restart}
+use Rattle.mw_world.specs.Definition.History.{History, Resting, Idle, Standing, Arm, standing_at, arm_at}
 use Rattle.mw_world_file.specs.Maps.{upd}
-use Rattle.mw_world.specs.Noting.{noted}
-use Rattle.mw_world.specs.Restarts.{restarted, may_all_be_found}
-use Rattle.mw_world.specs.State.{State, Seat, tenant_at, tenants_of}
-use Rattle.mw_world.specs.Stepping.{came, gave}
-use Rattle.mw_world.specs.Turns.{turn, turned, may_make, moved, moved_to, made_of, next_attempt, Made}
-use Rattle.mw_world.specs.World.{may_come, handed, hand}
+use Rattle.mw_world.specs.Definition.Noting.{noted}
+use Rattle.mw_world.specs.Definition.Restarts.{restarted, may_all_be_found}
+use Rattle.mw_world.specs.Definition.State.{State, Seat, tenant_at, tenants_of}
+use Rattle.mw_world.specs.Memory.Stepping.{came, gave}
+use Rattle.mw_world.specs.Definition.Turns.{turn, turned, may_make, moved, moved_to, made_of, next_attempt, Made}
+use Rattle.mw_world.specs.Definition.World.{may_come, handed, hand}
 use Rattle.mw_law_moves.specs.Steps.{PointsAreTold, EventsTellPoints}
 use Rattle.mw_law_moves.proofs.Stepping.{if_some}
 

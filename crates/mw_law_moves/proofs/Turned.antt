@@ -19,16 +19,16 @@ use Rattle.mw_actor.specs.declared.points.Sweep.TheVariants.{Yes as SweepYes, Do
 use Rattle.mw_actor.specs.declared.points.Point.{Point}
 use Rattle.mw_actor.specs.declared.points.Point.TheVariants as points
 use Rattle.mw_actor.specs.Acting.{Acting}
-use Rattle.mw_world.specs.History.{History, Standing, Stands, standing_at, arm_at}
+use Rattle.mw_world.specs.Definition.History.{History, Standing, Stands, standing_at, arm_at}
 use Rattle.std.specs.Prelude.{not, is_some, ◌&&◌, if◌then◌else◌}
 use Rattle.mw_actor.specs.Asks.{asks}
 use Rattle.mw_actor.specs.Program.{replied}
 use Rattle.mw_world_file.specs.Maps.{upd}
-use Rattle.mw_world.specs.Notes.{door_note, inspect_note, read_door_note, read_word_note, read_status_note, answer_note}
-use Rattle.mw_world.specs.Noting.{noted, poised}
-use Rattle.mw_world.specs.State.{State, Seat}
-use Rattle.mw_world.specs.Turns.{turned, may_make, moved, moved_to, made_of}
-use Rattle.mw_world.specs.Cells.{Cells, read, write}
+use Rattle.mw_world.specs.Definition.Notes.{door_note, inspect_note, read_door_note, read_word_note, read_status_note, answer_note}
+use Rattle.mw_world.specs.Definition.Noting.{noted, poised}
+use Rattle.mw_world.specs.Definition.State.{State, Seat}
+use Rattle.mw_world.specs.Definition.Turns.{turned, may_make, moved, moved_to, made_of}
+use Rattle.mw_world.specs.Definition.Cells.{Cells, read, write}
 use Rattle.mw_words.specs.declared.places.At.{At}
 use Rattle.mw_words.specs.declared.places.At.TheVariants.{Door as AtDoor, Gate as AtGate, Data, Status as AtStatus}
 use Rattle.mw_words.specs.declared.words.Word.TheVariants.{Plain, Planted, Dirty}
@@ -39,7 +39,7 @@ use Rattle.mw_look.specs.Program.{slot_of, word_seen, answer, goes as read_goes}
 use Rattle.mw_actor.specs.Acting.{planted, held, entry_of}
 use Rattle.mw_actor.specs.Asks.{resolved, released}
 use Rattle.mw_actor.specs.Finishing.{gave_up}
-use Rattle.mw_world.specs.Notes.{give_up_note}
+use Rattle.mw_world.specs.Definition.Notes.{give_up_note}
 use Rattle.mw_law_moves.specs.Moves.{made_all}
 use Rattle.mw_law_moves.specs.Stepped.{SameMemory, TurnsAreMoves, moves_of_turn, moves_told, next_of, pose, give_up_moves}
 

@@ -20,10 +20,10 @@ use Rattle.mw_actor.specs.declared.points.Point.TheVariants as points
 use Rattle.mw_actor.specs.Acting.{Acting, entry_of}
 use Rattle.mw_actor.specs.Asks.{asks}
 use Rattle.mw_world.specs.declared.config.Config.{Config}
-use Rattle.mw_world.specs.Cells.{Cells, read, write}
-use Rattle.mw_world.specs.Changes.{Shape, Exchange, Store, Fetch, changed, done, shape_of, fetched}
-use Rattle.mw_world.specs.Logical.{logical}
-use Rattle.mw_world.specs.State.{State}
+use Rattle.mw_world.specs.Definition.Cells.{Cells, read, write}
+use Rattle.mw_world.specs.Definition.Changes.{Shape, Exchange, Store, Fetch, changed, done, shape_of, fetched}
+use Rattle.mw_world.specs.Definition.Logical.{logical}
+use Rattle.mw_world.specs.Definition.State.{State}
 use Rattle.mw_law_moves.specs.Guards.{Guards}
 use Rattle.mw_law_moves.specs.Memory.{Memory}
 use Rattle.mw_law_moves.specs.Moves.{Move, made, made_all}

@@ -10,11 +10,11 @@ use Rattle.mw_words.specs.declared.words.Word.TheVariants.{Plain, Planted, Held,
 use Rattle.mw_words.specs.Change.{is_change, rises_from}
 use Rattle.mw_actor.specs.Acting.{entry_at}
 use Rattle.mw_world.specs.declared.config.Config.{Config}
-use Rattle.mw_world.specs.History.{has, expected, new}
-use Rattle.mw_world.specs.Invariant.{IsEntryOf}
-use Rattle.mw_world.specs.Logical.{held_value, value_of, index_from}
-use Rattle.mw_world.specs.Owing.{IsEntryAt}
-use Rattle.mw_world.specs.State.{State, tenant_at}
+use Rattle.mw_world.specs.Definition.History.{has, expected, new}
+use Rattle.mw_world.specs.Claim.Invariant.{IsEntryOf}
+use Rattle.mw_world.specs.Definition.Logical.{held_value, value_of, index_from}
+use Rattle.mw_world.specs.Claim.Owing.{IsEntryAt}
+use Rattle.mw_world.specs.Definition.State.{State, tenant_at}
 use Rattle.mw_law_moves.specs.Memory.{Memory}
 use Rattle.mw_law_moves.specs.Values.{WordsTellValues, value_told}
 use Rattle.mw_law_moves.proofs.Finding.{found_from, entry_found, ValuesAt}

@@ -14,10 +14,10 @@ use Rattle.mw_actor.specs.declared.points.Slot.{Slot}
 use Rattle.mw_actor.specs.Acting.{entry_at}
 use Rattle.mw_world.specs.declared.config.Config.{Config}
 use Rattle.mw_world.specs.declared.notes.Phase.TheVariants.{Keeping}
-use Rattle.mw_world.specs.History.{Standing, Stands, Resting, Arm, Armed, has, expected, new}
-use Rattle.mw_world.specs.Invariant.{IsPinnedAs, HasWord, IsEntryOf, IsRefused}
-use Rattle.mw_world.specs.Owing.{IsEntryAt}
-use Rattle.mw_world.specs.State.{State, tenant_at, tenants_of}
+use Rattle.mw_world.specs.Definition.History.{Standing, Stands, Resting, Arm, Armed, has, expected, new}
+use Rattle.mw_world.specs.Claim.Invariant.{IsPinnedAs, HasWord, IsEntryOf, IsRefused}
+use Rattle.mw_world.specs.Claim.Owing.{IsEntryAt}
+use Rattle.mw_world.specs.Definition.State.{State, tenant_at, tenants_of}
 use Rattle.mw_law_moves.specs.Moves.{Move, SetDoor, FillStatus, FillCount, FillAddr, FillExpected, FillNew, SetRow, Claim, Pin, Unpin, Free, Prepare, SayYes, SayNo, Seal, Settle, Cancel, Plant, Forgo, TakeBack, Hold, Ink, LetGo, Clean, LeavePin, Spoil, Pose, made}
 
 -- the slot is taken for this change

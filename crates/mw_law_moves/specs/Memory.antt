@@ -3,9 +3,9 @@
 use Rattle.std.specs.Prelude.{ℕ, ◌≡◌}
 use Rattle.mw_world.specs.declared.config.Config.{Config}
 use Rattle.mw_world.specs.declared.notes.Phase.TheVariants.{Inked}
-use Rattle.mw_world.specs.Invariant.{ChangesClaimTheirSlots, SlotsTellTheirChanges, ReferencesArePinned, AttemptsAreTheirWorkers, WordsFollowTheirChanges, LateFinishersLose}
-use Rattle.mw_world.specs.State.{State}
-use Rattle.mw_world.specs.Ties.{AllFit}
+use Rattle.mw_world.specs.Claim.Invariant.{ChangesClaimTheirSlots, SlotsTellTheirChanges, ReferencesArePinned, AttemptsAreTheirWorkers, WordsFollowTheirChanges, LateFinishersLose}
+use Rattle.mw_world.specs.Definition.State.{State}
+use Rattle.mw_world.specs.Memory.Ties.{AllFit}
 
 -- Claims, slots, references, attempts, changes' words and late finishers are as they are to be. A change that has written a word, and whose
 -- slot the word still names, has that slot now. What stands at each place is in range; so a gate that isn't taken has no pins.

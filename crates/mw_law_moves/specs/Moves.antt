@@ -16,11 +16,11 @@ use Rattle.mw_look.specs.Places.{Val}
 use Rattle.mw_actor.specs.declared.points.Slot.{Slot}
 use Rattle.mw_world.specs.declared.notes.Phase.{Phase}
 use Rattle.mw_world.specs.declared.notes.Phase.TheVariants.{Keeping, Inked, Gone}
-use Rattle.mw_world.specs.Cells.{write}
-use Rattle.mw_world.specs.History.{Standing, Stands, Arm}
+use Rattle.mw_world.specs.Definition.Cells.{write}
+use Rattle.mw_world.specs.Definition.History.{Standing, Stands, Arm}
 use Rattle.mw_world_file.specs.Maps.{upd, upd_three}
-use Rattle.mw_world.specs.Noting.{born, fated, left, spoiled}
-use Rattle.mw_world.specs.State.{State, Seat}
+use Rattle.mw_world.specs.Definition.Noting.{born, fated, left, spoiled}
+use Rattle.mw_world.specs.Definition.State.{State, Seat}
 
 -- A move of a worker. A change, of a tenant's words, is named by its slot under its number.
 pub data Move : Type 0 where

@@ -4,8 +4,8 @@ use Rattle.mw_words.specs.declared.statuses.Status.TheVariants.{Draft, Open, Yes
 use Rattle.mw_words.specs.declared.words.Word.TheVariants.{Planted}
 use Rattle.mw_world.specs.declared.config.Config.{Config}
 use Rattle.mw_world.specs.declared.notes.Phase.TheVariants.{Fresh, Keeping, Gone}
-use Rattle.mw_world.specs.Invariant.{IsMade}
-use Rattle.mw_world.specs.State.{State}
+use Rattle.mw_world.specs.Claim.Invariant.{IsMade}
+use Rattle.mw_world.specs.Definition.State.{State}
 use Rattle.mw_law_moves.specs.Guards.{Guard, Guards}
 use Rattle.mw_law_moves.specs.Memory.{Memory}
 use Rattle.mw_law_moves.specs.Moves.{Move, made, made_all}

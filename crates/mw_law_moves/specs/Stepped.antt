@@ -22,11 +22,11 @@ use Rattle.mw_actor.specs.Program.{tells}
 use Rattle.mw_world.specs.declared.config.Config.{Config}
 use Rattle.mw_world_file.specs.declared.outcomes.Outcome.{Outcome}
 use Rattle.mw_world_file.specs.declared.outcomes.Outcome.TheVariants.{Good, Fail}
-use Rattle.mw_world.specs.Calls.{Called, call, called_at, starts_from, fails_on}
-use Rattle.mw_world.specs.Changes.{done}
-use Rattle.mw_world.specs.History.{standing_at, arm_at}
-use Rattle.mw_world.specs.State.{State}
-use Rattle.mw_world.specs.Turns.{turn, next_attempt}
+use Rattle.mw_world.specs.Definition.Calls.{Called, call, called_at, starts_from, fails_on}
+use Rattle.mw_world.specs.Definition.Changes.{done}
+use Rattle.mw_world.specs.Definition.History.{standing_at, arm_at}
+use Rattle.mw_world.specs.Definition.State.{State}
+use Rattle.mw_world.specs.Definition.Turns.{turn, next_attempt}
 use Rattle.mw_law_moves.specs.Moves.{Move, SetDoor, FillStatus, FillCount, FillAddr, FillExpected, FillNew, SetRow, Claim, Pin, Unpin, Free, Prepare, SayYes, SayNo, Seal, Settle, Cancel, Plant, Forgo, TakeBack, Hold, Ink, LetGo, Clean, LeavePin, Spoil, Pose, made_all}
 
 -- Two worlds have the same shared words, the same history and the same numbers of attempts.

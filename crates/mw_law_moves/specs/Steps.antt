@@ -8,15 +8,15 @@ use Rattle.mw_look.specs.Places.{Val, Fits, pack}
 use Rattle.mw_actor.specs.Acting.{Acting}
 use Rattle.mw_world.specs.declared.config.Config.{Config}
 use Rattle.mw_world_file.specs.declared.outcomes.Outcome.{Outcome}
-use Rattle.mw_world.specs.Calls.{Called, call, called_at}
-use Rattle.mw_world.specs.Cells.{Cells, read}
-use Rattle.mw_world.specs.Happenings.{Found, Happening}
-use Rattle.mw_world.specs.History.{Resting, Idle, standing_at, arm_at}
-use Rattle.mw_world.specs.Restarts.{restart, found_of}
-use Rattle.mw_world.specs.State.{State, IsConfig}
-use Rattle.mw_world.specs.Ties.{AllFit}
-use Rattle.mw_world.specs.Turns.{turn}
-use Rattle.mw_world.specs.World.{come, hand, step}
+use Rattle.mw_world.specs.Definition.Calls.{Called, call, called_at}
+use Rattle.mw_world.specs.Definition.Cells.{Cells, read}
+use Rattle.mw_world.specs.Definition.Happenings.{Found, Happening}
+use Rattle.mw_world.specs.Definition.History.{Resting, Idle, standing_at, arm_at}
+use Rattle.mw_world.specs.Definition.Restarts.{restart, found_of}
+use Rattle.mw_world.specs.Definition.State.{State, IsConfig}
+use Rattle.mw_world.specs.Memory.Ties.{AllFit}
+use Rattle.mw_world.specs.Definition.Turns.{turn}
+use Rattle.mw_world.specs.Definition.World.{come, hand, step}
 use Rattle.mw_law_moves.specs.Guards.{Guards}
 use Rattle.mw_law_moves.specs.Memory.{Memory}
 use Rattle.mw_law_moves.specs.Relying.{Later}

@@ -5,10 +5,10 @@ use Rattle.mw_words.specs.declared.words.Word.TheVariants.{Plain, Planted, Held,
 use Rattle.mw_actor.specs.declared.points.Slot.{Slot}
 use Rattle.mw_actor.specs.Acting.{Acting}
 use Rattle.mw_world.specs.declared.config.Config.{Config}
-use Rattle.mw_world.specs.History.{has, expected, new}
-use Rattle.mw_world.specs.Logical.{held_value, logical}
-use Rattle.mw_world.specs.State.{State}
-use Rattle.mw_world.specs.Turns.{turn}
+use Rattle.mw_world.specs.Definition.History.{has, expected, new}
+use Rattle.mw_world.specs.Definition.Logical.{held_value, logical}
+use Rattle.mw_world.specs.Definition.State.{State}
+use Rattle.mw_world.specs.Definition.Turns.{turn}
 use Rattle.mw_law_moves.specs.Guards.{Guard, Guards}
 use Rattle.mw_law_moves.specs.Memory.{Memory}
 use Rattle.mw_law_moves.specs.Moves.{Move, Seal, made}

@@ -16,9 +16,9 @@ use Rattle.mw_actor.specs.Acting.{Acting}
 use Rattle.mw_world_file.specs.declared.outcomes.Outcome.{Outcome}
 use Rattle.mw_world_file.specs.declared.outcomes.Outcome.TheVariants.{Good, Fail}
 use Rattle.mw_world.specs.declared.config.Config.{Config}
-use Rattle.mw_world.specs.Calls.{Called, called_at, starts_from, fails_on}
-use Rattle.mw_world.specs.Owing.{OwesAt, CleansAt}
-use Rattle.mw_world.specs.State.{State}
+use Rattle.mw_world.specs.Definition.Calls.{Called, called_at, starts_from, fails_on}
+use Rattle.mw_world.specs.Claim.Owing.{OwesAt, CleansAt}
+use Rattle.mw_world.specs.Definition.State.{State}
 use Rattle.mw_law_moves.specs.Guards.{Guards}
 use Rattle.mw_law_moves.specs.Moves.{made_all}
 use Rattle.mw_law_moves.specs.Stepped.{SameMemory, moves_called, moves_of_call, status_moves, call_news, next_of, pose}

@@ -15,9 +15,9 @@ use Rattle.mw_actor.specs.declared.points.Sweep.TheVariants.{Yes as SweepYes}
 use Rattle.mw_actor.specs.declared.points.Task.{Task}
 use Rattle.mw_actor.specs.Acting.{Acting}
 use Rattle.mw_world_file.specs.Maps.{upd, upd_two}
-use Rattle.mw_world.specs.History.{Standing, Arm}
-use Rattle.mw_world.specs.Invariant.{IsRefused}
-use Rattle.mw_world.specs.State.{State}
+use Rattle.mw_world.specs.Definition.History.{Standing, Arm}
+use Rattle.mw_world.specs.Claim.Invariant.{IsRefused}
+use Rattle.mw_world.specs.Definition.State.{State}
 use Rattle.mw_law_moves.specs.Moves.{Pose, made_all}
 use Rattle.mw_law_moves.specs.Stepped.{give_up_moves}
 use Rattle.mw_law_owed.specs.Owed.{own_of}

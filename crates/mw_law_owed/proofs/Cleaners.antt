@@ -22,9 +22,9 @@ use Rattle.mw_actor.specs.Stages.{stage}
 use Rattle.mw_actor.specs.Sweeping.{next_sweep}
 use Rattle.mw_world_file.specs.Maps.{upd_two}
 use Rattle.mw_world.specs.declared.config.Config.{Config}
-use Rattle.mw_world.specs.History.{new, entry_for}
-use Rattle.mw_world.specs.Owing.{IsFrom, CleansFrom, CleansAt}
-use Rattle.mw_world.specs.State.{State}
+use Rattle.mw_world.specs.Definition.History.{new, entry_for}
+use Rattle.mw_world.specs.Claim.Owing.{IsFrom, CleansFrom, CleansAt}
+use Rattle.mw_world.specs.Definition.State.{State}
 use Rattle.mw_law_facts.specs.Facts.{WorksOn, IsDecidedAs, Releases}
 use Rattle.mw_law_facts.specs.Informed.{IsInformed, ChangesNoWord, ChangesAWord}
 use Rattle.mw_law_facts.specs.Points.{Knows, without_point}

@@ -12,7 +12,7 @@ use Rattle.mw_words.specs.declared.words.Word.{Word}
 use Rattle.mw_words.specs.declared.words.Word.TheVariants.{Plain, Planted, Held, Dirty}
 use Rattle.mw_pool.specs.Moves.{after_pin}
 use Rattle.mw_look.specs.Program.{same_word}
-use Rattle.mw_look.specs.RangeLaws.{either_way}
+use Rattle.mw_look.proofs.RangeLaws.{either_way}
 use Rattle.mw_actor.specs.declared.points.After.{After}
 use Rattle.mw_actor.specs.declared.points.After.TheVariants.{Work, GiveUp as ThenGiveUp, Reply as ThenReply}
 use Rattle.mw_actor.specs.declared.points.Attempt.{Attempt}
@@ -27,10 +27,10 @@ use Rattle.mw_actor.specs.Admitting.{next_fill}
 use Rattle.mw_actor.specs.Finishing.{works, resumed, unpinned, gives_up, refusal, finishes}
 use Rattle.mw_actor.specs.Helping.{turns_to, helps, pinned, other_gate_read, count_read, addr_read, expected_read, next_read, new_read}
 use Rattle.mw_actor.specs.Inspecting.{status_read, next_word, attempts, dirty_seen, held_seen, inspected, attempt_met, attempt_confirmed, dirty_gate_read, dirty_confirmed}
-use Rattle.mw_actor.specs.StageLaws.{both_same}
+use Rattle.mw_actor.proofs.StageLaws.{both_same}
 use Rattle.mw_actor.specs.Sweeping.{next_sweep, sweep_over, swept, sweep_confirmed}
-use Rattle.mw_world.specs.Owing.{IsFrom, CleansFrom, GoesOn, CleansAt}
-use Rattle.mw_world.specs.State.{State}
+use Rattle.mw_world.specs.Claim.Owing.{IsFrom, CleansFrom, GoesOn, CleansAt}
+use Rattle.mw_world.specs.Definition.State.{State}
 use Rattle.mw_law_owed.proofs.Apart.{plain_dirty, planted_dirty, held_dirty}
 use Rattle.mw_law_owed.proofs.Rounds.{none_from, cleans_next}
 

@@ -15,12 +15,12 @@ use Rattle.mw_actor.specs.declared.points.Task.{Task}
 use Rattle.mw_actor.specs.Acting.{Acting}
 use Rattle.mw_actor.specs.Asks.{asks, asks_at}
 use Rattle.mw_world.specs.declared.config.Config.{Config}
-use Rattle.mw_world.specs.Counting.{pins_held}
-use Rattle.mw_world.specs.Invariant.{IsRefused, IsHeldFor, IsWrittenBy}
-use Rattle.mw_world.specs.Owing.{OwesAt, Owes, IsOwed, CleansAt}
-use Rattle.mw_world.specs.History.{has}
-use Rattle.mw_world.specs.State.{State}
-use Rattle.mw_world.specs.Turns.{next_attempt}
+use Rattle.mw_world.specs.Definition.Counting.{pins_held}
+use Rattle.mw_world.specs.Claim.Invariant.{IsRefused, IsHeldFor, IsWrittenBy}
+use Rattle.mw_world.specs.Claim.Owing.{OwesAt, Owes, IsOwed, CleansAt}
+use Rattle.mw_world.specs.Definition.History.{has}
+use Rattle.mw_world.specs.Definition.State.{State}
+use Rattle.mw_world.specs.Definition.Turns.{next_attempt}
 use Rattle.mw_law_facts.specs.Informed.{IsInformed, ChangesNoWord, ChangesAWord}
 use Rattle.mw_law_facts.specs.Points.{Knows}
 use Rattle.mw_law_facts.specs.Told.{told, world_told}

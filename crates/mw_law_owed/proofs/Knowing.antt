@@ -7,7 +7,7 @@ use Rattle.mw_actor.specs.declared.points.Point.TheVariants.{FillStatus, FillCou
 use Rattle.mw_actor.specs.declared.points.Slot.{Slot}
 use Rattle.mw_actor.specs.declared.points.Task.{Task}
 use Rattle.mw_actor.specs.Acting.{Acting}
-use Rattle.mw_world.specs.State.{State}
+use Rattle.mw_world.specs.Definition.State.{State}
 use Rattle.mw_law_facts.specs.Facts.{IsOwn, IsAtWork}
 use Rattle.mw_law_facts.specs.Points.{Knows, without_point}
 use Rattle.mw_law_owed.specs.Owed.{own_of}

@@ -17,13 +17,13 @@ use Rattle.mw_actor.specs.declared.points.Point.{Point}
 use Rattle.mw_actor.specs.declared.points.Point.TheVariants.{Read, CheckThenResolve, Resolve, Unpin}
 use Rattle.mw_actor.specs.declared.points.Slot.{Slot}
 use Rattle.mw_actor.specs.Acting.{Acting, entry_of}
-use Rattle.mw_actor.specs.BalanceLaws.{task_pins}
+use Rattle.mw_actor.specs.Balance.{task_pins}
 use Rattle.mw_world.specs.declared.config.Config.{Config}
-use Rattle.mw_world.specs.Counting.{pins_held, over_workers}
-use Rattle.mw_world.specs.History.{Resting, Stands, standing_at}
-use Rattle.mw_world.specs.Invariant.{IsRefused, IsHeldFor}
-use Rattle.mw_world.specs.Owing.{Owes, IsOwed, GoesOn, CleansAt}
-use Rattle.mw_world.specs.State.{State}
+use Rattle.mw_world.specs.Definition.Counting.{pins_held, over_workers}
+use Rattle.mw_world.specs.Definition.History.{Resting, Stands, standing_at}
+use Rattle.mw_world.specs.Claim.Invariant.{IsRefused, IsHeldFor}
+use Rattle.mw_world.specs.Claim.Owing.{Owes, IsOwed, GoesOn, CleansAt}
+use Rattle.mw_world.specs.Definition.State.{State}
 use Rattle.mw_law_counts.proofs.Sums.{over_at, over_two, of_actor}
 use Rattle.mw_law_counts.specs.Standing.{CountsStand}
 use Rattle.mw_law_facts.specs.Facts.{IsOver}

@@ -2,9 +2,9 @@
 use Rattle.std.specs.Prelude.{ℕ, ◌⊎◌}
 use Rattle.std.proofs.Common.{subst, sym, inl, inr}
 use Rattle.mw_words.specs.declared.statuses.Status.{Status}
-use Rattle.mw_world.specs.Invariant.{IsUndone}
-use Rattle.mw_world.specs.Owing.{IsOwner, IsCleaner}
-use Rattle.mw_world.specs.State.{State}
+use Rattle.mw_world.specs.Claim.Invariant.{IsUndone}
+use Rattle.mw_world.specs.Claim.Owing.{IsOwner, IsCleaner}
+use Rattle.mw_world.specs.Definition.State.{State}
 use Rattle.mw_law_owed.specs.Laws.{OwedWordsAreOwed}
 use Rattle.mw_law_owed.specs.Owed.{IsUnfinished, IsOwnerOf, IsCleanerOf}
 

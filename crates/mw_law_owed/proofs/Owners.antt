@@ -12,9 +12,9 @@ use Rattle.mw_actor.specs.declared.points.Task.{Task}
 use Rattle.mw_actor.specs.Acting.{Acting}
 use Rattle.mw_actor.specs.Helping.{others_read}
 use Rattle.mw_actor.specs.Program.{goes}
-use Rattle.mw_actor.specs.StageLaws.{goes_leads}
+use Rattle.mw_actor.proofs.StageLaws.{goes_leads}
 use Rattle.mw_actor.specs.Stages.{Stage, Reading, Outside, Entering, Seeking, Claiming, WritingStatus, WritingCount, WritingAddr, WritingExpected, WritingNew, Preparing, Checking, Inspecting, Holding, Deciding, Working, Nearing, Pinning, Fetching, Leaving, Freeing, Lowering, GivingUp, Over, stage, Resumes, OnTask, Leads}
-use Rattle.mw_world.specs.Owing.{GoesOn}
+use Rattle.mw_world.specs.Claim.Owing.{GoesOn}
 use Rattle.mw_law_owed.specs.Owed.{own_after, own_at, own_of}
 use Rattle.mw_law_owed.proofs.Pins.{none_some}
 

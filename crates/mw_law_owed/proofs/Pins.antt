@@ -9,10 +9,10 @@ use Rattle.mw_actor.specs.declared.points.Point.TheVariants.{Read}
 use Rattle.mw_actor.specs.declared.points.Slot.{Slot}
 use Rattle.mw_actor.specs.declared.points.Task.{Task}
 use Rattle.mw_actor.specs.Acting.{is_alone}
-use Rattle.mw_actor.specs.BalanceLaws.{task_pins, pins_at}
-use Rattle.mw_actor.specs.StageLaws.{both_same}
+use Rattle.mw_actor.specs.Balance.{task_pins, pins_at}
+use Rattle.mw_actor.proofs.StageLaws.{both_same}
 use Rattle.mw_actor.specs.Stages.{Stage, WritingStatus, WritingCount, WritingAddr, WritingExpected, WritingNew, Preparing, Checking, Inspecting, Holding, Deciding, Working, Nearing, Pinning, Fetching, Leaving, Freeing, Lowering, GivingUp, stage}
-use Rattle.mw_world.specs.Counting.{pins_held}
+use Rattle.mw_world.specs.Definition.Counting.{pins_held}
 use Rattle.mw_law_owed.specs.Owed.{own_at, own_of}
 
 -- what an option has is what it has

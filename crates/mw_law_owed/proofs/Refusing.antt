@@ -11,7 +11,7 @@ use Rattle.mw_words.specs.declared.words.Word.TheVariants.{Plain, Planted, Held,
 use Rattle.mw_look.specs.declared.news.News.{News}
 use Rattle.mw_look.specs.declared.news.News.TheVariants.{SawRow, SawWord, SawStatus, SawNumber, Won, Lost, Filed}
 use Rattle.mw_look.specs.Program.{same_word}
-use Rattle.mw_look.specs.RangeLaws.{either_way}
+use Rattle.mw_look.proofs.RangeLaws.{either_way}
 use Rattle.mw_actor.specs.declared.points.Attempt.{Attempt}
 use Rattle.mw_actor.specs.declared.points.Point.{Point}
 use Rattle.mw_actor.specs.declared.points.Point.TheVariants.{Read, ReadDoor, Admit, ScanGate, Claim, FillStatus, FillCount, FillAddr, FillExpected, FillNew, Prepare, ReadTargetStatus, Inspect, ReadOtherRow, ConfirmAttempt, ReadDirtyGate, ConfirmDirty, ReadOtherGate, PinOther, Seal, Clean, Settle, Unpin, FreeSlot, LowerDoor, GiveUp, Replied, DecideYes, DecideNo, AnnounceRow, Plant, CheckThenResolve, Resolve, ReadCount, ReadAddr, ReadExpected, ReadNew, SweepWord, Release, SweepRow, SweepConfirm, SweepResolve, Cancel}
@@ -26,10 +26,10 @@ use Rattle.mw_actor.specs.Inspecting.{status_read}
 use Rattle.mw_actor.specs.Sweeping.{next_sweep, sweep_over, swept, sweep_confirmed}
 use Rattle.mw_world_file.specs.Maps.{upd_two}
 use Rattle.mw_world.specs.declared.config.Config.{Config}
-use Rattle.mw_world.specs.History.{entry_for}
-use Rattle.mw_world.specs.Invariant.{IsRefused}
-use Rattle.mw_world.specs.Owing.{IsFrom, ComesTo, OwesAt}
-use Rattle.mw_world.specs.State.{State}
+use Rattle.mw_world.specs.Definition.History.{entry_for}
+use Rattle.mw_world.specs.Claim.Invariant.{IsRefused}
+use Rattle.mw_world.specs.Claim.Owing.{IsFrom, ComesTo, OwesAt}
+use Rattle.mw_world.specs.Definition.State.{State}
 use Rattle.mw_law_facts.specs.Facts.{WorksOn}
 use Rattle.mw_law_facts.specs.Informed.{IsInformed, ChangesNoWord, ChangesAWord}
 use Rattle.mw_law_facts.specs.Points.{without_point}

@@ -7,8 +7,8 @@ use Rattle.mw_words.specs.declared.jobs.Entry.{Entry}
 use Rattle.mw_actor.specs.declared.points.Sweep.{Sweep}
 use Rattle.mw_actor.specs.declared.points.Sweep.TheVariants.{Yes as SweepYes, DoneYes as SweepDoneYes, No as SweepNo, DoneNo as SweepDoneNo}
 use Rattle.mw_actor.specs.Acting.{entry_at}
-use Rattle.mw_world.specs.History.{entry_for}
-use Rattle.mw_world.specs.Owing.{IsFrom, ComesTo, CleansFrom}
+use Rattle.mw_world.specs.Definition.History.{entry_for}
+use Rattle.mw_world.specs.Claim.Owing.{IsFrom, ComesTo, CleansFrom}
 
 -- an entry of a word is among the entries from the first one on
 pub from_first : (entries : List Entry) (address : ℕ) → is_some (entry_for entries address) ≡ true → IsFrom entries 0 address

@@ -16,8 +16,8 @@ use Rattle.mw_actor.specs.declared.points.Slot.{Slot}
 use Rattle.mw_actor.specs.declared.points.Sweep.TheVariants.{Yes as SweepYes, DoneYes as SweepDoneYes, No as SweepNo, DoneNo as SweepDoneNo}
 use Rattle.mw_actor.specs.Acting.{Acting, entry_of}
 use Rattle.mw_world.specs.declared.config.Config.{Config}
-use Rattle.mw_world.specs.History.{standing_at, arm_at}
-use Rattle.mw_world.specs.State.{State}
+use Rattle.mw_world.specs.Definition.History.{standing_at, arm_at}
+use Rattle.mw_world.specs.Definition.State.{State}
 use Rattle.mw_law_moves.specs.Guards.{Guards}
 use Rattle.mw_law_moves.specs.Stepped.{moves_told}
 use Rattle.mw_law_facts.specs.Points.{Knows}

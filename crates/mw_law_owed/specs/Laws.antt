@@ -5,9 +5,9 @@ use Rattle.mw_actor.specs.Acting.{Acting}
 use Rattle.mw_actor.specs.Asks.{asks}
 use Rattle.mw_world_file.specs.declared.outcomes.Outcome.{Outcome}
 use Rattle.mw_world.specs.declared.config.Config.{Config}
-use Rattle.mw_world.specs.Calls.{Called, called_at}
-use Rattle.mw_world.specs.Invariant.{HeldWordsAreOwed}
-use Rattle.mw_world.specs.State.{State}
+use Rattle.mw_world.specs.Definition.Calls.{Called, called_at}
+use Rattle.mw_world.specs.Claim.Invariant.{HeldWordsAreOwed}
+use Rattle.mw_world.specs.Definition.State.{State}
 use Rattle.mw_law_moves.specs.Guards.{Guards}
 use Rattle.mw_law_moves.specs.Moves.{made_all}
 use Rattle.mw_law_moves.specs.Stepped.{SameMemory, moves_of_call, moves_told, next_of}

@@ -9,12 +9,12 @@ use Rattle.mw_actor.specs.declared.points.Slot.{Slot}
 use Rattle.mw_actor.specs.Acting.{Acting}
 use Rattle.mw_actor.specs.Stages.{Stage, WritingStatus, WritingCount, WritingAddr, WritingExpected, WritingNew, Preparing, Checking, Inspecting, Holding, Deciding, Working, Nearing, Pinning, Fetching, Leaving, Freeing, Lowering, GivingUp, stage}
 use Rattle.mw_world.specs.declared.config.Config.{Config}
-use Rattle.mw_world.specs.Counting.{pins_held}
+use Rattle.mw_world.specs.Definition.Counting.{pins_held}
 use Rattle.mw_words.specs.declared.statuses.Status.{Status}
 use Rattle.mw_words.specs.declared.statuses.Status.TheVariants.{DoneYes, DoneNo}
-use Rattle.mw_world.specs.Invariant.{IsRefused}
-use Rattle.mw_world.specs.Owing.{IsOwed, CleansAt}
-use Rattle.mw_world.specs.State.{State}
+use Rattle.mw_world.specs.Claim.Invariant.{IsRefused}
+use Rattle.mw_world.specs.Claim.Owing.{IsOwed, CleansAt}
+use Rattle.mw_world.specs.Definition.State.{State}
 use Rattle.mw_law_facts.specs.Informed.{IsInformed}
 
 -- the request's own change where this follows, as long as the request has one

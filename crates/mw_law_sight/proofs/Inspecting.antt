@@ -10,7 +10,7 @@ use Rattle.mw_words.specs.declared.statuses.Status.TheVariants.{Draft, Open, Yes
 use Rattle.mw_words.specs.declared.words.Word.{Word}
 use Rattle.mw_words.specs.declared.words.Word.TheVariants.{Plain, Planted, Held, Dirty}
 use Rattle.mw_look.specs.Program.{same_word}
-use Rattle.mw_look.specs.RangeLaws.{either_way}
+use Rattle.mw_look.proofs.RangeLaws.{either_way}
 use Rattle.mw_actor.specs.declared.points.Attempt.{Attempt}
 use Rattle.mw_actor.specs.declared.points.Point.TheVariants.{ReadTargetStatus, Inspect, AnnounceRow, ReadDirtyGate, DecideYes, DecideNo, CheckThenResolve}
 use Rattle.mw_actor.specs.declared.points.Slot.{Slot}
@@ -21,12 +21,12 @@ use Rattle.mw_actor.specs.Acting.{Acting, entries_of, entry_at, entry_of, same_s
 use Rattle.mw_actor.specs.Finishing.{gives_up}
 use Rattle.mw_actor.specs.Helping.{helps}
 use Rattle.mw_actor.specs.Inspecting.{status_read, next_word, attempts, dirty_seen, inspected, attempt_met, attempt_confirmed, dirty_confirmed}
-use Rattle.mw_actor.specs.StageLaws.{both_same}
+use Rattle.mw_actor.proofs.StageLaws.{both_same}
 use Rattle.mw_world.specs.declared.config.Config.{Config}
 use Rattle.mw_world.specs.declared.notes.Phase.TheVariants.{Keeping}
-use Rattle.mw_world.specs.History.{Resting, Stands}
-use Rattle.mw_world.specs.Invariant.{IsRefused}
-use Rattle.mw_world.specs.State.{State}
+use Rattle.mw_world.specs.Definition.History.{Resting, Stands}
+use Rattle.mw_world.specs.Claim.Invariant.{IsRefused}
+use Rattle.mw_world.specs.Definition.State.{State}
 use Rattle.mw_law_moves.specs.Memory.{Memory}
 use Rattle.mw_law_facts.specs.Facts.{MayBeMet, WorksOn, AtEntry, HoldsUpTo, phase_at, IsDecidedAs, IsSweptUpTo, Sweeps, IsAnothers, IsForChangeAt}
 use Rattle.mw_law_facts.specs.Points.{Knows, without_point}

@@ -16,7 +16,7 @@ use Rattle.mw_look.specs.declared.news.News.TheVariants.{SawDoor, SawGate, SawRo
 use Rattle.mw_look.specs.declared.points.Point.{Point as ReadPoint}
 use Rattle.mw_look.specs.declared.points.Point.TheVariants.{Pin as PinOfRead}
 use Rattle.mw_look.specs.Program.{asks_at as read_asks_at}
-use Rattle.mw_look.specs.RangeLaws.{either_way}
+use Rattle.mw_look.proofs.RangeLaws.{either_way}
 use Rattle.mw_actor.specs.declared.points.After.TheVariants.{Reply as ThenReply}
 use Rattle.mw_actor.specs.declared.points.Point.{Point}
 use Rattle.mw_actor.specs.declared.points.Point.TheVariants.{Read, ReadDoor, Admit, ScanGate, Claim, FillStatus, FillCount, FillAddr, FillExpected, FillNew, Prepare, ReadTargetStatus, Inspect, AnnounceRow, Plant, ReadOtherRow, ConfirmAttempt, ReadDirtyGate, ConfirmDirty, DecideYes, DecideNo, CheckThenResolve, Resolve, ReadOtherGate, PinOther, ReadCount, ReadAddr, ReadExpected, ReadNew, Seal, SweepWord, Release, Clean, SweepRow, SweepConfirm, SweepResolve, Settle, Cancel, Unpin, FreeSlot, LowerDoor, GiveUp, Replied}
@@ -29,9 +29,9 @@ use Rattle.mw_actor.specs.Asks.{asks_at}
 use Rattle.mw_actor.specs.Helping.{others_read, pinned}
 use Rattle.mw_actor.specs.Program.{goes}
 use Rattle.mw_world.specs.declared.config.Config.{Config}
-use Rattle.mw_world.specs.Changes.{Exchange, Store, Fetch}
-use Rattle.mw_world.specs.State.{State}
-use Rattle.mw_world.specs.Turns.{next_attempt}
+use Rattle.mw_world.specs.Definition.Changes.{Exchange, Store, Fetch}
+use Rattle.mw_world.specs.Definition.State.{State}
+use Rattle.mw_world.specs.Definition.Turns.{next_attempt}
 use Rattle.mw_law_facts.specs.Facts.{IsGiven, IsForChange}
 use Rattle.mw_law_facts.specs.Informed.{IsInformed, ChangesNoWord}
 use Rattle.mw_law_facts.specs.Live.{TakesNoPin, TakesNoPinInRead}

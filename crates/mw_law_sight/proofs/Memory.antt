@@ -11,9 +11,9 @@ use Rattle.mw_actor.specs.declared.points.Slot.{Slot}
 use Rattle.mw_actor.specs.Acting.{entry_at}
 use Rattle.mw_world.specs.declared.config.Config.{Config}
 use Rattle.mw_world.specs.declared.notes.Phase.TheVariants.{Fresh, Keeping}
-use Rattle.mw_world.specs.History.{has, new, entry_for}
-use Rattle.mw_world.specs.Invariant.{IsPinnedAs, HasWord, IsEntryOf, IsMade}
-use Rattle.mw_world.specs.State.{State, tenant_at}
+use Rattle.mw_world.specs.Definition.History.{has, new, entry_for}
+use Rattle.mw_world.specs.Claim.Invariant.{IsPinnedAs, HasWord, IsEntryOf, IsMade}
+use Rattle.mw_world.specs.Definition.State.{State, tenant_at}
 use Rattle.mw_law_moves.specs.Guards.{IsLive}
 use Rattle.mw_law_moves.specs.Memory.{Memory}
 use Rattle.mw_law_moves.proofs.Finding.{entry_found}

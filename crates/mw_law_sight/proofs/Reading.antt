@@ -18,11 +18,11 @@ use Rattle.mw_look.specs.declared.points.Point.TheVariants.{ReadDoor, ReadWord, 
 use Rattle.mw_look.specs.declared.points.Trail.{Trail}
 use Rattle.mw_look.specs.declared.points.Trail.TheVariants.{Held as ByHeld, Planted as ByPlanted}
 use Rattle.mw_look.specs.Program.{goes, asks_at, word_seen, pinned, first_entry, next_entry, address_seen, same_word, slot_of, seq_of}
-use Rattle.mw_look.specs.RangeLaws.{either_way}
+use Rattle.mw_look.proofs.RangeLaws.{either_way}
 use Rattle.mw_world.specs.declared.config.Config.{Config}
 use Rattle.mw_world.specs.declared.notes.Phase.TheVariants.{Fresh, Keeping}
-use Rattle.mw_world.specs.Changes.{Exchange, Store, Fetch}
-use Rattle.mw_world.specs.State.{State}
+use Rattle.mw_world.specs.Definition.Changes.{Exchange, Store, Fetch}
+use Rattle.mw_world.specs.Definition.State.{State}
 use Rattle.mw_law_moves.specs.Memory.{Memory}
 use Rattle.mw_law_facts.specs.Facts.{IsKnown, CameBy}
 use Rattle.mw_law_facts.specs.Informed.{ChangesNoWord}

@@ -8,7 +8,7 @@ use Rattle.mw_words.specs.declared.statuses.Status.{Status}
 use Rattle.mw_words.specs.declared.words.Word.{Word}
 use Rattle.mw_words.specs.declared.words.Word.TheVariants.{Plain, Planted, Held, Dirty}
 use Rattle.mw_look.specs.Program.{same_word}
-use Rattle.mw_look.specs.RangeLaws.{either_way}
+use Rattle.mw_look.proofs.RangeLaws.{either_way}
 use Rattle.mw_actor.specs.declared.points.Attempt.{Attempt}
 use Rattle.mw_actor.specs.declared.points.Point.TheVariants.{SweepWord, Release, Clean, SweepResolve}
 use Rattle.mw_actor.specs.declared.points.Slot.{Slot}
@@ -17,13 +17,13 @@ use Rattle.mw_actor.specs.declared.points.Sweep.TheVariants.{Yes as SweepYes, Do
 use Rattle.mw_actor.specs.declared.points.Task.{Task}
 use Rattle.mw_actor.specs.Acting.{Acting, entries_of, entry_at, entry_of, same_slot, planted}
 use Rattle.mw_actor.specs.Finishing.{refusal}
-use Rattle.mw_actor.specs.StageLaws.{both_same}
+use Rattle.mw_actor.proofs.StageLaws.{both_same}
 use Rattle.mw_actor.specs.Sweeping.{sweep_over, next_sweep, attempt_swept, swept, sweep_confirmed}
 use Rattle.mw_world.specs.declared.config.Config.{Config}
 use Rattle.mw_world.specs.declared.notes.Phase.TheVariants.{Fresh, Keeping}
-use Rattle.mw_world.specs.History.{new}
-use Rattle.mw_world.specs.Invariant.{IsMade}
-use Rattle.mw_world.specs.State.{State}
+use Rattle.mw_world.specs.Definition.History.{new}
+use Rattle.mw_world.specs.Claim.Invariant.{IsMade}
+use Rattle.mw_world.specs.Definition.State.{State}
 use Rattle.mw_law_moves.specs.Guards.{IsLive}
 use Rattle.mw_law_moves.specs.Memory.{Memory}
 use Rattle.mw_law_facts.specs.Facts.{WorksOn, phase_at, IsDecidedAs, IsSweptUpTo, Sweeps, Releases, LooksInto, IsOver, IsForChangeAt}

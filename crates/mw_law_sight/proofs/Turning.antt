@@ -4,7 +4,7 @@ use Rattle.std.proofs.Common.{sym, ap, subst, ◌∙◌, arith}
 use Rattle.std.proofs.lemmas.Bool.Decides.{nat_tests}
 use Rattle.mw_words.specs.declared.replies.Reply.{Reply}
 use Rattle.mw_words.specs.declared.statuses.Status.{Status}
-use Rattle.mw_look.specs.RangeLaws.{either_way}
+use Rattle.mw_look.proofs.RangeLaws.{either_way}
 use Rattle.mw_actor.specs.declared.points.After.{After}
 use Rattle.mw_actor.specs.declared.points.After.TheVariants.{Work, GiveUp as ThenGiveUp, Reply as ThenReply}
 use Rattle.mw_actor.specs.declared.points.Point.TheVariants.{ReadTargetStatus, ReadOtherGate, ReadCount, Unpin, GiveUp}
@@ -13,8 +13,8 @@ use Rattle.mw_actor.specs.declared.points.Task.{Task}
 use Rattle.mw_actor.specs.Acting.{Acting, own_entries, is_alone, alone, same_slot}
 use Rattle.mw_actor.specs.Finishing.{works, resumed, gives_up, finishes}
 use Rattle.mw_actor.specs.Helping.{turns_to, helps}
-use Rattle.mw_actor.specs.StageLaws.{both_same}
-use Rattle.mw_world.specs.State.{State}
+use Rattle.mw_actor.proofs.StageLaws.{both_same}
+use Rattle.mw_world.specs.Definition.State.{State}
 use Rattle.mw_law_facts.specs.Facts.{IsKnown, MayBeMet, IsReadied, IsAtWork, WorksOn, IsOver, Follows}
 use Rattle.mw_law_facts.specs.Points.{Knows, without_point}
 

@@ -3,7 +3,7 @@ use Rattle.mw_look.specs.declared.news.News.{News}
 use Rattle.mw_actor.specs.Acting.{Acting}
 use Rattle.mw_actor.specs.Asks.{asks}
 use Rattle.mw_world.specs.declared.config.Config.{Config}
-use Rattle.mw_world.specs.State.{State}
+use Rattle.mw_world.specs.Definition.State.{State}
 use Rattle.mw_law_facts.specs.Informed.{IsInformed, ChangesNoWord}
 use Rattle.mw_law_facts.specs.Told.{KnowsItsPoint, told}
 

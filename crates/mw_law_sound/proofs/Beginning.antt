@@ -15,17 +15,17 @@ use Rattle.mw_look.specs.Runs.{holds_at}
 use Rattle.mw_actor.specs.declared.points.Point.{Point}
 use Rattle.mw_actor.specs.declared.points.Point.TheVariants.{Read, Replied}
 use Rattle.mw_actor.specs.Acting.{Acting, first, first_point}
-use Rattle.mw_actor.specs.JobLaws.{begins_in_range, well_formed_is_formed}
+use Rattle.mw_actor.proofs.JobLaws.{begins_in_range, well_formed_is_formed}
 use Rattle.mw_actor.specs.Program.{replied, reply_at}
 use Rattle.mw_actor.specs.Ranges.{IsInRange}
 use Rattle.mw_world.specs.declared.config.Config.{Config}
 use Rattle.mw_world.specs.declared.config.Tenant.{Tenant}
-use Rattle.mw_world.specs.Counting.{pins_held, pin_of}
-use Rattle.mw_world.specs.Happenings.{Come, Hand, Restart}
-use Rattle.mw_world.specs.Restarts.{restart, restarted, may_all_be_found}
-use Rattle.mw_world.specs.State.{State, Seat, Account, IsConfig, started, no_tenant, tenant_at, tenants_of}
-use Rattle.mw_world.specs.Stepping.{came, gave}
-use Rattle.mw_world.specs.World.{come, hand, handed, may_come}
+use Rattle.mw_world.specs.Definition.Counting.{pins_held, pin_of}
+use Rattle.mw_world.specs.Definition.Happenings.{Come, Hand, Restart}
+use Rattle.mw_world.specs.Definition.Restarts.{restart, restarted, may_all_be_found}
+use Rattle.mw_world.specs.Definition.State.{State, Seat, Account, IsConfig, started, no_tenant, tenant_at, tenants_of}
+use Rattle.mw_world.specs.Memory.Stepping.{came, gave}
+use Rattle.mw_world.specs.Definition.World.{come, hand, handed, may_come}
 use Rattle.mw_law_moves.specs.Stepped.{SameMemory}
 use Rattle.mw_law_moves.proofs.Shared.{is_shared, memory_is_shared}
 use Rattle.mw_law_moves.proofs.Starting.{new_worlds_have_memory}

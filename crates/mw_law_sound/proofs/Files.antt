@@ -23,12 +23,12 @@ use Rattle.mw_world_file.specs.Files.{File, Place, Empty, Prepared, Sealed, file
 use Rattle.mw_world_file.specs.Maps.{upd}
 use Rattle.mw_world.specs.declared.config.Config.{Config}
 use Rattle.mw_world.specs.declared.notes.Note.TheVariants.{Nothing}
-use Rattle.mw_world.specs.Calls.{Called, breaks, called_at, doubt_of, ends, faults, filed, goes_well, is_made, moved_if, place_for, skips}
+use Rattle.mw_world.specs.Definition.Calls.{Called, breaks, called_at, doubt_of, ends, faults, filed, goes_well, is_made, moved_if, place_for, skips}
 use Rattle.mw_world.specs.declared.events.Interrupted.{Interrupted}
-use Rattle.mw_world.specs.Happenings.{Found}
-use Rattle.mw_world.specs.Restarts.{UnderWay, stopped_call, doubt_if, doubt_then, found_of, is_sealed_then, may_all_be_found, may_be_found, may_fail, may_find, may_interrupt, nothing_found, opened_file, stopped_at, takes, under_way}
-use Rattle.mw_world.specs.State.{State, Account, tenant_at, tenants_of}
-use Rattle.mw_world.specs.Turns.{Made, moved}
+use Rattle.mw_world.specs.Definition.Happenings.{Found}
+use Rattle.mw_world.specs.Definition.Restarts.{UnderWay, stopped_call, doubt_if, doubt_then, found_of, is_sealed_then, may_all_be_found, may_be_found, may_fail, may_find, may_interrupt, nothing_found, opened_file, stopped_at, takes, under_way}
+use Rattle.mw_world.specs.Definition.State.{State, Account, tenant_at, tenants_of}
+use Rattle.mw_world.specs.Definition.Turns.{Made, moved}
 use Rattle.mw_law_sound.proofs.Tests.{first_holds, second_holds}
 use Rattle.mw_law_sound.specs.Files.{AreEntries, FileFits, FilesFit}
 

@@ -10,17 +10,17 @@ use Rattle.mw_look.specs.declared.steps.Call.TheVariants.{Prepare as PrepareCall
 use Rattle.mw_look.specs.News.{IsNewsInRange}
 use Rattle.mw_actor.specs.declared.points.Slot.{Slot}
 use Rattle.mw_actor.specs.Acting.{Acting, own_entries}
-use Rattle.mw_actor.specs.RangeLaws.{tells_in_range}
+use Rattle.mw_actor.proofs.RangeLaws.{tells_in_range}
 use Rattle.mw_world_file.specs.declared.outcomes.Outcome.{Outcome}
 use Rattle.mw_world_file.specs.declared.outcomes.Outcome.TheVariants.{Good, Fail}
 use Rattle.mw_world.specs.declared.config.Config.{Config}
-use Rattle.mw_world.specs.Calls.{Called, call, call_if, called_at, calling, ends, moved_if, starts_from, fails_on, place_for, can_be_made, calls_made, is_made, skips, faults, goes_well, breaks}
-use Rattle.mw_world.specs.Cells.{Cells}
+use Rattle.mw_world.specs.Definition.Calls.{Called, call, call_if, called_at, calling, ends, moved_if, starts_from, fails_on, place_for, can_be_made, calls_made, is_made, skips, faults, goes_well, breaks}
+use Rattle.mw_world.specs.Definition.Cells.{Cells}
 use Rattle.mw_world.specs.declared.notes.Note.TheVariants.{Nothing}
-use Rattle.mw_world.specs.Extent.{has_slot}
-use Rattle.mw_world.specs.Happenings.{File as FileEvent}
-use Rattle.mw_world.specs.State.{State, Seat, tenant_at}
-use Rattle.mw_world.specs.Turns.{Made, moved, next_attempt}
+use Rattle.mw_world.specs.Definition.Extent.{has_slot}
+use Rattle.mw_world.specs.Definition.Happenings.{File as FileEvent}
+use Rattle.mw_world.specs.Definition.State.{State, Seat, tenant_at}
+use Rattle.mw_world.specs.Definition.Turns.{Made, moved, next_attempt}
 use Rattle.mw_law_moves.specs.Guards.{Guards}
 use Rattle.mw_law_moves.specs.Memory.{Memory}
 use Rattle.mw_law_moves.specs.Moves.{SetDoor, made_all}

@@ -17,8 +17,8 @@ use Rattle.mw_actor.specs.Acting.{Acting, own_entries, entries_of, entry_at, ent
 use Rattle.mw_actor.specs.Asks.{asks, asks_at}
 use Rattle.mw_actor.specs.Ranges.{IsEntryInRange}
 use Rattle.mw_world.specs.declared.config.Config.{Config}
-use Rattle.mw_world.specs.Changes.{Exchange, Store, Fetch, shape_of}
-use Rattle.mw_world.specs.State.{State}
+use Rattle.mw_world.specs.Definition.Changes.{Exchange, Store, Fetch, shape_of}
+use Rattle.mw_world.specs.Definition.State.{State}
 use Rattle.mw_law_moves.specs.Guards.{IsLive}
 use Rattle.mw_law_facts.specs.Facts.{AtEntry}
 use Rattle.mw_law_facts.specs.Informed.{IsInformed}

@@ -3,8 +3,8 @@ use Rattle.std.specs.Prelude.{ℕ, ◌≡◌, ◌≢◌, ◌≤◌, ◌+◌, ◌
 use Rattle.std.proofs.Common.{sym, ap, subst, ◌∙◌, inl, inr, arith}
 use Rattle.mw_actor.specs.Acting.{Acting}
 use Rattle.mw_world.specs.declared.config.Config.{Config}
-use Rattle.mw_world.specs.Counting.{pins_held, frees_at}
-use Rattle.mw_world.specs.State.{State}
+use Rattle.mw_world.specs.Definition.Counting.{pins_held, frees_at}
+use Rattle.mw_world.specs.Definition.State.{State}
 use Rattle.mw_law_moves.specs.Relying.{Later}
 use Rattle.mw_law_counts.proofs.Room.{who-frees-is-alone}
 use Rattle.mw_law_facts.specs.Laws.{StaysTaken}

@@ -11,7 +11,7 @@ use Rattle.mw_look.specs.declared.news.News.TheVariants.{SawDoor, SawGate, SawSt
 use Rattle.mw_look.specs.News.{IsNewsInRange, seen}
 use Rattle.mw_look.specs.Places.{Val, Fits}
 use Rattle.mw_look.specs.Program.{Reading as ReadingOfWord, goes as read_goes}
-use Rattle.mw_look.specs.RangeLaws.{goes_in_range}
+use Rattle.mw_look.proofs.RangeLaws.{goes_in_range}
 use Rattle.mw_look.specs.Steps.{Step, Load, Change, File as FileStep}
 use Rattle.mw_actor.specs.declared.points.After.{After}
 use Rattle.mw_actor.specs.declared.points.After.TheVariants.{Work, GiveUp as ThenGiveUp, Reply as ThenReply}
@@ -21,11 +21,11 @@ use Rattle.mw_actor.specs.declared.points.Task.{Task}
 use Rattle.mw_actor.specs.Acting.{Acting}
 use Rattle.mw_actor.specs.Helping.{others_read}
 use Rattle.mw_actor.specs.Program.{goes}
-use Rattle.mw_actor.specs.StageLaws.{goes_leads}
+use Rattle.mw_actor.proofs.StageLaws.{goes_leads}
 use Rattle.mw_actor.specs.Stages.{Stage, Reading, Outside, Entering, Seeking, Claiming, WritingStatus, WritingCount, WritingAddr, WritingExpected, WritingNew, Preparing, Checking, Inspecting, Holding, Deciding, Working, Nearing, Pinning, Fetching, Leaving, Freeing, Lowering, GivingUp, stage, Resumes, OnTask, Scans, Leads}
-use Rattle.mw_world.specs.Cells.{Cells, read}
-use Rattle.mw_world.specs.Changes.{Shape, Exchange, Store, Fetch, shape_of}
-use Rattle.mw_world.specs.Ties.{AllFit}
+use Rattle.mw_world.specs.Definition.Cells.{Cells, read}
+use Rattle.mw_world.specs.Definition.Changes.{Shape, Exchange, Store, Fetch, shape_of}
+use Rattle.mw_world.specs.Memory.Ties.{AllFit}
 use Rattle.mw_law_counts.specs.Exact.{IsLookInRange}
 use Rattle.mw_law_facts.specs.Informed.{IsPointFor, Changes}
 use Rattle.mw_law_sound.proofs.Ending.{Ends}

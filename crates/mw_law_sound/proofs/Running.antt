@@ -11,14 +11,14 @@ use Rattle.mw_actor.specs.Acting.{Acting, own_entries}
 use Rattle.mw_actor.specs.Program.{replied}
 use Rattle.mw_world_file.specs.declared.outcomes.Outcome.{Outcome}
 use Rattle.mw_world.specs.declared.config.Config.{Config}
-use Rattle.mw_world.specs.Calls.{Called, call, call_if, called_at, calling, calls_made, can_be_made, fails_on, moved_if, place_for, starts_from}
-use Rattle.mw_world.specs.Extent.{has_slot}
-use Rattle.mw_world.specs.Happenings.{Found, Happening, Come, Step, File, Hand, Restart}
-use Rattle.mw_world.specs.Restarts.{found_of, may_all_be_found, restart, restarted}
-use Rattle.mw_world.specs.State.{State, IsConfig, new_world, tenant_at, tenants_of}
-use Rattle.mw_world.specs.Stepping.{came, gave}
-use Rattle.mw_world.specs.Turns.{turn}
-use Rattle.mw_world.specs.World.{come, hand, handed, may_come, run, step}
+use Rattle.mw_world.specs.Definition.Calls.{Called, call, call_if, called_at, calling, calls_made, can_be_made, fails_on, moved_if, place_for, starts_from}
+use Rattle.mw_world.specs.Definition.Extent.{has_slot}
+use Rattle.mw_world.specs.Definition.Happenings.{Found, Happening, Come, Step, File, Hand, Restart}
+use Rattle.mw_world.specs.Definition.Restarts.{found_of, may_all_be_found, restart, restarted}
+use Rattle.mw_world.specs.Definition.State.{State, IsConfig, new_world, tenant_at, tenants_of}
+use Rattle.mw_world.specs.Memory.Stepping.{came, gave}
+use Rattle.mw_world.specs.Definition.Turns.{turn}
+use Rattle.mw_world.specs.Definition.World.{come, hand, handed, may_come, run, step}
 use Rattle.mw_law_counts.proofs.Room.{doors-count-the-taken, who-waits-has-room}
 use Rattle.mw_law_owed.proofs.Owing.{owed_words_are_owed}
 use Rattle.mw_law_sound.specs.Files.{AreEntries, FileFits, FilesFit}

@@ -12,10 +12,10 @@ use Rattle.mw_actor.specs.declared.points.Point.TheVariants.{Read, FreeSlot, Giv
 use Rattle.mw_actor.specs.declared.points.Slot.{Slot}
 use Rattle.mw_actor.specs.Acting.{Acting}
 use Rattle.mw_world.specs.declared.config.Config.{Config}
-use Rattle.mw_world.specs.Counting.{frees_at}
-use Rattle.mw_world.specs.History.{standing_at, arm_at}
-use Rattle.mw_world.specs.Invariant.{IsOfWorker}
-use Rattle.mw_world.specs.State.{State}
+use Rattle.mw_world.specs.Definition.Counting.{frees_at}
+use Rattle.mw_world.specs.Definition.History.{standing_at, arm_at}
+use Rattle.mw_world.specs.Claim.Invariant.{IsOfWorker}
+use Rattle.mw_world.specs.Definition.State.{State}
 use Rattle.mw_law_counts.specs.Ready.{IsReady}
 use Rattle.mw_law_counts.specs.Standing.{CountsRestOn, IsFirstToLeave}
 use Rattle.mw_law_counts.proofs.Exact.{exchanges-are-exact}

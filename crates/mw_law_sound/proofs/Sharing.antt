@@ -3,9 +3,9 @@ use Rattle.std.specs.Prelude.{[]}
 use Rattle.std.proofs.Common.{ap}
 use Rattle.mw_actor.specs.Acting.{Acting}
 use Rattle.mw_world.specs.declared.config.Config.{Config}
-use Rattle.mw_world.specs.Cells.{Cells}
-use Rattle.mw_world.specs.History.{History}
-use Rattle.mw_world.specs.State.{State}
+use Rattle.mw_world.specs.Definition.Cells.{Cells}
+use Rattle.mw_world.specs.Definition.History.{History}
+use Rattle.mw_world.specs.Definition.State.{State}
 use Rattle.mw_law_moves.specs.Memory.{Memory}
 use Rattle.mw_law_moves.specs.Stepped.{SameMemory}
 use Rattle.mw_law_moves.proofs.Relied.{others_rely_on_all}

@@ -1,7 +1,7 @@
 -- What a test lets be.
 use Rattle.std.specs.Prelude.{◌≡◌, ◌&&◌, Bool, true, false, if◌then◌else◌, Option, Some, None}
 use Rattle.std.proofs.Common.{refl, subst, arith}
-use Rattle.mw_world.specs.State.{State}
+use Rattle.mw_world.specs.Definition.State.{State}
 
 -- the world that a test lets be
 pub guarded : (P : State → Type 0) (test : Bool) (there next : State) → (test ≡ true → P there) → (if test then Some there else None) ≡ Some next → P next

@@ -4,13 +4,13 @@ use Rattle.std.proofs.Common.{refl, sym, ap, subst, ◌∙◌, inl, inr}
 use Rattle.mw_actor.specs.Acting.{Acting}
 use Rattle.mw_actor.specs.Asks.{asks}
 use Rattle.mw_actor.specs.Program.{replied}
-use Rattle.mw_actor.specs.RangeLaws.{tells_in_range}
+use Rattle.mw_actor.proofs.RangeLaws.{tells_in_range}
 use Rattle.mw_world.specs.declared.config.Config.{Config}
-use Rattle.mw_world.specs.Cells.{Cells}
-use Rattle.mw_world.specs.Counting.{frees_at}
-use Rattle.mw_world.specs.Happenings.{Step as StepEvent}
-use Rattle.mw_world.specs.State.{State}
-use Rattle.mw_world.specs.Turns.{turn, may_make, next_attempt}
+use Rattle.mw_world.specs.Definition.Cells.{Cells}
+use Rattle.mw_world.specs.Definition.Counting.{frees_at}
+use Rattle.mw_world.specs.Definition.Happenings.{Step as StepEvent}
+use Rattle.mw_world.specs.Definition.State.{State}
+use Rattle.mw_world.specs.Definition.Turns.{turn, may_make, next_attempt}
 use Rattle.mw_law_moves.specs.Guards.{Guards}
 use Rattle.mw_law_moves.specs.Memory.{Memory}
 use Rattle.mw_law_moves.specs.Relying.{Later}

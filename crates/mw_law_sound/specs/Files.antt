@@ -5,7 +5,7 @@ use Rattle.mw_words.specs.declared.jobs.Entry.{Entry}
 use Rattle.mw_words.specs.declared.limits.TheConstants.{MAX_WORDS}
 use Rattle.mw_words.specs.Change.{AreWords, is_in_range}
 use Rattle.mw_world_file.specs.Files.{File, entries_at}
-use Rattle.mw_world.specs.State.{State}
+use Rattle.mw_world.specs.Definition.State.{State}
 
 -- each of these entries is of a word that a tenant may have, and writes a value of a word
 abbrev pub AreEntries : List Entry → Type 0

@@ -5,12 +5,12 @@ use Rattle.mw_words.specs.declared.limits.TheConstants.{MAX_VALUE}
 use Rattle.mw_words.specs.Change.{word_at}
 use Rattle.mw_world_file.specs.declared.outcomes.Outcome.{Outcome}
 use Rattle.mw_world.specs.declared.config.Config.{Config}
-use Rattle.mw_world.specs.Calls.{call}
-use Rattle.mw_world.specs.Happenings.{Found, Happening}
-use Rattle.mw_world.specs.Restarts.{restart, found_of}
-use Rattle.mw_world.specs.State.{State, IsConfig, new_world}
-use Rattle.mw_world.specs.Turns.{turn}
-use Rattle.mw_world.specs.World.{come, hand, run, step}
+use Rattle.mw_world.specs.Definition.Calls.{call}
+use Rattle.mw_world.specs.Definition.Happenings.{Found, Happening}
+use Rattle.mw_world.specs.Definition.Restarts.{restart, found_of}
+use Rattle.mw_world.specs.Definition.State.{State, IsConfig, new_world}
+use Rattle.mw_world.specs.Definition.Turns.{turn}
+use Rattle.mw_world.specs.Definition.World.{come, hand, run, step}
 use Rattle.mw_law_counts.specs.Laws.{HasRoom}
 use Rattle.mw_law_counts.specs.Standing.{CountsRestOn}
 use Rattle.mw_law_sound.specs.Files.{FilesFit}

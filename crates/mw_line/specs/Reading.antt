@@ -38,6 +38,11 @@ behind [] bytes = Some bytes
 behind (t ∷ text) [] = None
 behind (t ∷ text) (b ∷ bytes) = if b == t then behind text bytes else None
 
+-- the bytes before the first end, and those behind it
+abbrev pub field_at : ℕ → List ℕ → Option (List ℕ × List ℕ)
+field_at end [] = None
+field_at end (b ∷ bytes) = if b == end then Some ([], bytes) else (field_at end bytes >>= λ r. Some (b ∷ r.0, r.1))
+
 -- the number that the digits in front make when they follow those of n, and the bytes behind them
 abbrev pub digits_at : ℕ → List ℕ → ℕ × List ℕ
 digits_at n [] = (n, [])

@@ -10,7 +10,7 @@ ghost use Rattle.mw_line.specs.Listing.{Lists, ListsAll, Adds};
 
 use crate::numbers::{address_at, behind, value_at};
 use crate::requests::LineFault;
-use mw_words::{Entries, Entry, MAX_VALUE, MAX_WORDS, is_change};
+use mw_words::{Entries, Entry, MAX_VALUE, MAX_WORDS, rises};
 
 /// The entries of a line: as many as a change may have, and whether there are more. A number that
 /// is too large for its field is the greatest that the field holds, which no limit allows.
@@ -84,8 +84,7 @@ impl Listing {
         if !addresses_fit(&self.kept) {
             return Err(LineFault::AddressRange);
         }
-        // Only the order of the addresses can still be wrong.
-        if !is_change(&self.kept, usize::from(MAX_WORDS)) {
+        if !rises(&self.kept) {
             return Err(LineFault::AddressOrder);
         }
         Ok(self.kept)

@@ -9,8 +9,6 @@ mod replies;
 mod requests;
 
 pub use laws::{number_texts, numbers_as_printed, one_spelling};
+pub use numbers::{address_at, behind, field, value_at};
 pub use replies::{ErrCode, MAX_REPLY, Say};
 pub use requests::{LineFault, Request, read_line};
-
-#[cfg(test)]
-mod tests;

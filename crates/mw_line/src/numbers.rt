@@ -1,6 +1,6 @@
-//! What stands at the front of a text: a fixed text, or a number. Each reader gives the bytes behind
-//! what it read.
-ghost use Rattle.std.specs.Prelude.{◌≡◌};
+//! What stands at the front of a text: a fixed text, a field with the byte behind it, or a number.
+//! Each reader gives the bytes behind what it read.
+ghost use Rattle.std.specs.Prelude.{◌≡◌, ◌+◌, ◌==◌, length, position, IfSome};
 ghost use Rattle.mw_line.specs.Reading as spec;
 ghost use Rattle.mw_line.specs.Reading.{Gives, narrow};
 
@@ -9,6 +9,23 @@ pub fn behind<'a>(text: &[u8], bytes: &'a [u8]) -> Option<&'a [u8]>
     ensures { Gives (λ x. x.now) result (spec.behind text.now bytes.now) }
 {
     bytes.strip_prefix(text)
+}
+
+/// The bytes before the first `end`, and those behind it.
+pub fn field(end: u8, bytes: &[u8]) -> Option<(&[u8], &[u8])>
+    ensures read { Gives (λ x. (x.0.now, x.1.now)) result (spec.field_at end bytes.now) }
+    ensures long { IfSome result (λ x. length x.0.now + 1 + length x.1.now ≡ length bytes.now) }
+{
+    let Some(at) = place_of(end, bytes) else {
+        return None;
+    };
+    Some((&bytes[..at], &bytes[at + 1..]))
+}
+
+fn place_of(end: u8, bytes: &[u8]) -> Option<usize>
+    ensures { result ≡ position (λ b. b == end) bytes.now }
+{
+    bytes.iter().position(|byte| *byte == end)
 }
 
 /// The number in front, which has no 0 before other digits. One of more than 16 bits is `u16::MAX`.

@@ -1,2 +1,4 @@
+pub mod KeptRuns
 pub mod Numbered
+pub mod SoundStores
 pub mod Steps

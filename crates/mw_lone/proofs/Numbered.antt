@@ -14,7 +14,7 @@ use Rattle.std.specs.FinMap as map
 use Rattle.std.specs.FinMap.{nat_cmp-IsAntisymmetric}
 use Rattle.mw_lone.specs.declared.asked.Request.{Request as Kept}
 use Rattle.mw_lone.specs.Store.{RequestState}
-use Rattle.mw_lone.specs.Sound.{Requests, get-insert_same, get-insert_other}
+use Rattle.mw_lone.proofs.SoundStores.{Requests, get-insert_same, get-insert_other}
 use Rattle.mw_lone.specs.Asked.{Asked, seen, numbered, holds_slot}
 use Rattle.std.proofs.lemmas.List.Sums.{sum_by-set}
 use Rattle.std.specs.List.{count_by}

@@ -11,6 +11,3 @@ mod words;
 pub use laws::{runs_extend, used_stays_within, words_stay_words};
 pub use marks::Mark;
 pub use store::{Lone, LoneFault};
-
-#[cfg(test)]
-mod tests;

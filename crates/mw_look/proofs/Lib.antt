@@ -1,0 +1,4 @@
+pub mod PlaceLaws
+pub mod RangeLaws
+pub mod RunLaws
+pub mod ValueLaws

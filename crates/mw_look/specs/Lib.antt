@@ -1,9 +1,6 @@
 pub mod News
-pub mod PlaceLaws
+pub mod PlacePatterns
 pub mod Places
 pub mod Program
-pub mod RangeLaws
-pub mod RunLaws
 pub mod Runs
 pub mod Steps
-pub mod ValueLaws

@@ -1,6 +1,6 @@
 //! What holds of places and of every run of a read, whatever it is told: facts for proofs to cite. The
 //! functions do nothing.
-ghost use Rattle.mw_look.specs.PlaceLaws.{PacksFit, PacksAreUnpacked, PacksAreApart, PacksAreSeen, NilIsZero};
+ghost use Rattle.mw_look.specs.PlacePatterns.{PacksFit, PacksAreUnpacked, PacksAreApart, PacksAreSeen, NilIsZero};
 ghost use Rattle.mw_look.specs.Runs.{ReadsChangeOnlyPins, ReadsStayAtTheirWord, ReadsAreUnderPin, PinsAreHeldUntilTakenBack, RepliesGiveBack, RepliesStay, RepliesAreOfTheWord};
 
 /// What stands at a place, in range, has 64 bits that nothing else there has, and is unpacked from them.

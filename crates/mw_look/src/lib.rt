@@ -3,6 +3,10 @@
 //!
 //! Many requests work at once on shared words. A request is a machine: it asks for its next step, a
 //! worker makes that step on the shared words, and tells the machine what the step found.
+//!
+//! The definitions, in the order of reading: `specs/Places` and `specs/News` (what stands at a place, its
+//! bits, and what a machine is told of them), `specs/Steps` (what a machine asks for), `specs/Program` (a
+//! read), and then what is claimed: `specs/PlacePatterns` of places, `specs/Runs` of the runs of a read.
 #![tactic(auto)]
 
 mod laws;
@@ -19,6 +23,3 @@ pub use look::Look;
 pub use news::{Got, News, Told};
 pub use points::{After, Point, Trail};
 pub use steps::{Call, Kind, Op};
-
-#[cfg(test)]
-mod tests;

@@ -1,7 +1,8 @@
 -- A start and a finish together.
 use Rattle.std.proofs.Common.{◌≡◌, ℕ, false, List, [], length, Option, Some, None, IsTrue, refl, sym, subst, ◌∙◌, inl, inr}
 use Rattle.mw_disk.specs.Facts.{Facts}
-use Rattle.mw_disk.specs.Runs.{LeavesOnly, still_honest, leaves_more, leaves_wider}
+use Rattle.mw_disk.specs.Runs.{LeavesOnly}
+use Rattle.mw_disk.proofs.RunLaws.{still_honest, leaves_more, leaves_wider}
 use Rattle.mw_words.specs.declared.jobs.Entry.{Entry}
 use Rattle.mw_words.specs.declared.jobs.Job.{Job}
 use Rattle.mw_words.specs.declared.jobs.Job.TheVariants.{Cas}

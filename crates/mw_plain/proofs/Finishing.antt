@@ -4,7 +4,8 @@ use Rattle.std.specs.List.{slice_get}
 use Rattle.std.proofs.lemmas.List.{take_at}
 use Rattle.arrayvec.specs.ArrayVec.{ArrayVec}
 use Rattle.mw_disk.specs.Facts.{Facts}
-use Rattle.mw_disk.specs.Runs.{Later, LeavesOnly, later_trans, was_honest, still_honest, leaves_wider, leaves_more, good_trans}
+use Rattle.mw_disk.specs.Runs.{Later, LeavesOnly}
+use Rattle.mw_disk.proofs.RunLaws.{later_trans, was_honest, still_honest, leaves_wider, leaves_more, good_trans}
 use Rattle.mw_words.specs.declared.jobs.Entry.{Entry}
 use Rattle.mw_words.specs.declared.replies.Reply.TheVariants.{No, Yes, Fault}
 use Rattle.mw_words.specs.Change.{word_at, fits, put}
@@ -18,9 +19,9 @@ use Rattle.mw_file.specs.Keeps.{Keeps, CrashSafe, ContentsStay, ChangeIsSealed, 
 use Rattle.mw_file.specs.PlaceStates.{writes_of_place, IsStaged}
 use Rattle.mw_record.specs.Layout.{pairs_of}
 use Rattle.mw_record.specs.Records.{Pairs, put_pairs}
-use Rattle.mw_record.specs.ReadAgain.{put-put_pairs}
+use Rattle.mw_record.proofs.ReadAgain.{put-put_pairs}
 use Rattle.mw_lone.specs.Store.{Store}
-use Rattle.mw_lone.specs.Sound.{length-put}
+use Rattle.mw_lone.proofs.SoundStores.{length-put}
 use Rattle.mw_plain.specs.declared.book.Book.{Book}
 use Rattle.mw_plain.specs.Books.{IsPrepared}
 use Rattle.mw_plain.specs.Misses.{IsFirstMiss}
@@ -100,7 +101,7 @@ module _ {D : Type 0} (facts : D → Facts) where
     };
     keeps = λ s n keeps honest. (crash s keeps (was_honest _ _ later honest)).after;
     moments = λ s keeps honest. (crash s keeps honest).moments;
-    places = λ so_many. ap length (met_fault facts 2 old.file new.file r bad (old.sound up) ends).slots;
+    places = λ so_many. ap length (met_fault facts 2 old.file new.file r bad (old.sound up) ends).states;
     kept = λ other others apart was now. absurd (let no : true ≡ false = sym faulted ∙ now in cc);
   } where
     crash : (s : Store) → IsKept facts (Some old) s → IsTrue (facts (disk_of old.file)).honest → CrashSafe facts old.file new.file s.words (pairs_of entries.items) s.words (pairs_of entries.items)
@@ -167,7 +168,7 @@ module _ {D : Type 0} (facts : D → Facts) where
       after = λ s n backs. record { used = backs.used ∙ sym used; faulted = sym faulted; words = sealed_words s backs };
       keeps = λ s n. sealed_keeps s;
       moments = sealed_moments;
-      places = λ so_many. ap length (met_fault facts _ between new.file settling bad seal.after ends).slots ∙ c.places;
+      places = λ so_many. ap length (met_fault facts _ between new.file settling bad seal.after ends).states ∙ c.places;
       kept = λ other others apart was now. absurd (let no : true ≡ false = sym faulted ∙ now in cc);
     }
 

@@ -3,7 +3,6 @@ mod Asks
 mod Comparing
 mod Counting
 mod Finishing
-mod Finding
 mod Making
 mod Opens
 mod Ready

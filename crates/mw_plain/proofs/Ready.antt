@@ -11,18 +11,18 @@ use Rattle.mw_file.specs.Taken.{taken, if_taken, has_free, taken_staged}
 
 -- no place is sealed
 abbrev pub NoneSealed : List PlaceState → Type 0
-NoneSealed slots = (place : ℕ) → stage_of slots place ≡ Sealed → ⊥
+NoneSealed states = (place : ℕ) → stage_of states place ≡ Sealed → ⊥
 
 -- a place that has a change is there
-pub is_there : (slots : List PlaceState) (place : ℕ) → stage_of slots place ≢ Free → place < length slots
-is_there slots place change = elim (cases_lt place (length slots)) [
+pub is_there : (states : List PlaceState) (place : ℕ) → stage_of states place ≢ Free → place < length states
+is_there states place change = elim (cases_lt place (length states)) [
   | inl lt ↦ lt
-  | inr past ↦ absurd (change (ap stage_at (slice_get_past slots place past)))
+  | inr past ↦ absurd (change (ap stage_at (slice_get_past states place past)))
 ]
 
 -- fewer slots in use than places: there is room
-pub has_room : (slots : List PlaceState) (used quota : ℕ) → taken slots ≡ used → used < quota → quota ≤ length slots → IsSome (free_place slots)
-has_room slots used quota counted below room = has_free slots ∙ lt-ltb (taken slots) (length slots) (omega (arith, counted, below, room))
+pub has_room : (states : List PlaceState) (used quota : ℕ) → taken states ≡ used → used < quota → quota ≤ length states → IsSome (free_place states)
+has_room states used quota counted below room = has_free states ∙ lt-ltb (taken states) (length states) (omega (arith, counted, below, room))
 
 -- a change that is prepared is one more
 pub one_more : (old new : List PlaceState) (place : ℕ) (writes : List (ℕ × ℕ)) → free_place old ≡ Some place → IsStaged old new place Prepared writes → taken new ≡ taken old + 1
@@ -52,20 +52,20 @@ none_sealed old new place stage writes other none staged there sealed = elim (ca
 ]
 
 -- where none is sealed any change that is prepared may be sealed
-pub may_seal : (slots : List PlaceState) (place : ℕ) → stage_of slots place ≡ Prepared → NoneSealed slots → MaySeal slots place
-may_seal slots place prepared none = record {
+pub may_seal : (states : List PlaceState) (place : ℕ) → stage_of states place ≡ Prepared → NoneSealed states → MaySeal states place
+may_seal states place prepared none = record {
   prepared = prepared;
   apart = λ other addr sealed here. absurd (none other sealed);
 }
 
 -- where all places are free none has a change
-pub taken_none : (slots : List PlaceState) → all_free slots ≡ true → taken slots ≡ 0
+pub taken_none : (states : List PlaceState) → all_free states ≡ true → taken states ≡ 0
 taken_none [] all = refl
-taken_none (s ∷ slots) all =
-    let rest : taken slots ≡ 0 = taken_none slots (and_parts (is_free s) (all_free slots) all).1 in
-    let here : if_taken s.stage ≡ 0 = ap if_taken (stage_of-all_free (s ∷ slots) 0 all) in
+taken_none (s ∷ states) all =
+    let rest : taken states ≡ 0 = taken_none states (and_parts (is_free s) (all_free states) all).1 in
+    let here : if_taken s.stage ≡ 0 = ap if_taken (stage_of-all_free (s ∷ states) 0 all) in
     omega (arith, rest, here)
 
 -- nor is any sealed
-pub none_taken : (slots : List PlaceState) → all_free slots ≡ true → NoneSealed slots
-none_taken slots all place sealed = let no : Free ≡ Sealed = sym (stage_of-all_free slots place all) ∙ sealed in cc
+pub none_taken : (states : List PlaceState) → all_free states ≡ true → NoneSealed states
+none_taken states all place sealed = let no : Free ≡ Sealed = sym (stage_of-all_free states place all) ∙ sealed in cc

@@ -5,13 +5,13 @@ use Rattle.std.proofs.lemmas.Bool.{cases_Bool}
 use Rattle.std.proofs.lemmas.Option.{same_Some}
 use Rattle.std.specs.declared.alloc.Global.{Global}
 use Rattle.mw_disk.specs.Facts.{Facts, IsAtRest}
-use Rattle.mw_disk.specs.Runs.{leaves_now}
+use Rattle.mw_disk.proofs.RunLaws.{leaves_now}
 use Rattle.mw_words.specs.declared.jobs.Entry.{Entry}
 use Rattle.mw_words.specs.declared.jobs.Job.{Job}
 use Rattle.mw_words.specs.Change.{put}
 use Rattle.mw_record.specs.Layout.{pairs_of}
 use Rattle.mw_record.specs.Records.{Pairs}
-use Rattle.mw_record.specs.ReadAgain.{put-put_pairs}
+use Rattle.mw_record.proofs.ReadAgain.{put-put_pairs}
 use Rattle.mw_file.specs.declared.tenant_file.TenantFile.{TenantFile}
 use Rattle.mw_file.specs.declared.opening.OpenFault.{OpenFault}
 use Rattle.mw_file.specs.declared.opening.OpenFault.TheVariants.{Damage, Disk, Memory}
@@ -19,7 +19,7 @@ use Rattle.mw_file.specs.Again.{Holds, NotDamaged}
 use Rattle.mw_file.specs.Keeps.{IsFile, IsEither}
 use Rattle.mw_file.specs.Opening.{Opens, Fails, OpensSafely, SameFile}
 use Rattle.mw_lone.specs.Store.{Store, request, entries_of, is_empty, store_after_start}
-use Rattle.mw_lone.specs.Sound.{length-put}
+use Rattle.mw_lone.proofs.SoundStores.{length-put}
 use Rattle.mw_plain.specs.Cases.{CanChange, under_way}
 use Rattle.mw_plain.specs.Restarts.{MayStartWith, RestartGoesOn}
 use Rattle.mw_plain.proofs.Runs.{may-stop}

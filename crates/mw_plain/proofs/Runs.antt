@@ -15,12 +15,12 @@ use Rattle.mw_words.specs.declared.jobs.Job.TheVariants.{Get, Cas}
 use Rattle.mw_words.specs.declared.replies.Reply.{Reply}
 use Rattle.mw_words.specs.declared.replies.Reply.TheVariants.{Val, Yes, No, Busy as SaysBusy, Fault}
 use Rattle.mw_words.specs.Change.{word_at, fits, put, is_well_formed}
-use Rattle.mw_lone.specs.Sound.{Requests, get-insert_same, get-insert_other}
+use Rattle.mw_lone.proofs.SoundStores.{Requests, get-insert_same, get-insert_other}
 use Rattle.mw_lone.specs.Store.{Store, RequestState, step, run, outgoing, replies_from, request, with_request, asked, admit, refuse_busy, look_at, miss_at, seal, fail_seal, give_up, retire, hand_out, due_reply, may_seal, may_be_interrupted, entries_in_doubt, store_after_start, entries_of, is_cas}
 use Rattle.mw_lone.specs.declared.marks.Mark.{Mark}
 use Rattle.mw_lone.specs.declared.marks.Mark.TheVariants.{Ask, Admit, Busy, Look, Miss, Seal, SealFail, FileFail, GiveUp, Retire, Reply as HandOut}
 use Rattle.mw_plain.specs.Cases.{StartCase, FinishCase, AskCase, Faulted, Looked, Full, Unprepared, Prepared, GaveUp, Missed, Unsealed, Unsettled, Changed, AtStart, AtFinish, CanChange, StartFits, FinishFits, start_marks, finish_marks, ask_marks, start_reply, finish_reply, after_start, after_finish, after_ask, request_after_start, under_way, ended, gives_back, refusal, after_served, after_all, marks_of_all, replies_to_all}
-use Rattle.mw_plain.specs.Marks.{Goes, Alone, RestartGoes, FinishGoes, AskGoes, AllGo, MayStop, reply_to, goes-nowhere, goes-then}
+use Rattle.mw_plain.specs.Marks.{Goes, Alone, StartGoes, FinishGoes, AskGoes, AllGo, MayStop, reply_to, goes-nowhere, goes-then}
 
 -- Requests under their numbers.
 
@@ -200,7 +200,7 @@ starts s job Prepared fine room =
     (goes-on (with_request (came s) s.next (asked job)) there _ (Admit s.next) _ _ refl (step-admit (came s) s.next job room.change room.running room.below)
     (goes-nowhere there))
 
-pub started : RestartGoes
+pub started : StartGoes
 started s job case fine premise = record {
   goes = starts s job case fine premise;
   requests = alone s (after_start s job case) s.next (request_after_start s.words job case) refl;

@@ -3,7 +3,8 @@ use Rattle.std.proofs.Common.{◌≡◌, ℕ, ◌+◌, ◌<◌, true, false, len
 use Rattle.std.proofs.lemmas.Bool.{cases_eq}
 use Rattle.arrayvec.specs.ArrayVec.{ArrayVec}
 use Rattle.mw_disk.specs.Facts.{Facts}
-use Rattle.mw_disk.specs.Runs.{Later, was_honest}
+use Rattle.mw_disk.specs.Runs.{Later}
+use Rattle.mw_disk.proofs.RunLaws.{was_honest}
 use Rattle.mw_words.specs.declared.jobs.Entry.{Entry}
 use Rattle.mw_words.specs.declared.jobs.Job.TheVariants.{Cas}
 use Rattle.mw_words.specs.declared.replies.Reply.TheVariants.{Fault}
@@ -46,7 +47,7 @@ module _ {D : Type 0} (facts : D → Facts) where
     keeps = λ s keeps honest. let before = was_honest _ _ later honest in (safe before s.words (pairs_of s.in_doubt) (keeps before)).after;
     moments = λ s keeps honest. (safe honest s.words (pairs_of s.in_doubt) (keeps honest)).moments;
     ended = refl;
-    places = λ so_many. ap length (met_fault facts 2 old.file new.file r bad (old.sound up) ends).slots;
+    places = λ so_many. ap length (met_fault facts 2 old.file new.file r bad (old.sound up) ends).states;
     opened = tt;
     kept = λ place others was now. absurd (let no : true ≡ false = sym faulted ∙ now in cc);
   }

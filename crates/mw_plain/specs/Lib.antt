@@ -5,7 +5,6 @@ pub mod Lines
 pub mod Made
 pub mod Marks
 pub mod Misses
-pub mod Names
 pub mod Parts
 pub mod Quotas
 pub mod Report

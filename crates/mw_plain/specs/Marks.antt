@@ -31,8 +31,8 @@ pub record Started (s : Store) (job : Job) (case : StartCase) : Type 0 where
   pub goes : Goes s (start_marks s.next job case) (reply_to s.next (start_reply s.words job case)) (after_start s job case)
   pub requests : Alone s (after_start s job case) s.next (request_after_start s.words job case)
 
-abbrev pub RestartGoes : Type 0
-RestartGoes = (s : Store) (job : Job) (case : StartCase) → IsTrue (is_well_formed (length s.words) job) → StartFits s job case → Started s job case
+abbrev pub StartGoes : Type 0
+StartGoes = (s : Store) (job : Job) (case : StartCase) → IsTrue (is_well_formed (length s.words) job) → StartFits s job case → Started s job case
 
 -- A finish takes a change under way to its end.
 pub record Finished (s : Store) (n : ℕ) (job : Job) (case : FinishCase) : Type 0 where

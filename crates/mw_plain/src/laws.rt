@@ -1,11 +1,11 @@
 //! What the calls of a plain store are to the store alone: facts for proofs to cite. The functions do
 //! nothing.
-ghost use Rattle.mw_plain.specs.Marks.{RestartGoes, FinishGoes, AskGoes, AllGo, OneMoreFits, MayStop, RunsJoin, RepliesJoin};
+ghost use Rattle.mw_plain.specs.Marks.{StartGoes, FinishGoes, AskGoes, AllGo, OneMoreFits, MayStop, RunsJoin, RepliesJoin};
 
 /// What each call of a plain store is to a tenant's store alone, by what the call comes to: its marks
 /// are legal, hand out its reply, and leave the store that the case says.
 pub fn marks_of_a_call()
-    ensures start { RestartGoes }
+    ensures start { StartGoes }
     ensures finish { FinishGoes }
     ensures ask { AskGoes }
     ensures all { AllGo }

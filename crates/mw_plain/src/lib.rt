@@ -23,6 +23,3 @@ pub use laws::marks_of_a_call;
 pub use plain::Plain;
 pub use restarts::a_restart_goes_on;
 pub use tickets::{Start, Task, Ticket};
-
-#[cfg(test)]
-mod tests;

@@ -5,10 +5,10 @@ ghost use Rattle.mw_words.specs.declared.limits.TheConstants.{MAX_POOL, MAX_TENA
 use crate::book::Book;
 use crate::part::Part;
 use crate::plain::Plain;
-use crate::serving::copy_of_name;
 use mw_config::TenantLine;
 use mw_disk::Disk;
 use mw_file::TenantFile;
+use mw_words::copy_of_name;
 use std::alloc::{AllocError, Global};
 
 impl<D: Disk + Drop> Plain<D> {

@@ -10,7 +10,7 @@ use crate::part::Part;
 use mw_disk::Disk;
 use mw_file::Place;
 use mw_report::TenantFigures;
-use mw_words::{Entries, Job, Name, Reply};
+use mw_words::{Entries, Job, Reply, copy_of_name};
 
 impl<D: Disk> Part<D> {
     ghost use Rattle.mw_plain.specs.Parts.{SameLine};
@@ -73,15 +73,4 @@ impl<D: Disk> Part<D> {
             None => Reply::Fault,
         }
     }
-}
-
-/// The same name once more.
-pub(crate) fn copy_of_name(name: &Name) -> Name
-    ensures { result ≡ name.now }
-{
-    let mut copy = Name::new();
-    for i in 0..name.len() {
-        copy.push(name[i]);
-    }
-    copy
 }

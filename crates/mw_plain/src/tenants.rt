@@ -1,5 +1,5 @@
 //! The calls on the store of all tenants.
-ghost use Rattle.std.specs.Prelude.{◌≡◌, ◌<◌, ◌-◌, map, IsTrue, MatchOption, IfOk, OnErr};
+ghost use Rattle.std.specs.Prelude.{◌≡◌, ◌<◌, ◌-◌, map, IsTrue, IfOk, OnErr};
 ghost use Rattle.mw_report.specs.Table.{AreWithinLimits};
 ghost use Rattle.mw_words.specs.Change.{is_well_formed};
 
@@ -9,14 +9,13 @@ use crate::tickets::{Start, Task, Ticket};
 use arrayvec::ArrayVec;
 use mw_disk::Disk;
 use mw_report::Figures;
-use mw_words::{Job, Name, Reply};
+use mw_words::{Job, Reply};
 use std::alloc::{AllocError, Global};
 
 impl<D: Disk> Plain<D> {
     ghost use Rattle.mw_plain.specs.Parts.{tenants, words_at, ServesOne};
     ghost use Rattle.mw_plain.specs.Quotas.{used_by};
     ghost use Rattle.mw_plain.specs.Report.{figures_of};
-    ghost use Rattle.mw_plain.specs.Names.{HasNone, IsFirst};
     ghost use Rattle.mw_plain.specs.Running.{AreTasks, AskedAll, ServesAll};
     ghost use Rattle.mw_plain.specs.Tickets.{IsOpen};
     ghost use Rattle.mw_plain.specs.Cases.{StartCase, FinishCase, AskCase};
@@ -100,19 +99,6 @@ impl<D: Disk> Plain<D> {
             replies.push(reply).unwrap();
         }
         Ok(replies)
-    }
-
-    /// The number of the first tenant with this name, and how many words it has; none where no tenant
-    /// has it.
-    pub fn find(&self, name: &Name) -> Option<(u8, u16)>
-        ensures { MatchOption result (HasNone self.now (tenants self.now) name.now.items) (IsFirst self.now name.now.items) }
-    {
-        for (tenant, part) in self.parts.iter().enumerate() {
-            if part.name.as_slice() == name.as_slice() {
-                return Some((tenant as u8, part.words));
-            }
-        }
-        None
     }
 
     /// The figures of every tenant, in order of number, and how many slots of the pool are free.

@@ -20,6 +20,3 @@ mod gates;
 
 pub use doors::{Admission, admit};
 pub use gates::{claim, free, pin, unpin};
-
-#[cfg(test)]
-mod tests;

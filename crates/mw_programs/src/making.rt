@@ -18,9 +18,9 @@ use thiserror::Error;
 enum InitFault {
     /// The command line is wrong, or asks for help.
     #[error("{0}")]
-    Words(clap::Error),
+    Args(clap::Error),
     /// The file is there already, a call of the system failed, or memory was refused.
-    #[error("mwinit: cannot make\n")]
+    #[error("mwinit: cannot make")]
     CannotMake,
 }
 
@@ -36,7 +36,7 @@ struct NewFile<'a> {
     ghost places_fit: { places ≤ MAX_PLACES },
 }
 
-/// Makes the file that the command line `words`, the program's own name first, asks for:
+/// Makes the file that the command line `args`, the program's own name first, asks for:
 /// `mwinit PATH WORDS PLACES`, with 1 to [`MAX_WORDS`] words, all 0, and 1 to [`MAX_PLACES`] record
 /// places. The file and its folder are synced before `made SIZE` is written to `out`.
 ///
@@ -44,31 +44,33 @@ struct NewFile<'a> {
 /// failed, or memory was refused), 2 for a wrong command line. What went wrong is written to `err`.
 pub fn init<R: Files + AllocGlobal, O: Write, E: Write>(
     rt: &R,
-    words: &[String],
+    args: &[String],
     out: &mut O,
     err: &mut E,
 ) -> u8 {
-    match make(rt, words, out) {
+    match make(rt, args, out) {
         Ok(()) => 0,
-        Err(InitFault::Words(fault)) if !fault.use_stderr() => {
+        Err(InitFault::Args(fault)) if !fault.use_stderr() => {
             u8::from(write!(out, "{fault}").is_err())
         }
-        Err(fault) => {
+        Err(InitFault::Args(fault)) => {
+            // The text that clap makes ends with a line feed.
             let _ = write!(err, "{fault}");
-            match fault {
-                InitFault::Words(_) => 2,
-                InitFault::CannotMake => 1,
-            }
+            2
+        }
+        Err(fault) => {
+            let _ = writeln!(err, "{fault}");
+            1
         }
     }
 }
 
 fn make<R: Files + AllocGlobal, O: Write>(
     rt: &R,
-    words: &[String],
+    args: &[String],
     out: &mut O,
 ) -> Result<(), InitFault> {
-    let file = read_args(rt.alloc(), words)?;
+    let file = read_args(rt.alloc(), args)?;
     let made = write_file(rt, &file).and_then(|()| sync_folder(rt, file.path));
     made.and_then(|()| writeln!(out, "made {}", size(file.words, file.places)))
         .map_err(|_| InitFault::CannotMake)
@@ -78,13 +80,13 @@ impl From<clap::Error> for InitFault {
     fn from(fault: clap::Error) -> Self {
         match fault.kind() {
             ErrorKind::OutOfMemory => InitFault::CannotMake,
-            _ => InitFault::Words(fault),
+            _ => InitFault::Args(fault),
         }
     }
 }
 
-fn read_args<'a>(alloc: Global, words: &'a [String]) -> Result<NewFile<'a>, InitFault> {
-    let matches = command(alloc)?.try_get_matches_from(words)?;
+fn read_args<'a>(alloc: Global, args: &'a [String]) -> Result<NewFile<'a>, InitFault> {
+    let matches = command(alloc)?.try_get_matches_from(args)?;
     let path = matches.get_str("PATH");
     let words = matches.get_one::<u16>("WORDS");
     let places = matches.get_one::<u16>("PLACES");

@@ -27,25 +27,38 @@ use thiserror::Error;
 enum ServeFault {
     /// The command line is wrong, or asks for help.
     #[error("{0}")]
-    Words(clap::Error),
+    Args(clap::Error),
     /// The command line doesn't say just one of where to listen and which script to run.
-    #[error("mwserve: refused 1 command\n")]
-    Command,
+    #[error("mwserve: refused 1 command")]
+    Mode,
     /// The tenants file is refused.
-    #[error("{0}\n")]
+    #[error("{0}")]
     Refused(Refusal),
     /// The script can't be opened.
-    #[error("mwserve: cannot read\n")]
+    #[error("mwserve: cannot read")]
     CannotRead,
     /// There is no listening at the address.
-    #[error("mwserve: cannot listen\n")]
+    #[error("mwserve: cannot listen")]
     CannotListen,
     /// The session ended by a fault, of which nothing is said.
     #[error("")]
     Ended,
     /// Memory was refused before the first session.
-    #[error("mwserve: memory\n")]
+    #[error("mwserve: memory")]
     Memory,
+}
+
+impl ServeFault {
+    /// The exit status that tells it.
+    fn status(&self) -> u8 {
+        match self {
+            ServeFault::Args(_) | ServeFault::Mode | ServeFault::Refused(_) => 2,
+            ServeFault::CannotRead
+            | ServeFault::CannotListen
+            | ServeFault::Ended
+            | ServeFault::Memory => 1,
+        }
+    }
 }
 
 impl From<AllocError> for ServeFault {
@@ -63,14 +76,14 @@ impl From<Refusal> for ServeFault {
 impl From<ArgFault> for ServeFault {
     fn from(fault: ArgFault) -> Self {
         match fault {
-            ArgFault::Refused(fault) => ServeFault::Words(fault),
-            ArgFault::Words => ServeFault::Command,
+            ArgFault::Refused(fault) => ServeFault::Args(fault),
+            ArgFault::Mode => ServeFault::Mode,
             ArgFault::Memory => ServeFault::Memory,
         }
     }
 }
 
-/// Serves as the command line `words`, the program's own name first, asks for:
+/// Serves as the command line `args`, the program's own name first, asks for:
 /// `mwserve --tenants FILE [--pool P] [--workers N]` with either `--script FILE`, which runs one session
 /// from the script to `out`, or `--listen ADDR [--connections C]`, which writes `ready PORT` to `out`
 /// and serves clients by N workers, until C connections are served.
@@ -80,7 +93,7 @@ impl From<ArgFault> for ServeFault {
 /// opened, nobody can listen there or memory was refused; 2 for a wrong command line or tenants file.
 /// What went wrong before the first session, and a note on each tenant whose file doesn't open, is
 /// written to `err`.
-pub fn serve<R, O: Write, E: Write>(rt: &R, words: &[String], out: &mut O, err: &mut E) -> u8
+pub fn serve<R, O: Write, E: Write>(rt: &R, args: &[String], out: &mut O, err: &mut E) -> u8
 where
     R: Files
         + AllocGlobal
@@ -90,29 +103,30 @@ where
         + Sync,
     R::File: FileExt + Send,
 {
-    match serve_args(rt, words, out, err) {
+    match serve_args(rt, args, out, err) {
         Ok(()) => 0,
-        Err(ServeFault::Words(fault)) if !fault.use_stderr() => {
+        Err(ServeFault::Args(fault)) if !fault.use_stderr() => {
             u8::from(write!(out, "{fault}").is_err())
         }
-        Err(fault) => {
-            let _ = write!(err, "{fault}");
-            match fault {
-                ServeFault::Words(_) | ServeFault::Command | ServeFault::Refused(_) => 2,
-                ServeFault::CannotRead
-                | ServeFault::CannotListen
-                | ServeFault::Ended
-                | ServeFault::Memory => 1,
-            }
-        }
+        Err(fault) => tell(&fault, err),
     }
+}
+
+fn tell<E: Write>(fault: &ServeFault, err: &mut E) -> u8 {
+    let _ = match fault {
+        // The text that clap makes ends with a line feed.
+        ServeFault::Args(fault) => write!(err, "{fault}"),
+        ServeFault::Ended => Ok(()),
+        _ => writeln!(err, "{fault}"),
+    };
+    fault.status()
 }
 
 /// Faults are looked for in this order: the command line, the tenants file, the tenants' files, of
 /// which notes tell, and the script or the listener.
 fn serve_args<R, O: Write, E: Write>(
     rt: &R,
-    words: &[String],
+    args: &[String],
     out: &mut O,
     err: &mut E,
 ) -> Result<(), ServeFault>
@@ -125,7 +139,7 @@ where
         + Sync,
     R::File: FileExt + Send,
 {
-    let args = read_args(rt.alloc(), words)?;
+    let args = read_args(rt.alloc(), args)?;
     let lines = read_tenants_file(rt, args.tenants.as_str(), args.pool)?;
     let files = open_files(rt, &Notes::new(err), &lines)?;
     let (parts, passes) = EngineParts::new(

@@ -1,3 +1,14 @@
+pub mod Agree
+pub mod Below
+pub mod ChangedBytes
+pub mod Changes
+pub mod Faults
+pub mod Longer
+pub mod Over
+pub mod ReadAgain
+pub mod Reading
 pub mod Sizes
+pub mod Sound
 pub mod Turns
+pub mod Writes
 pub mod Writing

@@ -5,7 +5,7 @@ use Rattle.std.proofs.lemmas.List.{length-append, take_at, drop-replicate, take_
 use Rattle.std.proofs.Math.Seq.{drop-append-add}
 use Rattle.mw_words.specs.declared.jobs.Entry.{Entry}
 use Rattle.mw_record.specs.Layout.{number_bytes, entry_bytes, patched}
-use Rattle.mw_record.specs.Reading.{length-number_bytes}
+use Rattle.mw_record.proofs.Reading.{length-number_bytes}
 
 pub length-entry_bytes : (e : Entry) → length (entry_bytes e) ≡ 16
 length-entry_bytes e =

@@ -1,6 +1,6 @@
 -- Where each part of a file lies, and how it is spelled in bytes. A file is the list of its bytes.
-use Rattle.std.specs.Prelude.{ℕ, ◌+◌, ◌-◌, ◌*◌, List, ◌∷◌, ◌++◌, length, take, drop, replicate, map}
-use Rattle.std.specs.List.{flat_map}
+use Rattle.std.specs.Prelude.{◌≡◌, ℕ, ◌+◌, ◌-◌, ◌*◌, ◌^◌, ◌<◌, List, ◌∷◌, ◌++◌, length, take, drop, replicate, map, get_or}
+use Rattle.std.specs.List.{flat_map, AllByRecursion}
 use Rattle.byteorder.specs.Endian.{little_bytes, little_from}
 use Rattle.mw_words.specs.declared.limits.TheConstants.{MAX_ENTRIES}
 use Rattle.mw_words.specs.declared.jobs.Entry.{Entry}
@@ -51,3 +51,11 @@ pairs_of entries = map (λ e. (e.addr, e.new)) entries
 -- the bytes of a new file: its head, and zeros
 abbrev pub new_file : ℕ → ℕ → List ℕ
 new_file words places = header words places ++ replicate (WORD_SIZE * words + PLACE_SIZE * places) 0
+
+-- each address and each new value fits in eight bytes
+abbrev pub AreNumbers : List Entry → Type 0
+AreNumbers entries = AllByRecursion (λ e. (e.addr < 256 ^ 8) × (e.new < 256 ^ 8)) entries
+
+-- n bytes from i on in one list are those from j on in another
+abbrev pub SameBytes : ℕ → ℕ → ℕ → List ℕ → List ℕ → Type 0
+SameBytes n i j xs ys = (k : ℕ) → k < n → get_or xs (i + k) 0 ≡ get_or ys (j + k) 0

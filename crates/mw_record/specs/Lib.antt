@@ -1,15 +1,4 @@
-pub mod Agree
-pub mod Below
-pub mod Changes
 pub mod Damages
-pub mod Faults
-pub mod Images
 pub mod Layout
-pub mod Longer
-pub mod Over
-pub mod ReadAgain
-pub mod Reading
 pub mod Records
-pub mod Sound
 pub mod Stands
-pub mod Writes

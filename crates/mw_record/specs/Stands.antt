@@ -1,6 +1,6 @@
 -- What a file stands for, said of its home words and its open records alone, and of its bytes.
 use Rattle.std.specs.Prelude.{◌≡◌, ◌<◌, ◌≤◌, ℕ, true, Some, List, length, slice_index}
-use Rattle.mw_words.specs.declared.limits.TheConstants.{MAX_VALUE}
+use Rattle.mw_words.specs.declared.limits.TheConstants.{MAX_VALUE, MAX_WORDS, MAX_PLACES}
 use Rattle.mw_record.specs.Layout.{size}
 use Rattle.mw_record.specs.Records.{Pairs, Kept, all_over, holds, is_record, record_at, home}
 use Rattle.mw_record.specs.Damages.{has_mark, has_sizes, words_of, places_of}
@@ -19,6 +19,13 @@ pub record Stands (words places : ℕ) (homes : ℕ → ℕ) (kept : Kept) (cont
   pub small : (a : ℕ) → a < words → slice_index contents a ≤ MAX_VALUE
   pub formed : (j : ℕ) (ps : Pairs) → j < places → kept j ≡ Some ps → is_record words ps ≡ true
   pub apart : Apart kept places
+
+-- the sizes that a file may have
+pub record MayHave (words places : ℕ) : Type 0 where
+  pub some_word : 1 ≤ words
+  pub words_fit : words ≤ MAX_WORDS
+  pub some_place : 1 ≤ places
+  pub places_fit : places ≤ MAX_PLACES
 
 -- the head tells these sizes, which are ones that a file may have
 pub record IsHead (words places : ℕ) (image : List ℕ) : Type 0 where

@@ -117,7 +117,8 @@ impl Image<'_> {
         self.file.word(addr)
     }
 
-    /// How many entries the record of a place below [`Image::places`] has, 0 where its commit byte is clear.
+    /// How many entries the record of a place below [`Image::places`] has, 0 where its commit byte is
+    /// clear.
     pub fn count(&self, place: u16) -> u8
         requires { place < spec.places_of self.now }
         ensures value { result ≡ length (spec.pairs_in self.now place) }

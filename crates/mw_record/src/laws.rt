@@ -5,10 +5,9 @@ ghost use Rattle.mw_words.specs.declared.jobs.Entry.{Entry};
 ghost use Rattle.mw_words.specs.Change.{is_change, put};
 ghost use Rattle.mw_record.specs.Damages.{damage_of, file_words, pairs_in, places_of, words_in, words_of};
 ghost use Rattle.mw_record.specs.Layout as layout;
-ghost use Rattle.mw_record.specs.ReadAgain.{AreNumbers, MayHave};
-ghost use Rattle.mw_record.specs.Reading.{SameBytes};
+ghost use Rattle.mw_record.specs.Layout.{AreNumbers, SameBytes};
+ghost use Rattle.mw_record.specs.Stands.{MayHave, HasWords, IsHead};
 ghost use Rattle.mw_record.specs.Records.{has_values, is_record, put_pairs, record_at};
-ghost use Rattle.mw_record.specs.Stands.{HasWords, IsHead};
 
 use crate::layout::{BODY_SIZE, COMMITTED, HEAD_SIZE, MAX_FILE};
 use mw_words::{MAX_ENTRIES, MAX_WORDS};
@@ -20,7 +19,8 @@ pub fn header_is_read_again()
         → SameBytes HEAD_SIZE 0 0 image (layout.header words places) → IsHead words places image }
 {}
 
-/// Where [`body`](crate::body) of entries stands behind a set commit byte, the place has the entries' record.
+/// Where [`body`](crate::body) of entries stands behind a commit byte that is set, the place has the
+/// entries' record.
 pub fn body_is_read_again()
     ensures { (image : List ℕ) (words place : ℕ) (entries : List Entry) → length entries ≤ MAX_ENTRIES → AreNumbers entries
         → slice_index image (layout.place_at words place) ≡ COMMITTED

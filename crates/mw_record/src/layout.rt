@@ -23,10 +23,11 @@ pub const BODY_SIZE: usize = 135;
 /// The number of bytes of a record place.
 pub const PLACE_SIZE: usize = 136;
 
-/// The commit byte of an open record place. Every other one is closed.
+/// The commit byte of an open record place: the byte is set. With any other value it is clear, and the
+/// place is closed.
 pub const COMMITTED: u8 = 0xa5;
 
-/// The commit byte that a change's place is given when its values stand in the home words.
+/// The value by which a commit byte is cleared, once the change's values stand in the home words.
 pub const NOT_COMMITTED: u8 = 0;
 
 /// Where the head has the number of words, in four bytes.

@@ -41,6 +41,3 @@ pub use layout::{
     WORD_SIZE, home_at, place_at, size,
 };
 pub use written::{body, header, home_word};
-
-#[cfg(test)]
-mod tests;

@@ -43,7 +43,7 @@ impl Record<'_> {
     }
 
     /// How many entries it has.
-    #[tactic(auto, using(crate::specs::Reading::length_pairs))]
+    #[tactic(auto, using(crate::proofs::Reading::length_pairs))]
     pub(crate) fn len(&self) -> usize
         ensures { result ≡ length self.now }
     {
@@ -51,7 +51,7 @@ impl Record<'_> {
     }
 
     /// The address and the new value of an entry.
-    #[tactic(auto, using(crate::specs::Reading::length_pairs))]
+    #[tactic(auto, using(crate::proofs::Reading::length_pairs))]
     pub(crate) fn entry(&self, i: usize) -> (u64, u64)
         requires { i < length self.now }
         ensures { slice_get self.now i ≡ Some result }

@@ -26,8 +26,8 @@ pub fn header(words: u16, places: u16) -> [u8; HEAD_SIZE]
     head
 }
 
-/// The bytes of a record place after its commit byte: how many entries there are, six zeros, the address
-/// and the new value of each entry, and zeros for the entries that aren't there.
+/// The bytes of a record place after its commit byte: how many entries there are, six zeros, the
+/// address and the new value of each entry, and zeros for the entries that aren't there.
 pub fn body(entries: &Entries) -> [u8; BODY_SIZE]
     ensures { result ≡ spec.body entries.now.items }
 {

@@ -13,6 +13,3 @@ mod table;
 
 pub use figures::{Figures, TenantFigures};
 pub use table::{MAX_REPORT, report_text};
-
-#[cfg(test)]
-mod tests;

@@ -8,7 +8,7 @@ use Rattle.mw_world.specs.declared.config.Config.{Config}
 use Rattle.mw_world.specs.declared.config.Tenant.{Tenant}
 use Rattle.mw_world.specs.declared.events.Interrupted.{Interrupted}
 use Rattle.mw_world.specs.declared.events.Stop.{Stop}
-use Rattle.mw_world.specs.State.{IsConfig, tenant_at, tenants_of}
+use Rattle.mw_world.specs.Definition.State.{IsConfig, tenant_at, tenants_of}
 use Rattle.mw_schedule.specs.declared.schedule.Command.{Command}
 use Rattle.mw_schedule.specs.declared.schedule.Command.TheVariants.{Come, Step, File, Before, To, End, Restart}
 use Rattle.mw_schedule.specs.declared.schedule.Schedule.{Schedule}

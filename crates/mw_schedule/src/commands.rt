@@ -1,14 +1,14 @@
 //! The lines of a schedule that tell what is to happen.
 ghost use Rattle.std.specs.Prelude.{◌≡◌, ◌<◌, IfOk, IfSome};
 ghost use Rattle.mw_words.specs.declared.limits.TheConstants.{MAX_WORKERS as most_workers};
-ghost use Rattle.mw_world.specs.State.{tenants_of};
+ghost use Rattle.mw_world.specs.Definition.State.{tenants_of};
 ghost use Rattle.mw_schedule.specs.Playing.{IsPlayable};
 
-use crate::fields::{cut, number, number_within};
+use crate::fields::{number, number_within};
 use crate::restarts::read_stops;
 use crate::schedule::Command;
 use crate::steps::StepKind;
-use mw_line::{Request, read_line};
+use mw_line::{Request, field, read_line};
 use mw_words::{Job, MAX_WORKERS};
 use mw_world::{Config, Outcome};
 use std::alloc::{AllocError, Global};
@@ -35,12 +35,12 @@ pub fn read_command(
 fn worker_command(line: &[u8], config: &Config) -> Option<Command>
     ensures { IfSome result (IsPlayable config.now) }
 {
-    let (word, rest) = cut(b' ', line)?;
+    let (word, rest) = field(b' ', line)?;
     match word {
         b"step" => Some(Command::Step(worker_of(rest)?)),
         b"end" => Some(Command::End(worker_of(rest)?)),
         _ => {
-            let (worker, rest) = cut(b' ', rest)?;
+            let (worker, rest) = field(b' ', rest)?;
             longer_command(word, worker_of(worker)?, rest, config)
         }
     }
@@ -65,7 +65,7 @@ fn come(worker: u8, rest: &[u8], config: &Config) -> Option<Command>
     requires { worker < most_workers }
     ensures { IfSome result (IsPlayable config.now) }
 {
-    let (name, line) = cut(b' ', rest)?;
+    let (name, line) = field(b' ', rest)?;
     let tenant = tenant_of(config, name)?;
     let words = config.tenants[usize::from(tenant)].words;
     match read_line(line) {

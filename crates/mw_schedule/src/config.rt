@@ -2,12 +2,13 @@
 ghost use Rattle.std.specs.Prelude.{◌≡◌, ◌≤◌, IsTrue, bytes_eq, IfOk, IfSome};
 ghost use Rattle.std.specs.List.{list_any};
 ghost use Rattle.mw_words.specs.Name as name_spec;
-ghost use Rattle.mw_world.specs.State.{IsConfig};
+ghost use Rattle.mw_world.specs.Definition.State.{IsConfig};
 ghost use Rattle.mw_schedule.specs.Playing.{AreNamed, AreTenants, IsNext};
 
-use crate::fields::{behind, cut, number_within};
+use crate::fields::number_within;
 use crate::rest::Lines;
 use arrayvec::ArrayVec;
+use mw_line::{behind, field};
 use mw_words::{
     MAX_POOL, MAX_QUOTA, MAX_TENANTS, MAX_WORDS, MAX_WORKERS, Name, WORN_NUMBER, is_name,
 };
@@ -84,8 +85,8 @@ fn tenant_line<'a>(earlier: &[Tenant], free: u16, lines: Lines<'a>) -> Option<(T
     ensures { IfSome result (λ read. IsNext earlier.now free read.0) }
 {
     let (line, after) = lines.split()?;
-    let (name, numbers) = cut(b' ', behind(b"tenant ", line)?)?;
-    let (words, quota) = cut(b' ', numbers)?;
+    let (name, numbers) = field(b' ', behind(b"tenant ", line)?)?;
+    let (words, quota) = field(b' ', numbers)?;
     if is_tenant(earlier, name) {
         return None;
     }

@@ -2,8 +2,8 @@
 ghost use Rattle.std.specs.Prelude.{◌≡◌, IfSome};
 ghost use Rattle.mw_schedule.specs.Lines.{IsFurther};
 
-use crate::fields::cut;
 use crate::rest::Lines;
+use mw_line::field;
 
 impl<'a> Lines<'a> {
     /// The lines of a text.
@@ -21,7 +21,7 @@ impl<'a> Lines<'a> {
     pub fn split(self) -> Option<(&'a [u8], Lines<'a>)>
         ensures { IfSome result (λ x. IsFurther self.entry x.1) }
     {
-        let Some((line, rest)) = cut(b'\n', self.rest) else {
+        let Some((line, rest)) = field(b'\n', self.rest) else {
             return None;
         };
         let after = Lines {

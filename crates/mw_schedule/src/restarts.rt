@@ -1,11 +1,12 @@
 //! How each tenant's file is stopped and opened again, as a schedule tells it.
 ghost use Rattle.std.specs.Prelude.{◌≡◌, ◌==◌, ◌<◌, ◌≤◌, length, IfOk, IfSome};
 ghost use Rattle.std.specs.List.{list_any};
-ghost use Rattle.mw_world.specs.State.{tenants_of};
+ghost use Rattle.mw_world.specs.Definition.State.{tenants_of};
 ghost use Rattle.mw_schedule.specs.Playing.{AreStops, IsOfWorker};
 
 use crate::commands::{tenant_of, worker_of};
-use crate::fields::{behind, cut, number};
+use crate::fields::number;
+use mw_line::{behind, field};
 use mw_world::{Config, Interrupted, Stop};
 use std::alloc::{AllocError, Global};
 
@@ -85,9 +86,9 @@ fn stop_parts<'a>(
     ensures tenant { IfSome result (λ read. read.0 < tenants_of config.now) }
     ensures worker { IfSome result (λ read. IsOfWorker read.1) }
 {
-    let (name, rest) = cut(b'=', text)?;
-    let (worker, rest) = cut(b',', rest)?;
-    let (calls, rest) = cut(b',', rest)?;
+    let (name, rest) = field(b'=', text)?;
+    let (worker, rest) = field(b',', rest)?;
+    let (calls, rest) = field(b',', rest)?;
     let tenant = tenant_of(config, name)?;
     let interrupted = match (worker, calls) {
         (b"-", b"-") => None,
@@ -96,7 +97,7 @@ fn stop_parts<'a>(
             made: number(calls)?,
         }),
     };
-    match cut(b',', rest) {
+    match field(b',', rest) {
         Some((torn, call)) => Some((tenant, interrupted, torn, Some(number(call)?))),
         None => Some((tenant, interrupted, rest, None)),
     }

@@ -6,6 +6,8 @@ use Rattle.mw_frame.specs.Stream.{Stream, fed, lines_of}
 use Rattle.mw_session.specs.declared.steps.Bound.{Bound}
 use Rattle.mw_session.specs.declared.steps.Step.{Step}
 use Rattle.mw_session.specs.declared.steps.Step.TheVariants.{Refuse, Find, BindAdmin, Ask, Report, Leave, Overrun}
+use Rattle.mw_session.specs.declared.replies.ReplyText.{ReplyText}
+use Rattle.mw_session.specs.declared.replies.ReplyText.TheVariants as text
 use Rattle.mw_session.specs.declared.session.Ended.{Ended}
 use Rattle.mw_session.specs.declared.session.Ended.TheVariants.{Quit, PeerEnd, TooLong, ReadFault, WriteFault, Memory}
 use Rattle.mw_session.specs.Talk.{Answer, Call, End, Quits, Cuts, Heard, Script, after, does, ends, talk}
@@ -66,6 +68,11 @@ end_of (Find name) = None
 end_of BindAdmin = None
 end_of (Ask tenant wanted) = None
 end_of Report = None
+
+-- the bytes that are said to one line
+abbrev pub bytes_of : ReplyText → List ℕ
+bytes_of (text.Line line) = line.items
+bytes_of (text.Report report) = report.items
 
 -- A step gives this text and binds the session so. The service was asked what the step needs, and nothing else.
 pub record Performs (Asked : List Call → Type 0) (step : Step) (old new : Bound) (text : List ℕ) : Type 0 where

@@ -1,23 +1,41 @@
 //! What is said to a line, and what the service is asked for it.
 ghost use Rattle.std.specs.Prelude.{◌≡◌};
 ghost use Rattle.mw_line.specs.Replies as line_spec;
-ghost use Rattle.mw_session.specs.Parts.{Performs};
+ghost use Rattle.mw_session.specs.Parts.{Performs, bytes_of};
 ghost use Rattle.mw_session.specs.Serving.{CanAsk, IsServed, Tells};
 
 use crate::service::Service;
 use crate::steps::{Bound, Step};
 use arrayvec::ArrayVec;
-use mw_line::{ErrCode, Say};
+use mw_line::{ErrCode, MAX_REPLY, Say};
 use mw_report::{MAX_REPORT, report_text};
 
 /// What is said to one line.
-pub type Text = ArrayVec<u8, MAX_REPORT>;
+#[derive(Drop)]
+pub enum ReplyText {
+    /// One line of an answer.
+    Line(ArrayVec<u8, MAX_REPLY>),
+    /// The report.
+    Report(ArrayVec<u8, MAX_REPORT>),
+}
+
+impl ReplyText {
+    /// Its bytes.
+    pub fn bytes(&self) -> &[u8]
+        ensures { result.now ≡ bytes_of self.now }
+    {
+        match self {
+            ReplyText::Line(line) => line,
+            ReplyText::Report(report) => report,
+        }
+    }
+}
 
 /// Takes a step: asks the service what it needs, binds the session, and gives the text.
-pub fn perform<S: Service>(step: &Step, bound: &mut Bound, service: &mut S) -> Text
+pub fn perform<S: Service>(step: &Step, bound: &mut Bound, service: &mut S) -> ReplyText
     requires served { IsServed (S.has_words service.old) bound.old }
     requires can_ask { CanAsk (S.has_words service.old) step.now }
-    ensures performs { Performs (Tells S.tells S.noted S.found service.old service.new) step.now bound.old bound.new result.items }
+    ensures performs { Performs (Tells S.tells S.noted S.found service.old service.new) step.now bound.old bound.new (bytes_of result) }
     ensures served { IsServed (S.has_words service.new) bound.new }
 {
     match step {
@@ -36,15 +54,15 @@ pub fn perform<S: Service>(step: &Step, bound: &mut Bound, service: &mut S) -> T
         Step::Ask(tenant, job) => text(Say::Store(service.ask(*tenant, job))),
         Step::Report => {
             let figures = service.figures();
-            report_text(&figures.tenants, figures.pool_free)
+            ReplyText::Report(report_text(&figures.tenants, figures.pool_free))
         }
         Step::Leave => text(Say::Bye),
         Step::Overrun => text(Say::Err(ErrCode::LineTooLong)),
     }
 }
 
-fn text(say: Say) -> Text
-    ensures { result.items ≡ line_spec.text_of say }
+fn text(say: Say) -> ReplyText
+    ensures { bytes_of result ≡ line_spec.text_of say }
 {
-    Text::try_from(say.text().as_slice()).unwrap()
+    ReplyText::Line(say.text())
 }

@@ -123,7 +123,7 @@ impl Session {
     {
         let step = step_at(self.bound, line);
         let text = perform(&step, &mut self.bound, service);
-        let sent = write_counted(writer, &text, &mut self.written);
+        let sent = write_counted(writer, text.bytes(), &mut self.written);
         if sent.is_err() {
             return sent;
         }

@@ -89,15 +89,30 @@ fn step_for(bound: Bound, request: Request) -> Step
 }
 
 /// Asks for a tenant's job if its addresses are below the tenant's words.
-#[tactic(auto, using(crate::proofs::Jobs::job_steps))]
+#[tactic(auto, using(crate::proofs::Jobs::reaching_is_formed))]
 fn step_for_job(number: u8, words: u16, job: Job) -> Step
     requires { IsTrue (is_well_formed MAX_WORDS job) }
     ensures step { result ≡ spec.step_for (Bound.Tenant number words) (Request.Job job) }
     ensures suits { Suits (Bound.Tenant number words) result }
 {
-    if job.is_well_formed(usize::from(words)) {
+    if reaches(words, &job) {
         Step::Ask(number, job)
     } else {
         Step::Refuse(ErrCode::AddressRange)
+    }
+}
+
+/// Whether the addresses of a job that a tenant with the most words may ask for are below `words`.
+/// Those of a change rise, so its last one decides.
+fn reaches(words: u16, job: &Job) -> bool
+    requires { IsTrue (is_well_formed MAX_WORDS job.now) }
+    ensures { result ≡ spec.reaches words job.now }
+{
+    match job {
+        Job::Get(addr) => *addr < words,
+        Job::Cas(entries) => match entries.last() {
+            Some(last) => last.addr < words,
+            None => false,
+        },
     }
 }

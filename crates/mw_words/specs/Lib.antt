@@ -1,4 +1,3 @@
 pub mod Change
 pub mod Name
-pub mod PatternLaws
 pub mod Patterns

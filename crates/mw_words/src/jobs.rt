@@ -83,7 +83,8 @@ fn is_in_range(entry: &Entry, words: usize) -> bool
     (entry.addr as usize) < words && entry.expected <= MAX_VALUE && entry.new <= MAX_VALUE
 }
 
-fn rises(entries: &[Entry]) -> bool
+/// Whether each address is above the one before it.
+pub fn rises(entries: &[Entry]) -> bool
     ensures { result ≡ spec.rises entries.now }
 {
     let mut lowest: u32 = 0;

@@ -9,6 +9,17 @@ use arrayvec::ArrayVec;
 /// A tenant's name: a letter `a` to `z`, and then up to 15 of `a` to `z`, `0` to `9` and `-`.
 pub type Name = ArrayVec<u8, MAX_NAME>;
 
+/// A name equal to this one. It takes no memory.
+pub fn copy_of_name(name: &Name) -> Name
+    ensures { result ≡ name.now }
+{
+    let mut copy = Name::new();
+    for i in 0..name.len() {
+        copy.push(name[i]);
+    }
+    copy
+}
+
 /// Whether these bytes are a tenant's name.
 pub fn is_name(text: &[u8]) -> bool
     ensures { result ≡ spec.is_name text.now }

@@ -31,22 +31,22 @@ use Rattle.mw_world.specs.declared.notes.Note.TheVariants.{Nothing}
 use Rattle.mw_world.specs.declared.world.calls.Ended.{Ended}
 use Rattle.mw_world.specs.declared.config.Config.{Config}
 use Rattle.mw_world.specs.declared.world.World.{World}
-use Rattle.mw_world.specs.Bits.{bits_at}
-use Rattle.mw_world.specs.Calls.{Called, calling, ends, starts_from, fails_on, is_formed, suits, place_for, device_calls, is_made, status_after, skips, called_at, call_if, moved_if}
-use Rattle.mw_world.specs.Calls as calls
-use Rattle.mw_world.specs.Cells.{Cells, write}
-use Rattle.mw_world.specs.Ending.{called as called_then, Closed, Closes, IsBookOf, SameButFiles, cells_closed, note_closed, ended, is_good, faulted, skipped, refused, makes_none}
-use Rattle.mw_world.specs.Extent.{has_slot}
+use Rattle.mw_world.specs.Memory.Bits.{bits_at}
+use Rattle.mw_world.specs.Definition.Calls.{Called, calling, ends, starts_from, fails_on, is_formed, suits, place_for, device_calls, is_made, status_after, skips, called_at, call_if, moved_if}
+use Rattle.mw_world.specs.Definition.Calls as calls
+use Rattle.mw_world.specs.Definition.Cells.{Cells, write}
+use Rattle.mw_world.specs.Memory.Ending.{called as called_then, Closed, Closes, IsBookOf, SameButFiles, cells_closed, note_closed, ended, is_good, faulted, skipped, refused, makes_none}
+use Rattle.mw_world.specs.Definition.Extent.{has_slot}
 use Rattle.mw_world.specs.declared.claims.Claims.{Claims}
-use Rattle.mw_world.specs.Claims.{Recalls}
-use Rattle.mw_world.specs.Lines.{HasRoomForLine}
-use Rattle.mw_world.specs.Noting.{marked, noted, poised, seated}
-use Rattle.mw_world.specs.Making.{Makes, is_step_there}
-use Rattle.mw_world.specs.Shows.{Leads, Shows}
-use Rattle.mw_world.specs.State.{State, Account, Seat, tenant_at, tenants_of}
-use Rattle.mw_world.specs.Stepping.{HasRoom, told, with_cells, with_file}
-use Rattle.mw_world.specs.Turns.{Made, goes_on, moved, next_attempt}
-use Rattle.mw_world.specs.Ties.{Tie}
+use Rattle.mw_world.specs.Memory.Claims.{Recalls}
+use Rattle.mw_world.specs.Memory.Lines.{HasRoomForLine}
+use Rattle.mw_world.specs.Definition.Noting.{marked, noted, poised, seated}
+use Rattle.mw_world.specs.Memory.Making.{Makes, is_step_there}
+use Rattle.mw_world.specs.Memory.Shows.{Leads, Shows}
+use Rattle.mw_world.specs.Definition.State.{State, Account, Seat, tenant_at, tenants_of}
+use Rattle.mw_world.specs.Memory.Stepping.{HasRoom, told, with_cells, with_file}
+use Rattle.mw_world.specs.Definition.Turns.{Made, goes_on, moved, next_attempt}
+use Rattle.mw_world.specs.Memory.Ties.{Tie}
 use Rattle.mw_world.proofs.Entering.{IsHome, ShowsAccounts, ShowsSeats, set_keeps_at, ShowsOne, accounts_set, element, recelled, upd_here, upd_else}
 use Rattle.mw_world.proofs.Frames.{upd_again}
 use Rattle.mw_world.proofs.MadeSteps.{status_is}

@@ -9,9 +9,9 @@ use Rattle.mw_world.specs.declared.accounts.Account.{Account as AccountInMemory}
 use Rattle.mw_world.specs.declared.config.Config.{Config}
 use Rattle.mw_world.specs.declared.config.TheConstants.{MOST_REQUESTS}
 use Rattle.mw_world.specs.declared.world.World.{World}
-use Rattle.mw_world.specs.Shows.{Shows}
-use Rattle.mw_world.specs.State.{State, tenant_at, tenants_of}
-use Rattle.mw_world.specs.Stepping.{request_for}
+use Rattle.mw_world.specs.Memory.Shows.{Shows}
+use Rattle.mw_world.specs.Definition.State.{State, tenant_at, tenants_of}
+use Rattle.mw_world.specs.Memory.Stepping.{request_for}
 use Rattle.mw_world.proofs.Entering.{element}
 
 -- what a tenant may ask for

@@ -18,18 +18,18 @@ use Rattle.mw_world.specs.declared.notes.Note.{Note}
 use Rattle.mw_world.specs.declared.notes.Note.TheVariants.{Kept, Freed}
 use Rattle.mw_world.specs.declared.seats.Seat.{Seat as SeatInMemory}
 use Rattle.mw_world.specs.declared.world.World.{World}
-use Rattle.mw_world.specs.Cells.{Cells}
-use Rattle.mw_world.specs.Claims.{HasRoomForNote, Recalls}
-use Rattle.mw_world.specs.History.{History}
-use Rattle.mw_world.specs.Lines.{HasRoomForLine, SameLines}
-use Rattle.mw_world.specs.Seats.{seat_of}
-use Rattle.mw_world.specs.Shows.{Shows, ShowsAccount}
-use Rattle.mw_world.specs.State.{State, Seat, Account, no_tenant, tenant_at, tenants_of}
-use Rattle.mw_world.specs.Noting.{more, noted, marked, seated, poised}
-use Rattle.mw_world.specs.Stepping.{HasRoom, entered, came, gave}
-use Rattle.mw_world.specs.Turns.{goes_on}
-use Rattle.mw_world.specs.World.{asked, begun}
-use Rattle.mw_world.specs.Ties.{Tie, AllFit}
+use Rattle.mw_world.specs.Definition.Cells.{Cells}
+use Rattle.mw_world.specs.Memory.Claims.{HasRoomForNote, Recalls}
+use Rattle.mw_world.specs.Definition.History.{History}
+use Rattle.mw_world.specs.Memory.Lines.{HasRoomForLine, SameLines}
+use Rattle.mw_world.specs.Memory.Seats.{seat_of}
+use Rattle.mw_world.specs.Memory.Shows.{Shows, ShowsAccount}
+use Rattle.mw_world.specs.Definition.State.{State, Seat, Account, no_tenant, tenant_at, tenants_of}
+use Rattle.mw_world.specs.Definition.Noting.{more, noted, marked, seated, poised}
+use Rattle.mw_world.specs.Memory.Stepping.{HasRoom, entered, came, gave}
+use Rattle.mw_world.specs.Definition.Turns.{goes_on}
+use Rattle.mw_world.specs.Definition.World.{asked, begun}
+use Rattle.mw_world.specs.Memory.Ties.{Tie, AllFit}
 use Rattle.mw_world.proofs.Frames.{set_here, set_else}
 
 -- the parts of a world in memory are those of this world

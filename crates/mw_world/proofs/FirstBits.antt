@@ -8,16 +8,16 @@ use Rattle.std.proofs.lemmas.Bool.Decides.{nat_tests}
 use Rattle.std.proofs.lemmas.List.{length-map, length-replicate, get_or_past}
 use Rattle.std.proofs.lemmas.List.Elements.{All-get_or}
 use Rattle.mw_words.specs.declared.limits.TheConstants.{MAX_ENTRIES, MAX_VALUE}
-use Rattle.mw_words.specs.declared.places.At.TheVariants.{Door as AtDoor, Gate as AtCommit, Row as AtRow, Data, Status as AtStatus, Count, Addr, Expected, New}
+use Rattle.mw_words.specs.declared.places.At.TheVariants.{Door as AtDoor, Gate as AtGate, Row as AtRow, Data, Status as AtStatus, Count, Addr, Expected, New}
 use Rattle.mw_words.specs.Patterns.{packed_door, packed_gate}
 use Rattle.mw_words.specs.Change.{AreWords, word_at}
 use Rattle.mw_world.specs.declared.config.Config.{Config}
 use Rattle.mw_world.specs.declared.config.Tenant.{Tenant}
-use Rattle.mw_world.specs.State.{IsConfig, no_tenant, tenant_at, tenants_of, first_cells}
-use Rattle.mw_world.specs.Bits.{Bits, entry_at, word_bits}
-use Rattle.mw_world.specs.Ties.{Tie, AllFit}
-use Rattle.mw_world.specs.BitPlaces.{HasPlacesOf}
-use Rattle.mw_world.specs.Openings.{Openings, opening_at, AreOpenings, Gave, first_words, first_door, AreFirstWords}
+use Rattle.mw_world.specs.Definition.State.{IsConfig, no_tenant, tenant_at, tenants_of, first_cells}
+use Rattle.mw_world.specs.Memory.Bits.{Bits, entry_at, word_bits}
+use Rattle.mw_world.specs.Memory.Ties.{Tie, AllFit}
+use Rattle.mw_world.specs.Memory.BitPlaces.{HasPlacesOf}
+use Rattle.mw_world.specs.Memory.Openings.{Openings, opening_at, AreOpenings, Gave, first_words, first_door, AreFirstWords}
 
 -- The shared words were made so.
 pub record StartsAs (config : Config) (openings : Openings) (bits : Bits) : Type 0 where
@@ -72,7 +72,7 @@ words_long config openings words tenant are first =
 -- there are just the shared words of the configuration
 pub start_has_places : (config : Config) (openings : Openings) (bits : Bits) → AreOpenings config openings → StartsAs config openings bits → HasPlacesOf config bits
 start_has_places config openings bits are starts (AtDoor tenant) = of_length bits.doors tenant (tenants_of config) (ap length starts.doors ∙ length-map openings first_door ∙ are.one_each)
-start_has_places config openings bits are starts (AtCommit slot) = of_length bits.gates slot config.pool (long_as bits.gates config.pool _ starts.gates)
+start_has_places config openings bits are starts (AtGate slot) = of_length bits.gates slot config.pool (long_as bits.gates config.pool _ starts.gates)
 start_has_places config openings bits are starts (AtRow worker) = of_length bits.rows worker config.workers (long_as bits.rows config.workers 0 starts.rows)
 start_has_places config openings bits are starts (Data tenant address) =
     of_length (slice_index_or bits.words tenant []) address (tenant_at config tenant).words (words_long config openings bits.words tenant are starts.words)
@@ -143,7 +143,7 @@ pub start_is_tied : (config : Config) (openings : Openings) (bits : Bits) (words
     Gave openings words is_up → Tie bits (first_cells config words is_up)
 start_is_tied config openings bits words is_up are starts gave (AtDoor tenant) =
     subst (λ doors. IfSome (slice_get doors tenant) (λ there. there ≡ packed_door (record { fault = not (is_up tenant); used = 0 }))) (sym starts.doors) (doors_as openings words is_up gave tenant)
-start_is_tied config openings bits words is_up are starts gave (AtCommit slot) = number_in bits.gates config.pool slot _ starts.gates
+start_is_tied config openings bits words is_up are starts gave (AtGate slot) = number_in bits.gates config.pool slot _ starts.gates
 start_is_tied config openings bits words is_up are starts gave (AtRow worker) = number_in bits.rows config.workers worker 0 starts.rows
 start_is_tied config openings bits words is_up are starts gave (Data tenant address) = words_as config openings bits.words words is_up are starts.words gave tenant address
 start_is_tied config openings bits words is_up are starts gave (AtStatus slot) = number_in bits.statuses config.pool slot 0 starts.statuses
@@ -168,7 +168,7 @@ first_low false words address are = omega arith
 pub first_cells_fit : (config : Config) (words : ℕ → List ℕ) (is_up : ℕ → Bool) → IsConfig config → ((tenant : ℕ) → is_up tenant ≡ true → AreWords (words tenant)) →
     AllFit (first_cells config words is_up)
 first_cells_fit config words is_up is are (AtDoor tenant) = omega arith
-first_cells_fit config words is_up is are (AtCommit slot) = (omega arith, omega (arith, is.seq), λ e. refl)
+first_cells_fit config words is_up is are (AtGate slot) = (omega arith, omega (arith, is.seq), λ e. refl)
 first_cells_fit config words is_up is are (AtRow worker) = (omega arith, omega arith, omega arith)
 first_cells_fit config words is_up is are (Data tenant address) = first_low (is_up tenant) (words tenant) address (are tenant)
 first_cells_fit config words is_up is are (AtStatus slot) = tt

@@ -4,9 +4,9 @@ use Rattle.std.proofs.lemmas.Bool.Decides.{nat_tests}
 use Rattle.std.proofs.lemmas.List.{length-replicate}
 use Rattle.mw_actor.specs.Acting.{Acting}
 use Rattle.mw_world.specs.declared.config.Config.{Config}
-use Rattle.mw_world.specs.Counting.{pins_held, frees_at, waits_for, over_workers, slots_taken_for}
-use Rattle.mw_world.specs.Invariant.{Invariant, RequestsAreTheirWorkers, ChangesClaimTheirSlots, SlotsTellTheirChanges, ReferencesArePinned, AttemptsAreTheirWorkers, WordsFollowTheirChanges, LateFinishersLose, HeldWordsAreOwed, FilesAreTold, ChangesHavePlaces, CountsAreRight}
-use Rattle.mw_world.specs.State.{new_world, idle_seat, tenant_at}
+use Rattle.mw_world.specs.Definition.Counting.{pins_held, frees_at, waits_for, over_workers, slots_taken_for}
+use Rattle.mw_world.specs.Claim.Invariant.{Invariant, RequestsAreTheirWorkers, ChangesClaimTheirSlots, SlotsTellTheirChanges, ReferencesArePinned, AttemptsAreTheirWorkers, WordsFollowTheirChanges, LateFinishersLose, HeldWordsAreOwed, FilesAreTold, ChangesHavePlaces, CountsAreRight}
+use Rattle.mw_world.specs.Definition.State.{new_world, idle_seat, tenant_at}
 
 requests : (config : Config) → RequestsAreTheirWorkers config (new_world config)
 requests config = grind (arith, nat_tests)

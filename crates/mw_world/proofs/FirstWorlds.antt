@@ -14,14 +14,14 @@ use Rattle.mw_world.specs.declared.accounts.Account.{Account as AccountInMemory}
 use Rattle.mw_world.specs.declared.config.Config.{Config}
 use Rattle.mw_world.specs.declared.seats.Seat.{Seat}
 use Rattle.mw_world.specs.declared.world.World.{World}
-use Rattle.mw_world.specs.Claims.{Recalls}
-use Rattle.mw_world.specs.History.{no_history}
-use Rattle.mw_world.specs.Openings.{AreOpenings, Gave, Openings, opening_at}
-use Rattle.mw_world.specs.Seats.{seat_of}
-use Rattle.mw_world.specs.Shows.{Shows, ShowsAccount}
-use Rattle.mw_world.specs.Starts.{AreFresh, AreGiven, AreIdle, AreTenants, Each, EachOf, HaveWords}
-use Rattle.mw_world.specs.State.{Account, first_account, first_cells, idle_seat, no_tenant, started, tenant_at, tenants_of}
-use Rattle.mw_world.specs.Ties.{Tie}
+use Rattle.mw_world.specs.Memory.Claims.{Recalls}
+use Rattle.mw_world.specs.Definition.History.{no_history}
+use Rattle.mw_world.specs.Memory.Openings.{AreOpenings, Gave, Openings, opening_at}
+use Rattle.mw_world.specs.Memory.Seats.{seat_of}
+use Rattle.mw_world.specs.Memory.Shows.{Shows, ShowsAccount}
+use Rattle.mw_world.specs.Memory.Starts.{AreFresh, AreGiven, AreIdle, AreTenants, Each, EachOf, HaveWords}
+use Rattle.mw_world.specs.Definition.State.{Account, first_account, first_cells, idle_seat, no_tenant, started, tenant_at, tenants_of}
+use Rattle.mw_world.specs.Memory.Ties.{Tie}
 use Rattle.mw_world.proofs.FirstBits.{first_cells_fit}
 
 pub each_none : {A : Type 0} (P : ℕ → A → Type 0) → Each P []

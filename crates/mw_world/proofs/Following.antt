@@ -4,15 +4,15 @@ use Rattle.mw_words.specs.declared.jobs.Entry.{Entry}
 use Rattle.mw_disk.specs.Facts.{MayLeave}
 use Rattle.mw_disk.specs.Memory.{memory_facts}
 use Rattle.mw_record.specs.Layout.{pairs_of}
-use Rattle.mw_record.specs.ReadAgain.{put-put_pairs}
+use Rattle.mw_record.proofs.ReadAgain.{put-put_pairs}
 use Rattle.mw_file.specs.Keeps.{IsEither}
 use Rattle.mw_lone.specs.Store.{replies as replies_of_marks}
 use Rattle.mw_world_file.specs.declared.device.Device.{Device}
 use Rattle.mw_world_file.specs.declared.device.Device.TheVariants.{Open, Shut}
 use Rattle.mw_world_file.specs.Devices.{disk_under, StandsFor}
 use Rattle.mw_world.specs.declared.accounts.Account.{Account as AccountInMemory}
-use Rattle.mw_world.specs.Headline.{EveryRunServesAlone, EqualMarksHaveEqualReplies, EveryImageIsOfStore, IsFileOfEither, store_words}
-use Rattle.mw_world.specs.State.{tenant_at, tenants_of, marks_of}
+use Rattle.mw_world.specs.Claim.Headline.{EveryRunServesAlone, EqualMarksHaveEqualReplies, EveryImageIsOfStore, IsFileOfEither, store_words}
+use Rattle.mw_world.specs.Definition.State.{tenant_at, tenants_of, marks_of}
 
 -- the replies are a function of the number of words, the quota and the marks
 pub equal_marks : EveryRunServesAlone → EqualMarksHaveEqualReplies

@@ -12,13 +12,13 @@ use Rattle.mw_world.specs.declared.events.Event.{Event}
 use Rattle.mw_world.specs.declared.events.Event.TheVariants.{Come as IsCome, Step as IsStep, File as IsFile, Hand as IsHand, Restart as IsRestart}
 use Rattle.mw_world.specs.declared.events.Stop.{Stop}
 use Rattle.mw_world.specs.declared.world.World.{World}
-use Rattle.mw_world.specs.Happenings.{Happening, Come, Step, File, Hand, Restart}
-use Rattle.mw_world.specs.Restarts.{may_all_be_found, restarted}
-use Rattle.mw_world.specs.Running.{AllStep, AllTell, AreTold, Cannot, CannotRestart, GoesOn, Happens, IsRefused, Stands, StandsAfter, Started, Steps, StopsAt, Tells}
-use Rattle.mw_world.specs.RunLaws.{run-extends}
-use Rattle.mw_world.specs.Shows.{Leads, Shows}
-use Rattle.mw_world.specs.State.{State, new_world, tenants_of}
-use Rattle.mw_world.specs.World.{run, step}
+use Rattle.mw_world.specs.Definition.Happenings.{Happening, Come, Step, File, Hand, Restart}
+use Rattle.mw_world.specs.Definition.Restarts.{may_all_be_found, restarted}
+use Rattle.mw_world.specs.Memory.Running.{AllStep, AllTell, AreTold, Cannot, CannotRestart, GoesOn, Happens, IsRefused, Stands, StandsAfter, Started, Steps, StopsAt, Tells}
+use Rattle.mw_world.proofs.RunsExtend.{run-extends}
+use Rattle.mw_world.specs.Memory.Shows.{Leads, Shows}
+use Rattle.mw_world.specs.Definition.State.{State, new_world, tenants_of}
+use Rattle.mw_world.specs.Definition.World.{run, step}
 
 -- What an event says has happened.
 record HasHappened (config : Config) (new : World) (state : State) (event : Event) : Type 0 where

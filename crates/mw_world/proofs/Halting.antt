@@ -10,11 +10,11 @@ use Rattle.mw_look.specs.declared.steps.Call.TheVariants.{Prepare as PrepareCall
 use Rattle.mw_actor.specs.Acting.{Acting, own_entries}
 use Rattle.mw_world_file.specs.Files.{entries_at}
 use Rattle.mw_world.specs.declared.config.Config.{Config}
-use Rattle.mw_world.specs.Calls.{Called, device_calls, fails_on, is_formed, place_for, starts_from, suits}
-use Rattle.mw_world.specs.Extent.{has_slot}
-use Rattle.mw_world.specs.Restarts.{is_whole_seal, sealing, stopped_call}
-use Rattle.mw_world.specs.State.{State, tenant_at}
-use Rattle.mw_world.specs.Stops.{IsCut, sealed_request}
+use Rattle.mw_world.specs.Definition.Calls.{Called, device_calls, fails_on, is_formed, place_for, starts_from, suits}
+use Rattle.mw_world.specs.Definition.Extent.{has_slot}
+use Rattle.mw_world.specs.Definition.Restarts.{is_whole_seal, sealing, stopped_call}
+use Rattle.mw_world.specs.Definition.State.{State, tenant_at}
+use Rattle.mw_world.specs.Memory.Stops.{IsCut, sealed_request}
 
 -- how many device calls there are, by what a call needs for them
 calls_same : (slot formed fits starts fails : Bool) (calls : ℕ) → slot ≡ true → formed ≡ true → starts ≡ true

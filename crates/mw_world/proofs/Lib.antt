@@ -9,8 +9,10 @@ pub mod Frames
 pub mod GoingOn
 pub mod Halting
 pub mod MadeSteps
+pub mod PlacesApart
 pub mod Reopened
 pub mod Restarted
+pub mod RunsExtend
 pub mod ShownAccounts
 pub mod SoundBooks
 pub mod Turning

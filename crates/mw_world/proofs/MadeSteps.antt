@@ -5,9 +5,9 @@ use Rattle.std.specs.Option.{option_and_then, option_map_or}
 use Rattle.std.proofs.Common.{refl, sym, ap, subst, ◌∙◌, arith}
 use Rattle.std.proofs.lemmas.Option.{same_Some}
 use Rattle.mw_words.specs.declared.places.At.{At}
-use Rattle.mw_words.specs.declared.places.At.TheVariants.{Door as AtDoor, Gate as AtCommit, Status as AtStatus}
+use Rattle.mw_words.specs.declared.places.At.TheVariants.{Door as AtDoor, Gate as AtGate, Status as AtStatus}
 use Rattle.mw_words.specs.Patterns.{packed_door, packed_gate, unpacked_status}
-use Rattle.mw_words.specs.PatternLaws.{door_round, gate_round, status_round}
+use Rattle.mw_words.proofs.PatternLaws.{door_round, gate_round, status_round}
 use Rattle.mw_pool.specs.Moves.{after_unpin}
 use Rattle.mw_look.specs.declared.steps.Kind.{Kind}
 use Rattle.mw_look.specs.declared.steps.Kind.TheVariants.{Unpin as UnpinKind, Drop as DropKind, Fault as FaultKind}
@@ -19,26 +19,26 @@ use Rattle.mw_look.specs.declared.news.News.{News}
 use Rattle.mw_look.specs.declared.news.News.TheVariants.{Won, Lost}
 use Rattle.mw_look.specs.News.{news_of, news_of_bits, seen}
 use Rattle.mw_look.specs.Places.{Val, Fits, pack}
-use Rattle.mw_look.specs.PlaceLaws.{packs_are_seen}
+use Rattle.mw_look.proofs.PlaceLaws.{packs_are_seen}
 use Rattle.mw_look.specs.Steps.{Step, Load, Change, File, op_of, place}
-use Rattle.mw_world.specs.Cells.{Cells, read, write}
-use Rattle.mw_world.specs.Changes.{Shape, Exchange, Store, Fetch, shape_of, fetched, changed, done}
-use Rattle.mw_world.specs.Bits.{Bits, bits_at, put_bits, is_there, SamePlaces}
-use Rattle.mw_world.specs.Ties.{Tie, AllFit}
+use Rattle.mw_world.specs.Definition.Cells.{Cells, read, write}
+use Rattle.mw_world.specs.Definition.Changes.{Shape, Exchange, Store, Fetch, shape_of, fetched, changed, done}
+use Rattle.mw_world.specs.Memory.Bits.{Bits, bits_at, put_bits, is_there, SamePlaces}
+use Rattle.mw_world.specs.Memory.Ties.{Tie, AllFit}
 use Rattle.mw_look.specs.Steps.{StepFits}
-use Rattle.mw_world.specs.Making.{fetched_bits, bits_changed, got_by, bits_after, got_after, is_step_there, cells_after, news_after, Makes}
+use Rattle.mw_world.specs.Memory.Making.{fetched_bits, bits_changed, got_by, bits_after, got_after, is_step_there, cells_after, news_after, Makes}
 use Rattle.mw_world.proofs.Tying.{put_ties, write_fits, put_keeps_places}
 
 -- what a fetch makes of what stands at a place is in range
 fetched_fits : (kind : Kind) (at : At) (x : Val at) → Fits at x → Fits at (fetched kind at x)
-fetched_fits UnpinKind (AtCommit slot) gate fits = (omega (arith, fits.0), fits.1, λ e. omega (arith, fits.2 e))
+fetched_fits UnpinKind (AtGate slot) gate fits = (omega (arith, fits.0), fits.1, λ e. omega (arith, fits.2 e))
 fetched_fits DropKind (AtDoor tenant) door fits = omega (arith, fits)
 fetched_fits FaultKind (AtDoor tenant) door fits = fits
 fetched_fits kind at x fits = fits
 
 -- and its bits are those that a fetch makes
 fetched_packs : (kind : Kind) (at : At) (x : Val at) → Fits at x → fetched_bits kind at (pack at x) ≡ pack at (fetched kind at x)
-fetched_packs UnpinKind (AtCommit slot) gate fits = ap (λ o. option_map_or (λ g. packed_gate (after_unpin g)) o (packed_gate gate)) (gate_round gate fits)
+fetched_packs UnpinKind (AtGate slot) gate fits = ap (λ o. option_map_or (λ g. packed_gate (after_unpin g)) o (packed_gate gate)) (gate_round gate fits)
 fetched_packs DropKind (AtDoor tenant) door fits = ap (λ o. option_map_or (λ d. packed_door (record d { used = d.used - 1 })) o (packed_door door)) (door_round door fits)
 fetched_packs FaultKind (AtDoor tenant) door fits = ap (λ o. option_map_or (λ d. packed_door (record d { fault = true })) o (packed_door door)) (door_round door fits)
 fetched_packs kind at x fits = refl

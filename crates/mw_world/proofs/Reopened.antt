@@ -15,11 +15,11 @@ use Rattle.mw_world.specs.declared.events.Interrupted.{Interrupted}
 use Rattle.mw_world.specs.declared.events.Stop.{Stop}
 use Rattle.mw_world.specs.declared.world.halts.Halt.{Halt}
 use Rattle.mw_world.specs.declared.world.World.{World}
-use Rattle.mw_world.specs.Restarts.{doubt_then, interrupted_request, is_sealed_then, may_fail, may_find, may_interrupt, takes, under_way}
-use Rattle.mw_world.specs.Running.{IsFoundBy, fails_in, interrupted_in, stop_of, torn_in}
-use Rattle.mw_world.specs.Shows.{Shows, ShowsAccount}
-use Rattle.mw_world.specs.State.{State, marks_in, tenant_at}
-use Rattle.mw_world.specs.Stops.{AllReopen, IsHalted, IsReopened, Reopens}
+use Rattle.mw_world.specs.Definition.Restarts.{doubt_then, interrupted_request, is_sealed_then, may_fail, may_find, may_interrupt, takes, under_way}
+use Rattle.mw_world.specs.Memory.Running.{IsFoundBy, fails_in, interrupted_in, stop_of, torn_in}
+use Rattle.mw_world.specs.Memory.Shows.{Shows, ShowsAccount}
+use Rattle.mw_world.specs.Definition.State.{State, marks_in, tenant_at}
+use Rattle.mw_world.specs.Memory.Stops.{AllReopen, IsHalted, IsReopened, Reopens}
 
 all_true : (a b c : Bool) → a ≡ true → b ≡ true → c ≡ true → (a && b && c) ≡ true
 all_true true true true a b c = refl

@@ -8,21 +8,21 @@ use Rattle.std.proofs.lemmas.List.{get_or_append_left, get_or_past, length_push}
 use Rattle.std.proofs.lemmas.Option.{slice_get_cases, slice_get_within}
 use Rattle.mw_words.specs.Change.{AreWords}
 use Rattle.mw_record.specs.Damages.{file_words, words_of, places_of}
-use Rattle.mw_record.specs.Sound.{are_words, words_iff}
+use Rattle.mw_record.proofs.Sound.{are_words, words_iff}
 use Rattle.mw_world.specs.declared.accounts.Account.{Account as AccountInMemory}
 use Rattle.mw_world.specs.declared.config.Config.{Config}
 use Rattle.mw_world.specs.declared.events.Stop.{Stop}
 use Rattle.mw_world.specs.declared.world.World.{World}
-use Rattle.mw_world.specs.Claims.{Recalls}
-use Rattle.mw_world.specs.Happenings.{Found}
-use Rattle.mw_world.specs.History.{no_history}
-use Rattle.mw_world.specs.Restarts.{found_of, may_all_be_found, may_be_found, nothing_found, opened_file, reopened, restart, restarted, under_way}
-use Rattle.mw_world.specs.Running.{IsFoundBy, Started, are_named, fails_in, interrupted_in, stop_of, torn_in}
-use Rattle.mw_world.specs.Shows.{Shows, ShowsAccount}
-use Rattle.mw_world.specs.Starts.{AreIdle, HaveWords}
-use Rattle.mw_world.specs.State.{Account, State, first_cells, started, tenant_at, tenants_of}
-use Rattle.mw_world.specs.Stops.{AreReopened, IsReopened}
-use Rattle.mw_world.specs.Ties.{Tie}
+use Rattle.mw_world.specs.Memory.Claims.{Recalls}
+use Rattle.mw_world.specs.Definition.Happenings.{Found}
+use Rattle.mw_world.specs.Definition.History.{no_history}
+use Rattle.mw_world.specs.Definition.Restarts.{found_of, may_all_be_found, may_be_found, nothing_found, opened_file, reopened, restart, restarted, under_way}
+use Rattle.mw_world.specs.Memory.Running.{IsFoundBy, Started, are_named, fails_in, interrupted_in, stop_of, torn_in}
+use Rattle.mw_world.specs.Memory.Shows.{Shows, ShowsAccount}
+use Rattle.mw_world.specs.Memory.Starts.{AreIdle, HaveWords}
+use Rattle.mw_world.specs.Definition.State.{Account, State, first_cells, started, tenant_at, tenants_of}
+use Rattle.mw_world.specs.Memory.Stops.{AreReopened, IsReopened}
+use Rattle.mw_world.specs.Memory.Ties.{Tie}
 use Rattle.mw_world.proofs.FirstWorlds.{AreShown, have_words, shows_start, zeros_are_words}
 
 pub none_is : {A : Type 0} (o : Option A) (b : Bool) → is_some o ≡ not b → b ≡ is_none o

@@ -4,8 +4,8 @@ use Rattle.std.proofs.Common.{sym, ap, subst, ◌∙◌, get_or}
 use Rattle.std.proofs.lemmas.Option.{slice_get_read}
 use Rattle.mw_world.specs.declared.accounts.Account.{Account as AccountInMemory}
 use Rattle.mw_world.specs.declared.world.World.{World}
-use Rattle.mw_world.specs.Shows.{ShowsAccount}
-use Rattle.mw_world.specs.State.{Account, marks_in, tenants_of}
+use Rattle.mw_world.specs.Memory.Shows.{ShowsAccount}
+use Rattle.mw_world.specs.Definition.State.{Account, marks_in, tenants_of}
 
 -- the tenant that was read is the tenant with that number
 pub account_read : (world : World) (index tenant : ℕ) (shown : AccountInMemory) → tenant < tenants_of world.config → index ≡ tenant

@@ -5,9 +5,9 @@ use Rattle.std.specs.Coded.{Coded-set, coded_ℕ}
 use Rattle.mw_world_file.specs.SoundBooks.{sound_by}
 use Rattle.mw_world.specs.declared.accounts.Account.{Account as AccountInMemory}
 use Rattle.mw_world.specs.declared.config.Config.{Config}
-use Rattle.mw_world.specs.Starts.{AreFresh, AreTenants}
-use Rattle.mw_world.specs.State.{first_account, tenant_at, tenants_of}
-use Rattle.mw_world.specs.TenantBooks.{AreSound}
+use Rattle.mw_world.specs.Memory.Starts.{AreFresh, AreTenants}
+use Rattle.mw_world.specs.Definition.State.{first_account, tenant_at, tenants_of}
+use Rattle.mw_world.specs.Memory.TenantBooks.{AreSound}
 use Rattle.mw_world.proofs.FirstWorlds.{fresh_shown}
 
 -- each has as many words as its tenant

@@ -17,17 +17,17 @@ use Rattle.mw_world.specs.declared.config.Config.{Config}
 use Rattle.mw_world.specs.declared.notes.Note.{Note}
 use Rattle.mw_world.specs.declared.seats.Seat.{Seat as SeatInMemory}
 use Rattle.mw_world.specs.declared.world.World.{World}
-use Rattle.mw_world.specs.BitPlaces.{HasPlacesOf}
-use Rattle.mw_world.specs.Bits.{Bits}
-use Rattle.mw_world.specs.Cells.{Cells, read, write}
-use Rattle.mw_world.specs.Changes.{Shape, Exchange, Store, Fetch, shape_of, changed, done}
-use Rattle.mw_world.specs.Making.{is_step_there, cells_after, news_after}
-use Rattle.mw_world.specs.Notes.{note_of}
-use Rattle.mw_world.specs.Shows.{Shows}
-use Rattle.mw_world.specs.State.{State}
-use Rattle.mw_world.specs.Stepping.{with_cells, entered, attempt_after, told, meaning}
+use Rattle.mw_world.specs.Memory.BitPlaces.{HasPlacesOf}
+use Rattle.mw_world.specs.Memory.Bits.{Bits}
+use Rattle.mw_world.specs.Definition.Cells.{Cells, read, write}
+use Rattle.mw_world.specs.Definition.Changes.{Shape, Exchange, Store, Fetch, shape_of, changed, done}
+use Rattle.mw_world.specs.Memory.Making.{is_step_there, cells_after, news_after}
+use Rattle.mw_world.specs.Definition.Notes.{note_of}
+use Rattle.mw_world.specs.Memory.Shows.{Shows}
+use Rattle.mw_world.specs.Definition.State.{State}
+use Rattle.mw_world.specs.Memory.Stepping.{with_cells, entered, attempt_after, told, meaning}
 use Rattle.mw_world.proofs.Entering.{element}
-use Rattle.mw_world.specs.Turns.{may_make, turn, turned, moved, made_of}
+use Rattle.mw_world.specs.Definition.Turns.{may_make, turn, turned, moved, made_of}
 
 -- what follows a change, by what it leaves and what is told of it
 changed_is : {A : Type 0} (shape : Shape) (kind : Kind) (at : At) (from to : Val at) (cells : Cells) (rest : Cells → News → A)

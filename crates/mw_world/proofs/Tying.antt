@@ -7,12 +7,12 @@ use Rattle.std.proofs.lemmas.List.{map-set, get_or-map}
 use Rattle.std.proofs.lemmas.Bool.Decides.{nat_tests}
 use Rattle.mw_words.specs.declared.limits.TheConstants.{MAX_ENTRIES}
 use Rattle.mw_words.specs.declared.places.At.{At}
-use Rattle.mw_words.specs.declared.places.At.TheVariants.{Door as AtDoor, Gate as AtCommit, Row as AtRow, Data, Status as AtStatus, Count, Addr, Expected, New}
+use Rattle.mw_words.specs.declared.places.At.TheVariants.{Door as AtDoor, Gate as AtGate, Row as AtRow, Data, Status as AtStatus, Count, Addr, Expected, New}
 use Rattle.mw_look.specs.Places.{Val, Fits, pack}
-use Rattle.mw_world.specs.Cells.{Cells, read, write}
-use Rattle.mw_world.specs.CellLaws.{read-same, read-other}
-use Rattle.mw_world.specs.Bits.{Bits, bits_at, put_bits, is_there, entry_at, with_entry, word_bits, with_word, SamePlaces}
-use Rattle.mw_world.specs.Ties.{Tie, AllFit}
+use Rattle.mw_world.specs.Definition.Cells.{Cells, read, write}
+use Rattle.mw_world.proofs.PlacesApart.{read-same, read-other}
+use Rattle.mw_world.specs.Memory.Bits.{Bits, bits_at, put_bits, is_there, entry_at, with_entry, word_bits, with_word, SamePlaces}
+use Rattle.mw_world.specs.Memory.Ties.{Tie, AllFit}
 
 -- an element that was set, if there is one
 got_same : (xs : List ℕ) (i x : ℕ) → IfSome (slice_get (slice_set xs i x) i) (λ y. y ≡ x)
@@ -92,7 +92,7 @@ word_other words i j k l x apart =
 -- what was put at a place stands there, if it is there
 bits_same : (bits : Bits) (at : At) (put : ℕ) → IfSome (bits_at (put_bits bits at put) at) (λ there. there ≡ put)
 bits_same bits (AtDoor tenant) put = got_same bits.doors tenant put
-bits_same bits (AtCommit slot) put = got_same bits.gates slot put
+bits_same bits (AtGate slot) put = got_same bits.gates slot put
 bits_same bits (AtRow worker) put = got_same bits.rows worker put
 bits_same bits (Data tenant address) put = word_same bits.words tenant address put
 bits_same bits (AtStatus slot) put = got_same bits.statuses slot put
@@ -103,7 +103,7 @@ bits_same bits (New slot entry) put = entry_same bits.news slot entry put
 
 bits_there : (bits : Bits) (at : At) (put : ℕ) → is_there (put_bits bits at put) at ≡ is_there bits at
 bits_there bits (AtDoor tenant) put = got_there bits.doors tenant put
-bits_there bits (AtCommit slot) put = got_there bits.gates slot put
+bits_there bits (AtGate slot) put = got_there bits.gates slot put
 bits_there bits (AtRow worker) put = got_there bits.rows worker put
 bits_there bits (Data tenant address) put = word_there bits.words tenant address put
 bits_there bits (AtStatus slot) put = got_there bits.statuses slot put
@@ -116,8 +116,8 @@ bits_there bits (New slot entry) put = entry_there bits.news slot entry put
 bits_other : (bits : Bits) (at other : At) (put : ℕ) → other ≢ at → bits_at (put_bits bits at put) other ≡ bits_at bits other
 bits_other bits (AtDoor i) (AtDoor k) put apart = got_other bits.doors i k put (λ e. apart (ap AtDoor e))
 bits_other bits (AtDoor i) other put apart = refl
-bits_other bits (AtCommit i) (AtCommit k) put apart = got_other bits.gates i k put (λ e. apart (ap AtCommit e))
-bits_other bits (AtCommit i) other put apart = refl
+bits_other bits (AtGate i) (AtGate k) put apart = got_other bits.gates i k put (λ e. apart (ap AtGate e))
+bits_other bits (AtGate i) other put apart = refl
 bits_other bits (AtRow i) (AtRow k) put apart = got_other bits.rows i k put (λ e. apart (ap AtRow e))
 bits_other bits (AtRow i) other put apart = refl
 bits_other bits (Data i j) (Data k l) put apart = word_other bits.words i j k l put (λ p q. apart (λ d. Data (p d) (q d)))
@@ -147,8 +147,8 @@ one i k at apart = elim (cases_eq k i) [ inl e ↦ inl (ap at e) | inr ne ↦ in
 place_cases : (at other : At) → (other ≡ at) ⊎ (other ≢ at)
 place_cases (AtDoor i) (AtDoor k) = one i k AtDoor (λ ne q. let e : k ≡ i = cc in ne e)
 place_cases (AtDoor i) other = inr (λ q. cc)
-place_cases (AtCommit i) (AtCommit k) = one i k AtCommit (λ ne q. let e : k ≡ i = cc in ne e)
-place_cases (AtCommit i) other = inr (λ q. cc)
+place_cases (AtGate i) (AtGate k) = one i k AtGate (λ ne q. let e : k ≡ i = cc in ne e)
+place_cases (AtGate i) other = inr (λ q. cc)
 place_cases (AtRow i) (AtRow k) = one i k AtRow (λ ne q. let e : k ≡ i = cc in ne e)
 place_cases (AtRow i) other = inr (λ q. cc)
 place_cases (Data i j) (Data k l) = either i j k l Data (λ ne q. let e : k ≡ i = cc in let f : l ≡ j = cc in ne e f)
@@ -229,7 +229,7 @@ word_nowhere (w ∷ ws) (suc tenant) address x past = ap (λ vs. w ∷ vs) (word
 -- where there is no such place, nothing changes
 pub put_nowhere : (bits : Bits) (at : At) (put : ℕ) → is_there bits at ≡ false → put_bits bits at put ≡ bits
 put_nowhere bits (AtDoor tenant) put past = ap (λ list. record bits { doors = list }) (set_nowhere bits.doors tenant put past)
-put_nowhere bits (AtCommit slot) put past = ap (λ list. record bits { gates = list }) (set_nowhere bits.gates slot put past)
+put_nowhere bits (AtGate slot) put past = ap (λ list. record bits { gates = list }) (set_nowhere bits.gates slot put past)
 put_nowhere bits (AtRow worker) put past = ap (λ list. record bits { rows = list }) (set_nowhere bits.rows worker put past)
 put_nowhere bits (Data tenant address) put past = ap (λ list. record bits { words = list }) (word_nowhere bits.words tenant address put past)
 put_nowhere bits (AtStatus slot) put past = ap (λ list. record bits { statuses = list }) (set_nowhere bits.statuses slot put past)

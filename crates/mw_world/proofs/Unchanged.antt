@@ -6,9 +6,9 @@ use Rattle.std.proofs.lemmas.Bool.{cases_eq}
 use Rattle.mw_world.specs.declared.accounts.Account.{Account as AccountInMemory}
 use Rattle.mw_world.specs.declared.lines.Lines.{Lines}
 use Rattle.mw_world.specs.declared.world.World.{World}
-use Rattle.mw_world.specs.Claims.{SameClaims}
-use Rattle.mw_world.specs.Lines.{SameLines}
-use Rattle.mw_world.specs.Staying.{IsUnchanged, Kept, SameBooks, SameBooksBut, book_at, kept_at, kept_of}
+use Rattle.mw_world.specs.Memory.Claims.{SameClaims}
+use Rattle.mw_world.specs.Memory.Lines.{SameLines}
+use Rattle.mw_world.specs.Memory.Staying.{IsUnchanged, Kept, SameBooks, SameBooksBut, book_at, kept_at, kept_of}
 use Rattle.mw_world.proofs.Entering.{element}
 use Rattle.mw_world.proofs.Frames.{set_here, set_else}
 

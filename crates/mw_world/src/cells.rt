@@ -4,9 +4,9 @@ ghost use Rattle.std.specs.Option.{option_and_then};
 ghost use Rattle.mw_words.specs.declared.places.At.TheVariants.{Status as StatusOf};
 ghost use Rattle.mw_words.specs.Patterns.{unpacked_status};
 ghost use Rattle.mw_look.specs.Places.{Val, pack};
-ghost use Rattle.mw_world.specs.Cells.{Cells as WhatStands, read, write};
-ghost use Rattle.mw_world.specs.Bits.{bits_at, put_bits, is_there, entry_at, with_entry, word_bits, with_word, SamePlaces};
-ghost use Rattle.mw_world.specs.Ties.{AllFit, Tie};
+ghost use Rattle.mw_world.specs.Definition.Cells.{Cells as WhatStands, read, write};
+ghost use Rattle.mw_world.specs.Memory.Bits.{bits_at, put_bits, is_there, entry_at, with_entry, word_bits, with_word, SamePlaces};
+ghost use Rattle.mw_world.specs.Memory.Ties.{AllFit, Tie};
 
 use mw_words::{At, MAX_ENTRIES, Status};
 use std::marker::Model;
@@ -39,7 +39,7 @@ pub(crate) struct Cells {
 
 impl Model for Cells {
     ghost use Rattle.std.specs.Prelude.{map};
-    ghost use Rattle.mw_world.specs.Bits.{Bits};
+    ghost use Rattle.mw_world.specs.Memory.Bits.{Bits};
 
     ghost Value = { Bits };
 

@@ -1,9 +1,9 @@
 //! For which request each slot was claimed.
 ghost use Rattle.std.specs.Prelude.{◌≡◌, ℕ, OnOk};
 ghost use Rattle.mw_actor.specs.Acting.{Acting};
-ghost use Rattle.mw_world.specs.History.{History, no_history};
-ghost use Rattle.mw_world.specs.Noting.{noted};
-ghost use Rattle.mw_world.specs.Claims.{HasRoomForNote, Recalls, SameClaims, is_spoiled_in, latest, request_in};
+ghost use Rattle.mw_world.specs.Definition.History.{History, no_history};
+ghost use Rattle.mw_world.specs.Definition.Noting.{noted};
+ghost use Rattle.mw_world.specs.Memory.Claims.{HasRoomForNote, Recalls, SameClaims, is_spoiled_in, latest, request_in};
 
 use crate::notes::Note;
 use mw_actor::Slot;

@@ -1,10 +1,9 @@
 //! What holds of the definitions of the world: facts for proofs to cite. The functions do nothing.
-ghost use Rattle.mw_world.specs.CellLaws.{ReadSame, ReadOther};
-ghost use Rattle.mw_world.specs.Examples.{ComeOut};
-ghost use Rattle.mw_world.specs.Headline.{EqualMarksHaveEqualReplies, EveryImageIsOfStore, EveryRunServesAlone};
-ghost use Rattle.mw_world.specs.Invariant.{Invariant};
-ghost use Rattle.mw_world.specs.RunLaws.{RunExtends};
-ghost use Rattle.mw_world.specs.State.{new_world};
+ghost use Rattle.mw_world.specs.Claim.Examples.{ComeOut};
+ghost use Rattle.mw_world.specs.Claim.Headline.{EqualMarksHaveEqualReplies, EveryImageIsOfStore, EveryRunServesAlone};
+ghost use Rattle.mw_world.specs.Claim.Invariant.{Invariant};
+ghost use Rattle.mw_world.specs.Claim.Laws.{ReadSame, ReadOther, RunExtends};
+ghost use Rattle.mw_world.specs.Definition.State.{new_world};
 ghost use Rattle.mw_world.specs.declared.config.Config.{Config};
 
 /// What was written at a place stands there, and all other places are as they were.

@@ -1,11 +1,11 @@
 //! The marks of a tenant.
 ghost use Rattle.std.specs.Prelude.{◌≡◌, [], ◌∷◌, ◌++◌, Option, Some, IfOk, OnOk, length, slice_set};
-ghost use Rattle.mw_world.specs.Claims.{Recalls};
-ghost use Rattle.mw_world.specs.History.{History};
-ghost use Rattle.mw_world.specs.Lines.{HasRoomForLine, SameLines};
-ghost use Rattle.mw_world.specs.Noting.{late_unless, marked, more, more_unless};
-ghost use Rattle.mw_world.specs.Seats.{seat_of};
-ghost use Rattle.mw_world.specs.State.{marks_in};
+ghost use Rattle.mw_world.specs.Memory.Claims.{Recalls};
+ghost use Rattle.mw_world.specs.Definition.History.{History};
+ghost use Rattle.mw_world.specs.Memory.Lines.{HasRoomForLine, SameLines};
+ghost use Rattle.mw_world.specs.Definition.Noting.{late_unless, marked, more, more_unless};
+ghost use Rattle.mw_world.specs.Memory.Seats.{seat_of};
+ghost use Rattle.mw_world.specs.Definition.State.{marks_in};
 
 use crate::claims::Claims;
 use crate::notes::Note;

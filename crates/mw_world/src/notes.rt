@@ -1,6 +1,6 @@
 //! What a step of a request means.
 ghost use Rattle.std.specs.Prelude.{◌≡◌};
-ghost use Rattle.mw_world.specs.Notes.{answer_note, door_note, exchange_note, give_up_note, inspect_note, note_of, read_door_note, read_note, read_point, read_status_note, read_word_note, recheck_note, release_note, resolve_note, won_note};
+ghost use Rattle.mw_world.specs.Definition.Notes.{answer_note, door_note, exchange_note, give_up_note, inspect_note, note_of, read_door_note, read_note, read_point, read_status_note, read_word_note, recheck_note, release_note, resolve_note, won_note};
 
 use mw_actor::{Actor, Point, Slot, Sweep};
 use mw_look::{After, News, Point as ReadPoint, Trail};

@@ -1,11 +1,11 @@
 //! The workers.
 ghost use Rattle.std.specs.Prelude.{◌≡◌, List, Option, length};
 ghost use Rattle.mw_lone.specs.declared.marks.Mark.{Mark};
-ghost use Rattle.mw_world.specs.Claims.{Recalls};
-ghost use Rattle.mw_world.specs.History.{History};
-ghost use Rattle.mw_world.specs.Noting.{seated};
-ghost use Rattle.mw_world.specs.Seats.{seat_of};
-ghost use Rattle.mw_world.specs.State.{idle_seat};
+ghost use Rattle.mw_world.specs.Memory.Claims.{Recalls};
+ghost use Rattle.mw_world.specs.Definition.History.{History};
+ghost use Rattle.mw_world.specs.Definition.Noting.{seated};
+ghost use Rattle.mw_world.specs.Memory.Seats.{seat_of};
+ghost use Rattle.mw_world.specs.Definition.State.{idle_seat};
 
 use crate::claims::Claims;
 use crate::notes::Note;

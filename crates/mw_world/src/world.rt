@@ -1,8 +1,8 @@
 //! A world in memory.
 ghost use Rattle.std.specs.Prelude.{◌≡◌, length};
-ghost use Rattle.mw_world.specs.State.{IsConfig};
-ghost use Rattle.mw_world.specs.BitPlaces.{HasPlacesOf};
-ghost use Rattle.mw_world.specs.TenantBooks.{AreSound};
+ghost use Rattle.mw_world.specs.Definition.State.{IsConfig};
+ghost use Rattle.mw_world.specs.Memory.BitPlaces.{HasPlacesOf};
+ghost use Rattle.mw_world.specs.Memory.TenantBooks.{AreSound};
 
 use crate::accounts::Account;
 use crate::cells::Cells;

@@ -107,16 +107,16 @@ share_none entries others clear = by (share_a_word entries others) refl where
   by true is = absurd (let e : false ≡ true = sym (ap not is) ∙ clear in cc)
 
 -- the change of a place may be sealed
-pub may_seal : (slots : List PlaceState) (places : List KeptPlace) (number : ℕ) (entries : List Entry) → AreKept slots places → place_in places number ≡ Prepared entries
-    → list_all (λ place. is_clear entries (told place)) places ≡ true → MaySeal slots number
-may_seal slots places number entries kept here all = record {
+pub may_seal : (states : List PlaceState) (places : List KeptPlace) (number : ℕ) (entries : List Entry) → AreKept states places → place_in places number ≡ Prepared entries
+    → list_all (λ place. is_clear entries (told place)) places ≡ true → MaySeal states number
+may_seal states places number entries kept here all = record {
   prepared = kept.stages number ∙ ap stage_told here;
   apart = λ other a sealed held.
       let is : place_in places other ≡ Sealed (entries_in (place_in places other)) = sealed_told (place_in places other) (sym (kept.stages other) ∙ sealed) in
       let clear : is_clear entries (place_in places other) ≡ true = clear_in other in
       let none : share_a_word entries (entries_in (place_in places other)) ≡ false = share_none entries (entries_in (place_in places other)) (sym (ap (is_clear entries) is) ∙ clear) in
-      let mine : writes_of_place slots number ≡ pairs_of entries = kept.writes number (ap is_empty here) ∙ ap (λ q. pairs_of (entries_in q)) here in
-      let its : writes_of_place slots other ≡ pairs_of (entries_in (place_in places other)) = kept.writes other (ap is_empty is) in
+      let mine : writes_of_place states number ≡ pairs_of entries = kept.writes number (ap is_empty here) ∙ ap (λ q. pairs_of (entries_in q)) here in
+      let its : writes_of_place states other ≡ pairs_of (entries_in (place_in places other)) = kept.writes other (ap is_empty is) in
       ap (λ ps. holds ps a) its ∙ no_common entries (entries_in (place_in places other)) a none (sym (ap (λ ps. holds ps a) mine) ∙ held);
 } where
   clear_in : (k : ℕ) → is_clear entries (place_in places k) ≡ true

@@ -90,37 +90,37 @@ free_told Empty = refl
 free_told (Prepared entries) = refl
 free_told (Sealed entries) = refl
 
-lowest_from : (slots : List PlaceState) (places : List KeptPlace) (file : File) (first : ℕ) → length slots ≡ length places
-    → ((k : ℕ) → stage_of slots k ≡ stage_told (place_in places k)) → ((k : ℕ) → k < length places → file.places (first + k) ≡ place_in places k)
-    → Lowest file first (length places) (free_from first slots)
+lowest_from : (states : List PlaceState) (places : List KeptPlace) (file : File) (first : ℕ) → length states ≡ length places
+    → ((k : ℕ) → stage_of states k ≡ stage_told (place_in places k)) → ((k : ℕ) → k < length places → file.places (first + k) ≡ place_in places k)
+    → Lowest file first (length places) (free_from first states)
 lowest_from [] [] file first count stages same = omega arith
 lowest_from [] (p ∷ places) file first count stages same = absurd (let e : ⊥ = omega (arith, count) in e)
-lowest_from (s ∷ slots) [] file first count stages same = absurd (let e : ⊥ = omega (arith, count) in e)
-lowest_from (s ∷ slots) (p ∷ places) file first count stages same =
+lowest_from (s ∷ states) [] file first count stages same = absurd (let e : ⊥ = omega (arith, count) in e)
+lowest_from (s ∷ states) (p ∷ places) file first count stages same =
     let here : file.places first ≡ told p = ap file.places (let e : first ≡ first + 0 = omega arith in e) ∙ same 0 (omega arith) in
     let free : is_free s ≡ is_empty (told p) = ap is_free_stage (stages 0) ∙ free_told (told p) in
-    one_more (is_free s) file first (length places) (free_from (first + 1) slots) (ap is_empty here ∙ sym free)
-    (lowest_from slots places file (first + 1) (omega (arith, count)) (λ k. stages (suc k))
+    one_more (is_free s) file first (length places) (free_from (first + 1) states) (ap is_empty here ∙ sym free)
+    (lowest_from states places file (first + 1) (omega (arith, count)) (λ k. stages (suc k))
     (λ k lt. ap file.places (let e : (first + 1) + k ≡ first + suc k = omega arith in e) ∙ same (suc k) (omega (arith, lt))))
 
-pub lowest : (slots : List PlaceState) (places : List KeptPlace) (file : File) → length slots ≡ length places → AreKept slots places
-    → ((k : ℕ) → k < length places → file.places k ≡ place_in places k) → Lowest file 0 (length places) (free_place slots)
-lowest slots places file count kept same =
-    lowest_from slots places file 0 count kept.stages (λ k lt. ap file.places (let e : 0 + k ≡ k = omega arith in e) ∙ same k lt)
+pub lowest : (states : List PlaceState) (places : List KeptPlace) (file : File) → length states ≡ length places → AreKept states places
+    → ((k : ℕ) → k < length places → file.places k ≡ place_in places k) → Lowest file 0 (length places) (free_place states)
+lowest states places file count kept same =
+    lowest_from states places file 0 count kept.stages (λ k lt. ap file.places (let e : 0 + k ≡ k = omega arith in e) ∙ same k lt)
 
 -- a free place is one of the file's
-within_from : (first : ℕ) (slots : List PlaceState) (place : ℕ) → free_from first slots ≡ Some place → place < first + length slots
+within_from : (first : ℕ) (states : List PlaceState) (place : ℕ) → free_from first states ≡ Some place → place < first + length states
 within_from first [] place found = absurd (cc)
-within_from first (s ∷ slots) place found = elim (cases_Bool (is_free s)) [
+within_from first (s ∷ states) place found = elim (cases_Bool (is_free s)) [
   | inl is ↦
-      let e : Some first ≡ Some place = sym (cond-true (is_free s) (Some first) (free_from (first + 1) slots) is) ∙ found in
+      let e : Some first ≡ Some place = sym (cond-true (is_free s) (Some first) (free_from (first + 1) states) is) ∙ found in
       let same : first ≡ place = cc in
       omega (arith, same)
   | inr other ↦
-      let e : free_from (first + 1) slots ≡ Some place = sym (cond-false (is_free s) (Some first) (free_from (first + 1) slots) other) ∙ found in
-      let lt = within_from (first + 1) slots place e in
+      let e : free_from (first + 1) states ≡ Some place = sym (cond-false (is_free s) (Some first) (free_from (first + 1) states) other) ∙ found in
+      let lt = within_from (first + 1) states place e in
       omega (arith, lt)
 ]
 
-pub found_within : (slots : List PlaceState) (place : ℕ) → free_place slots ≡ Some place → place < length slots
-found_within slots place found = let lt = within_from 0 slots place found in omega (arith, lt)
+pub found_within : (states : List PlaceState) (place : ℕ) → free_place states ≡ Some place → place < length states
+found_within states place found = let lt = within_from 0 states place found in omega (arith, lt)

@@ -2,9 +2,9 @@
 use Rattle.std.proofs.Common.{ℕ, List, replicate, sym, subst}
 use Rattle.mw_record.specs.Damages.{places_of}
 use Rattle.mw_record.specs.Layout.{new_file}
-use Rattle.mw_record.specs.ReadAgain.{MayHave, new_file_has}
-use Rattle.mw_record.specs.Sound.{words_iff}
-use Rattle.mw_record.specs.Stands.{HasWords}
+use Rattle.mw_record.specs.Stands.{MayHave, HasWords}
+use Rattle.mw_record.proofs.ReadAgain.{new_file_has}
+use Rattle.mw_record.proofs.Sound.{words_iff}
 use Rattle.mw_file.specs.Keeps.{IsFile}
 
 -- A new file is one of zeros.

@@ -7,7 +7,7 @@ use Rattle.mw_disk.specs.Memory.{Memory, memory_facts}
 use Rattle.mw_record.specs.declared.layout.TheConstants.{MAX_FILE}
 use Rattle.mw_record.specs.Damages.{damage_of, places_of, pairs_in}
 use Rattle.mw_record.specs.Layout.{size}
-use Rattle.mw_record.specs.Longer.{places_of_first, damage_of_first, pairs_in_first}
+use Rattle.mw_record.proofs.Longer.{places_of_first, damage_of_first, pairs_in_first}
 use Rattle.mw_file.specs.declared.place_states.PlaceState.{PlaceState}
 use Rattle.mw_file.specs.declared.tenant_file.TenantFile.{TenantFile}
 use Rattle.mw_file.specs.File.{states_of}
@@ -34,9 +34,9 @@ zero_there (suc n) zero = refl
 zero_there (suc n) (suc k) = zero_there n k
 
 -- free places are kept as empty ones
-pub free_kept : (slots : List PlaceState) (places : List KeptPlace) (n : ℕ) → IsTrue (all_free slots) → places ≡ replicate n KeptEmpty → AreKept slots places
-free_kept slots places n free empty = record {
-  stages = λ place. stage_of-all_free slots place free ∙ sym (ap stage_told (there place));
+pub free_kept : (states : List PlaceState) (places : List KeptPlace) (n : ℕ) → IsTrue (all_free states) → places ≡ replicate n KeptEmpty → AreKept states places
+free_kept states places n free empty = record {
+  stages = λ place. stage_of-all_free states place free ∙ sym (ap stage_told (there place));
   writes = λ place busy. absurd (let e : true ≡ false = sym (ap is_empty (there place)) ∙ busy in cc);
 } where
   there : (place : ℕ) → place_in places place ≡ Empty

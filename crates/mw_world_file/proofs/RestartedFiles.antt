@@ -4,7 +4,7 @@ use Rattle.std.specs.Str.{bytes_eq}
 use Rattle.std.proofs.lemmas.Slice.Eq.{bytes_eq-Decides}
 use Rattle.mw_words.specs.declared.jobs.Entry.{Entry}
 use Rattle.mw_words.specs.Change.{put}
-use Rattle.mw_lone.specs.Sound.{length-put}
+use Rattle.mw_lone.proofs.SoundStores.{length-put}
 use Rattle.mw_file.specs.Keeps.{IsFile}
 use Rattle.mw_world_file.specs.declared.kept.Book.{Book}
 use Rattle.mw_world_file.specs.declared.cut.Cut.{Cut}

@@ -11,8 +11,8 @@ use Rattle.mw_look.specs.declared.steps.Call.TheVariants.{Seal as SealCall, Sett
 use Rattle.mw_disk.specs.Memory.{Memory, memory_facts}
 use Rattle.mw_record.specs.Records.{Pairs, put_pairs}
 use Rattle.mw_record.specs.Layout.{pairs_of}
-use Rattle.mw_record.specs.ReadAgain.{put-put_pairs}
-use Rattle.mw_lone.specs.Sound.{length-put}
+use Rattle.mw_record.proofs.ReadAgain.{put-put_pairs}
+use Rattle.mw_lone.proofs.SoundStores.{length-put}
 use Rattle.mw_file.specs.declared.tenant_file.TenantFile.{TenantFile}
 use Rattle.mw_file.specs.declared.tenant_file.FileFault.{FileFault}
 use Rattle.mw_file.specs.declared.tenant_file.FileFault.TheVariants.{Disk, Failed}

@@ -3,7 +3,7 @@ use Rattle.std.proofs.Common.{◌≡◌, ℕ, zero, suc, ◌+◌, ◌<◌, ◌==
 use Rattle.std.proofs.lemmas.Bool.{cases_lt, cond-true, cond-false, and_from, and_right, and_parts, eq-eqb, eqb-true, lt-ltb, le-leb, lt-leb}
 use Rattle.mw_disk.specs.Facts.{MayLeave, IsAtRest, most_counted}
 use Rattle.mw_disk.specs.Memory.{Memory, memory_facts, scripted}
-use Rattle.mw_disk.specs.Runs.{leaves_now}
+use Rattle.mw_disk.proofs.RunLaws.{leaves_now}
 use Rattle.mw_record.specs.declared.layout.TheConstants.{MAX_FILE}
 use Rattle.mw_record.specs.Damages.{damage_of, places_of, words_in, file_words}
 use Rattle.mw_file.specs.declared.tenant_file.TenantFile.{TenantFile}

@@ -8,12 +8,13 @@ use Rattle.mw_words.specs.Change.{put}
 use Rattle.mw_look.specs.declared.steps.Call.{Call}
 use Rattle.mw_look.specs.declared.steps.Call.TheVariants.{Prepare as PrepareCall, Seal as SealCall, Settle as SettleCall, Cancel as CancelCall}
 use Rattle.mw_disk.specs.Facts.{MayLeave, most_counted}
-use Rattle.mw_disk.specs.Runs.{Later, later_refl, Good, Bad, LeavesOnly, leaves_now}
+use Rattle.mw_disk.specs.Runs.{Later, Good, Bad, LeavesOnly}
+use Rattle.mw_disk.proofs.RunLaws.{later_refl, leaves_now}
 use Rattle.mw_disk.specs.Memory.{Memory, memory_facts, plan_of, with_stop}
 use Rattle.mw_record.specs.Damages.{file_words, places_of}
 use Rattle.mw_record.specs.Records.{Pairs, put_pairs}
 use Rattle.mw_record.specs.Layout.{pairs_of}
-use Rattle.mw_record.specs.ReadAgain.{put-put_pairs}
+use Rattle.mw_record.proofs.ReadAgain.{put-put_pairs}
 use Rattle.mw_file.specs.declared.tenant_file.TenantFile.{TenantFile}
 use Rattle.mw_file.specs.declared.tenant_file.FileFault.{FileFault}
 use Rattle.mw_file.specs.declared.tenant_file.FileFault.TheVariants.{Disk, Failed}

@@ -73,9 +73,9 @@ pub record IsReady (disk : Memory) : Type 0 where
   pub granted : disk.refused ≡ 0
 
 -- The file's own places are as far as these say, with their entries.
-pub record AreKept (slots : List PlaceState) (places : List KeptPlace) : Type 0 where
-  pub stages : (place : ℕ) → stage_of slots place ≡ stage_told (place_in places place)
-  pub writes : (place : ℕ) → is_empty (place_in places place) ≡ false → writes_of_place slots place ≡ pairs_of (entries_in (place_in places place))
+pub record AreKept (states : List PlaceState) (places : List KeptPlace) : Type 0 where
+  pub stages : (place : ℕ) → stage_of states place ≡ stage_told (place_in places place)
+  pub writes : (place : ℕ) → is_empty (place_in places place) ≡ false → writes_of_place states place ≡ pairs_of (entries_in (place_in places place))
 
 -- The file stands for these words, with this change in doubt. Of one that isn't open, whatever a crash leaves is a file of the words.
 abbrev pub StandsFor : Device → ℕ → List ℕ → List Entry → Type 0

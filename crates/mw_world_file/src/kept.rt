@@ -1,6 +1,6 @@
 //! A tenant's file, and what is kept beside it.
 ghost use Rattle.std.specs.Prelude.{◌≡◌, true, false, length};
-ghost use Rattle.mw_world_file.specs.Devices.{disk_under, is_open, words_on, slots_on, has_failed_on, AreKept, IsReady};
+ghost use Rattle.mw_world_file.specs.Devices.{disk_under, is_open, words_on, states_on, has_failed_on, AreKept, IsReady};
 
 use crate::device::Device;
 use crate::places::Place;
@@ -21,8 +21,8 @@ pub struct Book {
     pub(crate) has_failed: bool,
     pub(crate) doubt: Entries,
     ghost sized: { is_open device ≡ true → words_on device ≡ length contents.items },
-    ghost count: { is_open device ≡ true → length (slots_on device) ≡ length places.items },
-    ghost kept: { AreKept (slots_on device) places.items },
+    ghost count: { is_open device ≡ true → length (states_on device) ≡ length places.items },
+    ghost kept: { AreKept (states_on device) places.items },
     ghost failed: { has_failed_on device ≡ has_failed },
     ghost ready: { has_failed ≡ false → IsReady (disk_under device) },
 }

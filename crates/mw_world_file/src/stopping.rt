@@ -26,7 +26,7 @@ fn copy_until(
     file: &TenantFile<MemDisk>,
     calls: u64,
 ) -> Result<TenantFile<MemDisk>, AllocError>
-    ensures slots { IfOk result (λ copy. states_of copy ≡ states_of file.now) }
+    ensures states { IfOk result (λ copy. states_of copy ≡ states_of file.now) }
     ensures words { IfOk result (λ copy. words_of copy ≡ words_of file.now) }
     ensures failed { IfOk result (λ copy. has_failed copy ≡ has_failed file.now) }
     ensures disk { IfOk result (λ copy. disk_of copy ≡ until (disk_of file.now) calls) }

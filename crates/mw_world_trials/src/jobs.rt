@@ -1,6 +1,6 @@
 //! Random jobs, stops and worlds.
 ghost use Rattle.std.specs.Prelude.{◌≤◌};
-ghost use Rattle.mw_world.specs.State.{IsConfig};
+ghost use Rattle.mw_world.specs.Definition.State.{IsConfig};
 
 use crate::dice::Dice;
 use arrayvec::ArrayVec;

@@ -13,6 +13,8 @@ pub use judge::{Disagreement, TrialFault};
 pub use trial::{Tally, play};
 
 #[cfg(test)]
-mod late_finisher;
+mod example_marks_tests;
+#[cfg(test)]
+mod late_finisher_tests;
 #[cfg(test)]
 mod tests;

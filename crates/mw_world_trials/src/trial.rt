@@ -1,6 +1,6 @@
 //! One trial.
 ghost use Rattle.std.specs.Prelude.{◌<◌, ◌≤◌, length};
-ghost use Rattle.mw_world.specs.State.{IsConfig};
+ghost use Rattle.mw_world.specs.Definition.State.{IsConfig};
 
 use crate::dice::Dice;
 use crate::jobs::{job, small_world, stop};

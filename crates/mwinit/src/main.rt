@@ -7,8 +7,8 @@ use std::process::ExitCode;
 use std::{env, io};
 
 fn main(rt: HostRuntime) -> ExitCode {
-    let status = match words(&rt) {
-        Ok(words) => init(&rt, &words, &mut rt.stdout(), &mut rt.stderr()),
+    let status = match args(&rt) {
+        Ok(args) => init(&rt, &args, &mut rt.stdout(), &mut rt.stderr()),
         Err(fault) if fault.kind() == ErrorKind::InvalidData => {
             let _ = rt.eprintln("mwinit: the command line is no text");
             2
@@ -21,6 +21,6 @@ fn main(rt: HostRuntime) -> ExitCode {
     ExitCode::from(status)
 }
 
-fn words(rt: &HostRuntime) -> io::Result<Vec<String>> {
+fn args(rt: &HostRuntime) -> io::Result<Vec<String>> {
     Ok(env::args(rt)?.collect(rt.alloc())?)
 }

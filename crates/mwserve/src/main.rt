@@ -1,4 +1,5 @@
-//! `mwserve --tenants FILE --script FILE` serves tenants' words.
+//! `mwserve --tenants FILE` serves tenants' words: to the clients that connect with `--listen ADDR`, or to
+//! one session that it reads from a file with `--script FILE`.
 #![tactic(auto)]
 
 use mw_programs::serve;
@@ -7,8 +8,8 @@ use std::process::ExitCode;
 use std::{env, io};
 
 fn main(rt: HostRuntime) -> ExitCode {
-    let status = match words(&rt) {
-        Ok(words) => serve(&rt, &words, &mut rt.stdout(), &mut rt.stderr()),
+    let status = match args(&rt) {
+        Ok(args) => serve(&rt, &args, &mut rt.stdout(), &mut rt.stderr()),
         Err(fault) if fault.kind() == ErrorKind::InvalidData => {
             let _ = rt.eprintln("mwserve: refused 1 command");
             2
@@ -21,6 +22,6 @@ fn main(rt: HostRuntime) -> ExitCode {
     ExitCode::from(status)
 }
 
-fn words(rt: &HostRuntime) -> io::Result<Vec<String>> {
+fn args(rt: &HostRuntime) -> io::Result<Vec<String>> {
     Ok(env::args(rt)?.collect(rt.alloc())?)
 }

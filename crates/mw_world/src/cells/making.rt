@@ -1,8 +1,8 @@
 //! Steps on the shared words.
 ghost use Rattle.std.specs.Prelude.{◌≡◌, ◌==◌, IfSome, None, cond, is_some};
-ghost use Rattle.mw_world.specs.Changes.{Exchange, shape_of};
-ghost use Rattle.mw_world.specs.Bits.{SamePlaces, put_bits};
-ghost use Rattle.mw_world.specs.Making.{Makes, fetched_bits, bits_changed, got_by, bits_after, got_after, is_step_there};
+ghost use Rattle.mw_world.specs.Definition.Changes.{Exchange, shape_of};
+ghost use Rattle.mw_world.specs.Memory.Bits.{SamePlaces, put_bits};
+ghost use Rattle.mw_world.specs.Memory.Making.{Makes, fetched_bits, bits_changed, got_by, bits_after, got_after, is_step_there};
 
 use crate::cells::Cells;
 use mw_look::{Got, Kind, Op};

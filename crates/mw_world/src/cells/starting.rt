@@ -1,10 +1,10 @@
 //! The shared words at a start.
 ghost use Rattle.std.specs.Prelude.{◌≡◌, ℕ, Bool, List, length, map, replicate, IfOk};
 ghost use Rattle.mw_words.specs.declared.limits.TheConstants.{MAX_ENTRIES};
-ghost use Rattle.mw_world.specs.State.{IsConfig, first_cells};
-ghost use Rattle.mw_world.specs.Ties.{Tie};
-ghost use Rattle.mw_world.specs.BitPlaces.{HasPlacesOf};
-ghost use Rattle.mw_world.specs.Openings.{AreOpenings, AreFirstWords, Gave, first_door, first_words};
+ghost use Rattle.mw_world.specs.Definition.State.{IsConfig, first_cells};
+ghost use Rattle.mw_world.specs.Memory.Ties.{Tie};
+ghost use Rattle.mw_world.specs.Memory.BitPlaces.{HasPlacesOf};
+ghost use Rattle.mw_world.specs.Memory.Openings.{AreOpenings, AreFirstWords, Gave, first_door, first_words};
 
 use crate::cells::Cells;
 use crate::config::{Config, Tenant};

@@ -1,11 +1,11 @@
 //! New worlds.
 ghost use Rattle.std.specs.Prelude.{◌≡◌, ℕ, ◌≤◌, [], All, Bool, IfOk, List};
-ghost use Rattle.mw_world.specs.BitPlaces.{HasPlacesOf};
-ghost use Rattle.mw_world.specs.Running.{Stands};
-ghost use Rattle.mw_world.specs.Starts.{AreFresh, AreGiven, AreIdle, AreTenants, HaveWords, IsFresh};
-ghost use Rattle.mw_world.specs.State as spec;
-ghost use Rattle.mw_world.specs.State.{IsConfig};
-ghost use Rattle.mw_world.specs.Ties.{Tie};
+ghost use Rattle.mw_world.specs.Memory.BitPlaces.{HasPlacesOf};
+ghost use Rattle.mw_world.specs.Memory.Running.{Stands};
+ghost use Rattle.mw_world.specs.Memory.Starts.{AreFresh, AreGiven, AreIdle, AreTenants, HaveWords, IsFresh};
+ghost use Rattle.mw_world.specs.Definition.State as spec;
+ghost use Rattle.mw_world.specs.Definition.State.{IsConfig};
+ghost use Rattle.mw_world.specs.Memory.Ties.{Tie};
 
 use crate::accounts::Account;
 use crate::cells::Cells;

@@ -2,13 +2,13 @@
 ghost use Rattle.std.specs.Prelude.{◌≡◌, IfOk, OnErr, Some, None, MatchOption, slice_get};
 ghost use Rattle.std.specs.List.{list_any};
 ghost use Rattle.mw_world_file.specs.SoundBooks.{HasSound};
-ghost use Rattle.mw_world.specs.Running as spec;
-ghost use Rattle.mw_world.specs.Running.{Restarts};
-ghost use Rattle.mw_world.specs.Shows.{Shows};
-ghost use Rattle.mw_world.specs.State.{State, tenant_at};
-ghost use Rattle.mw_world.specs.Staying.{IsUnchanged};
-ghost use Rattle.mw_world.specs.Stops.{AllReopen, Reopens};
-ghost use Rattle.mw_world.specs.TenantBooks.{AreSound};
+ghost use Rattle.mw_world.specs.Memory.Running as spec;
+ghost use Rattle.mw_world.specs.Memory.Running.{Restarts};
+ghost use Rattle.mw_world.specs.Memory.Shows.{Shows};
+ghost use Rattle.mw_world.specs.Definition.State.{State, tenant_at};
+ghost use Rattle.mw_world.specs.Memory.Staying.{IsUnchanged};
+ghost use Rattle.mw_world.specs.Memory.Stops.{AllReopen, Reopens};
+ghost use Rattle.mw_world.specs.Memory.TenantBooks.{AreSound};
 
 use crate::accounts::Account;
 use crate::events::{Interrupted, Stop};

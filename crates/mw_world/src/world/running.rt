@@ -1,15 +1,15 @@
 //! What can be asked of a world, and the events that change it.
 ghost use Rattle.std.specs.Prelude.{◌≡◌, ◌<◌, ◌++◌, List, Some, None, IfOk, IsTrue, MatchOption, OnErr, slice_get, length};
 ghost use Rattle.std.specs.Option.{option_and_then};
-ghost use Rattle.mw_world.specs.Bits.{bits_at};
-ghost use Rattle.mw_world.specs.Extent.{has_place};
-ghost use Rattle.mw_world.specs.Happenings.{Happening};
-ghost use Rattle.mw_world.specs.Running.{Happens, Runs, RunsBySteps, Stands, StandsAfter};
-ghost use Rattle.mw_world.specs.Shows.{Shows};
-ghost use Rattle.mw_world.specs.State.{State, marks_of};
-ghost use Rattle.mw_world.specs.Staying.{IsUnchanged, LeavesFiles};
+ghost use Rattle.mw_world.specs.Memory.Bits.{bits_at};
+ghost use Rattle.mw_world.specs.Definition.Extent.{has_place};
+ghost use Rattle.mw_world.specs.Definition.Happenings.{Happening};
+ghost use Rattle.mw_world.specs.Memory.Running.{Happens, Runs, RunsBySteps, Stands, StandsAfter};
+ghost use Rattle.mw_world.specs.Memory.Shows.{Shows};
+ghost use Rattle.mw_world.specs.Definition.State.{State, marks_of};
+ghost use Rattle.mw_world.specs.Memory.Staying.{IsUnchanged, LeavesFiles};
 ghost use Rattle.mw_look.specs.Places.{pack};
-ghost use Rattle.mw_world.specs.Cells.{read};
+ghost use Rattle.mw_world.specs.Definition.Cells.{read};
 
 use crate::config::Config;
 use crate::events::Event;

@@ -1,10 +1,10 @@
 //! Which calls on the tenants' files may have been under way when all stopped.
 ghost use Rattle.std.specs.Prelude.{◌≡◌, ◌≤◌, IfSome, Some, None, length, slice_get};
 ghost use Rattle.mw_world_file.specs.Reopening.{PreparesChange};
-ghost use Rattle.mw_world.specs.Ending.{called_of};
-ghost use Rattle.mw_world.specs.Shows.{Shows};
-ghost use Rattle.mw_world.specs.State.{State};
-ghost use Rattle.mw_world.specs.Stops as spec;
+ghost use Rattle.mw_world.specs.Memory.Ending.{called_of};
+ghost use Rattle.mw_world.specs.Memory.Shows.{Shows};
+ghost use Rattle.mw_world.specs.Definition.State.{State};
+ghost use Rattle.mw_world.specs.Memory.Stops as spec;
 
 use crate::accounts::Account;
 use crate::events::Interrupted;

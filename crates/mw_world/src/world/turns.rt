@@ -6,12 +6,12 @@ ghost use Rattle.mw_actor.specs.Asks.{asks};
 ghost use Rattle.mw_actor.specs.Acting.{Acting};
 ghost use Rattle.mw_actor.specs.Ranges.{IsFormed};
 ghost use Rattle.mw_world.specs.declared.config.TheConstants.{MOST_REQUESTS};
-ghost use Rattle.mw_world.specs.Shows.{Ends, Shows};
-ghost use Rattle.mw_world.specs.State.{State};
-ghost use Rattle.mw_world.specs.Staying.{IsUnchanged, SameBooks, served_by};
-ghost use Rattle.mw_world.specs.Stepping as stepping;
-ghost use Rattle.mw_world.specs.Turns as turns;
-ghost use Rattle.mw_world.specs.World as spec;
+ghost use Rattle.mw_world.specs.Memory.Shows.{Ends, Shows};
+ghost use Rattle.mw_world.specs.Definition.State.{State};
+ghost use Rattle.mw_world.specs.Memory.Staying.{IsUnchanged, SameBooks, served_by};
+ghost use Rattle.mw_world.specs.Memory.Stepping as stepping;
+ghost use Rattle.mw_world.specs.Definition.Turns as turns;
+ghost use Rattle.mw_world.specs.Definition.World as spec;
 
 use crate::config::MOST_REQUESTS;
 use crate::faults::WorldFault;

@@ -1,4 +1,4 @@
-use Rattle.mw_actor.specs.RisingLaws.{plants-rise}
+use Rattle.mw_actor.proofs.RisingLaws.{plants-rise}
 use Rattle.mw_actor.proofs.laws.plants_rise.Goals as goal
 
 pub returns : goal.returns

@@ -1,4 +1,4 @@
-use Rattle.mw_actor.specs.BalanceLaws.{replies-give-back}
+use Rattle.mw_actor.proofs.BalanceLaws.{replies-give-back}
 use Rattle.mw_actor.proofs.laws.replies_give_back.Goals as goal
 
 pub returns : goal.returns

@@ -1,4 +1,4 @@
-use Rattle.mw_actor.specs.RunLaws.{requests-stay-with-their-tenant}
+use Rattle.mw_actor.proofs.RunLaws.{requests-stay-with-their-tenant}
 use Rattle.mw_actor.proofs.laws.requests_stay_with_their_tenant.Goals as goal
 
 pub returns : goal.returns

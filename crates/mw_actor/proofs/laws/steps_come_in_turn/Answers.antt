@@ -1,4 +1,4 @@
-use Rattle.mw_actor.specs.OrderLaws.{steps-come-in-turn}
+use Rattle.mw_actor.proofs.OrderLaws.{steps-come-in-turn}
 use Rattle.mw_actor.proofs.laws.steps_come_in_turn.Goals as goal
 
 pub returns : goal.returns

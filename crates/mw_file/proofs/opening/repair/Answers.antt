@@ -1,6 +1,6 @@
 use Rattle.std.proofs.Common.{◌⊎◌, ◌==◌, length, sym, ◌∙◌}
 use Rattle.std.proofs.lemmas.Bool.{eqb-true, not-false}
-use Rattle.mw_disk.specs.Runs.{leaves_same, same_but_refl}
+use Rattle.mw_disk.proofs.RunLaws.{leaves_same, same_but_refl}
 use Rattle.mw_file.specs.PlaceStates.{commit_writes}
 use Rattle.mw_file.specs.Rolls.{InHomes, AtCommits}
 use Rattle.mw_file.proofs.Looping.{on_ok}

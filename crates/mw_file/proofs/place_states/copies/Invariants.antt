@@ -1,6 +1,6 @@
 use Rattle.std.proofs.Common.{◌≡◌, take}
-use Rattle.mw_file.proofs.states.copies.Given as goal
+use Rattle.mw_file.proofs.place_states.copies.Given as goal
 
--- the slots so far
+-- the states so far
 abbrev pub invariant-loop-state : goal.invariant-loop-state
 invariant-loop-state l = l.copies.items ≡ take l.state-index l.states

@@ -1,6 +1,6 @@
 use Rattle.std.proofs.Common.{◌≡◌, take}
 use Rattle.mw_record.specs.Layout.{pairs_of}
-use Rattle.mw_file.proofs.states.writes_to.Given as goal
+use Rattle.mw_file.proofs.place_states.writes_to.Given as goal
 
 -- what the entries so far write
 abbrev pub invariant-loop-i : goal.invariant-loop-i

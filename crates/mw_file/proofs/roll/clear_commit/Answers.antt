@@ -1,5 +1,5 @@
 use Rattle.std.proofs.Common.{arith}
-use Rattle.mw_disk.specs.Runs.{touched_write}
+use Rattle.mw_disk.proofs.RunLaws.{touched_write}
 use Rattle.mw_file.specs.Rolls.{AtCommit}
 use Rattle.mw_file.proofs.roll.clear_commit.Goals as goal
 

@@ -1,7 +1,7 @@
 use Rattle.std.proofs.Common.{◌<◌, ◌+◌, ◌∙◌, length, take, arith, ap, true, false}
 use Rattle.std.proofs.lemmas.List.{take_all}
 use Rattle.std.proofs.lemmas.List.Sums.{sum_by_more, sum_by_more_le}
-use Rattle.mw_disk.specs.Runs.{bad_call, later_trans, still_honest, touched_trans, touched_quiet}
+use Rattle.mw_disk.proofs.RunLaws.{bad_call, later_trans, still_honest, touched_trans, touched_quiet}
 use Rattle.mw_record.specs.Layout.{place_at}
 use Rattle.mw_file.specs.PlaceStates.{commit_writes, commit_writes_of}
 use Rattle.mw_file.specs.Rolls.{AtCommits}

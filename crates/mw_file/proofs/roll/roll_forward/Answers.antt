@@ -1,6 +1,6 @@
 use Rattle.std.proofs.Common.{◌+◌, arith}
 use Rattle.mw_file.specs.PlaceStates.{home_writes, commit_writes, roll_calls}
-use Rattle.mw_disk.specs.Runs.{still_honest}
+use Rattle.mw_disk.proofs.RunLaws.{still_honest}
 use Rattle.mw_file.proofs.Rolled.{has_homes, are_below, homes_moments, homes_read, commits_fit, commits_moments, commits_read, rolled}
 use Rattle.mw_file.proofs.Ran.{goes_on, stops}
 use Rattle.mw_file.proofs.roll.roll_forward.Goals as goal

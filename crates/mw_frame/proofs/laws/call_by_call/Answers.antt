@@ -1,4 +1,4 @@
-use Rattle.mw_frame.specs.Given.{given-at-first, given-then-fed, given-then-more, none-left}
+use Rattle.mw_frame.proofs.GivenLines.{given-at-first, given-then-fed, given-then-more, none-left}
 use Rattle.mw_frame.proofs.laws.call_by_call.Goals as goal
 
 pub returns : goal.returns

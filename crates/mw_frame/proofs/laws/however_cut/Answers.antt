@@ -1,4 +1,4 @@
-use Rattle.mw_frame.specs.Given.{however-cut, same-lines}
+use Rattle.mw_frame.proofs.GivenLines.{however-cut, same-lines}
 use Rattle.mw_frame.proofs.laws.however_cut.Goals as goal
 
 pub returns : goal.returns

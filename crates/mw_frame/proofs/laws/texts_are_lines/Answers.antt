@@ -1,4 +1,4 @@
-use Rattle.mw_frame.specs.Texts.{each-is-cut, texts-are-lines, too-long-is-last}
+use Rattle.mw_frame.proofs.CutTexts.{each-is-cut, texts-are-lines, too-long-is-last}
 use Rattle.mw_frame.proofs.laws.texts_are_lines.Goals as goal
 
 pub returns : goal.returns

@@ -1,4 +1,4 @@
-use Rattle.mw_lone.specs.Laws.{run-extend, replies-extend}
+use Rattle.mw_lone.proofs.KeptRuns.{run-extend, replies-extend}
 use Rattle.mw_lone.proofs.laws.runs_extend.Goals as goal
 
 pub returns : goal.returns

@@ -1,4 +1,4 @@
-use Rattle.mw_lone.specs.Laws.{used-stays-within}
+use Rattle.mw_lone.proofs.KeptRuns.{used-stays-within}
 use Rattle.mw_lone.proofs.laws.used_stays_within.Goals as goal
 
 pub returns : goal.returns

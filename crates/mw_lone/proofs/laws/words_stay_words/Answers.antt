@@ -1,4 +1,4 @@
-use Rattle.mw_lone.specs.Laws.{words-stay-words}
+use Rattle.mw_lone.proofs.KeptRuns.{words-stay-words}
 use Rattle.mw_lone.proofs.laws.words_stay_words.Goals as goal
 
 pub returns : goal.returns

@@ -1,4 +1,4 @@
-use Rattle.mw_look.specs.PlaceLaws.{packs_fit, packs_are_unpacked, packs_are_apart, packs_are_seen, nil_is_zero}
+use Rattle.mw_look.proofs.PlaceLaws.{packs_fit, packs_are_unpacked, packs_are_apart, packs_are_seen, nil_is_zero}
 use Rattle.mw_look.proofs.laws.places_have_patterns.Goals as goal
 
 pub returns : goal.returns

@@ -1,4 +1,4 @@
-use Rattle.mw_look.specs.RunLaws.{reads-are-under-pin, pins-are-held-until-taken-back}
+use Rattle.mw_look.proofs.RunLaws.{reads-are-under-pin, pins-are-held-until-taken-back}
 use Rattle.mw_look.proofs.laws.reads_are_under_pin.Goals as goal
 
 pub returns : goal.returns

@@ -1,4 +1,4 @@
-use Rattle.mw_look.specs.RunLaws.{reads-change-only-pins}
+use Rattle.mw_look.proofs.RunLaws.{reads-change-only-pins}
 use Rattle.mw_look.proofs.laws.reads_change_only_pins.Goals as goal
 
 pub returns : goal.returns

@@ -1,4 +1,4 @@
-use Rattle.mw_look.specs.RunLaws.{reads-stay-at-their-word}
+use Rattle.mw_look.proofs.RunLaws.{reads-stay-at-their-word}
 use Rattle.mw_look.proofs.laws.reads_stay_at_their_word.Goals as goal
 
 pub returns : goal.returns

@@ -1,4 +1,4 @@
-use Rattle.mw_look.specs.RunLaws.{replies-give-back, replies-stay}
+use Rattle.mw_look.proofs.RunLaws.{replies-give-back, replies-stay}
 use Rattle.mw_look.proofs.laws.replies_give_back.Goals as goal
 
 pub returns : goal.returns

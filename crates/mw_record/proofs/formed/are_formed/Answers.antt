@@ -1,6 +1,6 @@
 use Rattle.std.proofs.Common.{sym, ◌∙◌}
 use Rattle.mw_record.specs.Records.{record_at, is_formed}
-use Rattle.mw_record.specs.Below.{each_fails}
+use Rattle.mw_record.proofs.Below.{each_fails}
 use Rattle.mw_record.proofs.formed.are_formed.Goals as goal
 
 pub returns-then-not-is_formed : goal.returns-then-not-is_formed

@@ -1,7 +1,7 @@
 use Rattle.std.proofs.Common.{◌≡◌, ◌&&◌, true, false, nat_le, length, ap, sym, ◌∙◌}
 use Rattle.mw_words.specs.declared.limits.TheConstants.{MAX_ENTRIES}
 use Rattle.mw_record.specs.Records.{Pairs, body_at, is_formed, rises_below}
-use Rattle.mw_record.specs.Reading.{record_open, record_shut, length_body}
+use Rattle.mw_record.proofs.Reading.{record_open, record_shut, length_body}
 use Rattle.mw_record.proofs.formed.is_formed.Goals as goal
 
 pub returns-then-bytes-at : goal.returns-then-bytes-at

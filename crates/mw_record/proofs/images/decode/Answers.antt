@@ -2,7 +2,7 @@ use Rattle.std.proofs.Common.{◌≡◌, true, false, nat_le, length, sym, ◌�
 use Rattle.std.proofs.lemmas.Bool.{le-leb, lt-leb}
 use Rattle.mw_record.specs.Layout.{size}
 use Rattle.mw_record.specs.Damages.{has_head, has_mark, has_all_bytes, has_formed_records, has_records_apart}
-use Rattle.mw_record.specs.Faults.{no_head, no_mark, no_sizes, too_short, not_formed, not_apart, not_small, undamaged}
+use Rattle.mw_record.proofs.Faults.{no_head, no_mark, no_sizes, too_short, not_formed, not_apart, not_small, undamaged}
 use Rattle.mw_record.proofs.Sizes.{all_bytes, formed, apart, small}
 use Rattle.mw_record.proofs.images.decode.Goals as goal
 use Rattle.mw_record.proofs.images.decode.Goals.{In-Some, Else-bytes-size, Else-not-are_formed, Else-not-are_apart}

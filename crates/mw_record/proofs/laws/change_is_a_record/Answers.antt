@@ -1,4 +1,4 @@
-use Rattle.mw_record.specs.ReadAgain.{record_of_change, values_of_change, numbers_of_change, put-put_pairs}
+use Rattle.mw_record.proofs.ReadAgain.{record_of_change, values_of_change, numbers_of_change, put-put_pairs}
 use Rattle.mw_record.proofs.laws.change_is_a_record.Goals as goal
 
 pub returns : goal.returns

@@ -1,4 +1,4 @@
-use Rattle.mw_record.specs.Sound.{undamaged_iff}
+use Rattle.mw_record.proofs.Sound.{undamaged_iff}
 use Rattle.mw_record.proofs.laws.undamaged_files_have_words.Goals as goal
 
 pub returns : goal.returns

@@ -1,5 +1,5 @@
 use Rattle.std.proofs.Common.{length}
-use Rattle.mw_world.specs.State.{tenants_of}
+use Rattle.mw_world.specs.Definition.State.{tenants_of}
 use Rattle.mw_schedule.specs.Playing.{AreStops}
 use Rattle.mw_schedule.proofs.restarts.read_stops.Given as goal
 

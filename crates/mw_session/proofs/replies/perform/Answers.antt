@@ -1,7 +1,7 @@
 use Rattle.std.proofs.Common.{refl, sym, subst, append-nil, ap, ◌∙◌}
 use Rattle.mw_report.specs.Table.{report}
 use Rattle.mw_session.specs.declared.steps.Bound.TheVariants.{Tenant, Admin}
-use Rattle.mw_session.specs.Parts.{Performs}
+use Rattle.mw_session.specs.Parts.{Performs, bytes_of}
 use Rattle.mw_session.specs.Serving.{Tells}
 use Rattle.mw_session.proofs.Performing as done
 use Rattle.mw_session.proofs.replies.perform.Goals as goal
@@ -11,8 +11,8 @@ returns-in-Refuse-clause-performs g c =
     let s = g.S.Service in
     let now = c.args.service.now in
     let Asked = Tells s.tells s.noted s.found now now in
-    subst (λ step. Performs Asked step c.args.bound.now c.args.bound.now c.text.result.items) (sym c.in-Refuse.is)
-    (done.refused Asked c.in-Refuse.fault c.args.bound.now c.text.result.items (done.asked_nothing s.tells s.noted s.found now) c.text.ensures)
+    subst (λ step. Performs Asked step c.args.bound.now c.args.bound.now (bytes_of c.text.result)) (sym c.in-Refuse.is)
+    (done.refused Asked c.in-Refuse.fault c.args.bound.now (bytes_of c.text.result) (done.asked_nothing s.tells s.noted s.found now) c.text.ensures)
 
 pub returns-in-Some-clause-performs : goal.returns-in-Some-clause-performs
 returns-in-Some-clause-performs g c =
@@ -20,8 +20,8 @@ returns-in-Some-clause-performs g c =
     let now = c.args.service.now in
     let Asked = Tells s.tells s.noted s.found now now in
     let name = c.in-Find.name in
-    subst (λ step. Performs Asked step c.args.bound.now (Tenant c.in-Some.number c.in-Some.words) c.text-in-Some.result.items) (sym c.in-Find.is)
-    (done.is_found Asked name c.in-Some.number c.in-Some.words c.args.bound.now c.text-in-Some.result.items
+    subst (λ step. Performs Asked step c.args.bound.now (Tenant c.in-Some.number c.in-Some.words) (bytes_of c.text-in-Some.result)) (sym c.in-Find.is)
+    (done.is_found Asked name c.in-Some.number c.in-Some.words c.args.bound.now (bytes_of c.text-in-Some.result)
     (λ is. record { order = sym (append-nil (s.noted now)); finds = (sym c.in-Some.is ∙ c.find.ensures.found is, tt); names = refl; told = is })
     c.text-in-Some.ensures)
 
@@ -30,8 +30,8 @@ returns-in-None-clause-performs g c =
     let s = g.S.Service in
     let now = c.args.service.now in
     let Asked = Tells s.tells s.noted s.found now now in
-    subst (λ step. Performs Asked step c.args.bound.now c.args.bound.now c.text-in-None.result.items) (sym c.in-Find.is)
-    (done.not_found Asked c.in-Find.name c.args.bound.now c.text-in-None.result.items
+    subst (λ step. Performs Asked step c.args.bound.now c.args.bound.now (bytes_of c.text-in-None.result)) (sym c.in-Find.is)
+    (done.not_found Asked c.in-Find.name c.args.bound.now (bytes_of c.text-in-None.result)
     (λ is. record { order = sym (append-nil (s.noted now)); finds = (sym c.in-None.is ∙ c.find.ensures.found is, tt); names = refl; told = is })
     c.text-in-None.ensures)
 
@@ -40,8 +40,8 @@ returns-in-BindAdmin-clause-performs g c =
     let s = g.S.Service in
     let now = c.args.service.now in
     let Asked = Tells s.tells s.noted s.found now now in
-    subst (λ step. Performs Asked step c.args.bound.now Admin c.text-in-BindAdmin.result.items) (sym c.in-BindAdmin.is)
-    (done.bound_to_admin Asked c.args.bound.now c.text-in-BindAdmin.result.items (done.asked_nothing s.tells s.noted s.found now) c.text-in-BindAdmin.ensures)
+    subst (λ step. Performs Asked step c.args.bound.now Admin (bytes_of c.text-in-BindAdmin.result)) (sym c.in-BindAdmin.is)
+    (done.bound_to_admin Asked c.args.bound.now (bytes_of c.text-in-BindAdmin.result) (done.asked_nothing s.tells s.noted s.found now) c.text-in-BindAdmin.ensures)
 
 pub returns-in-Ask-clause-performs : goal.returns-in-Ask-clause-performs
 returns-in-Ask-clause-performs g c =
@@ -49,8 +49,8 @@ returns-in-Ask-clause-performs g c =
     let old = c.args.service.now in
     let new = c.ask.new.self in
     let Asked = Tells s.tells s.noted s.found old new in
-    subst (λ step. Performs Asked step c.args.bound.now c.args.bound.now c.text-in-Ask.result.items) (sym c.in-Ask.is)
-    (done.replied Asked c.in-Ask.tenant c.in-Ask.job c.ask.result c.args.bound.now c.text-in-Ask.result.items
+    subst (λ step. Performs Asked step c.args.bound.now c.args.bound.now (bytes_of c.text-in-Ask.result)) (sym c.in-Ask.is)
+    (done.replied Asked c.in-Ask.tenant c.in-Ask.job c.ask.result c.args.bound.now (bytes_of c.text-in-Ask.result)
     (λ is. record { order = c.ask.ensures.noted is; finds = tt; names = c.ask.ensures.found is; told = c.ask.ensures.tells is })
     c.text-in-Ask.ensures)
 
@@ -70,13 +70,13 @@ returns-in-Leave-clause-performs g c =
     let s = g.S.Service in
     let now = c.args.service.now in
     let Asked = Tells s.tells s.noted s.found now now in
-    subst (λ step. Performs Asked step c.args.bound.now c.args.bound.now c.text-in-Leave.result.items) (sym c.in-Leave.is)
-    (done.left Asked c.args.bound.now c.text-in-Leave.result.items (done.asked_nothing s.tells s.noted s.found now) c.text-in-Leave.ensures)
+    subst (λ step. Performs Asked step c.args.bound.now c.args.bound.now (bytes_of c.text-in-Leave.result)) (sym c.in-Leave.is)
+    (done.left Asked c.args.bound.now (bytes_of c.text-in-Leave.result) (done.asked_nothing s.tells s.noted s.found now) c.text-in-Leave.ensures)
 
 pub returns-in-Overrun-clause-performs : goal.returns-in-Overrun-clause-performs
 returns-in-Overrun-clause-performs g c =
     let s = g.S.Service in
     let now = c.args.service.now in
     let Asked = Tells s.tells s.noted s.found now now in
-    subst (λ step. Performs Asked step c.args.bound.now c.args.bound.now c.text-in-Overrun.result.items) (sym c.in-Overrun.is)
-    (done.overran Asked c.args.bound.now c.text-in-Overrun.result.items (done.asked_nothing s.tells s.noted s.found now) c.text-in-Overrun.ensures)
+    subst (λ step. Performs Asked step c.args.bound.now c.args.bound.now (bytes_of c.text-in-Overrun.result)) (sym c.in-Overrun.is)
+    (done.overran Asked c.args.bound.now (bytes_of c.text-in-Overrun.result) (done.asked_nothing s.tells s.noted s.found now) c.text-in-Overrun.ensures)

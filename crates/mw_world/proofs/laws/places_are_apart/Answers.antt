@@ -1,4 +1,4 @@
-use Rattle.mw_world.specs.CellLaws.{read-same, read-other}
+use Rattle.mw_world.proofs.PlacesApart.{read-same, read-other}
 use Rattle.mw_world.proofs.laws.places_are_apart.Goals as goal
 
 pub returns-clause-same : goal.returns-clause-same

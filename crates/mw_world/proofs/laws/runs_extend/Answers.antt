@@ -1,4 +1,4 @@
-use Rattle.mw_world.specs.RunLaws.{run-extends}
+use Rattle.mw_world.proofs.RunsExtend.{run-extends}
 use Rattle.mw_world.proofs.laws.runs_extend.Goals as goal
 
 pub returns : goal.returns

@@ -1,5 +1,5 @@
 use Rattle.std.proofs.Common.{◌≡◌, ◌++◌, drop}
-use Rattle.mw_world.specs.State.{marks_in}
+use Rattle.mw_world.specs.Definition.State.{marks_in}
 use Rattle.mw_world.proofs.lines.copy_lines.Given as goal
 
 abbrev pub invariant-loop-line : goal.invariant-loop-line

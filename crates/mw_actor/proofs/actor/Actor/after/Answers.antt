@@ -1,5 +1,5 @@
 use Rattle.std.proofs.Common.{ap, ◌∙◌}
-use Rattle.mw_actor.specs.RangeLaws.{goes_as_change}
+use Rattle.mw_actor.proofs.RangeLaws.{goes_as_change}
 use Rattle.mw_actor.proofs.actor.Actor.after.Goals as goal
 
 pub returns-in_default : goal.returns-in_default

@@ -1,4 +1,4 @@
-use Rattle.mw_actor.specs.JobLaws.{begins_in_range}
+use Rattle.mw_actor.proofs.JobLaws.{begins_in_range}
 use Rattle.mw_actor.proofs.actor.Actor.new.Goals as goal
 
 pub invariant_of-result : goal.invariant_of-result

@@ -1,6 +1,6 @@
 use Rattle.std.proofs.Common.{ap, ◌∙◌}
 use Rattle.mw_look.specs.Steps.{place_of}
-use Rattle.mw_look.specs.PlaceLaws.{place_of_bits}
+use Rattle.mw_look.proofs.PlaceLaws.{place_of_bits}
 use Rattle.mw_actor.specs.Asks.{asks}
 use Rattle.mw_actor.proofs.actor.Actor.place.Goals as goal
 

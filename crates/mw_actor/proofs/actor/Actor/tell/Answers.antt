@@ -1,7 +1,7 @@
 use Rattle.std.proofs.Common.{ap, ◌∙◌}
 use Rattle.mw_look.specs.News.{news_of}
 use Rattle.mw_actor.specs.Acting.{Acting}
-use Rattle.mw_actor.specs.RangeLaws.{told_so, told_in_range}
+use Rattle.mw_actor.proofs.RangeLaws.{told_so, told_in_range}
 use Rattle.mw_actor.proofs.actor.Actor.tell.Goals as goal
 
 pub invariant_of-self : goal.invariant_of-self

@@ -1,5 +1,5 @@
 use Rattle.std.proofs.Common.{◌≡◌, take}
-use Rattle.mw_file.proofs.states.PlaceState.copy.Given as goal
+use Rattle.mw_file.proofs.place_states.PlaceState.copy.Given as goal
 
 -- the writes so far
 abbrev pub invariant-loop-write : goal.invariant-loop-write

@@ -1,7 +1,8 @@
 use Rattle.std.proofs.Common.{◌≡◌, ◌+◌, ℕ, List, length, min, take, arith, sym, ap, ◌∙◌, refl, Some, true, false, IsTrue, subst}
 use Rattle.std.proofs.lemmas.List.FromFn.{length-map-range_with_len}
 use Rattle.mw_disk.specs.Facts.{IsAtRest}
-use Rattle.mw_disk.specs.Runs.{Good, Bad, Touched, good_call, bad_call, good_trans, then_bad, called_later, later_trans, still_honest, touched_trans, touched_quiet}
+use Rattle.mw_disk.specs.Runs.{Good, Bad, Touched}
+use Rattle.mw_disk.proofs.RunLaws.{good_call, bad_call, good_trans, then_bad, called_later, later_trans, still_honest, touched_trans, touched_quiet}
 use Rattle.mw_record.specs.declared.layout.TheConstants.{MAX_FILE}
 use Rattle.mw_record.specs.Damages.{words_in, words_of, places_of, word_at}
 use Rattle.mw_file.specs.declared.place_states.PlaceState.{PlaceState}

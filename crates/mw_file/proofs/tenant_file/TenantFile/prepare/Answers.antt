@@ -1,9 +1,9 @@
 use Rattle.std.proofs.Common.{◌≡◌, ◌+◌, ◌∙◌, ◌<◌, [], length, ap, sym, refl, subst, inl, arith, List, slice_set}
-use Rattle.mw_disk.specs.Runs.{leaves_wider}
+use Rattle.mw_disk.proofs.RunLaws.{leaves_wider}
 use Rattle.mw_record.specs.declared.layout.TheConstants.{BODY_SIZE}
 use Rattle.mw_record.specs.Records.{Pairs}
-use Rattle.mw_record.specs.ReadAgain.{length_of_change}
-use Rattle.mw_record.specs.Writes.{length-body}
+use Rattle.mw_record.proofs.ReadAgain.{length_of_change}
+use Rattle.mw_record.proofs.Writes.{length-body}
 use Rattle.mw_file.specs.declared.place_states.PlaceState.{PlaceState}
 use Rattle.mw_file.specs.declared.place_states.Stage.TheVariants.{Prepared}
 use Rattle.mw_file.specs.PlaceStates.{IsStaged}

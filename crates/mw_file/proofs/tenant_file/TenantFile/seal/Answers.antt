@@ -1,6 +1,6 @@
 use Rattle.std.proofs.Common.{◌∙◌, sym, refl, arith}
 use Rattle.mw_record.specs.Records.{put_pairs}
-use Rattle.mw_record.specs.Changes.{length-put_pairs}
+use Rattle.mw_record.proofs.Changes.{length-put_pairs}
 use Rattle.mw_file.specs.declared.place_states.Stage.TheVariants.{Prepared}
 use Rattle.mw_file.specs.PlaceStates.{writes_of_place}
 use Rattle.mw_file.specs.File.{went_well}

@@ -1,5 +1,5 @@
 use Rattle.std.proofs.Common.{List, [], inl, subst, arith, ◌+◌, ap, length, refl, ◌∙◌, sym}
-use Rattle.mw_disk.specs.Runs.{leaves_wider}
+use Rattle.mw_disk.proofs.RunLaws.{leaves_wider}
 use Rattle.mw_file.specs.declared.place_states.PlaceState.{PlaceState}
 use Rattle.mw_file.specs.declared.place_states.Stage.TheVariants.{Sealed}
 use Rattle.mw_file.specs.PlaceStates.{roll_calls, writes_of_place}

@@ -1,9 +1,9 @@
-use Rattle.std.proofs.Common.{◌≡◌, Bool, true, false, List, refl, sym, ap₂, ◌∙◌}
+use Rattle.std.proofs.Common.{◌≡◌, Bool, true, false, List, refl}
 use Rattle.std.specs.List.{list_all}
 use Rattle.mw_words.specs.declared.jobs.Entry.{Entry}
-use Rattle.mw_words.specs.Change.{is_change, rises}
+use Rattle.mw_words.specs.Change.{rises}
 use Rattle.mw_line.specs.Limits.{addr_fits, values_fit}
-use Rattle.mw_line.proofs.Gathering.{all_kept, order_is_left}
+use Rattle.mw_line.proofs.Gathering.{all_kept}
 use Rattle.mw_line.proofs.changes.Listing.change.Goals as goal
 
 -- what a test of the entries that are kept says of all entries, where they are the same
@@ -17,12 +17,12 @@ returns-then-not-addresses_fit c = λ es some lists.
     let addrs = told (list_all addr_fits) c.deref-2.result.now c.args.self.kept.items es c.addresses_fit.result false c.deref-2.ensures.0 k.0 c.addresses_fit.ensures c.if-not-addresses_fit.true in
     rw (k.1, values, addrs) refl
 
-pub returns-then-not-is_change : goal.returns-then-not-is_change
-returns-then-not-is_change c = λ es some lists.
+pub returns-then-not-rises : goal.returns-then-not-rises
+returns-then-not-rises c = λ es some lists.
     let k = all_kept es c.args.self lists c.if-self.false in
     let values = told (list_all values_fit) c.deref.result.now c.args.self.kept.items es c.values_fit.result true c.deref.ensures.0 k.0 c.values_fit.ensures c.if-not-values_fit.false in
     let addrs = told (list_all addr_fits) c.deref-2.result.now c.args.self.kept.items es c.addresses_fit.result true c.deref-2.ensures.0 k.0 c.addresses_fit.ensures c.if-not-addresses_fit.false in
-    let order : rises es ≡ false = sym (order_is_left es some k.1 addrs values) ∙ sym (ap₂ is_change c.from.ensures k.0) ∙ sym c.is_change.ensures ∙ c.if-not-is_change.true in
+    let order = told rises c.deref-3.result.now c.args.self.kept.items es c.rises.result false c.deref-3.ensures.0 k.0 c.rises.ensures c.if-not-rises.true in
     rw (k.1, values, addrs, order) refl
 
 pub returns : goal.returns
@@ -30,5 +30,5 @@ returns c = λ es some lists.
     let k = all_kept es c.args.self lists c.if-self.false in
     let values = told (list_all values_fit) c.deref.result.now c.args.self.kept.items es c.values_fit.result true c.deref.ensures.0 k.0 c.values_fit.ensures c.if-not-values_fit.false in
     let addrs = told (list_all addr_fits) c.deref-2.result.now c.args.self.kept.items es c.addresses_fit.result true c.deref-2.ensures.0 k.0 c.addresses_fit.ensures c.if-not-addresses_fit.false in
-    let order : rises es ≡ true = sym (order_is_left es some k.1 addrs values) ∙ sym (ap₂ is_change c.from.ensures k.0) ∙ sym c.is_change.ensures ∙ c.if-not-is_change.false in
+    let order = told rises c.deref-3.result.now c.args.self.kept.items es c.rises.result true c.deref-3.ensures.0 k.0 c.rises.ensures c.if-not-rises.false in
     (rw (k.1, values, addrs, order) refl, k.0)

@@ -1,6 +1,6 @@
 use Rattle.std.proofs.Common.{◌≡◌, IsTrue, length, subst, sym, arith}
 use Rattle.mw_words.specs.Change.{is_well_formed}
-use Rattle.mw_lone.specs.Sound.{sound-insert}
+use Rattle.mw_lone.proofs.SoundStores.{sound-insert}
 use Rattle.mw_lone.proofs.store.Lone.ask.Goals.{in-Ok, in-Err}
 use Rattle.mw_lone.proofs.store.Lone.ask.Goals as goal
 

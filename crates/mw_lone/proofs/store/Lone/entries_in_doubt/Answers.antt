@@ -1,5 +1,5 @@
 use Rattle.std.proofs.Common.{sym, length}
-use Rattle.mw_lone.specs.Sound.{entries-fit}
+use Rattle.mw_lone.proofs.SoundStores.{entries-fit}
 use Rattle.mw_lone.proofs.store.Lone.entries_in_doubt.Goals as goal
 
 pub may_be_written-requires : goal.may_be_written-requires

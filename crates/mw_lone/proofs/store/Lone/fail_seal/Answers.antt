@@ -1,6 +1,6 @@
 use Rattle.std.proofs.Common.{sym, length}
 use Rattle.mw_lone.proofs.Steps.{at_some}
-use Rattle.mw_lone.specs.Sound.{sound-insert, sound-in_doubt, entries-fit}
+use Rattle.mw_lone.proofs.SoundStores.{sound-insert, sound-in_doubt, entries-fit}
 use Rattle.mw_lone.proofs.store.Lone.fail_seal.Goals as goal
 
 pub may_be_written-requires : goal.may_be_written-requires

@@ -1,6 +1,6 @@
 use Rattle.std.proofs.Common.{sym}
 use Rattle.mw_lone.proofs.Steps.{at_some}
-use Rattle.mw_lone.specs.Sound.{sound-insert}
+use Rattle.mw_lone.proofs.SoundStores.{sound-insert}
 use Rattle.mw_lone.proofs.store.Lone.hand_out.Goals as goal
 
 pub invariant_of-self : goal.invariant_of-self

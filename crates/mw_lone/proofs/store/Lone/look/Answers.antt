@@ -1,7 +1,7 @@
 use Rattle.std.proofs.Common.{sym, arith}
 use Rattle.std.proofs.lemmas.Bool.Decides.{nat_tests}
 use Rattle.mw_lone.proofs.Steps.{at_some}
-use Rattle.mw_lone.specs.Sound.{sound-insert}
+use Rattle.mw_lone.proofs.SoundStores.{sound-insert}
 use Rattle.mw_lone.proofs.store.Lone.look.Goals as goal
 
 pub word_at-value-requires : goal.word_at-value-requires

@@ -1,6 +1,6 @@
 use Rattle.std.proofs.Common.{sym, length}
 use Rattle.mw_lone.proofs.Steps.{at_some}
-use Rattle.mw_lone.specs.Sound.{sound-insert, entries-fit, entry-fits}
+use Rattle.mw_lone.proofs.SoundStores.{sound-insert, entries-fit, entry-fits}
 use Rattle.mw_lone.proofs.store.Lone.miss.Goals as goal
 
 pub word_at-value-requires : goal.word_at-value-requires

@@ -1,4 +1,4 @@
-use Rattle.mw_lone.specs.Sound.{sound-new_store}
+use Rattle.mw_lone.proofs.SoundStores.{sound-new_store}
 use Rattle.mw_lone.proofs.store.Lone.new.Goals as goal
 
 pub invariant_of-result : goal.invariant_of-result

@@ -1,4 +1,4 @@
-use Rattle.mw_lone.specs.Sound.{sound-new_store}
+use Rattle.mw_lone.proofs.SoundStores.{sound-new_store}
 use Rattle.mw_lone.proofs.store.Lone.restart.Goals as goal
 
 pub invariant_of-self : goal.invariant_of-self

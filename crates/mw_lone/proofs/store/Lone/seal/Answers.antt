@@ -1,6 +1,6 @@
 use Rattle.std.proofs.Common.{sym, arith, length}
 use Rattle.mw_lone.proofs.Steps.{at_some, length-back}
-use Rattle.mw_lone.specs.Sound.{sound-insert, sound-words, entries-fit}
+use Rattle.mw_lone.proofs.SoundStores.{sound-insert, sound-words, entries-fit}
 use Rattle.mw_lone.proofs.store.Lone.seal.Goals as goal
 
 pub may_be_written-requires : goal.may_be_written-requires

@@ -1,5 +1,5 @@
 use Rattle.std.proofs.Common.{ap}
-use Rattle.mw_look.specs.RangeLaws.{next_in_range}
+use Rattle.mw_look.proofs.RangeLaws.{next_in_range}
 use Rattle.mw_look.proofs.look.Look.tell.Goals as goal
 
 pub invariant_of-self : goal.invariant_of-self

@@ -1,7 +1,7 @@
 use Rattle.std.proofs.Common.{Some, ap, sym, ◌∙◌, arith}
 use Rattle.mw_record.specs.Records.{record_at, body_at}
-use Rattle.mw_record.specs.Reading.{record_open, record_shut, length_body}
-use Rattle.mw_record.specs.Below.{few_entries, formed_at}
+use Rattle.mw_record.proofs.Reading.{record_open, record_shut, length_body}
+use Rattle.mw_record.proofs.Below.{few_entries, formed_at}
 use Rattle.mw_record.proofs.formed.FormedFile.record.Goals as goal
 
 pub new-requires-clause-few : goal.new-requires-clause-few

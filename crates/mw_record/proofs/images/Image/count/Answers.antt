@@ -1,7 +1,7 @@
 use Rattle.std.proofs.Common.{◌≡◌, ◌<◌, ap, sym, ◌∙◌, arith}
 use Rattle.mw_record.specs.Records.{record_at}
 use Rattle.mw_record.specs.Damages.{places_of}
-use Rattle.mw_record.specs.Below.{few_entries, some_entries, formed_at}
+use Rattle.mw_record.proofs.Below.{few_entries, some_entries, formed_at}
 use Rattle.mw_record.proofs.images.Image.count.Goals as goal
 
 pub overflow_cast-result : goal.overflow_cast-result

@@ -1,8 +1,8 @@
 use Rattle.std.proofs.Common.{◌≡◌, ◌<◌, ap, sym, ◌∙◌, arith}
 use Rattle.mw_record.specs.Records.{record_at}
 use Rattle.mw_record.specs.Damages.{places_of}
-use Rattle.mw_record.specs.Faults.{passes, sizes_are}
-use Rattle.mw_record.specs.Below.{address_below, formed_at}
+use Rattle.mw_record.proofs.Faults.{passes, sizes_are}
+use Rattle.mw_record.proofs.Below.{address_below, formed_at}
 use Rattle.mw_record.proofs.images.Image.pair.Goals as goal
 
 pub overflow_cast-result : goal.overflow_cast-result

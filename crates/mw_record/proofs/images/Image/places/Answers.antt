@@ -1,5 +1,5 @@
 use Rattle.std.proofs.Common.{arith}
-use Rattle.mw_record.specs.Faults.{passes, sizes_are}
+use Rattle.mw_record.proofs.Faults.{passes, sizes_are}
 use Rattle.mw_record.proofs.images.Image.places.Goals as goal
 
 pub returns-clause-some : goal.returns-clause-some

@@ -1,6 +1,6 @@
 use Rattle.std.proofs.Common.{◌≡◌, Some, ap, sym, ◌∙◌}
 use Rattle.mw_record.specs.Damages.{word_at}
-use Rattle.mw_record.specs.Faults.{word_in}
+use Rattle.mw_record.proofs.Faults.{word_in}
 use Rattle.mw_record.proofs.Sizes.{word}
 use Rattle.mw_record.proofs.images.Image.word.Goals as goal
 

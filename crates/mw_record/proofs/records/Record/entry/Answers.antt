@@ -2,7 +2,7 @@ use Rattle.std.proofs.Common.{◌≡◌, ℕ, ◌+◌, ◌*◌, ◌<◌, Some, s
 use Rattle.std.proofs.lemmas.Option.{slice_get-get_or}
 use Rattle.mw_record.specs.Layout.{number_at}
 use Rattle.mw_record.specs.Records.{pairs_at}
-use Rattle.mw_record.specs.Reading.{length_pairs, pair_at}
+use Rattle.mw_record.proofs.Reading.{length_pairs, pair_at}
 use Rattle.mw_record.proofs.records.Record.entry.Goals as goal
 
 -- the two numbers of an entry

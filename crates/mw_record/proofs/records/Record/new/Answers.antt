@@ -1,6 +1,6 @@
 use Rattle.std.proofs.Common.{ℕ, ◌+◌, ◌-◌, length, slice_index, arith}
 use Rattle.mw_record.specs.Records.{body_at}
-use Rattle.mw_record.specs.Reading.{pairs_in_part}
+use Rattle.mw_record.proofs.Reading.{pairs_in_part}
 use Rattle.mw_record.proofs.records.Record.new.Goals as goal
 
 -- the entries in the part of the bytes that is kept are those of the place

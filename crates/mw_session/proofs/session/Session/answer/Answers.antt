@@ -14,9 +14,9 @@ returns-then-is_err-clause-turned g c =
     let new = c.perform-text.new in
     let step = c.step_at-step.result in
     let Asked = Tells s.tells s.noted s.found c.args.service.now new.service in
-    line_breaks (W c.args.writer.now) (W sent.new.writer) Asked old.written sent.new.count c.args.line.now old.bound new.bound step c.deref.result.now sent.result
+    line_breaks (W c.args.writer.now) (W sent.new.writer) Asked old.written sent.new.count c.args.line.now old.bound new.bound step c.bytes.result.now sent.result
     (sym c.is_err.ensures.value ∙ c.if-is_err.true) c.step_at-step.ensures.judges
-    (subst (λ t. Performs Asked step old.bound new.bound t) (sym c.deref.ensures.0) c.perform-text.ensures.performs) sent.ensures
+    (subst (λ t. Performs Asked step old.bound new.bound t) (sym c.bytes.ensures) c.perform-text.ensures.performs) sent.ensures
 
 pub returns-in-Some-clause-turned : goal.returns-in-Some-clause-turned
 returns-in-Some-clause-turned g c =
@@ -27,10 +27,10 @@ returns-in-Some-clause-turned g c =
     let new = c.perform-text.new in
     let step = c.step_at-step.result in
     let Asked = Tells s.tells s.noted s.found c.args.service.now new.service in
-    line_ends (W c.args.writer.now) (W sent.new.writer) Asked old.written sent.new.count c.args.line.now old.bound new.bound step c.deref.result.now c.in-Some.ended
+    line_ends (W c.args.writer.now) (W sent.new.writer) Asked old.written sent.new.count c.args.line.now old.bound new.bound step c.bytes.result.now c.in-Some.ended
     (sym c.end.ensures ∙ c.in-Some.is) c.step_at-step.ensures.judges
-    (subst (λ t. Performs Asked step old.bound new.bound t) (sym c.deref.ensures.0) c.perform-text.ensures.performs)
-    (wrote_all (W c.args.writer.now) (W sent.new.writer) old.written sent.new.count c.deref.result.now sent.result (sym c.is_err.ensures.value ∙ c.if-is_err.false) sent.ensures)
+    (subst (λ t. Performs Asked step old.bound new.bound t) (sym c.bytes.ensures) c.perform-text.ensures.performs)
+    (wrote_all (W c.args.writer.now) (W sent.new.writer) old.written sent.new.count c.bytes.result.now sent.result (sym c.is_err.ensures.value ∙ c.if-is_err.false) sent.ensures)
 
 pub returns-in-None-clause-turned : goal.returns-in-None-clause-turned
 returns-in-None-clause-turned g c =
@@ -41,7 +41,7 @@ returns-in-None-clause-turned g c =
     let new = c.perform-text.new in
     let step = c.step_at-step.result in
     let Asked = Tells s.tells s.noted s.found c.args.service.now new.service in
-    line_goes_on (W c.args.writer.now) (W sent.new.writer) Asked old.written sent.new.count c.args.line.now old.bound new.bound step c.deref.result.now
+    line_goes_on (W c.args.writer.now) (W sent.new.writer) Asked old.written sent.new.count c.args.line.now old.bound new.bound step c.bytes.result.now
     (sym c.end.ensures ∙ c.in-None.is) c.step_at-step.ensures.judges
-    (subst (λ t. Performs Asked step old.bound new.bound t) (sym c.deref.ensures.0) c.perform-text.ensures.performs)
-    (wrote_all (W c.args.writer.now) (W sent.new.writer) old.written sent.new.count c.deref.result.now sent.result (sym c.is_err.ensures.value ∙ c.if-is_err.false) sent.ensures)
+    (subst (λ t. Performs Asked step old.bound new.bound t) (sym c.bytes.ensures) c.perform-text.ensures.performs)
+    (wrote_all (W c.args.writer.now) (W sent.new.writer) old.written sent.new.count c.bytes.result.now sent.result (sym c.is_err.ensures.value ∙ c.if-is_err.false) sent.ensures)

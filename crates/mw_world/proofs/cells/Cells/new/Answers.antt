@@ -1,7 +1,7 @@
 use Rattle.std.proofs.Common.{◌∙◌, ◌*◌, ap, length, map, replicate, subst}
 use Rattle.mw_words.specs.declared.limits.TheConstants.{MAX_ENTRIES}
-use Rattle.mw_world.specs.Bits.{Bits}
-use Rattle.mw_world.specs.Openings.{AreFirstWords}
+use Rattle.mw_world.specs.Memory.Bits.{Bits}
+use Rattle.mw_world.specs.Memory.Openings.{AreFirstWords}
 use Rattle.mw_world.proofs.FirstBits.{StartsAs, start_has_places, start_is_tied}
 use Rattle.mw_world.proofs.cells.Cells.new.Goals as goal
 

@@ -1,5 +1,5 @@
 use Rattle.std.proofs.Common.{◌≡◌, take, map}
-use Rattle.mw_world.specs.Openings.{first_door}
+use Rattle.mw_world.specs.Memory.Openings.{first_door}
 use Rattle.mw_world.proofs.cells.starting.doors_at_start.Given as goal
 
 -- a door for each opening so far

@@ -1,5 +1,5 @@
 use Rattle.std.proofs.Common.{map}
-use Rattle.mw_world.specs.Openings.{AreFirstWords}
+use Rattle.mw_world.specs.Memory.Openings.{AreFirstWords}
 use Rattle.mw_world.proofs.cells.starting.words_at_start.Given as goal
 
 -- the words of each tenant so far

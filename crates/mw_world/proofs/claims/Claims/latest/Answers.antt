@@ -2,7 +2,7 @@ use Rattle.std.proofs.Common.{◌∙◌, rules}
 use Rattle.std.proofs.lemmas.Iterator.Adapters.{YieldsList-from_rev_slice}
 use Rattle.std.proofs.lemmas.Iterator.Search.{find_from_yields_List}
 use borrow.Author.Tests.{tests}
-use Rattle.mw_world.specs.Claims.{is_under}
+use Rattle.mw_world.specs.Memory.Claims.{is_under}
 use Rattle.mw_world.proofs.claims.Claims.latest.Goals as goal
 
 pub returns : goal.returns

@@ -2,11 +2,11 @@ use Rattle.std.proofs.Common.{◌≡◌, ℕ, ap, length, get_or, subst, sym, �
 use Rattle.std.proofs.lemmas.List.{length_push}
 use Rattle.mw_world_file.specs.SoundBooks.{HasSound}
 use Rattle.mw_world.specs.declared.accounts.Account.{Account}
-use Rattle.mw_world.specs.Running.{fails_in, interrupted_in, stop_of, torn_in}
-use Rattle.mw_world.specs.Shows.{Shows}
-use Rattle.mw_world.specs.State.{State, tenant_at}
-use Rattle.mw_world.specs.Stops.{AreReopened, IsReopened}
-use Rattle.mw_world.specs.TenantBooks.{AreSound}
+use Rattle.mw_world.specs.Memory.Running.{fails_in, interrupted_in, stop_of, torn_in}
+use Rattle.mw_world.specs.Memory.Shows.{Shows}
+use Rattle.mw_world.specs.Definition.State.{State, tenant_at}
+use Rattle.mw_world.specs.Memory.Stops.{AreReopened, IsReopened}
+use Rattle.mw_world.specs.Memory.TenantBooks.{AreSound}
 use Rattle.mw_world.proofs.Reopened.{one_refused}
 use Rattle.mw_world.proofs.FirstWorlds.{each_more, each_none, each_of_more}
 use Rattle.mw_world.proofs.world.World.all_reopened.Goals as goal

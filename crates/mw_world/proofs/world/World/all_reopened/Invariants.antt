@@ -1,6 +1,6 @@
 use Rattle.std.proofs.Common.{◌≡◌, length}
-use Rattle.mw_world.specs.Stops.{AreReopened}
-use Rattle.mw_world.specs.TenantBooks.{AreSound}
+use Rattle.mw_world.specs.Memory.Stops.{AreReopened}
+use Rattle.mw_world.specs.Memory.TenantBooks.{AreSound}
 use Rattle.mw_world.proofs.world.World.all_reopened.Given as goal
 
 abbrev pub invariant-loop-tenant : goal.invariant-loop-tenant

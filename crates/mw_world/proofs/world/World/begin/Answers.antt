@@ -2,8 +2,8 @@
 use Rattle.std.proofs.Common.{refl, ◌∙◌, ◌<◌, ap, sym, arith, Some}
 use Rattle.mw_lone.specs.declared.marks.Mark.TheVariants.{Ask}
 use Rattle.mw_world.specs.declared.config.Tenant.{Tenant}
-use Rattle.mw_world.specs.Noting.{more}
-use Rattle.mw_world.specs.State.{tenant_at, tenants_of}
+use Rattle.mw_world.specs.Definition.Noting.{more}
+use Rattle.mw_world.specs.Definition.State.{tenant_at, tenants_of}
 use Rattle.mw_world.proofs.Coming.{first_so}
 use Rattle.mw_world.proofs.Entering.{begins, tenant_is}
 use Rattle.mw_world.proofs.world.World.begin.Goals as goal

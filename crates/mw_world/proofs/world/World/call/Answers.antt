@@ -1,9 +1,9 @@
 -- The request is told how its call ended.
 use Rattle.std.proofs.Common.{ap, sym, subst, ◌∙◌}
-use Rattle.mw_world.specs.Calls.{called_at, calling}
-use Rattle.mw_world.specs.Ending.{Closed, called_of}
-use Rattle.mw_world.specs.Extent.{has_slot}
-use Rattle.mw_world.specs.Stepping.{HasRoom}
+use Rattle.mw_world.specs.Definition.Calls.{called_at, calling}
+use Rattle.mw_world.specs.Memory.Ending.{Closed, called_of}
+use Rattle.mw_world.specs.Definition.Extent.{has_slot}
+use Rattle.mw_world.specs.Memory.Stepping.{HasRoom}
 use Rattle.mw_world.proofs.Calling.{call_ends_well, room_if, status_is_so}
 use Rattle.mw_world.proofs.world.World.call.Goals as goal
 

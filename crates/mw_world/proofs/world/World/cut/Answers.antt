@@ -2,10 +2,10 @@ use Rattle.std.specs.Prelude.{◌≡◌, false, true, length, Some}
 use Rattle.std.proofs.Common.{ap, subst, sym, ◌∙◌}
 use Rattle.mw_actor.specs.Acting.{entries_of_job, own_entries}
 use Rattle.mw_world_file.specs.declared.cut.Cut.{Cut}
-use Rattle.mw_world.specs.Calls.{Called, is_formed, starts_from}
-use Rattle.mw_world.specs.Ending.{called_of}
-use Rattle.mw_world.specs.Extent.{has_slot}
-use Rattle.mw_world.specs.Stops.{IsCut}
+use Rattle.mw_world.specs.Definition.Calls.{Called, is_formed, starts_from}
+use Rattle.mw_world.specs.Memory.Ending.{called_of}
+use Rattle.mw_world.specs.Definition.Extent.{has_slot}
+use Rattle.mw_world.specs.Memory.Stops.{IsCut}
 use Rattle.mw_world.proofs.Halting.{cut_is, in_slot, not_formed}
 use Rattle.mw_world.proofs.world.World.cut.Goals as goal
 

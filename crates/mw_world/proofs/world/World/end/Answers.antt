@@ -1,8 +1,8 @@
 -- A call does nothing, or fails on a file that failed before, or is made.
 use Rattle.std.proofs.Common.{ap, sym, subst, ◌∙◌}
-use Rattle.mw_world.specs.Ending.{called_of, faulted}
-use Rattle.mw_world.specs.Shows.{Shows}
-use Rattle.mw_world.specs.Stepping.{with_cells}
+use Rattle.mw_world.specs.Memory.Ending.{called_of, faulted}
+use Rattle.mw_world.specs.Memory.Shows.{Shows}
+use Rattle.mw_world.specs.Memory.Stepping.{with_cells}
 use Rattle.mw_world.proofs.Calling.{call_refuses, call_skips, found_at, same_found, shown_at}
 use Rattle.mw_world.proofs.world.World.end.Goals as goal
 

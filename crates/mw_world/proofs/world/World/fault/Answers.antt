@@ -1,6 +1,6 @@
 -- The door of a tenant that is there gets the fault.
 use Rattle.std.proofs.Common.{refl, ◌<◌, arith}
-use Rattle.mw_world.specs.State.{tenants_of}
+use Rattle.mw_world.specs.Definition.State.{tenants_of}
 use Rattle.mw_world.proofs.Calling.{faults}
 use Rattle.mw_world.proofs.world.World.fault.Goals as goal
 

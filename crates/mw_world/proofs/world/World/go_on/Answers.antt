@@ -1,8 +1,8 @@
 -- The request is told what its step found, and the step means what it means by where the request is then.
 use Rattle.std.proofs.Common.{◌∙◌, ap}
 use Rattle.mw_look.specs.News.{news_of}
-use Rattle.mw_world.specs.Notes.{note_of}
-use Rattle.mw_world.specs.Turns.{next_attempt}
+use Rattle.mw_world.specs.Definition.Notes.{note_of}
+use Rattle.mw_world.specs.Definition.Turns.{next_attempt}
 use Rattle.mw_world.proofs.Turning.{attempt_at, told_copy, told_so}
 use Rattle.mw_world.proofs.world.World.go_on.Goals as goal
 

@@ -1,6 +1,6 @@
 use Rattle.std.proofs.Common.{◌≡◌, subst}
 use Rattle.std.specs.Prelude.{IfOk}
-use Rattle.mw_world.specs.State.{tenant_at}
+use Rattle.mw_world.specs.Definition.State.{tenant_at}
 use Rattle.mw_world.proofs.ShownAccounts.{account_read, marks_shown}
 use Rattle.mw_world.proofs.world.World.marks.Goals as goal
 

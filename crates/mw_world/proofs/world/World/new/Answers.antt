@@ -1,6 +1,6 @@
 use Rattle.std.proofs.Common.{subst, sym, refl, ℕ}
-use Rattle.mw_world.specs.Starts.{AreFresh, AreTenants, HaveWords}
-use Rattle.mw_world.specs.State.{first_account, new_world, tenant_at}
+use Rattle.mw_world.specs.Memory.Starts.{AreFresh, AreTenants, HaveWords}
+use Rattle.mw_world.specs.Definition.State.{first_account, new_world, tenant_at}
 use Rattle.mw_world.proofs.FirstWorlds.{AreShown, are_tenants, fresh_shown, have_words, shows_start, zeros_are_words}
 use Rattle.mw_world.proofs.SoundBooks.{fresh_sound}
 use Rattle.mw_world.proofs.world.World.new.Goals as goal

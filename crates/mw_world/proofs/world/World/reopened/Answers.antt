@@ -1,6 +1,6 @@
 use Rattle.std.proofs.Common.{refl, ap, ◌∙◌}
 use Rattle.mw_world_file.specs.SoundBooks.{sound_again}
-use Rattle.mw_world.specs.State.{tenant_at}
+use Rattle.mw_world.specs.Definition.State.{tenant_at}
 use Rattle.mw_world.proofs.Reopened.{is_reopened, not_reopened}
 use Rattle.mw_world.proofs.Restarted.{none_is}
 use Rattle.mw_world.proofs.world.World.reopened.Goals as goal

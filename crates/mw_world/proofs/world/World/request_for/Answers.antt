@@ -1,8 +1,8 @@
 -- The number of the next request is given just where the tenant may ask.
 use Rattle.std.proofs.Common.{◌∙◌, ◌<◌, ap, sym, length, arith}
-use Rattle.mw_actor.specs.JobLaws.{well_formed_is_formed}
+use Rattle.mw_actor.proofs.JobLaws.{well_formed_is_formed}
 use Rattle.mw_world.specs.declared.config.Tenant.{Tenant}
-use Rattle.mw_world.specs.State.{no_tenant, tenant_at, tenants_of}
+use Rattle.mw_world.specs.Definition.State.{no_tenant, tenant_at, tenants_of}
 use Rattle.mw_world.proofs.Coming.{asked_at, formed, formed_so, too_many}
 use Rattle.mw_world.proofs.Entering.{tenant_is}
 use Rattle.mw_world.proofs.world.World.request_for.Goals as goal

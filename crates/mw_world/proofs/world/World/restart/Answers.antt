@@ -1,8 +1,8 @@
 use Rattle.std.specs.Prelude.{◌≡◌}
 use Rattle.std.proofs.Common.{ap, arith, refl, subst, sym, ℕ, ◌∙◌}
-use Rattle.mw_world.specs.Running.{are_named}
-use Rattle.mw_world.specs.Starts.{AreTenants, HaveWords}
-use Rattle.mw_world.specs.State.{tenants_of}
+use Rattle.mw_world.specs.Memory.Running.{are_named}
+use Rattle.mw_world.specs.Memory.Starts.{AreTenants, HaveWords}
+use Rattle.mw_world.specs.Definition.State.{tenants_of}
 use Rattle.mw_world.proofs.Restarted.{all_found, has_started, made, news_words}
 use Rattle.mw_world.proofs.SoundBooks.{sound_tenants}
 use Rattle.mw_world.proofs.world.World.restart.Goals as goal

@@ -1,6 +1,6 @@
 use Rattle.std.proofs.Common.{refl, subst, ◌∙◌, take}
 use Rattle.std.proofs.lemmas.List.{take_all}
-use Rattle.mw_world.specs.Running.{AllStep, GoesOn}
+use Rattle.mw_world.specs.Memory.Running.{AllStep, GoesOn}
 use Rattle.mw_world.proofs.GoingOn.{goes_nowhere, goes_on_more, one_event_more, one_step_more, event_read, stops_at}
 use Rattle.mw_world.proofs.world.World.run.Goals as goal
 

@@ -1,6 +1,6 @@
 use Rattle.std.proofs.Common.{◌≡◌, List, take}
-use Rattle.mw_world.specs.Happenings.{Happening}
-use Rattle.mw_world.specs.Running.{AllStep, GoesOn, Stands}
+use Rattle.mw_world.specs.Definition.Happenings.{Happening}
+use Rattle.mw_world.specs.Memory.Running.{AllStep, GoesOn, Stands}
 use Rattle.mw_world.proofs.world.World.run.Given as goal
 
 abbrev pub invariant-loop-index : goal.invariant-loop-index

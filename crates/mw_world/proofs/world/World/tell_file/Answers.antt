@@ -4,7 +4,7 @@ use Rattle.mw_look.specs.declared.news.Got.TheVariants.{File as GotFile}
 use Rattle.mw_look.specs.declared.news.News.TheVariants.{Filed}
 use Rattle.mw_look.specs.Steps.{place}
 use Rattle.mw_actor.specs.Asks.{asks}
-use Rattle.mw_world.specs.Turns.{next_attempt}
+use Rattle.mw_world.specs.Definition.Turns.{next_attempt}
 use Rattle.mw_world.proofs.Turning.{attempt_at, told_copy, told_with}
 use Rattle.mw_world.proofs.world.World.tell_file.Goals as goal
 

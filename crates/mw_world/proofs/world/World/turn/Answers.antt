@@ -4,11 +4,11 @@ use Rattle.mw_look.specs.News.{news_of}
 use Rattle.mw_look.specs.Steps.{place_of}
 use Rattle.mw_actor.specs.Asks.{asks}
 use Rattle.mw_actor.specs.Program.{replied}
-use Rattle.mw_world.specs.Making.{cells_after}
-use Rattle.mw_world.specs.Shows.{Shows}
-use Rattle.mw_world.specs.Stepping.{with_cells}
-use Rattle.mw_world.specs.Ties.{Tie}
-use Rattle.mw_world.specs.Turns.{turned}
+use Rattle.mw_world.specs.Memory.Making.{cells_after}
+use Rattle.mw_world.specs.Memory.Shows.{Shows}
+use Rattle.mw_world.specs.Memory.Stepping.{with_cells}
+use Rattle.mw_world.specs.Memory.Ties.{Tie}
+use Rattle.mw_world.specs.Definition.Turns.{turned}
 use Rattle.mw_world.proofs.Entering.{recelled}
 use Rattle.mw_world.proofs.Turning.{made_there, no_such_place, place_is, turned_is, turns}
 use Rattle.mw_world.proofs.world.World.turn.Goals as goal

@@ -5,10 +5,10 @@ use Rattle.mw_world_file.specs.Files.{File}
 use Rattle.mw_world_file.specs.SoundBooks.{HasSound}
 use Rattle.mw_world_file.specs.Working.{Works}
 use Rattle.mw_world_file.specs.SoundBooks.{sound_after}
-use Rattle.mw_world.specs.Ending.{IsBookOf, called_of, cells_closed}
-use Rattle.mw_world.specs.Shows.{Shows}
-use Rattle.mw_world.specs.State.{tenant_at}
-use Rattle.mw_world.specs.Stepping.{with_cells, with_file}
+use Rattle.mw_world.specs.Memory.Ending.{IsBookOf, called_of, cells_closed}
+use Rattle.mw_world.specs.Memory.Shows.{Shows}
+use Rattle.mw_world.specs.Definition.State.{tenant_at}
+use Rattle.mw_world.specs.Memory.Stepping.{with_cells, with_file}
 use Rattle.mw_world.proofs.Calling.{both_same, call_fails, call_unformed, call_works, formed_is, found_at, shown_at, why_failed}
 use Rattle.mw_world.proofs.world.World.work.Goals as goal
 

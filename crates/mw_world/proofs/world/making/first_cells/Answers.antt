@@ -1,10 +1,10 @@
 use Rattle.std.proofs.Common.{ℕ, List, Bool, subst, sym}
 use Rattle.std.proofs.lemmas.Result.{IfOk-weaker}
-use Rattle.mw_world.specs.Bits.{Bits}
-use Rattle.mw_world.specs.Openings.{AreOpenings, Gave}
-use Rattle.mw_world.specs.Starts.{HaveWords}
-use Rattle.mw_world.specs.State as spec
-use Rattle.mw_world.specs.Ties.{Tie}
+use Rattle.mw_world.specs.Memory.Bits.{Bits}
+use Rattle.mw_world.specs.Memory.Openings.{AreOpenings, Gave}
+use Rattle.mw_world.specs.Memory.Starts.{HaveWords}
+use Rattle.mw_world.specs.Definition.State as spec
+use Rattle.mw_world.specs.Memory.Ties.{Tie}
 use Rattle.mw_world.proofs.FirstWorlds.{all_gave, are_openings}
 use Rattle.mw_world.proofs.world.making.first_cells.Goals as goal
 

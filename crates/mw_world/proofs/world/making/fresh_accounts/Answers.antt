@@ -1,6 +1,6 @@
 use Rattle.std.proofs.Common.{subst, sym, ap, ◌∙◌, ◌+◌, length}
 use Rattle.std.proofs.lemmas.List.{length_push}
-use Rattle.mw_world.specs.Starts.{EachOf, IsFresh}
+use Rattle.mw_world.specs.Memory.Starts.{EachOf, IsFresh}
 use Rattle.mw_world.proofs.FirstWorlds.{each_none, each_of_more}
 use Rattle.mw_world.proofs.world.making.fresh_accounts.Goals as goal
 

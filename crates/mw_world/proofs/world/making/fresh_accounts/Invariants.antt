@@ -1,5 +1,5 @@
 use Rattle.std.proofs.Common.{◌≡◌, length}
-use Rattle.mw_world.specs.Starts.{EachOf, IsFresh}
+use Rattle.mw_world.specs.Memory.Starts.{EachOf, IsFresh}
 use Rattle.mw_world.proofs.world.making.fresh_accounts.Given as goal
 
 abbrev pub invariant-loop-tenant : goal.invariant-loop-tenant

@@ -1,5 +1,5 @@
 use Rattle.std.proofs.Common.{subst, sym}
-use Rattle.mw_world.specs.Starts.{AreIdle}
+use Rattle.mw_world.specs.Memory.Starts.{AreIdle}
 use Rattle.mw_world.proofs.FirstWorlds.{idle_none, idle_more}
 use Rattle.mw_world.proofs.world.making.idle_seats.Goals as goal
 

@@ -1,4 +1,4 @@
-use Rattle.mw_world.specs.Starts.{AreIdle}
+use Rattle.mw_world.specs.Memory.Starts.{AreIdle}
 use Rattle.mw_world.proofs.world.making.idle_seats.Given as goal
 
 abbrev pub invariant-loop : goal.invariant-loop

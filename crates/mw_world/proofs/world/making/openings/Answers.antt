@@ -1,7 +1,7 @@
 use Rattle.std.proofs.Common.{subst, sym, ap, ◌∙◌, ◌+◌, length}
 use Rattle.std.proofs.lemmas.List.{length_push}
 use Rattle.mw_world_file.specs.Giving.{IsGiven}
-use Rattle.mw_world.specs.Starts.{EachOf}
+use Rattle.mw_world.specs.Memory.Starts.{EachOf}
 use Rattle.mw_world.proofs.FirstWorlds.{each_none, each_of_more}
 use Rattle.mw_world.proofs.world.making.openings.Goals as goal
 

@@ -1,6 +1,6 @@
 use Rattle.std.proofs.Common.{◌≡◌, length}
 use Rattle.mw_world_file.specs.Giving.{IsGiven}
-use Rattle.mw_world.specs.Starts.{EachOf}
+use Rattle.mw_world.specs.Memory.Starts.{EachOf}
 use Rattle.mw_world.proofs.world.making.openings.Given as goal
 
 abbrev pub invariant-loop-account : goal.invariant-loop-account

@@ -11,7 +11,7 @@ cancel-requires c =
     let at : IsAt old c.args.slot (get_or old.place_of c.args.slot 0) (KeptPrepared es) =
     is_at old c.args.slot (KeptPrepared es) c.in-Some-Prepared.field-0.now c.deref.result.now c.in-Some-Prepared.field-0-is c.in-Some-Prepared.ensures.lookup.0 c.in-Some-Prepared.ensures.lookup.1
     c.deref.ensures.value (omega (arith, c.ranges.slot.fits)) in
-    is_prepared_in old c.args.slot (get_or old.place_of c.args.slot 0) es at c.in-Open.held c.in-Open.is c.in_ok-file.file c.in_ok-file.ensures.same.slots
+    is_prepared_in old c.args.slot (get_or old.place_of c.args.slot 0) es at c.in-Open.held c.in-Open.is c.in_ok-file.file c.in_ok-file.ensures.same.states
 
 pub unreachable-requires : goal.unreachable-requires
 unreachable-requires c =
@@ -27,7 +27,7 @@ emptied-requires-clause-kept c =
     let at : IsAt old c.args.slot (get_or old.place_of c.args.slot 0) (KeptPrepared es) =
     is_at old c.args.slot (KeptPrepared es) c.in-Some-Prepared.field-0.now c.deref.result.now c.in-Some-Prepared.field-0-is c.in-Some-Prepared.ensures.lookup.0 c.in-Some-Prepared.ensures.lookup.1
     c.deref.ensures.value (omega (arith, c.ranges.slot.fits)) in
-    emptied_kept old c.args.slot (get_or old.place_of c.args.slot 0) (KeptPrepared es) at c.in-Open.held c.in-Open.is c.in_ok-file.file c.in_ok-file.ensures.same.slots c.cancel.new.self _ c.cancel.ensures.staged
+    emptied_kept old c.args.slot (get_or old.place_of c.args.slot 0) (KeptPrepared es) at c.in-Open.held c.in-Open.is c.in_ok-file.file c.in_ok-file.ensures.same.states c.cancel.new.self _ c.cancel.ensures.staged
 
 pub returns : goal.returns
 returns c others =

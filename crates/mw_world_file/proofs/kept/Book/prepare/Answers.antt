@@ -16,12 +16,12 @@ returns-in_err-file c = refused c.args.self.now Prepare c.args.slot c.args.entri
 
 pub prepared-requires-clause-within : goal.prepared-requires-clause-within
 prepared-requires-clause-within c =
-    place_within c.args.self.now c.in-Open.held c.args.slot c.args.entries.now c.in-Open.is c.in_ok-file.file c.in_ok-file.ensures.slots c.in-Ok.place.0 c.in-Ok.ensures.lowest
+    place_within c.args.self.now c.in-Open.held c.args.slot c.args.entries.now c.in-Open.is c.in_ok-file.file c.in_ok-file.ensures.states c.in-Ok.place.0 c.in-Ok.ensures.lowest
 
 pub prepared-requires-clause-kept : goal.prepared-requires-clause-kept
 prepared-requires-clause-kept c =
     kept_after c.args.self.now c.in-Open.held c.in-Open.is c.in_ok-file.file c.prepare-made.new.self c.in-Ok.place.0 (KeptPrepared c.args.entries.now) PreparedStage (pairs_of c.args.entries.now.items)
-    c.in_ok-file.ensures.slots (prepared-requires-clause-within c) c.in-Ok.ensures.staged refl (λ busy. refl)
+    c.in_ok-file.ensures.states (prepared-requires-clause-within c) c.in-Ok.ensures.staged refl (λ busy. refl)
 
 pub returns-in_err-prepared-in-Ok : goal.returns-in_err-prepared-in-Ok
 returns-in_err-prepared-in-Ok c =
@@ -34,13 +34,13 @@ returns-in_err-broken-in-Fail c =
 pub returns-in_ok-prepared-in-Ok : goal.returns-in_ok-prepared-in-Ok
 returns-in_ok-prepared-in-Ok c =
     let long : MAX_POOL ≤ length c.args.self.now.place_of = search rules in
-    prepare_done c.args.self.now c.in-Open.held c.args.slot c.args.entries.now c.in-Open.is c.in_ok-file.file c.in_ok-file.ensures.slots c.prepare-made.new.self _ c.args.outcome c.in-Ok.place.0
+    prepare_done c.args.self.now c.in-Open.held c.args.slot c.args.entries.now c.in-Open.is c.in_ok-file.file c.in_ok-file.ensures.states c.prepare-made.new.self _ c.args.outcome c.in-Ok.place.0
     c.in-Good.is c.in-Ok.ensures.lowest (omega (arith, c.ranges.slot.fits)) long
     (λ contents doubt keeps. (c.prepare-made.ensures.safe refl contents doubt (c.in_ok-file.ensures.keeps contents doubt keeps)).after) c.in_ok-prepared-in-Ok.ensures
 
 pub returns-in_ok-broken-in-Fail : goal.returns-in_ok-broken-in-Fail
 returns-in_ok-broken-in-Fail c =
-    prepare_broken c.args.self.now c.in-Open.held c.args.slot c.args.entries.now c.in-Open.is c.in_ok-file.file c.in_ok-file.ensures.slots c.prepare-made.new.self _ c.args.outcome c.in-Fail.field-0 c.new.result
+    prepare_broken c.args.self.now c.in-Open.held c.args.slot c.args.entries.now c.in-Open.is c.in_ok-file.file c.in_ok-file.ensures.states c.prepare-made.new.self _ c.args.outcome c.in-Fail.field-0 c.new.result
     c.in-Fail.is c.new.ensures (ap (λ n. may_end n c.args.outcome) (sym c.device_calls.ensures) ∙ sym c.may_end.ensures ∙ c.if-not-may_end.false)
     c.requires.sound (sym c.has_place.ensures ∙ c.if-not-has_place.false)
     (λ contents doubt keeps. (c.prepare-made.ensures.safe refl contents doubt (c.in_ok-file.ensures.keeps contents doubt keeps)).after) c.in_ok-broken-in-Fail.ensures

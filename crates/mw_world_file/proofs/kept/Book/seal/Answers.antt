@@ -24,7 +24,7 @@ seal-made-requires c =
     is_at old c.args.slot (KeptPrepared es) c.in-Some-Prepared.field-0.now c.deref.result.now c.in-Some-Prepared.field-0-is c.in-Some-Prepared.ensures.lookup.0 c.in-Some-Prepared.ensures.lookup.1
     c.deref.ensures.value (omega (arith, c.ranges.slot.fits)) in
     let all = all_clear c.is_apart.result es.items c.deref-3.result.now old.places.items c.deref-2.result.now c.is_apart.ensures c.deref-3.ensures.0 c.deref-2.ensures.value ∙ c.if-not-is_apart.false in
-    may_seal_it old c.args.slot (get_or old.place_of c.args.slot 0) es at c.in-Open.held c.in-Open.is c.in_ok-file.file c.in_ok-file.ensures.slots all
+    may_seal_it old c.args.slot (get_or old.place_of c.args.slot 0) es at c.in-Open.held c.in-Open.is c.in_ok-file.file c.in_ok-file.ensures.states all
 
 pub with_place-requires-clause-sized : goal.with_place-requires-clause-sized
 with_place-requires-clause-sized c =
@@ -35,7 +35,7 @@ with_place-requires-clause-sized c =
     let fine : is_err c.seal-made.result ≡ false = sym c.is_err.ensures.value ∙ c.if-is_err.false in
     let words : c.in_ok-contents-in-Good.contents.items ≡ put old.contents.items es.items =
     c.in_ok-contents-in-Good.ensures ∙ ap (λ ws. put ws c.deref-in-Good-2.result.now) c.deref-in-Good.ensures.value ∙ ap (λ xs. put old.contents.items xs) c.deref-in-Good-2.ensures.0 in
-    sealed_sized old c.args.slot (get_or old.place_of c.args.slot 0) es at c.in-Open.held c.in-Open.is c.in_ok-file.file c.in_ok-file.ensures.slots c.seal-made.new.self c.in_ok-contents-in-Good.contents.items
+    sealed_sized old c.args.slot (get_or old.place_of c.args.slot 0) es at c.in-Open.held c.in-Open.is c.in_ok-file.file c.in_ok-file.ensures.states c.seal-made.new.self c.in_ok-contents-in-Good.contents.items
     (ended_well memory_facts 2 c.in_ok-file.file c.seal-made.new.self c.seal-made.result fine c.seal-made.ensures.ends).words c.in_ok-file.ensures.words words
 
 pub with_place-requires-clause-kept : goal.with_place-requires-clause-kept
@@ -45,7 +45,7 @@ with_place-requires-clause-kept c =
     is_at old c.args.slot (KeptPrepared es) c.in-Some-Prepared.field-0.now c.deref.result.now c.in-Some-Prepared.field-0-is c.in-Some-Prepared.ensures.lookup.0 c.in-Some-Prepared.ensures.lookup.1
     c.deref.ensures.value (omega (arith, c.ranges.slot.fits)) in
     let fine : is_err c.seal-made.result ≡ false = sym c.is_err.ensures.value ∙ c.if-is_err.false in
-    sealed_kept old c.args.slot (get_or old.place_of c.args.slot 0) es at c.in-Open.held c.in-Open.is c.in_ok-file.file c.in_ok-file.ensures.slots c.seal-made.new.self c.copy_of.result c.copy_of.ensures
+    sealed_kept old c.args.slot (get_or old.place_of c.args.slot 0) es at c.in-Open.held c.in-Open.is c.in_ok-file.file c.in_ok-file.ensures.states c.seal-made.new.self c.copy_of.result c.copy_of.ensures
     (went_well c.seal-made.result _ fine c.seal-made.ensures.staged)
 
 pub returns-in_ok-with_place-in-Good : goal.returns-in_ok-with_place-in-Good
@@ -58,7 +58,7 @@ returns-in_ok-with_place-in-Good c others =
     let fine : is_err c.seal-made.result ≡ false = sym c.is_err.ensures.value ∙ c.if-is_err.false in
     let words : c.in_ok-contents-in-Good.contents.items ≡ put old.contents.items es.items =
     c.in_ok-contents-in-Good.ensures ∙ ap (λ ws. put ws c.deref-in-Good-2.result.now) c.deref-in-Good.ensures.value ∙ ap (λ xs. put old.contents.items xs) c.deref-in-Good-2.ensures.0 in
-    seal_done old c.args.slot (get_or old.place_of c.args.slot 0) es at c.in-Open.held c.in-Open.is c.in_ok-file.file c.in_ok-file.ensures.slots c.seal-made.new.self _ others c.args.outcome c.seal-made.result
+    seal_done old c.args.slot (get_or old.place_of c.args.slot 0) es at c.in-Open.held c.in-Open.is c.in_ok-file.file c.in_ok-file.ensures.states c.seal-made.new.self _ others c.args.outcome c.seal-made.result
     c.in_ok-file.ensures.keeps c.seal-made.ensures.safe all c.requires c.in_ok-contents-in-Good.contents.items c.copy_of.result words c.copy_of.ensures c.in-Good.is fine c.in_ok-with_place-in-Good.ensures
 
 pub returns-in_ok-broken-in-Fail : goal.returns-in_ok-broken-in-Fail
@@ -71,5 +71,5 @@ returns-in_ok-broken-in-Fail c others =
     let bad : is_ok c.seal-made.result ≡ false = sym c.is_ok.ensures.value ∙ c.if-is_ok.false in
     let may : may_end 2 c.args.outcome ≡ true = ap (λ n. may_end n c.args.outcome) (sym c.device_calls.ensures) ∙ sym c.may_end.ensures ∙ c.if-not-may_end.false in
     let unfailed : has_failed c.in_ok-file.file ≡ false = c.in_ok-file.ensures.failed ∙ unfailed_open old c.in-Open.held c.in-Open.is c.requires in
-    seal_broken old c.args.slot (get_or old.place_of c.args.slot 0) es at c.in-Open.held c.in-Open.is c.in_ok-file.file c.in_ok-file.ensures.slots c.seal-made.new.self _ others c.args.outcome c.seal-made.result
+    seal_broken old c.args.slot (get_or old.place_of c.args.slot 0) es at c.in-Open.held c.in-Open.is c.in_ok-file.file c.in_ok-file.ensures.states c.seal-made.new.self _ others c.args.outcome c.seal-made.result
     c.in_ok-file.ensures.keeps c.seal-made.ensures.safe all c.requires c.in-Fail.field-0 c.copy_of-in-Fail.result c.copy_of-in-Fail.ensures c.in-Fail.is may bad unfailed 2 c.seal-made.ensures.ends c.in_ok-broken-in-Fail.ensures

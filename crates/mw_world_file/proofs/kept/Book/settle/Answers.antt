@@ -14,7 +14,7 @@ settle-made-requires c =
     let at : IsAt old c.args.slot (get_or old.place_of c.args.slot 0) (KeptSealed es) =
     is_at old c.args.slot (KeptSealed es) c.in-Some-Sealed.field-0.now c.deref.result.now c.in-Some-Sealed.field-0-is c.in-Some-Sealed.ensures.lookup.0 c.in-Some-Sealed.ensures.lookup.1
     c.deref.ensures.value (omega (arith, c.ranges.slot.fits)) in
-    is_sealed_in old c.args.slot (get_or old.place_of c.args.slot 0) es at c.in-Open.held c.in-Open.is c.in_ok-file.file c.in_ok-file.ensures.slots
+    is_sealed_in old c.args.slot (get_or old.place_of c.args.slot 0) es at c.in-Open.held c.in-Open.is c.in_ok-file.file c.in_ok-file.ensures.states
 
 pub emptied-requires-clause-kept : goal.emptied-requires-clause-kept
 emptied-requires-clause-kept c =
@@ -23,7 +23,7 @@ emptied-requires-clause-kept c =
     is_at old c.args.slot (KeptSealed es) c.in-Some-Sealed.field-0.now c.deref.result.now c.in-Some-Sealed.field-0-is c.in-Some-Sealed.ensures.lookup.0 c.in-Some-Sealed.ensures.lookup.1
     c.deref.ensures.value (omega (arith, c.ranges.slot.fits)) in
     let fine : is_err c.settle-made.result ≡ false = sym c.is_err.ensures.value ∙ c.if-is_err.false in
-    emptied_kept old c.args.slot (get_or old.place_of c.args.slot 0) (KeptSealed es) at c.in-Open.held c.in-Open.is c.in_ok-file.file c.in_ok-file.ensures.slots c.settle-made.new.self _
+    emptied_kept old c.args.slot (get_or old.place_of c.args.slot 0) (KeptSealed es) at c.in-Open.held c.in-Open.is c.in_ok-file.file c.in_ok-file.ensures.states c.settle-made.new.self _
     (went_well c.settle-made.result _ fine c.settle-made.ensures.staged)
 
 pub returns-in_ok-emptied-in-Good : goal.returns-in_ok-emptied-in-Good

@@ -14,11 +14,11 @@ returns-then-not-has_place c file shows =
 pub returns : goal.returns
 returns c file shows =
     let old = c.args.self.now in let cut = c.args.cut.now in
-    let suits = some_empty old c.in-Open.held cut.slot cut.entries c.in-Open.is c.in_ok-file.file c.in_ok-file.ensures.slots (sym c.has_place.ensures ∙ c.if-not-has_place.false) file shows in
+    let suits = some_empty old c.in-Open.held cut.slot cut.entries c.in-Open.is c.in_ok-file.file c.in_ok-file.ensures.states (sym c.has_place.ensures ∙ c.if-not-has_place.false) file shows in
     let doubt = ap (λ (xs : ArrayVec Entry). xs.items) c.copy_of.ensures in
     left_cut old cut Prepare c.requires.call c.requires.some file shows (shows.same_failed ∙ c.requires.sound) suits c.args.torn.now (record { image = c.in_ok-crash.field-0; doubt = c.copy_of.result }) _
     (omega (arith, c.if-cut-device_calls.false, c.device_calls.ensures)) (doubt ∙ sym shows.same_doubt) refl
-    (stays_left old c.in-Open.held c.in-Open.is c.in_ok-file.file c.prepare.new.self c.in_ok-file.ensures.slots c.in_ok-file.ensures.keeps c.in_ok-crash.field-0.items c.in_ok-crash.ensures.image
+    (stays_left old c.in-Open.held c.in-Open.is c.in_ok-file.file c.prepare.new.self c.in_ok-file.ensures.states c.in_ok-file.ensures.keeps c.in_ok-crash.field-0.items c.in_ok-crash.ensures.image
     c.prepare.ensures.safe c.copy_of.result.items doubt file shows)
     (left_of old c.in-Open.held c.in_ok-file.file c.prepare.new.self cut.made _ c.args.torn.now c.in_ok-crash.field-0.items c.prepare.result c.in-Open.is c.requires.sound c.requires.some
     (omega (arith, c.if-cut-device_calls.false, c.device_calls.ensures)) c.in_ok-file.ensures.disk c.in_ok-file.ensures.plan c.in_ok-file.ensures.failed c.prepare.ensures.ends (omega (arith, c.refused.ensures, c.refused-2.ensures, c.if-refused.false))

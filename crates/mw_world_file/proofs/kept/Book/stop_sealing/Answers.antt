@@ -29,7 +29,7 @@ seal-sealed-requires c =
     is_at old c.args.cut.now.slot (KeptPrepared es) c.in-Some-Prepared.field-0.now c.deref.result.now c.in-Some-Prepared.field-0-is c.in-Some-Prepared.ensures.lookup.0 c.in-Some-Prepared.ensures.lookup.1
     c.deref.ensures.value (search rules) in
     let all = all_clear c.is_apart.result es.items c.deref-3.result.now old.places.items c.deref-2.result.now c.is_apart.ensures c.deref-3.ensures.0 c.deref-2.ensures.value ∙ c.if-not-is_apart.false in
-    may_seal_it old c.args.cut.now.slot (get_or old.place_of c.args.cut.now.slot 0) es at c.in-Open.held c.in-Open.is c.in_ok-file.file c.in_ok-file.ensures.slots all
+    may_seal_it old c.args.cut.now.slot (get_or old.place_of c.args.cut.now.slot 0) es at c.in-Open.held c.in-Open.is c.in_ok-file.file c.in_ok-file.ensures.states all
 
 pub returns-then-cut-device_calls-2 : goal.returns-then-cut-device_calls-2
 returns-then-cut-device_calls-2 c file shows =
@@ -46,8 +46,8 @@ returns-then-cut-device_calls-2 c file shows =
     (omega (arith, c.if-cut-device_calls.false, c.device_calls.ensures)) (copied ∙ sym there ∙ sym (doubt_sealing file.doubt (entries_at file (place_for Seal file (quota_of old) cut.slot)) cut.made c.requires.some))
     (part_of_seal cut.made 2 (omega (arith, c.if-cut-device_calls-2.true, c.device_calls-2.ensures)))
     (subst (λ (doubt : List Entry). Finds (quota_of old) false old.contents.items doubt c.in_ok-crash.field-0.items) (sym copied)
-    (sealed_left old c.in-Open.held c.in-Open.is c.in_ok-file.file c.seal-sealed.new.self c.in_ok-file.ensures.slots c.in_ok-file.ensures.keeps c.in_ok-crash.field-0.items c.in_ok-crash.ensures.image
-    c.requires.sound es.items _ (writes_are old cut.slot (get_or old.place_of cut.slot 0) es at c.in-Open.held c.in-Open.is c.in_ok-file.file c.in_ok-file.ensures.slots) c.seal-sealed.result c.seal-sealed.ensures.safe
+    (sealed_left old c.in-Open.held c.in-Open.is c.in_ok-file.file c.seal-sealed.new.self c.in_ok-file.ensures.states c.in_ok-file.ensures.keeps c.in_ok-crash.field-0.items c.in_ok-crash.ensures.image
+    c.requires.sound es.items _ (writes_are old cut.slot (get_or old.place_of cut.slot 0) es at c.in-Open.held c.in-Open.is c.in_ok-file.file c.in_ok-file.ensures.states) c.seal-sealed.result c.seal-sealed.ensures.safe
     (c.in_ok-file.ensures.failed ∙ unfailed_open old c.in-Open.held c.in-Open.is c.requires.sound) c.seal-sealed.ensures.ends file shows))
     (left_of old c.in-Open.held c.in_ok-file.file c.seal-sealed.new.self cut.made _ c.args.torn.now c.in_ok-crash.field-0.items c.seal-sealed.result c.in-Open.is c.requires.sound c.requires.some
     (omega (arith, c.if-cut-device_calls.false, c.device_calls.ensures)) c.in_ok-file.ensures.disk c.in_ok-file.ensures.plan c.in_ok-file.ensures.failed c.seal-sealed.ensures.ends (omega (arith, c.refused.ensures, c.refused-2.ensures, c.if-refused.false))
@@ -68,8 +68,8 @@ returns c file shows =
     (omega (arith, c.if-cut-device_calls.false, c.device_calls.ensures)) (copied ∙ sym there ∙ sym (doubt_sealing file.doubt (entries_at file (place_for Seal file (quota_of old) cut.slot)) cut.made c.requires.some))
     (whole_seal cut.made 2 c.requires.some (omega (arith, c.if-cut-device_calls.false, c.device_calls.ensures, c.if-cut-device_calls-2.false, c.device_calls-2.ensures)))
     (subst (λ (doubt : List Entry). Finds (quota_of old) true old.contents.items doubt c.in_ok-crash-2.field-0.items) (sym copied)
-    (sealed_whole old c.in-Open.held c.in-Open.is c.in_ok-file.file c.seal-sealed.new.self c.in_ok-file.ensures.slots c.in_ok-file.ensures.keeps c.in_ok-crash-2.field-0.items c.in_ok-crash-2.ensures.image
-    c.requires.sound es.items _ (writes_are old cut.slot (get_or old.place_of cut.slot 0) es at c.in-Open.held c.in-Open.is c.in_ok-file.file c.in_ok-file.ensures.slots) c.seal-sealed.result (sym c.is_err.ensures.value ∙ c.if-is_err.false) c.seal-sealed.ensures.safe
+    (sealed_whole old c.in-Open.held c.in-Open.is c.in_ok-file.file c.seal-sealed.new.self c.in_ok-file.ensures.states c.in_ok-file.ensures.keeps c.in_ok-crash-2.field-0.items c.in_ok-crash-2.ensures.image
+    c.requires.sound es.items _ (writes_are old cut.slot (get_or old.place_of cut.slot 0) es at c.in-Open.held c.in-Open.is c.in_ok-file.file c.in_ok-file.ensures.states) c.seal-sealed.result (sym c.is_err.ensures.value ∙ c.if-is_err.false) c.seal-sealed.ensures.safe
     (c.in_ok-file.ensures.failed ∙ unfailed_open old c.in-Open.held c.in-Open.is c.requires.sound) c.seal-sealed.ensures.ends file shows))
     (left_of old c.in-Open.held c.in_ok-file.file c.seal-sealed.new.self cut.made _ c.args.torn.now c.in_ok-crash-2.field-0.items c.seal-sealed.result c.in-Open.is c.requires.sound c.requires.some
     (omega (arith, c.if-cut-device_calls.false, c.device_calls.ensures)) c.in_ok-file.ensures.disk c.in_ok-file.ensures.plan c.in_ok-file.ensures.failed c.seal-sealed.ensures.ends (omega (arith, c.refused.ensures, c.refused-2.ensures, c.if-refused.false))

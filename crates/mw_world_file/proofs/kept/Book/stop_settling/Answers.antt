@@ -31,7 +31,7 @@ settle-requires c =
     let old = c.args.self.now in let es = c.in-Some.entries.now in
     let at : IsAt old c.args.cut.now.slot (get_or old.place_of c.args.cut.now.slot 0) (KeptSealed es) =
     is_there old c.args.cut.now.slot (KeptSealed es) c.deref.result.now c.in-Some.ensures c.deref.ensures.value (search rules) in
-    is_sealed_in old c.args.cut.now.slot (get_or old.place_of c.args.cut.now.slot 0) es at c.in-Open.held c.in-Open.is c.in_ok-file.file c.in_ok-file.ensures.slots
+    is_sealed_in old c.args.cut.now.slot (get_or old.place_of c.args.cut.now.slot 0) es at c.in-Open.held c.in-Open.is c.in_ok-file.file c.in_ok-file.ensures.states
 
 pub returns : goal.returns
 returns c file shows =
@@ -43,10 +43,10 @@ returns c file shows =
     let calls = ap (λ xs. device_calls Settle xs) (ap entries_in (told_there old cut.slot (get_or old.place_of cut.slot 0) (KeptSealed es) at file shows)) in
     let counted = c.device_calls.ensures ∙ ap (λ xs. device_calls Settle xs) c.deref-2.ensures.0 in
     let doubt = ap (λ (xs : ArrayVec Entry). xs.items) c.copy_of.ensures in
-    let writes = sealed_writes old cut.slot (get_or old.place_of cut.slot 0) es at c.in-Open.held c.in-Open.is c.in_ok-file.file c.in_ok-file.ensures.slots in
+    let writes = sealed_writes old cut.slot (get_or old.place_of cut.slot 0) es at c.in-Open.held c.in-Open.is c.in_ok-file.file c.in_ok-file.ensures.states in
     left_cut old cut Settle c.requires.call c.requires.some file shows (shows.same_failed ∙ c.requires.sound) suits c.args.torn.now (record { image = c.in_ok-crash.field-0; doubt = c.copy_of.result }) _
     (omega (arith, calls, counted, c.if-cut-device_calls.false)) (doubt ∙ sym shows.same_doubt) refl
-    (stays_left old c.in-Open.held c.in-Open.is c.in_ok-file.file c.settle.new.self c.in_ok-file.ensures.slots c.in_ok-file.ensures.keeps c.in_ok-crash.field-0.items c.in_ok-crash.ensures.image
+    (stays_left old c.in-Open.held c.in-Open.is c.in_ok-file.file c.settle.new.self c.in_ok-file.ensures.states c.in_ok-file.ensures.keeps c.in_ok-crash.field-0.items c.in_ok-crash.ensures.image
     c.settle.ensures.safe c.copy_of.result.items doubt file shows)
     (left_of old c.in-Open.held c.in_ok-file.file c.settle.new.self cut.made _ c.args.torn.now c.in_ok-crash.field-0.items c.settle.result c.in-Open.is c.requires.sound c.requires.some
     (omega (arith, writes, counted, c.if-cut-device_calls.false)) c.in_ok-file.ensures.disk c.in_ok-file.ensures.plan c.in_ok-file.ensures.failed c.settle.ensures.ends (omega (arith, c.refused.ensures, c.refused-2.ensures, c.if-refused.false))

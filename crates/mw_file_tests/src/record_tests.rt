@@ -1,0 +1,118 @@
+//! Files with one fault each, and a file that is read.
+use mw_record::{COMMITTED, Damage, MAX_FILE, body, decode, header, home_at, place_at, size};
+use mw_words::{Entries, Entry};
+use std::test::Fail;
+
+/// A new file with two words and one record place.
+fn small_file() -> [u8; 184] {
+    let mut file = [0; 184];
+    file[..32].copy_from_slice(&header(2, 1));
+    file
+}
+
+/// A new file with two words and two record places.
+fn file_of_two_places() -> [u8; 320] {
+    let mut file = [0; 320];
+    file[..32].copy_from_slice(&header(2, 2));
+    file
+}
+
+/// The number of a file's damage, 0 where it has none.
+fn told(bytes: &[u8]) -> u8 {
+    match decode(bytes) {
+        Ok(_) => 0,
+        Err(damage) => damage.number(),
+    }
+}
+
+/// The number of the damage of the small file with one byte changed and so many bytes left.
+fn told_of_change(at: usize, byte: u8, len: usize) -> u8 {
+    let mut file = small_file();
+    if at < file.len() {
+        file[at] = byte;
+    }
+    told(&file[..len.min(184)])
+}
+
+#[test]
+fn a_change_of_one_byte_is_told(rt: HostRuntime) {
+    let cases = [
+        (0, 0x58, 184, 1),
+        (8, 0, 184, 2),
+        (8, 3, 184, 6),
+        (9, 0x11, 184, 2),
+        (12, 0, 184, 2),
+        (12, 33, 184, 2),
+        (14, 0x58, 184, 0),
+        (15, 0xa5, 184, 2),
+        (15, 0x7f, 184, 0),
+        (38, 1, 184, 3),
+        (48, 0xa5, 184, 4),
+        (48, 0x7f, 184, 0),
+        (49, 9, 184, 0),
+        (0, b'M', 184, 0),
+        (0, b'M', 183, 6),
+        (0, b'M', 31, 6),
+        (0, 0x58, 31, 6),
+    ];
+    for (at, byte, len, number) in cases {
+        assert_eq!(rt; told_of_change(at, byte, len), number, "at {at}");
+    }
+}
+
+#[test]
+fn records_are_told(rt: HostRuntime) {
+    let mut long = small_file();
+    long[48] = COMMITTED;
+    long[49] = 9;
+    assert_eq!(rt; told(&long), Damage::Record.number());
+
+    let mut shared = file_of_two_places();
+    shared[48] = COMMITTED;
+    shared[49] = 1;
+    shared[64] = 1;
+    shared[184] = COMMITTED;
+    shared[185] = 1;
+    shared[200] = 1;
+    assert_eq!(rt; told(&shared), Damage::Overlap.number());
+    shared[184] = 0x7f;
+    assert_eq!(rt; told(&shared), 0);
+}
+
+/// A file with the home words 5 and 0, and one open record, which makes the second word 7.
+fn file_with_a_record() -> [u8; 320] {
+    let mut entries = Entries::new();
+    entries.push(Entry {
+        addr: 1,
+        expected: 0,
+        new: 7,
+    });
+    let mut file = file_of_two_places();
+    file[32] = 5;
+    file[48] = COMMITTED;
+    file[49..184].copy_from_slice(&body(&entries));
+    file
+}
+
+#[test]
+fn a_file_is_read(rt: HostRuntime) -> Result<(), Fail> {
+    let file = file_with_a_record();
+    let image = decode(&file).map_err(|damage| damage.number())?;
+    assert_eq!(rt; image.words(), 2);
+    assert_eq!(rt; image.places(), 2);
+    assert_eq!(rt; image.word(0), 5);
+    assert_eq!(rt; image.word(1), 7);
+    assert_eq!(rt; image.count(0), 1);
+    assert_eq!(rt; image.count(1), 0);
+    assert_eq!(rt; image.pair(0, 0), (1, 7));
+    Ok(())
+}
+
+#[test]
+fn parts_lie_one_behind_the_other(rt: HostRuntime) {
+    assert_eq!(rt; home_at(1), 40);
+    assert_eq!(rt; place_at(2, 0), 48);
+    assert_eq!(rt; place_at(2, 1), 184);
+    assert_eq!(rt; size(2, 2), 320);
+    assert_eq!(rt; size(4096, 32), MAX_FILE as u64);
+}

@@ -1,6 +1,0 @@
-use Rattle.mw_plain.specs.Names.{HasNone}
-use Rattle.mw_plain.proofs.plain.Plain.find.Given as goal
-
--- no tenant so far has the name
-abbrev pub invariant-loop-tenant : goal.invariant-loop-tenant
-invariant-loop-tenant g l = HasNone l.self l.tenant l.name.items

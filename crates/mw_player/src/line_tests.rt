@@ -1,0 +1,99 @@
+//! Lines that are not played to their end in tests, and what is said of them.
+
+/// The first four lines of the schedules that the lines below are played in.
+pub const HEAD: &str = "pool 3\nworkers 2\ntenant t 2 2\ntenant u 1 1\n";
+
+/// Lines behind [`HEAD`], and what is said of them.
+pub type Lines = (&'static str, &'static str);
+
+/// Lines that are wrong, or leave the schedule wrong.
+pub fn wrong_lines() -> [Lines; 9] {
+    [
+        ("step 0\n\n", "line 6 wrong\n"),
+        ("come 0 t GET 0\nend 0\nend 0", "line 7 wrong\n"),
+        ("come 0 t GET 0\nend 0\nend 0 \nstep\n", "line 7 wrong\n"),
+        ("come 0 t GET 2\n", "line 5 wrong\n"),
+        ("come 0 t CAS 1:0:1 0:0:1\n", "line 5 wrong\n"),
+        ("end 64\n", "line 5 wrong\n"),
+        ("to 0 ready\n", "line 5 wrong\n"),
+        ("restart t=-,-, t=-,-,\n", "line 5 wrong\n"),
+        ("tenant t 1 1\n", "line 5 wrong\n"),
+    ]
+}
+
+/// Lines of a worker that is not there, has no request or has one already.
+pub fn workers_not_enabled() -> [Lines; 9] {
+    [
+        ("step 0\n", "line 5 not enabled\n"),
+        ("end 0\n", "line 5 not enabled\n"),
+        ("before 0 load\n", "line 5 not enabled\n"),
+        ("to 1 load\n", "line 5 not enabled\n"),
+        ("file 0 good\n", "line 5 not enabled\n"),
+        ("step 2\n", "line 5 not enabled\n"),
+        ("end 63\n", "line 5 not enabled\n"),
+        ("come 2 t GET 0\n", "line 5 not enabled\n"),
+        ("come 0 t GET 0\ncome 0 u GET 0\n", "line 6 not enabled\n"),
+    ]
+}
+
+/// Lines that tell another step, or another end of a call, than the worker's next one.
+pub fn steps_not_enabled() -> [Lines; 5] {
+    [
+        ("come 0 t GET 0\nfile 0 good\n", "line 6 not enabled\n"),
+        (
+            "come 0 t GET 0\nstep 0\nstep 0\nstep 0\n",
+            "line 8 not enabled\n",
+        ),
+        (
+            "come 0 t CAS 0:0:1\nbefore 0 prepare\nstep 0\n",
+            "line 7 not enabled\n",
+        ),
+        (
+            "come 0 t CAS 0:0:1\nbefore 0 prepare\nfile 0 0\n",
+            "line 7 not enabled\n",
+        ),
+        (
+            "come 0 t CAS 0:0:1\nbefore 0 prepare\nfile 0 3\n",
+            "line 7 not enabled\n",
+        ),
+    ]
+}
+
+/// Restarts whose files can't have stopped so.
+pub fn stops_not_enabled() -> [Lines; 6] {
+    [
+        (
+            "come 0 t CAS 0:0:1\nbefore 0 seal\nrestart t=0,3,\n",
+            "line 7 not enabled\n",
+        ),
+        (
+            "come 0 t CAS 0:0:1\nbefore 0 seal\nrestart u=0,1,\n",
+            "line 7 not enabled\n",
+        ),
+        (
+            "come 0 t CAS 0:0:1\nbefore 0 plant\nrestart t=0,0,\n",
+            "line 7 not enabled\n",
+        ),
+        ("restart t=1,0,\n", "line 5 not enabled\n"),
+        ("restart t=-,-,,0\n", "line 5 not enabled\n"),
+        ("restart t=-,-,,3\n", "line 5 not enabled\n"),
+    ]
+}
+
+/// Lines whose worker replies before it comes to what they tell.
+pub fn lines_without_arrival() -> [Lines; 3] {
+    [
+        (
+            "come 0 t GET 0\nbefore 0 plant\n",
+            "line 6 did not arrive\n",
+        ),
+        (
+            "come 0 t CAS 0:0:1\nto 0 cancel\n",
+            "line 6 did not arrive\n",
+        ),
+        (
+            "come 0 t GET 0\nto 0 load\nto 0 load\nbefore 0 load\n",
+            "line 8 did not arrive\n",
+        ),
+    ]
+}

@@ -1,0 +1,255 @@
+//! What playing schedules gives.
+use crate::line_tests::{
+    HEAD, lines_without_arrival, steps_not_enabled, stops_not_enabled, workers_not_enabled,
+    wrong_lines,
+};
+use crate::player::{Halt, Player};
+use crate::replaying::{replay, replay_args};
+use crate::schedule_tests::{CLAIM_LOST, SLOT_RECYCLED, of_files, of_late_workers, of_requests};
+use mw_look::Kind;
+use mw_schedule::{Command, StepKind, read_schedule};
+use std::alloc::{AllocError, Global};
+use std::io::{self, ErrorKind, Read};
+use std::process::Abort;
+use std::rt::Files;
+use std::test::Fail;
+
+/// What a program gave: its exit status, and what it wrote to its two outputs.
+#[derive(Debug, Drop)]
+struct Played {
+    status: u8,
+    out: String,
+    err: String,
+}
+
+impl Played {
+    /// What a program gave that ended with this status.
+    fn new(status: u8, out: Vec<u8>, err: Vec<u8>) -> Result<Played, Fail> {
+        Ok(Played {
+            status,
+            out: String::from_utf8(out)?,
+            err: String::from_utf8(err)?,
+        })
+    }
+
+    /// What playing the schedule that is read from here gives.
+    fn of<R: AllocGlobal, I: Read>(rt: &R, input: &mut I, trace: bool) -> Result<Played, Fail> {
+        let mut out = Vec::new(rt.alloc());
+        let mut err = Vec::new(rt.alloc());
+        let status = replay(rt, input, trace, &mut out, &mut err);
+        Played::new(status, out, err)
+    }
+
+    /// What playing a schedule with these lines behind [`HEAD`] gives.
+    fn behind_head<R: AllocGlobal>(rt: &R, lines: &str) -> Result<Played, Fail> {
+        let mut schedule = String::from_str(rt.alloc(), HEAD)?;
+        schedule.push_str(lines)?;
+        Played::of(rt, &mut schedule.as_bytes(), false)
+    }
+
+    /// What a command line gives.
+    fn of_args<R: Files + AllocGlobal>(rt: &R, args: &[&str]) -> Result<Played, Fail> {
+        let args = strings(rt.alloc(), args)?;
+        let mut out = Vec::new(rt.alloc());
+        let mut err = Vec::new(rt.alloc());
+        let status = replay_args(rt, &args, &mut out, &mut err);
+        Played::new(status, out, err)
+    }
+
+    /// True if the program gave just this.
+    fn is(&self, status: u8, out: &str, err: &str) -> bool {
+        self.status == status && self.out.as_str() == out && self.err.as_str() == err
+    }
+}
+
+fn strings(alloc: Global, texts: &[&str]) -> Result<Vec<String>, AllocError> {
+    let mut strings = Vec::new(alloc);
+    for text in texts {
+        strings.push(String::from_str(alloc, text)?)?;
+    }
+    Ok(strings)
+}
+
+#[test]
+fn an_absent_schedule(rt: HostRuntime) -> Result<(), Fail> {
+    let absent = Played::of_args(&rt, &["mwreplay", "no-such-schedule"])?;
+    assert!(rt; absent.is(1, "", "mwreplay: cannot read\n"), "{absent:?}");
+    Ok(())
+}
+
+#[test]
+fn a_command_line_without_a_schedule(rt: HostRuntime) -> Result<(), Fail> {
+    let unnamed = Played::of_args(&rt, &["mwreplay", "--trace"])?;
+    assert_eq!(rt; unnamed.status, 2);
+    assert!(rt; unnamed.out.is_empty() && !unnamed.err.is_empty());
+    Ok(())
+}
+
+#[test]
+fn a_command_line_that_asks_for_help(rt: HostRuntime) -> Result<(), Fail> {
+    let help = Played::of_args(&rt, &["mwreplay", "--help"])?;
+    assert_eq!(rt; help.status, 0);
+    assert!(rt; help.err.is_empty() && !help.out.is_empty());
+    Ok(())
+}
+
+/// Plays each of these schedules, which is told with its name and with what is to be printed.
+fn play_each<R: Abort + AllocGlobal>(rt: &R, schedules: &[(&str, &str, &str)]) -> Result<(), Fail> {
+    for (name, schedule, out) in schedules {
+        let played = Played::of(rt, &mut schedule.as_bytes(), false)?;
+        assert!(rt; played.is(0, out, ""), "{name}: {played:?}");
+    }
+    Ok(())
+}
+
+#[test]
+fn schedules_of_requests(rt: HostRuntime) -> Result<(), Fail> {
+    play_each(&rt, &of_requests())
+}
+
+#[test]
+fn schedules_of_files(rt: HostRuntime) -> Result<(), Fail> {
+    play_each(&rt, &of_files())
+}
+
+#[test]
+fn schedules_of_late_workers(rt: HostRuntime) -> Result<(), Fail> {
+    play_each(&rt, &of_late_workers())
+}
+
+#[test]
+fn claims_that_are_traced(rt: HostRuntime) -> Result<(), Fail> {
+    let traced = "claim 0 0 t\n0 t YES\nclaim 0 1 u\n0 u YES\n";
+    let played = Played::of(&rt, &mut SLOT_RECYCLED.as_bytes(), true)?;
+    assert!(rt; played.is(0, traced, ""), "{played:?}");
+    Ok(())
+}
+
+#[test]
+fn claims_that_are_not_traced(rt: HostRuntime) -> Result<(), Fail> {
+    let played = Played::of(&rt, &mut SLOT_RECYCLED.as_bytes(), false)?;
+    assert!(rt; played.is(0, "0 t YES\n0 u YES\n", ""), "{played:?}");
+    Ok(())
+}
+
+#[test]
+fn claims_that_are_lost(rt: HostRuntime) -> Result<(), Fail> {
+    let traced = "claim 0 0 t\nclaim 1 0 t\n0 t YES\n1 t YES\n";
+    let played = Played::of(&rt, &mut CLAIM_LOST.as_bytes(), true)?;
+    assert!(rt; played.is(0, traced, ""), "{played:?}");
+    Ok(())
+}
+
+/// Plays schedules with each of these lines behind [`HEAD`]. Each is to end with this status, to print
+/// nothing, and to say what stands beside its lines.
+fn end_each<R: Abort + AllocGlobal>(
+    rt: &R,
+    status: u8,
+    cases: &[(&str, &str)],
+) -> Result<(), Fail> {
+    for (lines, err) in cases {
+        let played = Played::behind_head(rt, lines)?;
+        assert!(rt; played.is(status, "", err), "{lines}: {played:?}");
+    }
+    Ok(())
+}
+
+#[test]
+fn lines_that_are_wrong(rt: HostRuntime) -> Result<(), Fail> {
+    end_each(&rt, 2, &wrong_lines())
+}
+
+#[test]
+fn a_first_line_that_is_missing(rt: HostRuntime) -> Result<(), Fail> {
+    let missing = Played::of(&rt, &mut b"pool 1\nworkers 1\n".as_slice(), false)?;
+    assert!(rt; missing.is(2, "", "line 3 wrong\n"), "{missing:?}");
+    Ok(())
+}
+
+#[test]
+fn lines_of_workers_that_can_not_go_on(rt: HostRuntime) -> Result<(), Fail> {
+    end_each(&rt, 3, &workers_not_enabled())
+}
+
+#[test]
+fn lines_of_other_steps(rt: HostRuntime) -> Result<(), Fail> {
+    end_each(&rt, 3, &steps_not_enabled())
+}
+
+#[test]
+fn stops_that_can_not_happen(rt: HostRuntime) -> Result<(), Fail> {
+    end_each(&rt, 3, &stops_not_enabled())
+}
+
+#[test]
+fn lines_that_do_not_arrive(rt: HostRuntime) -> Result<(), Fail> {
+    end_each(&rt, 4, &lines_without_arrival())
+}
+
+#[test]
+fn replies_before_a_halt_stay(rt: HostRuntime) -> Result<(), Fail> {
+    let played = Played::behind_head(&rt, "come 0 t GET 0\nend 0\nstep 0\nend 0\n")?;
+    assert!(rt;
+        played.is(3, "0 t VAL 0\n", "line 7 not enabled\n"),
+        "{played:?}"
+    );
+    Ok(())
+}
+
+#[test]
+fn steps_are_counted(rt: HostRuntime) -> Result<(), Fail> {
+    let text = b"pool 1\nworkers 1\ntenant t 1 1\ncome 0 t CAS 0:0:1\n";
+    let schedule = read_schedule(rt.alloc(), text).expect(&rt, "a schedule");
+    let mut out = Vec::new(rt.alloc());
+    let mut player = Player::new(rt.alloc(), schedule.config, false, &mut out)?;
+    for line in schedule.lines {
+        assert_eq!(rt; player.obey(line.command), Ok(()));
+    }
+    let admits = StepKind::Change(Kind::Admit);
+    assert_eq!(rt; player.go_before(0, admits, 0), Err(Halt::DidNotArrive));
+    assert_eq!(rt; player.go_before(0, admits, 1), Ok(()));
+    assert_eq!(rt; player.go_before(0, admits, 0), Ok(()));
+    assert_eq!(rt; player.obey(Command::To(0, admits)), Ok(()));
+    Ok(())
+}
+
+/// A reader that gives a byte a call, and fails where the text ends.
+#[derive(Drop)]
+struct Failing<'a> {
+    rest: &'a [u8],
+}
+
+impl Read for Failing<'_> {
+    fn read(&mut self, buf: &mut [u8]) -> io::Result<usize> {
+        match (self.rest, buf) {
+            ([first, rest @ ..], [room, ..]) => {
+                *room = *first;
+                self.rest = rest;
+                Ok(1)
+            }
+            _ => Err(io::Error::from(ErrorKind::TimedOut)),
+        }
+    }
+}
+
+#[test]
+fn a_reader_that_fails(rt: HostRuntime) -> Result<(), Fail> {
+    let mut input = Failing {
+        rest: SLOT_RECYCLED.as_bytes(),
+    };
+    let played = Played::of(&rt, &mut input, false)?;
+    assert!(rt; played.is(1, "", "mwreplay: cannot read\n"), "{played:?}");
+    Ok(())
+}
+
+#[test]
+fn a_writer_that_fails(rt: HostRuntime) -> Result<(), Fail> {
+    let mut room = [0; 10];
+    let mut err = Vec::new(rt.alloc());
+    let mut input = SLOT_RECYCLED.as_bytes();
+    let status = replay(&rt, &mut input, false, &mut room.as_mut_slice(), &mut err);
+    assert_eq!(rt; status, 1);
+    assert!(rt; err.is_empty());
+    assert!(rt; room.as_slice() == b"0 t YES\n0 ".as_slice());
+    Ok(())
+}

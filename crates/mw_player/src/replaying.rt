@@ -1,0 +1,193 @@
+//! `mwreplay`: plays a schedule.
+
+use crate::player::{Halt, Player};
+use clap::error::ErrorKind;
+use clap::{Arg, ArgAction, Command};
+use mw_schedule::{ScheduleFault, read_schedule};
+use std::alloc::{AllocError, Global};
+use std::fs::File;
+use std::io::{self, Read, Write};
+use std::rt::Files;
+use thiserror::Error;
+
+/// Why a schedule was not played to its end.
+#[derive(Debug, Drop, Error)]
+enum ReplayFault {
+    /// The command line is wrong, or asks for help.
+    #[error("{0}")]
+    Args(clap::Error),
+    /// The schedule can't be read.
+    #[error("mwreplay: cannot read")]
+    CannotRead,
+    /// Memory was refused.
+    #[error("mwreplay: memory")]
+    Memory,
+    /// The line with this number is wrong, and none before it.
+    #[error("line {0} wrong")]
+    Wrong(u64),
+    /// What the line with this number tells can't happen where the world is.
+    #[error("line {0} not enabled")]
+    NotEnabled(u64),
+    /// The worker of the line with this number does not come to what the line tells.
+    #[error("line {0} did not arrive")]
+    DidNotArrive(u64),
+    /// The output takes no more, of which nothing is said.
+    #[error("")]
+    Output,
+}
+
+impl ReplayFault {
+    /// Why the line with this number was not played.
+    fn at(number: u64, halt: Halt) -> Self {
+        match halt {
+            Halt::NotEnabled => ReplayFault::NotEnabled(number),
+            Halt::DidNotArrive => ReplayFault::DidNotArrive(number),
+            Halt::Memory => ReplayFault::Memory,
+            Halt::Output => ReplayFault::Output,
+        }
+    }
+
+    /// The exit status that tells it.
+    fn status(&self) -> u8 {
+        match self {
+            ReplayFault::CannotRead | ReplayFault::Memory | ReplayFault::Output => 1,
+            ReplayFault::Args(_) | ReplayFault::Wrong(_) => 2,
+            ReplayFault::NotEnabled(_) => 3,
+            ReplayFault::DidNotArrive(_) => 4,
+        }
+    }
+}
+
+impl From<AllocError> for ReplayFault {
+    fn from(_: AllocError) -> Self {
+        ReplayFault::Memory
+    }
+}
+
+impl From<ScheduleFault> for ReplayFault {
+    fn from(fault: ScheduleFault) -> Self {
+        match fault {
+            ScheduleFault::Wrong(number) => ReplayFault::Wrong(number),
+            ScheduleFault::Memory => ReplayFault::Memory,
+        }
+    }
+}
+
+impl From<clap::Error> for ReplayFault {
+    fn from(fault: clap::Error) -> Self {
+        match fault.kind() {
+            ErrorKind::OutOfMemory => ReplayFault::Memory,
+            _ => ReplayFault::Args(fault),
+        }
+    }
+}
+
+impl From<io::Error> for ReplayFault {
+    fn from(fault: io::Error) -> Self {
+        match fault.kind() {
+            io::ErrorKind::OutOfMemory => ReplayFault::Memory,
+            _ => ReplayFault::CannotRead,
+        }
+    }
+}
+
+/// Plays the schedule that the command line `args`, the program's own name first, names:
+/// `mwreplay [--trace] FILE`, as [`replay`] does.
+///
+/// Gives the exit status: that of [`replay`]; 1 where the file can't be opened; 2 for a wrong command
+/// line. What went wrong is written to `err`.
+pub fn replay_args<R: Files + AllocGlobal, O: Write, E: Write>(
+    rt: &R,
+    args: &[String],
+    out: &mut O,
+    err: &mut E,
+) -> u8 {
+    match play_file(rt, args, out) {
+        Ok(()) => 0,
+        Err(ReplayFault::Args(fault)) if !fault.use_stderr() => {
+            u8::from(write!(out, "{fault}").is_err())
+        }
+        Err(fault) => tell(&fault, err),
+    }
+}
+
+/// Plays the schedule that `input` gives, which is read to its end first, on a world of its own. Each
+/// reply that is handed out is written to `out` as `W NAME REPLY`: the worker, the tenant, and what the
+/// tenant is answered. With `trace` each claim of a slot that is won is written there as
+/// `claim SLOT SEQ NAME`.
+///
+/// Gives the exit status: 0 where it was played to its end; 1 where `input` or `out` failed or memory
+/// was refused; 2 where the schedule has a wrong line, and then nothing is played; 3 where what a line
+/// tells can't happen, and 4 where its worker does not come to what it tells. What went wrong is
+/// written to `err`.
+pub fn replay<R: AllocGlobal, I: Read, O: Write, E: Write>(
+    rt: &R,
+    input: &mut I,
+    trace: bool,
+    out: &mut O,
+    err: &mut E,
+) -> u8 {
+    match play(rt.alloc(), input, trace, out) {
+        Ok(()) => 0,
+        Err(fault) => tell(&fault, err),
+    }
+}
+
+fn tell<E: Write>(fault: &ReplayFault, err: &mut E) -> u8 {
+    let _ = match fault {
+        // The text that clap makes ends with a line feed.
+        ReplayFault::Args(fault) => write!(err, "{fault}"),
+        ReplayFault::Output => Ok(()),
+        _ => writeln!(err, "{fault}"),
+    };
+    fault.status()
+}
+
+fn play_file<R: Files + AllocGlobal, O: Write>(
+    rt: &R,
+    args: &[String],
+    out: &mut O,
+) -> Result<(), ReplayFault> {
+    let matches = command(rt.alloc())?.try_get_matches_from(args)?;
+    let Some(path) = matches.get_str("FILE") else {
+        return Err(ReplayFault::CannotRead);
+    };
+    let mut file = File::open(rt, path)?;
+    play(rt.alloc(), &mut file, matches.get_flag("trace"), out)
+}
+
+fn command<'a>(alloc: Global) -> Result<Command<'a>, clap::Error> {
+    let trace = Arg::new(alloc, "trace")
+        .long("trace")
+        .action(ArgAction::SetTrue)
+        .help("also prints each claim of a slot that is won");
+    let path = Arg::new(alloc, "FILE")
+        .required(true)
+        .help("the schedule to play");
+    let command = Command::new(alloc, "mwreplay")
+        .about("Plays a schedule, and prints the replies.")
+        .arg(trace)?
+        .arg(path)?;
+    Ok(command)
+}
+
+fn play<I: Read, O: Write>(
+    alloc: Global,
+    input: &mut I,
+    trace: bool,
+    out: &mut O,
+) -> Result<(), ReplayFault> {
+    let mut text = Vec::new(alloc);
+    input.read_to_end(&mut text)?;
+    let schedule = read_schedule(alloc, &text)?;
+    let mut player = Player::new(alloc, schedule.config, trace, out)?;
+    for line in schedule.lines {
+        if let Err(halt) = player.obey(line.command) {
+            return Err(ReplayFault::at(line.number, halt));
+        }
+    }
+    if player.finish().is_err() {
+        return Err(ReplayFault::Output);
+    }
+    Ok(())
+}

@@ -1,0 +1,119 @@
+use mw_lone::*;
+use mw_words::{Entries, Entry, Job, Reply};
+use std::test::Fail;
+
+/// A change of one word.
+fn change(addr: u16, expected: u64, new: u64) -> Job {
+    let mut entries = Entries::new();
+    entries.push(Entry {
+        addr,
+        expected,
+        new,
+    });
+    Job::Cas(entries)
+}
+
+/// A change of the words 0 and 1.
+fn change_both(first: (u64, u64), second: (u64, u64)) -> Job {
+    let mut entries = Entries::new();
+    entries.push(Entry {
+        addr: 0,
+        expected: first.0,
+        new: first.1,
+    });
+    entries.push(Entry {
+        addr: 1,
+        expected: second.0,
+        new: second.1,
+    });
+    Job::Cas(entries)
+}
+
+fn restart(interrupted: Option<u64>, take: bool) -> Mark {
+    Mark::Restart {
+        interrupted,
+        take,
+        opened: true,
+    }
+}
+
+#[test]
+fn replies_as_the_marks_say(rt: HostRuntime) -> Result<(), Fail> {
+    let mut lone = Lone::new(rt.alloc(), &[10, 20], 1)?;
+    let marks = [
+        (Mark::Ask(0, Job::Get(1)), None),
+        (Mark::Ask(1, change_both((10, 11), (20, 21))), None),
+        (Mark::Ask(2, change(0, 10, 12)), None),
+        (Mark::Look(0), None),
+        (Mark::Reply(0), Some(Reply::Val(20))),
+        (Mark::Admit(1), None),
+        (Mark::Busy(2), None),
+        (Mark::Reply(2), Some(Reply::Busy)),
+        (Mark::Seal(1), None),
+        (Mark::Retire(1), None),
+        (Mark::Reply(1), Some(Reply::Yes)),
+        (Mark::Ask(3, change_both((11, 0), (20, 0))), None),
+        (Mark::Admit(3), None),
+        (Mark::Miss(3, 1), None),
+        (Mark::Reply(3), Some(Reply::No(1, 21))),
+        (Mark::Retire(3), None),
+        (Mark::Ask(4, change(0, 11, 13)), None),
+        (Mark::Admit(4), None),
+        (Mark::SealFail(4), None),
+        (Mark::Reply(4), Some(Reply::Fault)),
+        (Mark::Ask(5, Job::Get(0)), None),
+        (Mark::Look(5), None),
+        (Mark::Reply(5), Some(Reply::Val(11))),
+        (Mark::Ask(6, change(0, 11, 14)), None),
+        (Mark::GiveUp(6), None),
+        (Mark::Reply(6), Some(Reply::Fault)),
+        (restart(None, true), None),
+        (Mark::Ask(7, Job::Get(0)), None),
+        (Mark::Look(7), None),
+        (Mark::Reply(7), Some(Reply::Val(13))),
+        (Mark::FileFail, None),
+        (Mark::Ask(8, change(0, 13, 15)), None),
+        (Mark::GiveUp(8), None),
+        (Mark::Reply(8), Some(Reply::Fault)),
+        (restart(None, false), None),
+        (Mark::Ask(9, change(1, 21, 22)), None),
+        (Mark::Admit(9), None),
+        (restart(Some(9), true), None),
+        (Mark::Ask(10, Job::Get(1)), None),
+        (Mark::Look(10), None),
+        (Mark::Reply(10), Some(Reply::Val(22))),
+    ];
+    for (mark, want) in marks {
+        assert_eq!(rt; lone.mark(mark), Ok(want));
+    }
+    Ok(())
+}
+
+#[test]
+fn refuses_what_cannot_happen(rt: HostRuntime) -> Result<(), Fail> {
+    let mut lone = Lone::new(rt.alloc(), &[10, 20], 1)?;
+    assert_eq!(rt; lone.mark(Mark::Ask(0, change(0, 10, 11))), Ok(None));
+    assert_eq!(rt; lone.mark(Mark::Admit(0)), Ok(None));
+    let marks = [
+        Mark::Ask(0, Job::Get(0)),
+        Mark::Ask(2, Job::Get(0)),
+        Mark::Ask(1, Job::Get(2)),
+        Mark::Ask(1, change(0, 10, 281_474_976_710_656)),
+        Mark::Admit(0),
+        Mark::Admit(1),
+        Mark::Busy(0),
+        Mark::Look(0),
+        Mark::Miss(0, 0),
+        Mark::Miss(0, 1),
+        Mark::GiveUp(0),
+        Mark::Retire(0),
+        Mark::Reply(0),
+        restart(None, true),
+        restart(Some(1), false),
+    ];
+    for mark in marks {
+        assert_eq!(rt; lone.mark(mark), Err(LoneFault::Illegal));
+    }
+    assert_eq!(rt; lone.mark(Mark::Seal(0)), Ok(None));
+    Ok(())
+}

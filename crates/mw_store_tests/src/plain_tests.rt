@@ -1,0 +1,201 @@
+ghost use Rattle.std.specs.Prelude.{◌≡◌, ◌<◌, IfOk, IsTrue};
+ghost use Rattle.mw_words.specs.Change.{is_well_formed};
+ghost use Rattle.mw_plain.specs.Lines.{FitsLine};
+ghost use Rattle.mw_plain.specs.Parts.{tenants, words_at};
+
+use mw_config::TenantLine;
+use mw_disk::MemDisk;
+use mw_file::TenantFile;
+use mw_plain::*;
+use mw_record::{header, size};
+use mw_words::{Entries, Entry, Job, Reply};
+use std::alloc::{AllocError, Global};
+use std::test::Fail;
+
+/// A line of a tenant with this name of one letter, two words and a quota of one.
+fn line(name: u8) -> TenantLine
+    ensures words { result.words ≡ 2 }
+    ensures quota { result.quota ≡ 1 }
+{
+    let mut line = TenantLine::default();
+    let _ = line.name.try_push(name);
+    line.words = 2;
+    line.quota = 1;
+    line
+}
+
+/// A disk with a new file of two words and one place, the two words being 0.
+fn new_disk(alloc: Global) -> Result<MemDisk, AllocError> {
+    let mut bytes = vec![in alloc; 0; size(2, 1) as usize]?;
+    for (to, from) in bytes.iter_mut().zip(header(2, 1)) {
+        *to = from;
+    }
+    MemDisk::new(alloc, bytes, Vec::new(alloc))
+}
+
+/// The file on a disk, and its words, where it opens and fits the line.
+fn file_of(
+    alloc: Global,
+    line: &TenantLine,
+    disk: MemDisk,
+) -> Option<(TenantFile<MemDisk>, Vec<u64>)>
+    ensures { FitsLine line.now result }
+{
+    match TenantFile::open(alloc, disk) {
+        Ok(opened) => {
+            let (file, words) = opened;
+            if words.len() == line.words as usize && u16::from(line.quota) <= file.places() {
+                Some((file, words))
+            } else {
+                None
+            }
+        }
+        Err(_) => None,
+    }
+}
+
+/// The store of two tenants, t and u, over these disks.
+fn store(alloc: Global, first: MemDisk, second: MemDisk) -> Result<Plain<MemDisk>, AllocError>
+    ensures count { IfOk result (λ plain. tenants plain ≡ 2) }
+    ensures first { IfOk result (λ plain. words_at plain 0 ≡ 2) }
+    ensures second { IfOk result (λ plain. words_at plain 1 ≡ 2) }
+{
+    let lines = [line(b't'), line(b'u')];
+    let mut files = Vec::with_capacity(alloc, 2)?;
+    files.push(file_of(alloc, &lines[0], first))?;
+    files.push(file_of(alloc, &lines[1], second))?;
+    Plain::new(alloc, &lines, files, 2)
+}
+
+/// The change of one word from 0 to 1.
+fn change(addr: u16) -> Job
+    requires { addr < 2 }
+    ensures { IsTrue (is_well_formed 2 result) }
+{
+    let mut entries = Entries::new();
+    entries.push(Entry {
+        addr,
+        expected: 0,
+        new: 1,
+    });
+    Job::Cas(entries)
+}
+
+/// The reply to a job, if the tenant is there and may ask for it.
+fn ask(store: &mut Plain<MemDisk>, tenant: u8, job: &Job) -> Option<Reply> {
+    if tenant as usize >= store.len() || !job.is_well_formed(store.words_of(tenant) as usize) {
+        return None;
+    }
+    Some(store.ask(tenant, job))
+}
+
+/// The words of t, and of u.
+fn words(store: &mut Plain<MemDisk>) -> [Option<Reply>; 4] {
+    [
+        ask(store, 0, &Job::Get(0)),
+        ask(store, 0, &Job::Get(1)),
+        ask(store, 1, &Job::Get(0)),
+        ask(store, 1, &Job::Get(1)),
+    ]
+}
+
+fn val(value: u64) -> Option<Reply> {
+    Some(Reply::Val(value))
+}
+
+/// The replies to two tenants' changes, of which those of t wait for each other.
+fn two_at_a_time(store: &mut Plain<MemDisk>) -> [Option<Reply>; 5]
+    requires count { tenants store.old ≡ 2 }
+    requires first { words_at store.old 0 ≡ 2 }
+    requires second { words_at store.old 1 ≡ 2 }
+{
+    let Start::Open(one) = store.start(0, &change(0)) else {
+        return [None; 5];
+    };
+    let busy = match store.start(0, &change(1)) {
+        Start::Done(reply) => Some(reply),
+        Start::Open(_) => None,
+    };
+    let Start::Open(other) = store.start(1, &change(0)) else {
+        return [None; 5];
+    };
+    let made = store.finish(one);
+    let Start::Open(next) = store.start(0, &change(1)) else {
+        return [None; 5];
+    };
+    let next = store.finish(next);
+    let other = store.finish(other);
+    [busy, Some(made), Some(next), Some(other), None]
+}
+
+#[test]
+fn tickets(rt: HostRuntime) -> Result<(), Fail> {
+    let alloc = rt.alloc();
+    let mut store = store(alloc, new_disk(alloc)?, new_disk(alloc)?)?;
+    let yes = Some(Reply::Yes);
+    assert_eq!(rt;
+        two_at_a_time(&mut store),
+        [Some(Reply::Busy), yes, yes, yes, None]
+    );
+    assert_eq!(rt; words(&mut store), [val(1), val(1), val(1), val(0)]);
+    assert_eq!(rt; store.figures().pool_free, 2);
+    Ok(())
+}
+
+#[test]
+fn tasks_in_order(rt: HostRuntime) -> Result<(), Fail> {
+    let alloc = rt.alloc();
+    let mut store = store(alloc, new_disk(alloc)?, new_disk(alloc)?)?;
+    let tasks = [
+        Task {
+            tenant: 0,
+            job: change(0),
+        },
+        Task {
+            tenant: 0,
+            job: change(0),
+        },
+        Task {
+            tenant: 1,
+            job: Job::Get(0),
+        },
+    ];
+    let replies = store.run(alloc, &tasks)?;
+    let wanted = [Reply::Yes, Reply::No(0, 1), Reply::Val(0)];
+    assert_eq!(rt; replies.as_slice(), wanted.as_slice());
+    Ok(())
+}
+
+/// The reply to t's change where its device fails at so many calls from the opening, and the words of t
+/// after the next opening.
+fn after_trouble(
+    alloc: Global,
+    calls: u8,
+) -> Result<(Option<Reply>, [Option<Reply>; 4]), AllocError> {
+    let mut disk = new_disk(alloc)?;
+    disk.fail_next(u64::from(calls) + 3)?;
+    let mut first = store(alloc, disk, new_disk(alloc)?)?;
+    let reply = ask(&mut first, 0, &change(1));
+    let disks = first.into_disks(alloc)?;
+    let bytes = match disks.first() {
+        Some(Some(disk)) => disk.crash(&[])?,
+        _ => Vec::new(alloc),
+    };
+    let left = MemDisk::new(alloc, bytes, Vec::new(alloc))?;
+    let mut second = store(alloc, left, new_disk(alloc)?)?;
+    Ok((reply, words(&mut second)))
+}
+
+#[test]
+fn each_device_call_fails(rt: HostRuntime) -> Result<(), Fail> {
+    let alloc = rt.alloc();
+    for calls in 0..10 {
+        let wanted = match calls {
+            0..=2 => (Some(Reply::Fault), [val(0), val(0), val(0), val(0)]),
+            3 => (Some(Reply::Fault), [val(0), val(1), val(0), val(0)]),
+            _ => (Some(Reply::Yes), [val(0), val(1), val(0), val(0)]),
+        };
+        assert_eq!(rt; after_trouble(alloc, calls)?, wanted, "{calls}");
+    }
+    Ok(())
+}

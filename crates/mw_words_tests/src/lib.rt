@@ -1,0 +1,14 @@
+//! Tests of words and lines: outside examples of patterns, lines, texts and reports, and each public function
+//! once on its way. They stand apart from the crates that they test, so that those are proved once.
+#![tactic(auto)]
+
+#[cfg(test)]
+mod frame_tests;
+#[cfg(test)]
+mod line_tests;
+#[cfg(test)]
+mod pattern_tests;
+#[cfg(test)]
+mod report_tests;
+#[cfg(test)]
+mod words_tests;

@@ -1,0 +1,162 @@
+use mw_words::*;
+
+#[test]
+fn words(rt: HostRuntime) {
+    let cases: [(Word, u64); 6] = [
+        (Word::Plain(5), 0x0000_0000_0000_0005),
+        (Word::Plain(MAX_VALUE), 0x0000_ffff_ffff_ffff),
+        (
+            Word::Planted {
+                worker: 3,
+                attempt: 9,
+            },
+            0x4003_0000_0000_0009,
+        ),
+        (
+            Word::Planted {
+                worker: 63,
+                attempt: WORN_NUMBER,
+            },
+            0x403f_ffff_ffff_ffff,
+        ),
+        (Word::Held { slot: 255, seq: 1 }, 0x80ff_0000_0000_0001),
+        (
+            Word::Dirty {
+                slot: 1,
+                value: 281_474_976_710_655,
+            },
+            0xc001_ffff_ffff_ffff,
+        ),
+    ];
+    for (word, bits) in cases {
+        assert!(rt; word.is_in_range());
+        assert_eq!(rt; word.pack(), bits);
+        assert_eq!(rt; Word::unpack(bits), Some(word));
+    }
+    let beyond = Word::Planted {
+        worker: 64,
+        attempt: 9,
+    };
+    assert!(rt; !beyond.is_in_range());
+    assert!(rt; !Word::Plain(MAX_VALUE + 1).is_in_range());
+}
+
+#[test]
+fn gates_and_doors(rt: HostRuntime) {
+    let gates: [(bool, u16, u64, u64); 4] = [
+        (true, 2, 7, 0x8002_0000_0000_0007),
+        (true, 0, 1, 0x8000_0000_0000_0001),
+        (true, MAX_PINS, WORN_NUMBER, 0xffff_ffff_ffff_ffff),
+        (false, 0, 7, 0x0000_0000_0000_0007),
+    ];
+    for (taken, pins, seq, bits) in gates {
+        let gate = Gate { taken, pins, seq };
+        assert!(rt; gate.is_in_range());
+        assert_eq!(rt; gate.pack(), bits);
+        assert_eq!(rt; Gate::unpack(bits), Some(gate));
+    }
+    let pinned = Gate {
+        taken: false,
+        pins: 1,
+        seq: 7,
+    };
+    assert!(rt; !pinned.is_in_range());
+    let doors: [(bool, u16, u64); 3] = [
+        (true, 3, 0x8000_0000_0000_0003),
+        (false, 0, 0x0000_0000_0000_0000),
+        (false, 65_535, 0x0000_0000_0000_ffff),
+    ];
+    for (fault, used, bits) in doors {
+        let door = Door { fault, used };
+        assert_eq!(rt; door.pack(), bits);
+        assert_eq!(rt; Door::unpack(bits), Some(door));
+    }
+}
+
+#[test]
+fn statuses(rt: HostRuntime) {
+    let cases: [(Status, u64); 8] = [
+        (Status::Draft, 0x0000_0000_0000_0000),
+        (Status::Open, 0x1000_0000_0000_0000),
+        (Status::YesDirty, 0x2000_0000_0000_0000),
+        (Status::Yes, 0x3000_0000_0000_0000),
+        (Status::No { entry: 7, value: 0 }, 0x4007_0000_0000_0000),
+        (Status::No { entry: 0, value: 9 }, 0x4000_0000_0000_0009),
+        (Status::DoneYes, 0x5000_0000_0000_0000),
+        (
+            Status::DoneNo {
+                entry: 1,
+                value: MAX_VALUE,
+            },
+            0x6001_ffff_ffff_ffff,
+        ),
+    ];
+    for (status, bits) in cases {
+        assert!(rt; status.is_in_range());
+        assert_eq!(rt; status.pack(), bits);
+        assert_eq!(rt; Status::unpack(bits), Some(status));
+    }
+    let beyond = Status::DoneNo {
+        entry: MAX_ENTRIES as u8,
+        value: 0,
+    };
+    assert!(rt; !beyond.is_in_range());
+}
+
+#[test]
+fn rows(rt: HostRuntime) {
+    let cases: [(u8, u8, u64, u64); 2] = [
+        (2, 5, 9, 0x0205_0000_0000_0009),
+        (255, 0, WORN_NUMBER, 0xff00_ffff_ffff_ffff),
+    ];
+    for (slot, entry, seq, bits) in cases {
+        let row = Row { slot, entry, seq };
+        assert!(rt; row.is_in_range());
+        assert_eq!(rt; row.pack(), bits);
+        assert_eq!(rt; Row::unpack(bits), Some(row));
+    }
+    let beyond = Row {
+        slot: 2,
+        entry: MAX_ENTRIES as u8,
+        seq: 9,
+    };
+    assert!(rt; !beyond.is_in_range());
+}
+
+#[test]
+fn bits_of_nothing(rt: HostRuntime) {
+    let words: [u64; 4] = [
+        0x0001_0000_0000_0005,
+        0x4040_0000_0000_0009,
+        0x8100_0000_0000_0001,
+        0xd000_0000_0000_0001,
+    ];
+    for bits in words {
+        assert_eq!(rt; Word::unpack(bits), None);
+    }
+    assert_eq!(rt; Gate::unpack(0x0001_0000_0000_0007), None);
+    for bits in [0x0000_0000_0001_0003, 0x4000_0000_0000_0003] {
+        assert_eq!(rt; Door::unpack(bits), None);
+    }
+    let statuses: [u64; 5] = [
+        0x1000_0000_0000_0001,
+        0x3001_0000_0000_0000,
+        0x4100_0000_0000_0000,
+        0x60ff_0000_0000_0000,
+        0x7000_0000_0000_0000,
+    ];
+    for bits in statuses {
+        assert_eq!(rt; Status::unpack(bits), None);
+    }
+    for bits in [0x02f5_0000_0000_0009, 0x02ff_0000_0000_0009] {
+        assert_eq!(rt; Row::unpack(bits), None);
+    }
+}
+
+#[test]
+fn places(rt: HostRuntime) {
+    let first = At::Addr { slot: 1, entry: 0 };
+    assert_eq!(rt; first, At::Addr { slot: 1, entry: 0 });
+    assert_ne!(rt; first, At::New { slot: 1, entry: 0 });
+    assert_ne!(rt; At::Door(1), At::Gate(1));
+}

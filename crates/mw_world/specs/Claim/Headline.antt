@@ -1,0 +1,144 @@
+-- What is to hold of every run of a world: each tenant is served as its store alone would serve it.
+use Rattle.std.specs.Prelude.{ℕ, ◌≡◌, ◌≢◌, ◌<◌, ◌≤◌, ◌⊎◌, true, false, List, All, ◌++◌, replicate, slice_get, Option, Some, None}
+use Rattle.mw_words.specs.declared.limits.TheConstants.{WORN_NUMBER}
+use Rattle.mw_words.specs.declared.replies.Reply.TheVariants.{Worn}
+use Rattle.mw_disk.specs.Facts.{MayLeave}
+use Rattle.mw_disk.specs.Memory.{memory_facts}
+use Rattle.mw_record.specs.Damages.{file_words}
+use Rattle.mw_words.specs.declared.jobs.Entry.{Entry}
+use Rattle.mw_words.specs.Change.{word_at, put}
+use Rattle.mw_lone.specs.Store.{Store, entries_in_doubt, replies as replies_of_marks}
+use Rattle.mw_actor.specs.Acting.{Acting, own_entries}
+use Rattle.mw_actor.specs.Asks.{asks}
+use Rattle.mw_actor.specs.Program.{replied}
+use Rattle.mw_world_file.specs.Devices.{disk_under}
+use Rattle.mw_world_file.specs.Files.{File}
+use Rattle.mw_world.specs.declared.accounts.Account.{Account as AccountInMemory}
+use Rattle.mw_world.specs.declared.config.Config.{Config}
+use Rattle.mw_world.specs.declared.events.Interrupted.{Interrupted}
+use Rattle.mw_world.specs.declared.world.World.{World}
+use Rattle.mw_world.specs.Definition.Calls.{Called, called_at, starts_from, fails_on, place_for, can_be_made}
+use Rattle.mw_world.specs.Definition.Counting.{waits_at, taken_slots, used_slots}
+use Rattle.mw_world.specs.Definition.Extent.{has_slot}
+use Rattle.mw_world.specs.Definition.Happenings.{Happening}
+use Rattle.mw_world.specs.Claim.Invariant.{Invariant}
+use Rattle.mw_world.specs.Definition.Logical.{logical}
+use Rattle.mw_world.specs.Definition.Restarts.{may_interrupt, under_way, interrupted_request, doubt_then, is_sealed_then, may_find}
+use Rattle.mw_world.specs.Memory.Shows.{Shows}
+use Rattle.mw_world.specs.Definition.State.{State, IsConfig, new_world, tenant_at, tenants_of, marks_of, store_of}
+use Rattle.mw_world.specs.Definition.Turns.{may_make}
+use Rattle.mw_world.specs.Definition.World.{run, replies_to}
+
+-- There are numbers left: no slot that may be claimed has the last one, and no worker's next attempt does.
+pub record HasNumbers (config : Config) (state : State) : Type 0 where
+  pub slots : (slot : ℕ) → slot < config.pool → (state.cells.gates slot).taken ≡ false → (state.cells.gates slot).seq ≢ WORN_NUMBER
+  pub attempts : (worker : ℕ) → worker < config.workers → (state.seats worker).attempt ≢ WORN_NUMBER
+
+-- The events of a run of a new world of a configuration, and the world after it.
+pub record IsPlayed (config : Config) (events : List Happening) (state : State) : Type 0 where
+  pub made : IsConfig config
+  pub runs : run config (new_world config) events ≡ Some state
+
+-- Such a run in which there were numbers left at every moment.
+pub record IsRun (config : Config) (events : List Happening) (state : State) : Type 0 where
+  pub played : IsPlayed config events state
+  pub numbers : (first rest : List Happening) (between : State) → events ≡ first ++ rest → run config (new_world config) first ≡ Some between → HasNumbers config between
+
+-- The invariant holds after every run, also where numbers are used up.
+abbrev pub EveryRunKeepsInvariant : Type 0
+EveryRunKeepsInvariant = (config : Config) (events : List Happening) (state : State) → IsPlayed config events state → Invariant config state
+
+-- The tenant's shared words are those of its store alone, its door counts the slots that the store uses, and tells of the store's fault.
+pub record ShowsStore (state : State) (tenant words : ℕ) (store : Store) : Type 0 where
+  pub values : (address : ℕ) → address < words → logical state.cells tenant address ≡ word_at store.words address
+  pub used : (state.cells.doors tenant).used ≡ store.used
+  pub fault : (state.cells.doors tenant).fault ≡ store.faulted
+
+-- The words of the tenant's file are the store's. If all stops now, with a call on the file under way or with none, the change in doubt is the
+-- one that the store says: the interrupted request's, else the one that a failed seal left. What a start may find is told by these two: the
+-- words, or the words with that change put over them, and only the latter where the change was sealed to the end of the call.
+pub record LeavesStore (config : Config) (state : State) (tenant : ℕ) (store : Store) : Type 0 where
+  pub words : (state.accounts tenant).file.contents ≡ store.words
+  pub in_doubt : (interrupted : Option Interrupted) → may_interrupt config state tenant interrupted ≡ true
+      → doubt_then (state.accounts tenant).file (under_way config state interrupted) ≡ entries_in_doubt store (interrupted_request (under_way config state interrupted))
+
+-- a tenant's words at first
+abbrev pub store_words : Config → ℕ → List ℕ
+store_words config tenant = replicate (tenant_at config tenant).words 0
+
+-- A tenant's part of the world after a run.
+pub record IsServedAlone (config : Config) (events : List Happening) (state : State) (tenant : ℕ) : Type 0 where
+  -- its marks are legal, one after the other, for a store that has its words alone, zeros at first
+  pub store : Store
+  pub legal : store_of config state tenant ≡ Some store
+  -- the replies that were handed out to it are those that its marks hand out, and none says that numbers are used up
+  pub replies : replies_to config tenant (new_world config) events ≡ replies_of_marks (store_words config tenant) (tenant_at config tenant).quota (marks_of state tenant)
+  pub never_worn : All (λ numbered. numbered.1 ≢ Worn) (replies_to config tenant (new_world config) events)
+  -- if its file opened at the last start, the shared words are the store's
+  pub shown : (state.accounts tenant).is_up ≡ true → ShowsStore state tenant (tenant_at config tenant).words store
+  -- its file has the store's words, and a crash leaves in doubt what the store says
+  pub left : LeavesStore config state tenant store
+
+-- There is a slot that isn't taken.
+pub record FreeSlot (config : Config) (state : State) : Type 0 where
+  pub slot : ℕ
+  pub within : slot < config.pool
+  pub free : (state.cells.gates slot).taken ≡ false
+
+-- A call on a file to which a request has come can be made, in so far as that doesn't rest with the device: its slot is there; and where the
+-- call starts and the file hasn't failed, the file's places and the change's entries are as the call needs them.
+pub record CanBeMade (config : Config) (state : State) (actor : Acting) (called : Called) (file : File) (places : ℕ) : Type 0 where
+  pub slot : has_slot config called.change.slot ≡ true
+  pub call : starts_from called.call (state.cells.statuses called.change.slot) ≡ true → fails_on called.call file ≡ false
+      → can_be_made called.call file places (place_for called.call file places called.change.slot) (own_entries actor) ≡ true
+
+-- Words that may be found of a tenant's file, if this call on it is interrupted.
+pub record CanBeFound (config : Config) (state : State) (tenant : ℕ) (interrupted : Option Interrupted) (file : File) : Type 0 where
+  pub words : List ℕ
+  pub found : may_find (is_sealed_then (under_way config state interrupted)) file.contents (doubt_then file (under_way config state interrupted)) words ≡ true
+
+-- `step` tests more than which event comes when: whether the place of a step is there, whether a call can be made, whether words may be found.
+-- Where this holds none of these tests is false where a request asks for the event, so they refuse nothing.
+pub record IsEnabled (config : Config) (state : State) : Type 0 where
+  -- a request without a reply that has come to no call on its file asks for a step at a place that is there
+  pub steps : (worker : ℕ) (actor : Acting) → (state.seats worker).actor ≡ Some actor → replied actor ≡ None → called_at actor.point ≡ None
+      → may_make config (asks actor) ≡ true
+  -- the call to which a request has come can be made
+  pub calls : (worker : ℕ) (actor : Acting) (called : Called) → (state.seats worker).actor ≡ Some actor → called_at actor.point ≡ Some called
+      → CanBeMade config state actor called (state.accounts actor.tenant).file (tenant_at config actor.tenant).quota
+  -- whatever call is interrupted that may be, there are words that may be found
+  pub starts : (tenant : ℕ) (interrupted : Option Interrupted) → tenant < tenants_of config → may_interrupt config state tenant interrupted ≡ true
+      → CanBeFound config state tenant interrupted (state.accounts tenant).file
+
+-- What holds of every run.
+pub record HoldsOfRun (config : Config) (events : List Happening) (state : State) : Type 0 where
+  pub served : (tenant : ℕ) → tenant < tenants_of config → IsServedAlone config events state tenant
+  -- The slots that are taken are no more than the doors count. While the door counts a slot for a request that isn't taken, there is a slot
+  -- that isn't taken: for a change that was admitted and has no slot yet, and for whoever has freed a slot, a change or a read, until the
+  -- door is lowered.
+  pub room : taken_slots state config.pool ≤ used_slots state (tenants_of config)
+  pub free : (worker : ℕ) (actor : Acting) → (state.seats worker).actor ≡ Some actor → waits_at actor.point ≡ 1 → FreeSlot config state
+  pub enabled : IsEnabled config state
+
+-- Every run is so.
+abbrev pub EveryRunServesAlone : Type 0
+EveryRunServesAlone = (config : Config) (events : List Happening) (state : State) → IsRun config events state → HoldsOfRun config events state
+
+-- Runs of two worlds, which may have nothing else in common, hand out the same replies to two tenants that have as many words, the
+-- same quota and the same marks.
+abbrev pub EqualMarksHaveEqualReplies : Type 0
+EqualMarksHaveEqualReplies = (config other : Config) (events others : List Happening) (state there : State) (tenant its : ℕ) → IsRun config events state → IsRun other others there
+    → tenant < tenants_of config → its < tenants_of other
+    → (tenant_at config tenant).words ≡ (tenant_at other its).words → (tenant_at config tenant).quota ≡ (tenant_at other its).quota → marks_of state tenant ≡ marks_of there its
+    → replies_to config tenant (new_world config) events ≡ replies_to other its (new_world other) others
+
+-- These bytes are a file of these words, or of these with this change put over them.
+abbrev pub IsFileOfEither : List ℕ → List Entry → List ℕ → Type 0
+IsFileOfEither words change image = (file_words image ≡ Some words) ⊎ (file_words image ≡ Some (put words change))
+
+-- In a world in memory that shows the world after a run, no call is under way. Whatever a crash may leave then of a tenant's disk is a file of
+-- the store's words, or of these with the change in doubt put over them; where none is in doubt, as after a start, it is one of the store's words.
+abbrev pub EveryImageIsOfStore : Type 0
+EveryImageIsOfStore = (config : Config) (events : List Happening) (state : State) (world : World) (tenant : ℕ) (shown : AccountInMemory) (store : Store) (image : List ℕ)
+    → IsRun config events state → world.config ≡ config → Shows world state → slice_get world.accounts.items tenant ≡ Some shown → store_of config state tenant ≡ Some store
+    → MayLeave (memory_facts (disk_under shown.book.device)) image → IsFileOfEither store.words store.in_doubt image

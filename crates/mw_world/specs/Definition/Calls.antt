@@ -1,0 +1,132 @@
+-- A call on a tenant's file, and the change of a shared word with which it ends.
+use Rattle.std.specs.Prelude.{ℕ, ◌&&◌, Bool, true, false, not, if◌then◌else◌, Option, Some, None}
+use Rattle.mw_words.specs.declared.places.At.TheVariants.{Door as AtDoor, Status as AtStatus}
+use Rattle.mw_words.specs.declared.statuses.Status.{Status}
+use Rattle.mw_words.specs.declared.statuses.Status.TheVariants.{Draft, Open, YesDirty, Yes, No, DoneYes, DoneNo}
+use Rattle.mw_look.specs.declared.steps.Call.{Call}
+use Rattle.mw_look.specs.declared.steps.Call.TheVariants.{Prepare as PrepareCall, Seal as SealCall, Settle as SettleCall, Cancel as CancelCall}
+use Rattle.mw_look.specs.declared.steps.Kind.TheVariants.{Fault as FaultKind}
+use Rattle.mw_look.specs.declared.news.News.TheVariants.{Filed}
+use Rattle.mw_actor.specs.declared.points.Slot.{Slot}
+use Rattle.mw_actor.specs.declared.points.Point.{Point}
+use Rattle.mw_actor.specs.declared.points.Point.TheVariants.{Prepare, Seal, Settle, Cancel}
+use Rattle.mw_actor.specs.Acting.{Acting, own_entries}
+use Rattle.mw_world_file.specs.declared.outcomes.Outcome.{Outcome}
+use Rattle.mw_world_file.specs.declared.outcomes.Outcome.TheVariants.{Good, Fail}
+use Rattle.mw_world_file.specs.Files.{File, entries_at, broken}
+use Rattle.mw_world.specs.declared.config.Config.{Config}
+use Rattle.mw_world.specs.Definition.Cells.{write}
+use Rattle.mw_world.specs.Definition.Changes.{fetched}
+use Rattle.mw_world.specs.Definition.Extent.{has_slot}
+use Rattle.mw_world.specs.declared.notes.Note.{Note}
+use Rattle.mw_world.specs.declared.notes.Note.TheVariants.{Nothing, Decided, SealedIt, FailedToSeal, FailedFile}
+use Rattle.mw_world.specs.Definition.State.{State, tenant_at}
+use Rattle.mw_world.specs.Definition.Turns.{Made, moved}
+-- what a call makes of the file alone
+pub use Rattle.mw_world_file.specs.Calls.{fails_on, place_for, suits, is_formed, can_be_made, device_calls, is_made, filed, doubt_of}
+
+-- A call on a file, for a change.
+pub record Called : Type 0 where
+  pub call : Call
+  pub change : Slot
+
+-- the call on a file that a request comes to at a point
+abbrev pub called_at : Point → Option Called
+called_at (Prepare own) = Some (record { call = PrepareCall; change = own })
+called_at (Seal task) = Some (record { call = SealCall; change = task.target })
+called_at (Settle task) = Some (record { call = SettleCall; change = task.target })
+called_at (Cancel task) = Some (record { call = CancelCall; change = task.target })
+called_at point = None
+
+-- The status after a call that went well, by the one that it starts from. The call has loaded that one, so that its exchange wins.
+abbrev pub status_after : Call → Status → Status
+status_after PrepareCall status = Open
+status_after SealCall status = Yes
+status_after SettleCall status = DoneYes
+status_after CancelCall (No entry value) = DoneNo entry value
+status_after CancelCall status = status
+
+-- the status is the one that the call starts from
+abbrev pub starts_from : Call → Status → Bool
+starts_from PrepareCall Draft = true
+starts_from SealCall YesDirty = true
+starts_from SettleCall Yes = true
+starts_from CancelCall (No entry value) = true
+starts_from call status = false
+
+-- as many device calls as a call makes in a state of its change and its file
+abbrev pub calls_made : Call → Status → File → ℕ → ℕ
+calls_made call status file place = if starts_from call status && not (fails_on call file) then device_calls call (entries_at file place) else 0
+
+-- what a call means that went well, and left this status
+abbrev pub good_note : Call → Slot → Status → Note
+good_note SealCall change status = SealedIt change
+good_note call change status = Decided change status
+
+-- what a call means in which the device failed
+abbrev pub fault_note : Call → Slot → Note
+fault_note SealCall change = FailedToSeal change
+fault_note call change = FailedFile
+
+module _ (state : State) (actor : Acting) (change : Slot) (file : File) where
+  -- the status isn't the one that the call starts from: nothing is done, and the request goes on as after a call that went well
+  abbrev pub skips : Made
+  skips = record { cells = state.cells; file = file; news = Filed true; note = Nothing }
+
+  -- the door has the fault
+  abbrev pub faults : File → Note → Made
+  faults after note = record { cells = write state.cells (AtDoor actor.tenant) (fetched FaultKind (AtDoor actor.tenant) (state.cells.doors actor.tenant)); file = after; news = Filed false; note = note }
+
+  -- no device call fails
+  abbrev pub goes_well : Call → Status → ℕ → Made
+  goes_well call status place = record {
+    cells = write state.cells (AtStatus change.slot) (status_after call status);
+    file = filed call file change.slot place (own_entries actor);
+    news = Filed true;
+    note = good_note call change (status_after call status);
+  }
+
+  -- a device call fails
+  abbrev pub breaks : Call → ℕ → Made
+  breaks call place = faults (broken file (doubt_of call (entries_at file place))) (fault_note call change)
+
+  -- how a call ends that starts on a file that hasn't failed, and makes so many device calls, by what the device does
+  abbrev pub works : Call → Status → ℕ → ℕ → Outcome → Option Made
+  works call status place calls Good = Some (goes_well call status place)
+  works call status place calls (Fail number) = if is_made calls number then Some (breaks call place) else None
+
+  -- how a call ends that makes no device call, where none can fail
+  abbrev pub makes_none : Made → Outcome → Option Made
+  makes_none made Good = Some made
+  makes_none made (Fail number) = None
+
+  -- how a call ends, by whether it starts, whether the file had failed, and whether it can be made
+  abbrev pub ends : Bool → Bool → Bool → Call → Status → ℕ → ℕ → Outcome → Option Made
+  ends false had_failed can_be call status place calls outcome = makes_none skips outcome
+  ends true true can_be call status place calls outcome = makes_none (faults file Nothing) outcome
+  ends true false true call status place calls outcome = works call status place calls outcome
+  ends true false false call status place calls outcome = None
+
+-- what a call makes and finds
+abbrev pub calling : Config → State → Acting → Called → Outcome → Option Made
+calling config state actor called outcome =
+    let file = (state.accounts actor.tenant).file in
+    let places = (tenant_at config actor.tenant).quota in
+    let status = state.cells.statuses called.change.slot in
+    let place = place_for called.call file places called.change.slot in
+    ends state actor called.change file (starts_from called.call status) (fails_on called.call file) (can_be_made called.call file places place (own_entries actor))
+    called.call status place (calls_made called.call status file place) outcome
+
+abbrev pub moved_if : State → ℕ → Acting → Option Made → Option State
+moved_if state worker actor None = None
+moved_if state worker actor (Some made) = Some (moved state worker actor made)
+
+abbrev pub call_if : Config → State → ℕ → Acting → Option Called → Outcome → Option State
+call_if config state worker actor None outcome = None
+call_if config state worker actor (Some called) outcome =
+    if has_slot config called.change.slot then moved_if state worker actor (calling config state actor called outcome) else None
+
+-- The next step of a worker's request, if that is a call on its tenant's file.
+abbrev pub call : Config → State → ℕ → Option Acting → Outcome → Option State
+call config state worker None outcome = None
+call config state worker (Some actor) outcome = call_if config state worker actor (called_at actor.point) outcome

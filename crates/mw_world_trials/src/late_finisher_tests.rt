@@ -1,0 +1,200 @@
+//! A worker that is late: it plants its attempt after another change has come and gone. The events of
+//! that schedule are given to a world at once, and the tenant's marks to a new store alone.
+ghost use Rattle.std.specs.Prelude.{◌≡◌, ◌<◌, length};
+ghost use Rattle.mw_world.specs.Definition.State.{IsConfig};
+
+use super::*;
+use arrayvec::ArrayVec;
+use mw_lone::Lone;
+use mw_look::{Kind, Op};
+use mw_words::{Entries, Entry, Job, Name, Reply};
+use mw_world::{Config, Event, Outcome, Tenant, World};
+use std::alloc::Global;
+use std::test::Fail;
+
+/// No part of the schedule takes more steps.
+const MOST_STEPS: u64 = 200;
+
+/// One tenant of two words, three workers and three slots.
+fn world_of_three() -> Config
+    ensures config { IsConfig result }
+    ensures tenants { length result.tenants.items ≡ 1 }
+    ensures workers { result.workers ≡ 3 }
+{
+    let mut tenants = ArrayVec::new();
+    tenants.push(Tenant {
+        name: Name::new(),
+        words: 2,
+        quota: 3,
+    });
+    Config {
+        pool: 3,
+        workers: 3,
+        seq: 0,
+        tenants,
+    }
+}
+
+/// A change of one word.
+fn change(addr: u16, expected: u64, new: u64) -> Job {
+    let mut entries = Entries::new();
+    entries.push(Entry {
+        addr,
+        expected,
+        new,
+    });
+    Job::Cas(entries)
+}
+
+/// A change of both words from 0 to 1.
+fn change_both() -> Job {
+    let mut entries = Entries::new();
+    entries.push(Entry {
+        addr: 0,
+        expected: 0,
+        new: 1,
+    });
+    entries.push(Entry {
+        addr: 1,
+        expected: 0,
+        new: 1,
+    });
+    Job::Cas(entries)
+}
+
+/// A world that goes by a schedule, and the events so far.
+#[derive(Drop)]
+struct Plan {
+    world: World,
+    events: Vec<Event>,
+}
+
+impl Plan {
+    /// An event, given twice: once to the world and once to the list.
+    fn make(&mut self, event: Event, again: Event) -> Result<(), TrialFault> {
+        if self.events.push(again).is_err() {
+            return Err(TrialFault::Memory);
+        }
+        match self.world.step(event) {
+            Ok(()) => Ok(()),
+            Err(_) => Err(TrialFault::Disagreement(Disagreement::Stuck)),
+        }
+    }
+
+    fn come(&mut self, worker: u8, job: Job) -> Result<(), TrialFault> {
+        self.make(
+            Event::Come(worker, 0, job.copy()),
+            Event::Come(worker, 0, job),
+        )
+    }
+
+    /// What a worker's next step is; none where its reply stands, or it has no request.
+    fn next(&self, worker: u8) -> Option<Op> {
+        if worker >= self.world.config().workers {
+            return None;
+        }
+        let Some(actor) = self.world.actor(worker) else {
+            return None;
+        };
+        if actor.reply().is_some() {
+            return None;
+        }
+        Some(actor.ask())
+    }
+
+    fn go_on(&mut self, worker: u8) -> Result<(), TrialFault> {
+        match self.next(worker) {
+            Some(Op::File { .. }) => self.make(
+                Event::File(worker, Outcome::Good),
+                Event::File(worker, Outcome::Good),
+            ),
+            _ => self.make(Event::Step(worker), Event::Step(worker)),
+        }
+    }
+
+    /// A worker goes on until its next step is of this kind.
+    fn before(&mut self, worker: u8, kind: Kind) -> Result<(), TrialFault> {
+        for _ in 0..MOST_STEPS {
+            match self.next(worker) {
+                Some(Op::Change { kind: its, .. }) if its == kind => return Ok(()),
+                _ => self.go_on(worker)?,
+            }
+        }
+        Err(TrialFault::Disagreement(Disagreement::Stuck))
+    }
+
+    /// A worker goes on until it has made a step of this kind.
+    fn to(&mut self, worker: u8, kind: Kind) -> Result<(), TrialFault> {
+        self.before(worker, kind)?;
+        self.go_on(worker)
+    }
+
+    /// A worker goes on until its reply stands, and hands it out.
+    fn end(&mut self, worker: u8) -> Result<(), TrialFault> {
+        for _ in 0..MOST_STEPS {
+            if self.next(worker).is_none() {
+                return self.make(Event::Hand(worker), Event::Hand(worker));
+            }
+            self.go_on(worker)?;
+        }
+        Err(TrialFault::Disagreement(Disagreement::Stuck))
+    }
+}
+
+/// Worker 2 comes to its plant while worker 0 has its attempt at the same word; worker 1 finishes worker
+/// 0's change for it, and makes one of its own.
+fn late_plant(alloc: Global) -> Result<Vec<Event>, TrialFault> {
+    let mut plan = Plan {
+        world: World::new(alloc, world_of_three())?,
+        events: Vec::new(alloc),
+    };
+    plan.come(0, change_both())?;
+    plan.to(0, Kind::Resolve)?;
+    plan.come(2, change(0, 0, 9))?;
+    plan.before(2, Kind::Plant)?;
+    plan.before(0, Kind::Resolve)?;
+    plan.come(1, change(1, 1, 0))?;
+    plan.end(1)?;
+    plan.to(2, Kind::Plant)?;
+    plan.end(0)?;
+    plan.end(2)?;
+    plan.come(1, Job::Get(1))?;
+    plan.end(1)?;
+    Ok(plan.events)
+}
+
+/// The replies that a store alone hands out for a tenant's marks.
+fn replies_of(alloc: Global, world: &World) -> Result<Vec<Reply>, TrialFault>
+    requires { 0 < length world.now.config.tenants.items }
+{
+    let mut lone = Lone::new(alloc, &[0, 0], 3)?;
+    let mut replies = Vec::new(alloc);
+    for mark in world.marks(0)? {
+        if let Some(reply) = lone.mark(mark)? {
+            if replies.push(reply).is_err() {
+                return Err(TrialFault::Memory);
+            }
+        }
+    }
+    Ok(replies)
+}
+
+#[test]
+fn late_finisher(rt: HostRuntime) -> Result<(), Fail> {
+    let events = late_plant(rt.alloc());
+    assert!(rt; events.is_ok());
+    let Ok(events) = events else {
+        return Ok(());
+    };
+    let mut world = World::new(rt.alloc(), world_of_three())?;
+    assert_eq!(rt; world.run(&events), Ok(()));
+    let attempts = [world.attempt(0), world.attempt(1), world.attempt(2)];
+    assert_eq!(rt; attempts, [2, 1, 1]);
+    let replies = replies_of(rt.alloc(), &world);
+    assert!(rt; replies.is_ok());
+    if let Ok(replies) = replies {
+        let wanted = [Reply::Yes, Reply::Yes, Reply::No(0, 1), Reply::Val(0)];
+        assert_eq!(rt; replies.as_slice(), wanted.as_slice());
+    }
+    Ok(())
+}
