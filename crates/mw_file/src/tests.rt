@@ -180,31 +180,60 @@ fn cancel(file: &mut TenantFile<MemDisk>, place: Place) -> Option<()> {
     }
 }
 
-#[test]
-fn a_new_file_opens_with_all_places_free(rt: HostRuntime) -> Result<(), Fail> {
-    let alloc = rt.alloc();
+/// A new file of two words and two places, but that its first word is 5.
+fn bytes_with_a_word(alloc: Global) -> Result<Vec<u8>, AllocError> {
     let mut bytes = new_bytes(alloc, 2, 2)?;
     if let Some(byte) = bytes.get_mut(32) {
         *byte = 5;
     }
-    let file = opened(alloc, disk_with(alloc, &bytes)?).ok_or("the file opens")?;
-    assert_eq!(rt; (file.places(), file.has_place()), (2, true));
-    for (calls, fault) in [
-        (0, Some(OpenFault::Disk)),
-        (1, Some(OpenFault::Disk)),
-        (2, None),
-    ] {
+    Ok(bytes)
+}
+
+/// The number of places of the file with these bytes, and whether one of them is free, if it opens.
+fn places_in(alloc: Global, bytes: &[u8]) -> Result<Option<(u16, bool)>, AllocError> {
+    match opened(alloc, disk_with(alloc, bytes)?) {
+        Some(file) => Ok(Some((file.places(), file.has_place()))),
+        None => Ok(None),
+    }
+}
+
+#[test]
+fn a_new_file_opens_with_all_places_free(rt: HostRuntime) -> Result<(), Fail> {
+    let alloc = rt.alloc();
+    let bytes = bytes_with_a_word(alloc)?;
+    let found = words_of(alloc, &bytes)?;
+    assert_eq!(rt; found.as_deref(), Some([5, 0].as_slice()));
+    assert_eq!(rt; places_in(alloc, &bytes)?, Some((2, true)));
+    Ok(())
+}
+
+/// The fault of an opening whose device has trouble after so many calls, if it has one, and how many
+/// calls have failed then.
+fn fault_of(
+    alloc: Global,
+    bytes: &[u8],
+    calls: u8,
+    trouble: Trouble,
+) -> Result<(Option<OpenFault>, u64), AllocError> {
+    let (ended, disk) = opening(alloc, troubled(alloc, bytes, calls, trouble)?);
+    Ok((ended.err(), disk.faults()))
+}
+
+#[test]
+fn each_device_call_of_an_opening_fails(rt: HostRuntime) -> Result<(), Fail> {
+    let alloc = rt.alloc();
+    let bytes = bytes_with_a_word(alloc)?;
+    for calls in 0..=2 {
+        let wanted = if calls < 2 {
+            (Some(OpenFault::Disk), 1)
+        } else {
+            (None, 0)
+        };
         for trouble in [Trouble::Once, Trouble::Stop] {
-            let (ended, disk) = opening(alloc, troubled(alloc, &bytes, calls, trouble)?);
-            let faults = if fault.is_some() { 1 } else { 0 };
-            assert_eq!(rt;
-                (ended.err(), disk.faults()),
-                (fault, faults),
-                "after {calls} calls"
-            );
+            let found = fault_of(alloc, &bytes, calls, trouble)?;
+            assert_eq!(rt; found, wanted, "after {calls} calls");
         }
     }
-    assert_eq!(rt; words_of(alloc, &bytes)?, Some(vec![in alloc; 5, 0]?));
     Ok(())
 }
 
@@ -238,50 +267,86 @@ const OVERLAP: [(usize, u8); 6] = [
     (200, 1),
 ];
 
+/// Damaged files: the number of places, the bytes that are changed, how many bytes are kept, and the
+/// number of the damage.
+const DAMAGED: [(u16, &[(usize, u8)], usize, u8); 11] = [
+    (1, &[(0, 0x58)], 184, 1),
+    (1, &[(0, 0)], 184, 1),
+    (1, &[(12, 0)], 184, 2),
+    (1, &[(15, 0xa5)], 184, 2),
+    (1, &[(38, 1)], 184, 3),
+    (1, &[(39, 1)], 184, 3),
+    (1, &[(48, 0xa5)], 184, 4),
+    (1, &[(48, 0xa5), (49, 9)], 184, 4),
+    (2, &OVERLAP, 320, 5),
+    (1, &[], 183, 6),
+    (1, &[], 31, 6),
+];
+
+/// The number of the damage that an opening of these bytes ends with, 0 where it ends otherwise, how
+/// many calls failed, and what a crash leaves then.
+fn damage_of(alloc: Global, bytes: &[u8]) -> Result<(u8, u64, Vec<u8>), AllocError> {
+    let (ended, disk) = opening(alloc, disk_with(alloc, bytes)?);
+    let found = match ended {
+        Err(OpenFault::Damage(damage)) => damage.number(),
+        _ => 0,
+    };
+    Ok((found, disk.faults(), disk.crash(&[])?))
+}
+
 #[test]
 fn damaged_files(rt: HostRuntime) -> Result<(), Fail> {
     let alloc = rt.alloc();
-    let cases: [(u16, &[(usize, u8)], usize, u8); 11] = [
-        (1, &[(0, 0x58)], 184, 1),
-        (1, &[(0, 0)], 184, 1),
-        (1, &[(12, 0)], 184, 2),
-        (1, &[(15, 0xa5)], 184, 2),
-        (1, &[(38, 1)], 184, 3),
-        (1, &[(39, 1)], 184, 3),
-        (1, &[(48, 0xa5)], 184, 4),
-        (1, &[(48, 0xa5), (49, 9)], 184, 4),
-        (2, &OVERLAP, 320, 5),
-        (1, &[], 183, 6),
-        (1, &[], 31, 6),
-    ];
-    for (places, changes, kept, number) in cases {
+    for case in DAMAGED {
+        let (places, changes, kept, number) = case;
         let bytes = damaged_bytes(alloc, places, changes, kept)?;
-        let (ended, disk) = opening(alloc, disk_with(alloc, &bytes)?);
-        let found = match ended {
-            Err(OpenFault::Damage(damage)) => damage.number(),
-            _ => 0,
-        };
-        assert_eq!(rt; (bytes.len(), found), (kept, number), "{number}");
-        assert_eq!(rt; (disk.faults(), disk.crash(&[])?), (0, bytes), "{number}");
+        assert_eq!(rt; bytes.len(), kept, "{number}");
+        assert_eq!(rt; damage_of(alloc, &bytes)?, (number, 0, bytes), "{number}");
     }
     Ok(())
+}
+
+/// A file of three words and two places, with the change of word 0 prepared in its first place and that
+/// of the others sealed in its second, if all of that goes well.
+fn with_two_records(alloc: Global) -> Result<Option<TenantFile<MemDisk>>, AllocError> {
+    let bytes = new_bytes(alloc, 3, 2)?;
+    let Some(mut file) = opened(alloc, disk_with(alloc, &bytes)?) else {
+        return Ok(None);
+    };
+    let first = prepare(&mut file, &change(&[(0, 1)]));
+    let second = prepare(&mut file, &change(&[(1, 2), (2, 3)]));
+    let sealed = seal(&mut file, Place(1));
+    let is_so = (first, second, sealed) == (Some(Ok(Place(0))), Some(Ok(Place(1))), Some(Ok(())));
+    Ok(if is_so { Some(file) } else { None })
+}
+
+/// How an opening of these bytes ends whose device stops after so many calls.
+fn ended_after(
+    alloc: Global,
+    bytes: &[u8],
+    calls: u8,
+) -> Result<Result<Vec<u64>, OpenFault>, AllocError> {
+    let (ended, _) = opening(alloc, troubled(alloc, bytes, calls, Trouble::Stop)?);
+    Ok(ended)
 }
 
 #[test]
 fn two_records(rt: HostRuntime) -> Result<(), Fail> {
     let alloc = rt.alloc();
-    let bytes = new_bytes(alloc, 3, 2)?;
-    assert_eq!(rt; bytes.len(), 328);
-    let mut file = opened(alloc, disk_with(alloc, &bytes)?).ok_or("the file opens")?;
-    let (first, second) = (change(&[(0, 1)]), change(&[(1, 2), (2, 3)]));
-    assert_eq!(rt; prepare(&mut file, &first), Some(Ok(Place(0))));
-    assert_eq!(rt; prepare(&mut file, &second), Some(Ok(Place(1))));
-    assert_eq!(rt; seal(&mut file, Place(1)), Some(Ok(())));
+    assert_eq!(rt; size(3, 2), 328);
+    let file = with_two_records(alloc)?.ok_or("both records are written")?;
     let left = file.crash(&[])?;
-    for (calls, wanted) in [(7, Ok(vec![in alloc; 0, 2, 3]?)), (6, Err(OpenFault::Disk))] {
-        let (ended, _) = opening(alloc, troubled(alloc, &left, calls, Trouble::Stop)?);
-        assert_eq!(rt; ended, wanted, "after {calls} calls");
-    }
+    let words = vec![in alloc; 0, 2, 3]?;
+    assert_eq!(rt; ended_after(alloc, &left, 7)?, Ok(words));
+    assert_eq!(rt; ended_after(alloc, &left, 6)?, Err(OpenFault::Disk));
+    Ok(())
+}
+
+#[test]
+fn a_cancelled_place_is_taken_again(rt: HostRuntime) -> Result<(), Fail> {
+    let alloc = rt.alloc();
+    let mut file = with_two_records(alloc)?.ok_or("both records are written")?;
+    let first = change(&[(0, 1)]);
     assert_eq!(rt; prepare(&mut file, &first), None);
     assert_eq!(rt; cancel(&mut file, Place(0)), Some(()));
     assert_eq!(rt; prepare(&mut file, &first), Some(Ok(Place(0))));
@@ -448,38 +513,78 @@ fn opening_sweep(rt: HostRuntime) -> Result<(), Fail> {
     Ok(())
 }
 
-#[test]
-fn copies_and_counts(rt: HostRuntime) -> Result<(), Fail> {
-    let alloc = rt.alloc();
+/// A new file of two words and one place, if it opens.
+fn new_file(alloc: Global) -> Result<Option<TenantFile<MemDisk>>, AllocError> {
     let bytes = new_bytes(alloc, 2, 1)?;
-    let file = opened(alloc, disk_with(alloc, &bytes)?).ok_or("the file opens")?;
-    let well: Answers = (Some(Ok(Place(0))), Some(Ok(())), Some(Ok(())));
-    // A copy goes its own way.
+    Ok(opened(alloc, disk_with(alloc, &bytes)?))
+}
+
+/// The answers of a file on whose device all goes well.
+fn all_well() -> Answers {
+    (Some(Ok(Place(0))), Some(Ok(())), Some(Ok(())))
+}
+
+/// The words that a crash leaves, with these torn bytes, if the file opens then.
+fn words_left(
+    alloc: Global,
+    file: &TenantFile<MemDisk>,
+    torn: &[u8],
+) -> Result<Option<Vec<u64>>, AllocError> {
+    words_of(alloc, &file.crash(torn)?)
+}
+
+#[test]
+fn a_copy_goes_its_own_way(rt: HostRuntime) -> Result<(), Fail> {
+    let alloc = rt.alloc();
+    let file = new_file(alloc)?.ok_or("the file opens")?;
     let mut copy = file.copy(alloc)?;
-    assert_eq!(rt; answers(&mut copy), well);
-    assert_eq!(rt; file.crash(&[])?, bytes);
-    // The third call fails, which is seal's write of the commit byte.
-    let mut failing = file.copy(alloc)?;
-    failing.fail_next(3)?;
-    assert_eq!(rt; answers(&mut failing), answers_to(2, 1).0);
-    // Of two stops the earlier one counts.
-    let mut stopped = file.copy(alloc)?;
-    stopped.stop_next(3);
-    stopped.stop_next(5);
-    assert_eq!(rt; answers(&mut stopped), answers_to(3, 1).0);
-    for (left, words) in [
-        (copy.crash(&[])?, [1, 2]),
-        (failing.crash(&[])?, [0, 0]),
-        (failing.crash(&[0xa5])?, [1, 2]),
-        (stopped.crash(&[])?, [1, 2]),
-        (stopped.crash(&[0])?, [0, 0]),
-    ] {
-        assert_eq!(rt; words_of(alloc, &left)?.as_deref(), Some(words.as_slice()));
+    assert_eq!(rt; answers(&mut copy), all_well());
+    let (own, other) = (
+        words_left(alloc, &copy, &[])?,
+        words_left(alloc, &file, &[])?,
+    );
+    assert_eq!(rt; own.as_deref(), Some([1, 2].as_slice()));
+    assert_eq!(rt; other.as_deref(), Some([0, 0].as_slice()));
+    assert_eq!(rt; file.crash(&[])?, new_bytes(alloc, 2, 1)?);
+    Ok(())
+}
+
+#[test]
+fn the_call_that_is_told_to_fails(rt: HostRuntime) -> Result<(), Fail> {
+    let alloc = rt.alloc();
+    let mut file = new_file(alloc)?.ok_or("the file opens")?;
+    // The third call is seal's write of the commit byte.
+    file.fail_next(3)?;
+    assert_eq!(rt; answers(&mut file), answers_to(2, 1).0);
+    for (torn, words) in [([].as_slice(), [0, 0]), ([0xa5].as_slice(), [1, 2])] {
+        let left = words_left(alloc, &file, torn)?;
+        assert_eq!(rt; left.as_deref(), Some(words.as_slice()));
     }
-    // There is not so much memory. The next calls go well.
+    Ok(())
+}
+
+#[test]
+fn the_earlier_of_two_stops_counts(rt: HostRuntime) -> Result<(), Fail> {
+    let alloc = rt.alloc();
+    let mut file = new_file(alloc)?.ok_or("the file opens")?;
+    file.stop_next(3);
+    file.stop_next(5);
+    assert_eq!(rt; answers(&mut file), answers_to(3, 1).0);
+    for (torn, words) in [([].as_slice(), [1, 2]), ([0].as_slice(), [0, 0])] {
+        let left = words_left(alloc, &file, torn)?;
+        assert_eq!(rt; left.as_deref(), Some(words.as_slice()));
+    }
+    Ok(())
+}
+
+#[test]
+fn a_call_that_is_refused_memory_fails(rt: HostRuntime) -> Result<(), Fail> {
+    let alloc = rt.alloc();
+    let file = new_file(alloc)?.ok_or("the file opens")?;
     let mut refused = file.copy(alloc)?;
+    // There is not so much memory. The next calls go well.
     assert_eq!(rt; refused.disk.write_at(1 << 63, &[1]), Err(DiskFault));
     assert_eq!(rt; (refused.refused(), file.refused()), (1, 0));
-    assert_eq!(rt; answers(&mut refused), well);
+    assert_eq!(rt; answers(&mut refused), all_well());
     Ok(())
 }
