@@ -1,4 +1,5 @@
 pub mod ApartPlaces
+pub mod CalledDisks
 pub mod KeptPlaces
 pub mod NewFiles
 pub mod OpenedFiles

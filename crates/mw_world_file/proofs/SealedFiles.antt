@@ -80,6 +80,13 @@ none_shut old slot number entries is disk device =
     let e : FreeStage ≡ PreparedStage = sym (ap (λ d. stage_of (states_on d) number) device) ∙ old.kept.stages number ∙ ap (λ q. stage_told (told_at q)) is.there in
     cc
 
+-- a call that makes no device call ends well
+pub ends_well : (outcome : Outcome) → may_end 0 outcome ≡ true → outcome ≡ Good
+ends_well Good may = refl
+ends_well (Fail n) may =
+    let both = and_parts (nat_le 1 n) (nat_le n 0) may in
+    absurd (let e : ⊥ = omega (arith, leb-true 1 n both.0, leb-true n 0 both.1) in e)
+
 -- A prepared change of a slot.
 module _ (old : Book) (slot number : ℕ) (entries : ArrayVec Entry) (is : IsAt old slot number (KeptPrepared entries)) where
   -- how the book's test of a seal comes out
@@ -172,14 +179,9 @@ module _ (old : Book) (slot number : ℕ) (entries : ArrayVec Entry) (is : IsAt 
       → HasParts new (Open now) old.contents.items (slice_set old.places.items number KeptEmpty) old.place_of old.has_failed old.doubt.items
       → Turns old new (λ file. worked CancelCall file (quota_of old) slot others outcome)
   cancel_done held device now new others outcome may stays parts =
-      done_turns old held device now new CancelCall slot others outcome number old.contents.items KeptEmpty (good outcome may) parts refl is.within
+      done_turns old held device now new CancelCall slot others outcome number old.contents.items KeptEmpty (ends_well outcome may) parts refl is.within
       (λ file shows. stays old.contents.items (pairs_of old.doubt.items) (keeps_open old held device file shows)) cancel_suits
-      (λ file shows. emptied_as old slot number (KeptPrepared entries) is file shows) where
-        good : (o : Outcome) → may_end 0 o ≡ true → o ≡ Good
-        good Good may = refl
-        good (Fail n) may =
-            let both = and_parts (nat_le 1 n) (nat_le n 0) may in
-            absurd (let e : ⊥ = omega (arith, leb-true 1 n both.0, leb-true n 0 both.1) in e)
+      (λ file shows. emptied_as old slot number (KeptPrepared entries) is file shows)
 
 -- a slot whose place has no sealed change
 pub unsettled : (old : Book) (slot : ℕ) (xs : List KeptPlace) → is_sealed (place_in xs (get_or old.place_of slot 0)) ≡ false → xs ≡ old.places.items → slot < MAX_POOL → (file : File) → Shows old file

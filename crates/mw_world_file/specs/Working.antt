@@ -1,5 +1,7 @@
--- What a call makes of a tenant's file, and of the book of that file.
-use Rattle.std.specs.Prelude.{◌≡◌, ℕ, Bool, true, if◌then◌else◌, List, length, Option, Some, None, Result, Ok, Err}
+-- What a call makes of a tenant's file, of the book of that file, and of the disk that it is on.
+use Rattle.std.specs.Prelude.{◌≡◌, ◌+◌, ℕ, Bool, true, if◌then◌else◌, List, length, slice_index, Option, Some, None, Result, Ok, Err}
+use Rattle.mw_disk.specs.Memory.{Memory as Disk, memory_facts, with_name}
+use Rattle.mw_disk.specs.Runs.{Later, Good as AllWell, Bad as OneFailed}
 use Rattle.mw_words.specs.declared.jobs.Entry.{Entry}
 use Rattle.mw_look.specs.declared.steps.Call.{Call}
 use Rattle.mw_world_file.specs.declared.outcomes.Outcome.{Outcome}
@@ -7,8 +9,9 @@ use Rattle.mw_world_file.specs.declared.outcomes.Outcome.TheVariants.{Good, Fail
 use Rattle.mw_world_file.specs.declared.faults.BookFault.{BookFault}
 use Rattle.mw_world_file.specs.declared.faults.BookFault.TheVariants.{NotEnabled, Memory}
 use Rattle.mw_world_file.specs.declared.kept.Book.{Book}
-use Rattle.mw_world_file.specs.Files.{File, entries_at, broken}
+use Rattle.mw_world_file.specs.Files.{File, entries_in, entries_at, broken}
 use Rattle.mw_world_file.specs.Calls.{place_for, suits, device_calls, is_made, filed, doubt_of}
+use Rattle.mw_world_file.specs.Devices.{place_in, disk_under}
 use Rattle.mw_world_file.specs.Books.{Shows, quota_of}
 
 -- a call of so many device calls may end so: one that fails is one of them
@@ -44,3 +47,26 @@ abbrev pub Works : Book → Call → ℕ → List Entry → Outcome → Result B
 Works old call slot entries outcome (Ok new) = Turns old new (λ file. worked call file (quota_of old) slot entries outcome)
 Works old call slot entries outcome (Err NotEnabled) = (file : File) → Shows old file → worked call file (quota_of old) slot entries outcome ≡ None
 Works old call slot entries outcome (Err Memory) = Unit {0}
+
+-- how many device calls a call makes for the change of a slot: a settle, by the entries of the change in the slot's place
+abbrev pub calls_for : Book → Call → ℕ → ℕ
+calls_for book call slot = device_calls call (entries_in (place_in book.places.items (slice_index book.place_of slot)))
+
+-- the disk, told that the call with this number of those to come fails too, counted from 1
+abbrev pub failing : Disk → ℕ → Disk
+failing disk number = record disk { script = with_name disk number }
+
+-- How a disk came of another by a call of so many device calls. All went well; or those before the one with the number that was to fail
+-- did, that one failed, and none was made after it.
+abbrev pub CallsRan : ℕ → Outcome → Disk → Disk → Type 0
+CallsRan calls Good before after = AllWell calls (memory_facts before) (memory_facts after)
+CallsRan calls (Fail number) before after =
+    (failed : OneFailed calls (memory_facts (failing before number)) (memory_facts after)) × (failed.well + 1 ≡ number)
+
+-- The disk under the new book came of the one under the old book by the device calls of this call. Time has gone on since: what a crash
+-- might have left at a moment past is what it was. Of a call that made no new book nothing is said.
+abbrev pub CameOf : Book → Call → ℕ → Outcome → Result Book BookFault → Type 0
+CameOf old call slot outcome (Ok new) =
+    CallsRan (calls_for old call slot) outcome (disk_under old.device) (disk_under new.device)
+    × Later (memory_facts (disk_under old.device)) (memory_facts (disk_under new.device))
+CameOf old call slot outcome (Err fault) = Unit {0}

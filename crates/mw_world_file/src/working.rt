@@ -1,7 +1,7 @@
 //! Calls on a tenant's file.
 ghost use Rattle.std.specs.Prelude.{◌≡◌, ◌<◌, ℕ, List, length, true, false, IfOk, IsTrue, slice_set};
 ghost use Rattle.mw_words.specs.Change.{is_change};
-ghost use Rattle.mw_disk.specs.Memory.{memory_facts};
+ghost use Rattle.mw_disk.specs.Memory.{memory_facts, with_fault};
 ghost use Rattle.mw_record.specs.Records.{Pairs};
 ghost use Rattle.mw_file.specs.File.{disk_of, words_of, states_of, has_failed};
 ghost use Rattle.mw_file.specs.Keeps.{Keeps};
@@ -63,6 +63,9 @@ fn copy_for(
     ensures words { IfOk result (λ copy. words_of copy ≡ words_of file.now) }
     ensures failed { IfOk result (λ copy. has_failed copy ≡ has_failed file.now) }
     ensures disk { IfOk result (λ copy. outcome ≡ Outcome.Good → disk_of copy ≡ disk_of file.now) }
+    ensures failing { IfOk result (λ copy. (number : ℕ) → outcome ≡ Outcome.Fail number → disk_of copy ≡ spec.failing (disk_of file.now) number) }
+    ensures plan { IfOk result (λ copy. (number j : ℕ) → outcome ≡ Outcome.Fail number
+        → (memory_facts (disk_of copy)).plan j ≡ with_fault (disk_of file.now) number j) }
     ensures keeps { IfOk result (λ copy. (contents : List ℕ) (doubt : Pairs) → Keeps memory_facts file.now contents doubt
         → Keeps memory_facts copy contents doubt) }
 {
@@ -92,11 +95,12 @@ fn is_clear(place: &Place, entries: &[Entry]) -> bool
 
 impl Book {
     ghost use Rattle.mw_words.specs.declared.jobs.Entry.{Entry};
-    ghost use Rattle.mw_world_file.specs.Working.{Works};
+    ghost use Rattle.mw_world_file.specs.Working.{Works, CameOf};
 
     /// A new book, of the file after a call on it for the change of a slot, the entries of which are these.
-    /// This book stays as it is. The call starts, and the file hasn't failed, unless it is one that can't
-    /// fail.
+    /// Its disk is a copy of this book's, on which the call's device calls were made, up to the one that is
+    /// to fail. This book stays as it is. The call starts, and the file hasn't failed, unless it is one that
+    /// can't fail.
     ///
     /// # Errors
     ///
@@ -112,7 +116,8 @@ impl Book {
     ) -> Result<Book, BookFault>
         requires sound { (call ≡ Call.Cancel → ⊥) → self.now.has_failed ≡ false }
         requires formed { call ≡ Call.Prepare → IsTrue (is_change (length self.now.contents.items) entries.now.items) }
-        ensures { Works self.now call slot entries.now.items outcome result }
+        ensures works { Works self.now call slot entries.now.items outcome result }
+        ensures disk { CameOf self.now call slot outcome result }
     {
         match call {
             Call::Prepare => self.prepare(alloc, slot, entries, outcome),
@@ -132,7 +137,8 @@ impl Book {
     ) -> Result<Book, BookFault>
         requires sound { self.now.has_failed ≡ false }
         requires formed { IsTrue (is_change (length self.now.contents.items) entries.now.items) }
-        ensures { Works self.now Call.Prepare slot entries.now.items outcome result }
+        ensures works { Works self.now Call.Prepare slot entries.now.items outcome result }
+        ensures disk { CameOf self.now Call.Prepare slot outcome result }
     {
         let Device::Open(held) = &self.device else {
             unreachable!()
@@ -196,7 +202,8 @@ impl Book {
     /// The prepared change of a slot is sealed.
     fn seal(&self, alloc: Global, slot: u8, outcome: Outcome) -> Result<Book, BookFault>
         requires { self.now.has_failed ≡ false }
-        ensures { (entries : List Entry) → Works self.now Call.Seal slot entries outcome result }
+        ensures works { (entries : List Entry) → Works self.now Call.Seal slot entries outcome result }
+        ensures disk { CameOf self.now Call.Seal slot outcome result }
     {
         let place = self.place_of[slot as usize];
         let Some(Place::Prepared(entries)) = self.places.get(place as usize) else {
@@ -234,7 +241,8 @@ impl Book {
     /// The sealed change of a slot is put into its words, and its place is empty then.
     fn settle(&self, alloc: Global, slot: u8, outcome: Outcome) -> Result<Book, BookFault>
         requires { self.now.has_failed ≡ false }
-        ensures { (entries : List Entry) → Works self.now Call.Settle slot entries outcome result }
+        ensures works { (entries : List Entry) → Works self.now Call.Settle slot entries outcome result }
+        ensures disk { CameOf self.now Call.Settle slot outcome result }
     {
         let place = self.place_of[slot as usize];
         let Some(Place::Sealed(entries)) = self.places.get(place as usize) else {
@@ -266,7 +274,8 @@ impl Book {
 
     /// The place of a slot's prepared change is empty again. No device call is made for it.
     fn cancel(&self, alloc: Global, slot: u8, outcome: Outcome) -> Result<Book, BookFault>
-        ensures { (entries : List Entry) → Works self.now Call.Cancel slot entries outcome result }
+        ensures works { (entries : List Entry) → Works self.now Call.Cancel slot entries outcome result }
+        ensures disk { CameOf self.now Call.Cancel slot outcome result }
     {
         let place = self.place_of[slot as usize];
         let Some(Place::Prepared(entries)) = self.places.get(place as usize) else {

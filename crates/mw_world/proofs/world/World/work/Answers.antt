@@ -33,7 +33,7 @@ file-requires-clause-sound c =
     let shown = c.index-2.result.now in
     let here = found_at c.args.self.now.accounts.items c.from-tenant.result tenant shown (c.from-tenant.ensures ∙ c.tenant.ensures) c.requires.tenant c.index-2.ensures in
     subst (λ t. HasSound (tenant_at config t).words c.in-Ok.book) (sym c.tenant-2.ensures)
-    (sound_after (tenant_at config tenant).words shown.book c.in-Ok.book _ (c.args.self.now.books tenant shown here) c.in-Ok.ensures)
+    (sound_after (tenant_at config tenant).words shown.book c.in-Ok.book _ (c.args.self.now.books tenant shown here) c.in-Ok.ensures.works)
 
 pub returns-in-Err-clause-ends : goal.returns-in-Err-clause-ends
 returns-in-Err-clause-ends c state shows same starts fails =
@@ -44,7 +44,7 @@ returns-in-Err-clause-ends c state shows same starts fails =
     let own = c.entries_of-entries.ensures ∙ ap (λ job. entries_of_job job) c.job.ensures in
     let formed = formed_is c.args.called.call (state.accounts actor.tenant).file c.index.result.now.book.contents.items c.words.result c.entries_of-entries.result.items (own_entries actor) c.is_formed.result true
     one.book.same_contents c.words.ensures own c.is_formed.ensures.is c.if-not-is_formed.false in
-    let worked = subst (λ entries. Works book c.args.called.call c.args.called.change.slot entries c.args.outcome (Err c.in-Err.fault)) own c.in-Err.ensures in
+    let worked = subst (λ entries. Works book c.args.called.call c.args.called.change.slot entries c.args.outcome (Err c.in-Err.fault)) own c.in-Err.ensures.works in
     call_fails c.args.self.now.config state actor (called_of c.args.called) c.args.status c.args.outcome same starts fails formed _ two.places c.args.self.now book c.in-Err.fault shows refl
     (why_failed book c.args.called.call c.args.called.change.slot (own_entries actor) c.args.outcome c.in-Err.fault (state.accounts actor.tenant).file worked two.book)
 
@@ -57,7 +57,7 @@ returns-clause-ends c state shows same starts fails =
     let own = c.entries_of-entries.ensures ∙ ap (λ job. entries_of_job job) c.job.ensures in
     let formed = formed_is c.args.called.call (state.accounts actor.tenant).file c.index.result.now.book.contents.items c.words.result c.entries_of-entries.result.items (own_entries actor) c.is_formed.result true
     one.book.same_contents c.words.ensures own c.is_formed.ensures.is c.if-not-is_formed.false in
-    let turns = subst (λ entries. Works book c.args.called.call c.args.called.change.slot entries c.args.outcome (Ok c.in-Ok.book)) own c.in-Ok.ensures in
+    let turns = subst (λ entries. Works book c.args.called.call c.args.called.change.slot entries c.args.outcome (Ok c.in-Ok.book)) own c.in-Ok.ensures.works in
     let turned = turns.shows (state.accounts actor.tenant).file two.book in
     let filed = subst (λ t. (file : File) → IsBookOf c.args.self.now.config t c.in-Ok.book file → Shows c.file.new.self (with_file state t file)) c.tenant-2.ensures (λ file. c.file.ensures.shows state file shows) in
     let then_shows = filed turned.0 (record { shows = turned.2; places = turns.places ∙ two.places; words = turns.words ∙ two.words_are }) in

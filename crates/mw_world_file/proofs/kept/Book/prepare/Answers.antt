@@ -6,13 +6,14 @@ use Rattle.mw_file.specs.declared.place_states.Stage.TheVariants.{Prepared as Pr
 use Rattle.mw_world_file.specs.declared.places.Place.TheVariants.{Prepared as KeptPrepared}
 use Rattle.mw_world_file.specs.Working.{may_end}
 use Rattle.mw_world_file.proofs.WorkedFiles.{none_empty, place_within, kept_after, prepare_done, prepare_broken, refused}
+use Rattle.mw_world_file.proofs.CalledDisks.{came_to_fault}
 use Rattle.mw_world_file.proofs.kept.Book.prepare.Goals as goal
 
-pub returns-then-not-has_place : goal.returns-then-not-has_place
-returns-then-not-has_place c = none_empty c.args.self.now c.in-Open.held c.args.slot c.args.entries.now c.in-Open.is c.args.outcome (sym c.has_place.ensures ∙ c.if-not-has_place.true)
+pub returns-then-not-has_place-clause-works : goal.returns-then-not-has_place-clause-works
+returns-then-not-has_place-clause-works c = none_empty c.args.self.now c.in-Open.held c.args.slot c.args.entries.now c.in-Open.is c.args.outcome (sym c.has_place.ensures ∙ c.if-not-has_place.true)
 
-pub returns-in_err-file : goal.returns-in_err-file
-returns-in_err-file c = refused c.args.self.now Prepare c.args.slot c.args.entries.now.items c.args.outcome c.from_residual.result c.from_residual.ensures.1
+pub returns-in_err-file-clause-works : goal.returns-in_err-file-clause-works
+returns-in_err-file-clause-works c = refused c.args.self.now Prepare c.args.slot c.args.entries.now.items c.args.outcome c.from_residual.result c.from_residual.ensures.1
 
 pub prepared-requires-clause-within : goal.prepared-requires-clause-within
 prepared-requires-clause-within c =
@@ -23,24 +24,30 @@ prepared-requires-clause-kept c =
     kept_after c.args.self.now c.in-Open.held c.in-Open.is c.in_ok-file.file c.prepare-made.new.self c.in-Ok.place.0 (KeptPrepared c.args.entries.now) PreparedStage (pairs_of c.args.entries.now.items)
     c.in_ok-file.ensures.states (prepared-requires-clause-within c) c.in-Ok.ensures.staged refl (λ busy. refl)
 
-pub returns-in_err-prepared-in-Ok : goal.returns-in_err-prepared-in-Ok
-returns-in_err-prepared-in-Ok c =
+pub returns-in_err-prepared-in-Ok-clause-works : goal.returns-in_err-prepared-in-Ok-clause-works
+returns-in_err-prepared-in-Ok-clause-works c =
     refused c.args.self.now Prepare c.args.slot c.args.entries.now.items c.args.outcome c.from_residual-in_err-prepared-in-Ok.result c.from_residual-in_err-prepared-in-Ok.ensures.1
 
-pub returns-in_err-broken-in-Fail : goal.returns-in_err-broken-in-Fail
-returns-in_err-broken-in-Fail c =
+pub returns-in_err-broken-in-Fail-clause-works : goal.returns-in_err-broken-in-Fail-clause-works
+returns-in_err-broken-in-Fail-clause-works c =
     refused c.args.self.now Prepare c.args.slot c.args.entries.now.items c.args.outcome c.from_residual-in_err-broken-in-Fail.result c.from_residual-in_err-broken-in-Fail.ensures.1
 
-pub returns-in_ok-prepared-in-Ok : goal.returns-in_ok-prepared-in-Ok
-returns-in_ok-prepared-in-Ok c =
+pub returns-in_ok-prepared-in-Ok-clause-works : goal.returns-in_ok-prepared-in-Ok-clause-works
+returns-in_ok-prepared-in-Ok-clause-works c =
     let long : MAX_POOL ≤ length c.args.self.now.place_of = search rules in
     prepare_done c.args.self.now c.in-Open.held c.args.slot c.args.entries.now c.in-Open.is c.in_ok-file.file c.in_ok-file.ensures.states c.prepare-made.new.self _ c.args.outcome c.in-Ok.place.0
     c.in-Good.is c.in-Ok.ensures.lowest (omega (arith, c.ranges.slot.fits)) long
     (λ contents doubt keeps. (c.prepare-made.ensures.safe refl contents doubt (c.in_ok-file.ensures.keeps contents doubt keeps)).after) c.in_ok-prepared-in-Ok.ensures
 
-pub returns-in_ok-broken-in-Fail : goal.returns-in_ok-broken-in-Fail
-returns-in_ok-broken-in-Fail c =
+pub returns-in_ok-broken-in-Fail-clause-works : goal.returns-in_ok-broken-in-Fail-clause-works
+returns-in_ok-broken-in-Fail-clause-works c =
     prepare_broken c.args.self.now c.in-Open.held c.args.slot c.args.entries.now c.in-Open.is c.in_ok-file.file c.in_ok-file.ensures.states c.prepare-made.new.self _ c.args.outcome c.in-Fail.field-0 c.new.result
     c.in-Fail.is c.new.ensures (ap (λ n. may_end n c.args.outcome) (sym c.device_calls.ensures) ∙ sym c.may_end.ensures ∙ c.if-not-may_end.false)
     c.requires.sound (sym c.has_place.ensures ∙ c.if-not-has_place.false)
     (λ contents doubt keeps. (c.prepare-made.ensures.safe refl contents doubt (c.in_ok-file.ensures.keeps contents doubt keeps)).after) c.in_ok-broken-in-Fail.ensures
+
+pub returns-in_ok-broken-in-Fail-clause-disk : goal.returns-in_ok-broken-in-Fail-clause-disk
+returns-in_ok-broken-in-Fail-clause-disk c =
+    came_to_fault c.args.self.now c.in_ok-broken-in-Fail.field-0 c.in-Open.held c.in_ok-file.file c.prepare-made.new.self Prepare c.args.slot 2 c.in-Fail.field-0 c.args.outcome c.prepare-made.result c.in-Open.is
+    c.in_ok-broken-in-Fail.ensures.is_device c.requires.sound c.in-Fail.is (c.in_ok-file.ensures.failing c.in-Fail.field-0 c.in-Fail.is) (λ j. c.in_ok-file.ensures.plan c.in-Fail.field-0 j c.in-Fail.is)
+    c.in_ok-file.ensures.failed refl (sym c.is_ok.ensures.value ∙ c.if-is_ok.false) c.prepare-made.ensures.ends (omega (arith, c.refused.ensures, c.refused-else-is_ok.ensures, c.if-refused.false)) c.prepare-made.ensures.later

@@ -1,15 +1,17 @@
-use Rattle.std.proofs.Common.{◌∙◌, ◌≡◌, true, false, sym, ap, arith, get_or, is_err, is_ok}
+use Rattle.std.proofs.Common.{◌∙◌, ◌≡◌, true, false, refl, sym, ap, arith, get_or, is_err, is_ok}
 use Rattle.mw_words.specs.Change.{put}
 use Rattle.mw_world_file.specs.declared.places.Place.TheVariants.{Prepared as KeptPrepared}
 use Rattle.mw_world_file.specs.Working.{may_end}
 use Rattle.mw_world_file.proofs.WorkedFiles.{is_at, IsAt, unfailed_open}
 use Rattle.mw_world_file.proofs.SealedFiles.{all_clear, not_apart, may_seal_it, sealed_kept, sealed_sized, seal_done, seal_broken}
+use Rattle.mw_look.specs.declared.steps.Call.TheVariants.{Seal}
+use Rattle.mw_world_file.proofs.CalledDisks.{came_to_fault}
 use Rattle.mw_file.specs.File.{has_failed, ended_well, went_well}
 use Rattle.mw_disk.specs.Memory.{memory_facts}
 use Rattle.mw_world_file.proofs.kept.Book.seal.Goals as goal
 
-pub returns-then-not-is_apart : goal.returns-then-not-is_apart
-returns-then-not-is_apart c others =
+pub returns-then-not-is_apart-clause-works : goal.returns-then-not-is_apart-clause-works
+returns-then-not-is_apart-clause-works c others =
     let old = c.args.self.now in let es = c.in-Some-Prepared.entries in
     let at : IsAt old c.args.slot (get_or old.place_of c.args.slot 0) (KeptPrepared es) =
     is_at old c.args.slot (KeptPrepared es) c.in-Some-Prepared.field-0.now c.deref.result.now c.in-Some-Prepared.field-0-is c.in-Some-Prepared.ensures.lookup.0 c.in-Some-Prepared.ensures.lookup.1
@@ -48,8 +50,8 @@ with_place-requires-clause-kept c =
     sealed_kept old c.args.slot (get_or old.place_of c.args.slot 0) es at c.in-Open.held c.in-Open.is c.in_ok-file.file c.in_ok-file.ensures.states c.seal-made.new.self c.copy_of.result c.copy_of.ensures
     (went_well c.seal-made.result _ fine c.seal-made.ensures.staged)
 
-pub returns-in_ok-with_place-in-Good : goal.returns-in_ok-with_place-in-Good
-returns-in_ok-with_place-in-Good c others =
+pub returns-in_ok-with_place-in-Good-clause-works : goal.returns-in_ok-with_place-in-Good-clause-works
+returns-in_ok-with_place-in-Good-clause-works c others =
     let old = c.args.self.now in let es = c.in-Some-Prepared.entries in
     let at : IsAt old c.args.slot (get_or old.place_of c.args.slot 0) (KeptPrepared es) =
     is_at old c.args.slot (KeptPrepared es) c.in-Some-Prepared.field-0.now c.deref.result.now c.in-Some-Prepared.field-0-is c.in-Some-Prepared.ensures.lookup.0 c.in-Some-Prepared.ensures.lookup.1
@@ -61,8 +63,8 @@ returns-in_ok-with_place-in-Good c others =
     seal_done old c.args.slot (get_or old.place_of c.args.slot 0) es at c.in-Open.held c.in-Open.is c.in_ok-file.file c.in_ok-file.ensures.states c.seal-made.new.self _ others c.args.outcome c.seal-made.result
     c.in_ok-file.ensures.keeps c.seal-made.ensures.safe all c.requires c.in_ok-contents-in-Good.contents.items c.copy_of.result words c.copy_of.ensures c.in-Good.is fine c.in_ok-with_place-in-Good.ensures
 
-pub returns-in_ok-broken-in-Fail : goal.returns-in_ok-broken-in-Fail
-returns-in_ok-broken-in-Fail c others =
+pub returns-in_ok-broken-in-Fail-clause-works : goal.returns-in_ok-broken-in-Fail-clause-works
+returns-in_ok-broken-in-Fail-clause-works c others =
     let old = c.args.self.now in let es = c.in-Some-Prepared.entries in
     let at : IsAt old c.args.slot (get_or old.place_of c.args.slot 0) (KeptPrepared es) =
     is_at old c.args.slot (KeptPrepared es) c.in-Some-Prepared.field-0.now c.deref.result.now c.in-Some-Prepared.field-0-is c.in-Some-Prepared.ensures.lookup.0 c.in-Some-Prepared.ensures.lookup.1
@@ -73,3 +75,9 @@ returns-in_ok-broken-in-Fail c others =
     let unfailed : has_failed c.in_ok-file.file ≡ false = c.in_ok-file.ensures.failed ∙ unfailed_open old c.in-Open.held c.in-Open.is c.requires in
     seal_broken old c.args.slot (get_or old.place_of c.args.slot 0) es at c.in-Open.held c.in-Open.is c.in_ok-file.file c.in_ok-file.ensures.states c.seal-made.new.self _ others c.args.outcome c.seal-made.result
     c.in_ok-file.ensures.keeps c.seal-made.ensures.safe all c.requires c.in-Fail.field-0 c.copy_of-in-Fail.result c.copy_of-in-Fail.ensures c.in-Fail.is may bad unfailed 2 c.seal-made.ensures.ends c.in_ok-broken-in-Fail.ensures
+
+pub returns-in_ok-broken-in-Fail-clause-disk : goal.returns-in_ok-broken-in-Fail-clause-disk
+returns-in_ok-broken-in-Fail-clause-disk c =
+    came_to_fault c.args.self.now c.in_ok-broken-in-Fail.field-0 c.in-Open.held c.in_ok-file.file c.seal-made.new.self Seal c.args.slot 2 c.in-Fail.field-0 c.args.outcome c.seal-made.result c.in-Open.is
+    c.in_ok-broken-in-Fail.ensures.is_device c.requires c.in-Fail.is (c.in_ok-file.ensures.failing c.in-Fail.field-0 c.in-Fail.is) (λ j. c.in_ok-file.ensures.plan c.in-Fail.field-0 j c.in-Fail.is)
+    c.in_ok-file.ensures.failed refl (sym c.is_ok.ensures.value ∙ c.if-is_ok.false) c.seal-made.ensures.ends (omega (arith, c.refused.ensures, c.refused-else-is_ok.ensures, c.if-refused.false)) c.seal-made.ensures.later
