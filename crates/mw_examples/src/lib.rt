@@ -4,4 +4,6 @@
 #[cfg(test)]
 mod clients;
 #[cfg(test)]
+mod locks;
+#[cfg(test)]
 mod tests;

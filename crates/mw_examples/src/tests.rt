@@ -1,8 +1,10 @@
 use crate::clients::{Caller, Notice, come_and_go, port_of_server};
+use crate::locks::LockWatch;
 use mw_programs::{init, serve};
 use std::alloc::{AllocError, Global};
+use std::fs::File;
 use std::net::{Net, TcpListener, TcpStream};
-use std::os::unix::fs::FileExt;
+use std::os::unix::fs::symlink;
 use std::rt::Files;
 use std::sync::Wait;
 use std::sync::atomic::AtomicU16;
@@ -64,7 +66,7 @@ fn strings(alloc: Global, texts: &[&str]) -> Result<Vec<String>, AllocError> {
 }
 
 /// Makes a tenant's file in a folder.
-fn make_file<R: Files + AllocGlobal>(
+fn make_file<R: Files<File = File> + AllocGlobal>(
     rt: &R,
     folder: &str,
     name: &str,
@@ -118,13 +120,12 @@ fn script_args(alloc: Global, folder: &str, options: &[&str]) -> Result<Vec<Stri
 /// Serves the script of a folder to the tenants of its tenants file, with these options.
 fn serve_files<R>(rt: &R, folder: &str, options: &[&str]) -> Result<Outcome, Fail>
 where
-    R: Files
+    R: Files<File = File>
         + AllocGlobal
         + Net<Listener = TcpListener, Stream = TcpStream>
         + Threads
         + Wait
         + Sync,
-    R::File: FileExt + Send,
 {
     let args = script_args(rt.alloc(), folder, options)?;
     let mut out = Vec::new(rt.alloc());
@@ -136,13 +137,12 @@ where
 /// Serves a script with a tenants file, in which `DIR` stands for the folder.
 fn run_script<R>(rt: &R, folder: &str, tenants: &str, script: &str) -> Result<Outcome, Fail>
 where
-    R: Files
+    R: Files<File = File>
         + AllocGlobal
         + Net<Listener = TcpListener, Stream = TcpStream>
         + Threads
         + Wait
         + Sync,
-    R::File: FileExt + Send,
 {
     write_tenants(rt, folder, tenants)?;
     write_script(rt, folder, script)?;
@@ -209,13 +209,12 @@ fn first_run(rt: HostRuntime) -> Result<(), Fail> {
 /// Serves a script to tenant t, whose new file in this folder has so many words and one place.
 fn fresh_session<R>(rt: &R, folder: &str, words: &str, script: &str) -> Result<Outcome, Fail>
 where
-    R: Files
+    R: Files<File = File>
         + AllocGlobal
         + Net<Listener = TcpListener, Stream = TcpStream>
         + Threads
         + Wait
         + Sync,
-    R::File: FileExt + Send,
 {
     make_file(rt, folder, "t.mw", words, "1")?;
     let tenants = format!(in rt.alloc(); "t {words} 1 DIR/t.mw\n")?;
@@ -438,6 +437,71 @@ fn files_that_do_not_fit(rt: HostRuntime) -> Result<(), Fail> {
     remove_folder(&rt, folder.as_str())
 }
 
+/// Makes a file of two words in a folder, and two links to it: `hard.mw` and `soft.mw`.
+fn make_linked_file(rt: &HostRuntime, folder: &str) -> Result<(), Fail> {
+    make_file(rt, folder, "t.mw", "2", "1")?;
+    let path = path_in(rt.alloc(), folder, "t.mw")?;
+    let hard = path_in(rt.alloc(), folder, "hard.mw")?;
+    let soft = path_in(rt.alloc(), folder, "soft.mw")?;
+    fs::hard_link(rt, path.as_str(), hard.as_str())?;
+    symlink(rt, path.as_str(), soft.as_str())?;
+    Ok(())
+}
+
+#[test]
+fn one_file_serves_one_tenant(rt: HostRuntime) -> Result<(), Fail> {
+    let folder = new_folder(&rt, "one-file")?;
+    make_linked_file(&rt, folder.as_str())?;
+    for other in ["hard.mw", "soft.mw", "./t.mw"] {
+        let tenants = format!(in rt.alloc(); "u 2 1 DIR/{other}\nt 2 1 DIR/t.mw\n")?;
+        let ran = run_script(&rt, folder.as_str(), tenants.as_str(), SCRIPT)?;
+        assert!(rt;
+            ran.is(0, NO_FILE, "tenant t: in use\n"),
+            "{other}: {ran:?}"
+        );
+        let ran = run_script(&rt, folder.as_str(), tenants.as_str(), "TENANT u\nGET 0\n")?;
+        assert!(rt;
+            ran.is(0, "OK 2\nVAL 0\n", "tenant t: in use\n"),
+            "{other}: {ran:?}"
+        );
+    }
+    remove_folder(&rt, folder.as_str())
+}
+
+#[test]
+fn a_file_that_is_locked(rt: HostRuntime) -> Result<(), Fail> {
+    let folder = new_folder(&rt, "a-file-that-is-locked")?;
+    let path = path_in(rt.alloc(), folder.as_str(), "t.mw")?;
+    make_file(&rt, folder.as_str(), "t.mw", "2", "1")?;
+    let file = File::open(&rt, path.as_str())?;
+    assert!(rt; file.try_lock().is_ok());
+    let ran = run_script(&rt, folder.as_str(), ONE_TENANT, SCRIPT)?;
+    assert!(rt; ran.is(0, NO_FILE, "tenant t: in use\n"), "{ran:?}");
+    assert!(rt; has_bytes(&rt, path.as_str(), &new_file())?);
+    file.unlock()?;
+    let ran = run_script(&rt, folder.as_str(), ONE_TENANT, "TENANT t\nCAS 0:0:1\n")?;
+    assert!(rt; ran.is(0, "OK 2\nYES\n", ""), "{ran:?}");
+    remove_folder(&rt, folder.as_str())
+}
+
+#[test]
+fn files_stay_locked(rt: HostRuntime) -> Result<(), Fail> {
+    let folder = new_folder(&rt, "files-stay-locked")?;
+    let path = path_in(rt.alloc(), folder.as_str(), "t.mw")?;
+    let mut err = Vec::new(rt.alloc());
+    let args = strings(rt.alloc(), &["mwinit", path.as_str(), "2", "1"])?;
+    let mut out = LockWatch::new(&rt, path.as_str());
+    assert_eq!(rt; init(&rt, &args, &mut out, &mut err), 0);
+    assert!(rt; out.was_locked(), "mwinit");
+    write_tenants(&rt, folder.as_str(), ONE_TENANT)?;
+    write_script(&rt, folder.as_str(), "TENANT t\nCAS 0:0:1\n")?;
+    let args = script_args(rt.alloc(), folder.as_str(), &[])?;
+    let mut out = LockWatch::new(&rt, path.as_str());
+    assert_eq!(rt; serve(&rt, &args, &mut out, &mut err), 0);
+    assert!(rt; out.was_locked(), "mwserve");
+    remove_folder(&rt, folder.as_str())
+}
+
 #[test]
 fn a_tenant_without_a_file(rt: HostRuntime) -> Result<(), Fail> {
     let folder = new_folder(&rt, "a-tenant-without-a-file")?;
@@ -458,13 +522,12 @@ fn a_tenant_without_a_file(rt: HostRuntime) -> Result<(), Fail> {
 /// served. Gives the exit status.
 fn serve_two_clients<R>(rt: &R, folder: &str, port: &AtomicU16) -> io::Result<u8>
 where
-    R: Files
+    R: Files<File = File>
         + AllocGlobal
         + Net<Listener = TcpListener, Stream = TcpStream>
         + Threads
         + Wait
         + Sync,
-    R::File: FileExt + Send,
 {
     let tenants = path_in(rt.alloc(), folder, "tenants")?;
     let args = strings(

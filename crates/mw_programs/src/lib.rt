@@ -6,7 +6,9 @@ mod notes;
 mod opening;
 mod served;
 mod serving;
+mod streams;
 mod worker;
 
 pub use making::init;
 pub use serving::serve;
+pub use streams::hold_streams;

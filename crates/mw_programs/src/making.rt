@@ -7,7 +7,7 @@ use clap::{Arg, Command, value_parser};
 use mw_record::{header, size};
 use mw_words::{MAX_PLACES, MAX_WORDS};
 use std::alloc::Global;
-use std::fs::{File, OpenFile, OpenOptions};
+use std::fs::{File, OpenOptions};
 use std::io::{self, Read, Write};
 use std::path::Path;
 use std::rt::Files;
@@ -38,11 +38,12 @@ struct NewFile<'a> {
 
 /// Makes the file that the command line `args`, the program's own name first, asks for:
 /// `mwinit PATH WORDS PLACES`, with 1 to [`MAX_WORDS`] words, all 0, and 1 to [`MAX_PLACES`] record
-/// places. The file and its folder are synced before `made SIZE` is written to `out`.
+/// places. The file and its folder are synced before `made SIZE` is written to `out`; until it returns the
+/// file is locked.
 ///
 /// Gives the exit status: 0 where it was made, 1 where it could not be (the file was there, a call
 /// failed, or memory was refused), 2 for a wrong command line. What went wrong is written to `err`.
-pub fn init<R: Files + AllocGlobal, O: Write, E: Write>(
+pub fn init<R: Files<File = File> + AllocGlobal, O: Write, E: Write>(
     rt: &R,
     args: &[String],
     out: &mut O,
@@ -65,15 +66,23 @@ pub fn init<R: Files + AllocGlobal, O: Write, E: Write>(
     }
 }
 
-fn make<R: Files + AllocGlobal, O: Write>(
+fn make<R: Files<File = File> + AllocGlobal, O: Write>(
     rt: &R,
     args: &[String],
     out: &mut O,
 ) -> Result<(), InitFault> {
     let file = read_args(rt.alloc(), args)?;
-    let made = write_file(rt, &file).and_then(|()| sync_folder(rt, file.path));
-    made.and_then(|()| writeln!(out, "made {}", size(file.words, file.places)))
-        .map_err(|_| InitFault::CannotMake)
+    // The file is locked until it is closed here, behind all.
+    let _made = write_file(rt, &file)?;
+    sync_folder(rt, file.path)?;
+    writeln!(out, "made {}", size(file.words, file.places))?;
+    Ok(())
+}
+
+impl From<io::Error> for InitFault {
+    fn from(_: io::Error) -> Self {
+        InitFault::CannotMake
+    }
 }
 
 impl From<clap::Error> for InitFault {
@@ -123,19 +132,23 @@ fn command<'a>(alloc: Global) -> Result<Command<'a>, clap::Error> {
     Ok(command)
 }
 
-/// Writes a new file and syncs it. What a fault leaves of it is removed, but no file that was there.
-fn write_file<R: Files>(rt: &R, file: &NewFile<'_>) -> io::Result<()> {
+/// Writes a new file, which it locks first, and syncs it. What a fault leaves of it is removed, but no
+/// file that was there.
+fn write_file<R: Files<File = File>>(rt: &R, file: &NewFile<'_>) -> io::Result<File> {
     let mut options = OpenOptions::new();
     options.write(true).create_new(true);
     let mut made = options.open(rt, file.path)?;
-    let written = write_contents(&mut made, file);
-    if written.is_err() {
-        let _ = rt.remove_file(file.path);
+    match write_contents(&mut made, file) {
+        Ok(()) => Ok(made),
+        Err(fault) => {
+            let _ = rt.remove_file(file.path);
+            Err(fault)
+        }
     }
-    written
 }
 
-fn write_contents<F: Write + OpenFile>(made: &mut F, file: &NewFile<'_>) -> io::Result<()> {
+fn write_contents(made: &mut File, file: &NewFile<'_>) -> io::Result<()> {
+    made.try_lock()?;
     let head = header(file.words, file.places);
     let zeros = size(file.words, file.places) - head.len() as u64;
     made.write_all(&head)?;
@@ -144,7 +157,7 @@ fn write_contents<F: Write + OpenFile>(made: &mut F, file: &NewFile<'_>) -> io::
 }
 
 /// Syncs the folder of a new file, so that its name is there after a crash too.
-fn sync_folder<R: Files>(rt: &R, path: &str) -> io::Result<()> {
+fn sync_folder<R: Files<File = File>>(rt: &R, path: &str) -> io::Result<()> {
     let folder = match Path::new(path).parent() {
         Some(folder) if !folder.as_str().is_empty() => folder,
         _ => Path::new("."),

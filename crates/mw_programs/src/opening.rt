@@ -1,20 +1,20 @@
 //! What a server opens before it serves: the tenants file and the tenants' own files.
-ghost use Rattle.std.specs.Prelude.{◌≡◌, length, IfOk, All};
+ghost use Rattle.std.specs.Prelude.{◌≡◌, length, IfOk, All, Some};
 ghost use Rattle.mw_config.specs.Limits.{ArePermitted};
 ghost use Rattle.mw_plain.specs.Lines.{IsWithin, FitsLine, FitLines};
 
 use arrayvec::ArrayVec;
 use log::{Log, warn};
 use mw_config::{Refusal, TenantLine, read_tenants};
-use mw_disk::{Disk, FileDisk};
+use mw_disk::{Disk, DiskFault, FileDisk};
 use mw_file::{OpenFault, TenantFile};
 use mw_words::{MAX_TENANTS, MAX_TENANTS_FILE};
 use std::alloc::{AllocError, Global};
-use std::fs::{File, OpenOptions};
+use std::fs::{File, OpenOptions, TryLockError};
 use std::io::{self, Read};
-use std::os::unix::fs::FileExt;
 use std::rt::Files;
 use std::str;
+use thiserror::Error;
 
 /// The most bytes of a tenants file, and one more, by which a longer one is known.
 const TENANTS_ROOM: usize = 8193;
@@ -57,18 +57,53 @@ fn fill<F: Read>(file: &mut F, room: &mut [u8]) -> io::Result<usize> {
     Ok(count)
 }
 
+/// Why a tenant's file isn't served, as a note tells it.
+#[derive(Debug, Drop, Error)]
+enum FileFault {
+    /// The file can't be opened or locked, or a call on it failed.
+    #[error("disk")]
+    Disk,
+    /// Another opening of the file holds its lock: of a second server, of `mwinit`, or of this server
+    /// for an earlier tenant.
+    #[error("in use")]
+    InUse,
+    /// The file isn't as the tenants file says it.
+    #[error("misfit")]
+    Misfit,
+    /// The file's bytes are damaged, and this is the damage's number.
+    #[error("damage {0}")]
+    Damage(u8),
+    /// Memory was refused.
+    #[error("memory")]
+    Memory,
+}
+
+impl From<DiskFault> for FileFault {
+    fn from(_: DiskFault) -> Self {
+        FileFault::Disk
+    }
+}
+
+impl From<OpenFault> for FileFault {
+    fn from(fault: OpenFault) -> Self {
+        match fault {
+            OpenFault::Memory => FileFault::Memory,
+            OpenFault::Disk => FileFault::Disk,
+            OpenFault::Damage(damage) => FileFault::Damage(damage.number()),
+        }
+    }
+}
+
 /// The files of the tenants, in the order of their lines, each as [`open_file`] gives it.
 ///
 /// # Errors
 ///
 /// Memory was refused.
-pub fn open_files<R: Files + AllocGlobal, L: Log>(
+pub fn open_files<R: Files<File = File> + AllocGlobal, L: Log>(
     rt: &R,
     notes: &L,
     lines: &[TenantLine],
-) -> Result<Vec<Option<Opened<R::File>>>, AllocError>
-where
-    R::File: FileExt,
+) -> Result<Vec<Option<Opened>>, AllocError>
     requires { All IsWithin lines.now }
     ensures { IfOk result (λ files. FitLines lines.now files.items) }
 {
@@ -81,55 +116,75 @@ where
 }
 
 /// A tenant's file with the words that it was opened with.
-pub type Opened<F> = (TenantFile<FileDisk<F>>, Vec<u64>);
+pub type Opened = (TenantFile<FileDisk<File>>, Vec<u64>);
 
-/// The file of a tenant. None, and a note, where it doesn't open or isn't as the tenants file says;
-/// then every request of the tenant is answered FAULT.
+/// The file of a tenant. None, and a note, where it doesn't open, is in use or isn't as the tenants file
+/// says; then every request of the tenant is answered FAULT.
+///
+/// # Errors
+///
+/// Memory was refused.
+pub fn open_file<R: Files<File = File> + AllocGlobal, L: Log>(
+    rt: &R,
+    notes: &L,
+    line: &TenantLine,
+) -> Result<Option<Opened>, AllocError>
+    ensures { IfOk result (λ file. FitsLine line.now file) }
+{
+    match open_fitting(rt, line) {
+        Ok(opened) => Ok(Some(opened)),
+        Err(FileFault::Memory) => Err(AllocError),
+        Err(fault) => {
+            let name = str::from_utf8(&line.name).unwrap_or("?");
+            warn!(notes; "tenant {name}: {fault}");
+            Ok(None)
+        }
+    }
+}
+
+/// The file of a tenant, locked and as the tenant's line says it.
 ///
 /// The file is synced first: a server that was killed may have left writes that a read gives and a
 /// crash loses, and an opening has to begin on bytes that a crash leaves.
 ///
 /// # Errors
 ///
-/// Memory was refused.
-pub fn open_file<R: Files + AllocGlobal, L: Log>(
+/// As [`FileFault`] tells. The file is closed, and its lock with it.
+fn open_fitting<R: Files<File = File> + AllocGlobal>(
     rt: &R,
-    notes: &L,
     line: &TenantLine,
-) -> Result<Option<Opened<R::File>>, AllocError>
-where
-    R::File: FileExt,
-    ensures { IfOk result (λ file. FitsLine line.now file) }
+) -> Result<Opened, FileFault>
+    ensures { IfOk result (λ opened. FitsLine line.now (Some opened)) }
 {
-    let name = str::from_utf8(&line.name).unwrap_or("?");
-    let mut options = OpenOptions::new();
-    options.read(true).write(true);
-    let Ok(file) = options.open(rt, line.path.as_str()) else {
-        warn!(notes; "tenant {name}: disk");
-        return Ok(None);
-    };
-    let mut disk = FileDisk::new(file);
-    if disk.sync().is_err() {
-        warn!(notes; "tenant {name}: disk");
-        return Ok(None);
-    }
+    let mut disk = FileDisk::new(open_locked(rt, line.path.as_str())?);
+    disk.sync()?;
     match TenantFile::open(rt.alloc(), disk) {
         Ok((file, words)) => {
             if words.len() != line.words as usize || file.places() < u16::from(line.quota) {
-                warn!(notes; "tenant {name}: misfit");
-                return Ok(None);
+                return Err(FileFault::Misfit);
             }
-            Ok(Some((file, words)))
+            Ok((file, words))
         }
-        Err((OpenFault::Memory, _)) => Err(AllocError),
-        Err((OpenFault::Disk, _)) => {
-            warn!(notes; "tenant {name}: disk");
-            Ok(None)
-        }
-        Err((OpenFault::Damage(damage), _)) => {
-            let number = damage.number();
-            warn!(notes; "tenant {name}: damage {number}");
-            Ok(None)
-        }
+        Err((fault, _)) => Err(FileFault::from(fault)),
+    }
+}
+
+/// A file for reading and writing, of which no other opening has the lock. The lock is held until the
+/// file is closed.
+///
+/// # Errors
+///
+/// [`FileFault::InUse`] where another opening has it, [`FileFault::Disk`] where the file can't be opened
+/// or its file system has no locks.
+fn open_locked<R: Files<File = File>>(rt: &R, path: &str) -> Result<File, FileFault> {
+    let mut options = OpenOptions::new();
+    options.read(true).write(true);
+    let Ok(file) = options.open(rt, path) else {
+        return Err(FileFault::Disk);
+    };
+    match file.try_lock() {
+        Ok(()) => Ok(file),
+        Err(TryLockError::WouldBlock) => Err(FileFault::InUse),
+        Err(TryLockError::Error(_)) => Err(FileFault::Disk),
     }
 }

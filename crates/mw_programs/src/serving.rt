@@ -16,7 +16,6 @@ use std::fs::File;
 use std::io::Write;
 use std::marker::Brand;
 use std::net::{Net, TcpListener, TcpStream};
-use std::os::unix::fs::FileExt;
 use std::rt::Files;
 use std::sync::Wait;
 use std::thread::Threads;
@@ -91,17 +90,16 @@ impl From<ArgFault> for ServeFault {
 /// Gives the exit status: 0 where the session ended by `QUIT`, with the script or at a line that was
 /// too long, or all connections were served; 1 where it ended otherwise, the script could not be
 /// opened, nobody can listen there or memory was refused; 2 for a wrong command line or tenants file.
-/// What went wrong before the first session, and a note on each tenant whose file doesn't open, is
-/// written to `err`.
+/// What went wrong before the first session, and a note on each tenant whose file doesn't open or is in
+/// use, is written to `err`. The files stay locked until it returns.
 pub fn serve<R, O: Write, E: Write>(rt: &R, args: &[String], out: &mut O, err: &mut E) -> u8
 where
-    R: Files
+    R: Files<File = File>
         + AllocGlobal
         + Net<Listener = TcpListener, Stream = TcpStream>
         + Threads
         + Wait
         + Sync,
-    R::File: FileExt + Send,
 {
     match serve_args(rt, args, out, err) {
         Ok(()) => 0,
@@ -131,13 +129,12 @@ fn serve_args<R, O: Write, E: Write>(
     err: &mut E,
 ) -> Result<(), ServeFault>
 where
-    R: Files
+    R: Files<File = File>
         + AllocGlobal
         + Net<Listener = TcpListener, Stream = TcpStream>
         + Threads
         + Wait
         + Sync,
-    R::File: FileExt + Send,
 {
     let args = read_args(rt.alloc(), args)?;
     let lines = read_tenants_file(rt, args.tenants.as_str(), args.pool)?;
@@ -156,19 +153,18 @@ where
 /// Starts the engine, and serves what the command line asks for.
 fn serve_engine<J: EngineBrand + Send + Sync, R, O: Write>(
     rt: &R,
-    parts: EngineParts<FileDisk<R::File>, NoHold>,
+    parts: EngineParts<FileDisk<File>, NoHold>,
     passes: Vec<Pass>,
     mode: &Mode,
     out: &mut O,
 ) -> Result<(), ServeFault>
 where
-    R: Files
+    R: Files<File = File>
         + AllocGlobal
         + Net<Listener = TcpListener, Stream = TcpStream>
         + Threads
         + Wait
         + Sync,
-    R::File: FileExt + Send,
     requires identity { identity_of parts ≡ J.identity }
     requires idle { All IsIdle passes.items }
     requires some { 0 < vec_len passes }
@@ -183,15 +179,13 @@ where
 }
 
 /// Runs one session, from the script to `out`, by the first worker.
-fn run_script<J: EngineBrand, R: Files + AllocGlobal + Wait, O: Write>(
+fn run_script<J: EngineBrand, R: Files<File = File> + AllocGlobal + Wait, O: Write>(
     rt: &R,
-    engine: &Engine<J, FileDisk<R::File>, NoHold>,
+    engine: &Engine<J, FileDisk<File>, NoHold>,
     passes: Vec<Pass>,
     path: &str,
     out: &mut O,
 ) -> Result<(), ServeFault>
-where
-    R::File: FileExt,
     requires idle { All IsIdle passes.items }
     requires some { 0 < vec_len passes }
 {
@@ -211,20 +205,19 @@ where
 /// Tells on `out` at which port it listens, and serves clients by a worker for each pass.
 fn serve_clients<J: EngineBrand + Send + Sync, R, O: Write>(
     rt: &R,
-    engine: &Engine<J, FileDisk<R::File>, NoHold>,
+    engine: &Engine<J, FileDisk<File>, NoHold>,
     passes: Vec<Pass>,
     address: &str,
     connections: Option<u32>,
     out: &mut O,
 ) -> Result<(), ServeFault>
 where
-    R: Files
+    R: Files<File = File>
         + AllocGlobal
         + Net<Listener = TcpListener, Stream = TcpStream>
         + Threads
         + Wait
         + Sync,
-    R::File: FileExt + Send,
     requires idle { All IsIdle passes.items }
     requires some { 0 < vec_len passes }
 {

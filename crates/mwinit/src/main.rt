@@ -1,12 +1,16 @@
 //! `mwinit PATH WORDS PLACES` makes a tenant's file.
 #![tactic(auto)]
 
-use mw_programs::init;
+use mw_programs::{hold_streams, init};
 use std::io::ErrorKind;
 use std::process::ExitCode;
 use std::{env, io};
 
 fn main(rt: HostRuntime) -> ExitCode {
+    let Ok(_held) = hold_streams(&rt) else {
+        let _ = rt.eprintln("mwinit: cannot open /dev/null");
+        return ExitCode::from(1);
+    };
     let status = match args(&rt) {
         Ok(args) => init(&rt, &args, &mut rt.stdout(), &mut rt.stderr()),
         Err(fault) if fault.kind() == ErrorKind::InvalidData => {

@@ -1,12 +1,16 @@
 //! `mwreplay [--trace] FILE` plays a schedule.
 #![tactic(auto)]
 
-use mw_player::replay_args;
+use mw_player::{hold_streams, replay_args};
 use std::io::ErrorKind;
 use std::process::ExitCode;
 use std::{env, io};
 
 fn main(rt: HostRuntime) -> ExitCode {
+    let Ok(_held) = hold_streams(&rt) else {
+        let _ = rt.eprintln("mwreplay: cannot open /dev/null");
+        return ExitCode::from(1);
+    };
     let status = match args(&rt) {
         Ok(args) => replay_args(&rt, &args, &mut rt.stdout(), &mut rt.stderr()),
         Err(fault) if fault.kind() == ErrorKind::InvalidData => {

@@ -2,12 +2,16 @@
 //! one session that it reads from a file with `--script FILE`.
 #![tactic(auto)]
 
-use mw_programs::serve;
+use mw_programs::{hold_streams, serve};
 use std::io::ErrorKind;
 use std::process::ExitCode;
 use std::{env, io};
 
 fn main(rt: HostRuntime) -> ExitCode {
+    let Ok(_held) = hold_streams(&rt) else {
+        let _ = rt.eprintln("mwserve: cannot open /dev/null");
+        return ExitCode::from(1);
+    };
     let status = match args(&rt) {
         Ok(args) => serve(&rt, &args, &mut rt.stdout(), &mut rt.stderr()),
         Err(fault) if fault.kind() == ErrorKind::InvalidData => {
