@@ -12,6 +12,3 @@ pub use laws::one_answer;
 pub use lines::TenantLine;
 pub use refusals::Refusal;
 pub use tenants::read_tenants;
-
-#[cfg(test)]
-mod tests;

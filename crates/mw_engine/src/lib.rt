@@ -21,6 +21,3 @@ pub use engine::Engine;
 pub use hold::{Hold, NoHold, Point};
 pub use parts::EngineParts;
 pub use pass::Pass;
-
-#[cfg(test)]
-mod tests;

@@ -15,6 +15,3 @@ mod steps;
 pub use reading::read_schedule;
 pub use schedule::{Command, Schedule, ScheduleFault, ScheduleLine};
 pub use steps::StepKind;
-
-#[cfg(test)]
-mod tests;

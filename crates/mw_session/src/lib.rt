@@ -32,8 +32,3 @@ mod writing;
 pub use laws::one_hearing;
 pub use service::Service;
 pub use session::{Ended, Session};
-
-#[cfg(test)]
-mod peers;
-#[cfg(test)]
-mod tests;

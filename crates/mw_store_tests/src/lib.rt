@@ -3,6 +3,8 @@
 #![tactic(auto)]
 
 #[cfg(test)]
+mod config_tests;
+#[cfg(test)]
 mod lone_tests;
 #[cfg(test)]
 mod plain_tests;

@@ -30,12 +30,3 @@ pub use peer::{Connection, Intake, Listener};
 pub use serving::{QUEUE, ServeEnd, serve_all};
 pub use sockets::{listen_at, port_of};
 pub use worker::serve_each;
-
-#[cfg(test)]
-mod clients;
-#[cfg(test)]
-mod crowd;
-#[cfg(test)]
-mod shelf;
-#[cfg(test)]
-mod tests;

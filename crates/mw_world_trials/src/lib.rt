@@ -17,4 +17,6 @@ mod example_marks_tests;
 #[cfg(test)]
 mod late_finisher_tests;
 #[cfg(test)]
+mod schedule_tests;
+#[cfg(test)]
 mod tests;

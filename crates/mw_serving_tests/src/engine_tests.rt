@@ -4,9 +4,9 @@ ghost use Rattle.mw_plain.specs.Lines.{FitsLine, IsWithin};
 ghost use Rattle.mw_engine.specs.Passes.{IsIdle};
 ghost use Rattle.mw_engine.specs.Starting.{identity_of};
 
-use super::*;
 use mw_config::TenantLine;
 use mw_disk::MemDisk;
+use mw_engine::*;
 use mw_file::TenantFile;
 use mw_record::{header, size};
 use mw_report::report_text;

@@ -1,4 +1,4 @@
-use super::*;
+use mw_config::*;
 use std::alloc::{AllocError, Global};
 use std::test::Fail;
 

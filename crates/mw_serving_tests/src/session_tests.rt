@@ -1,6 +1,6 @@
-use crate::peers::{Failure, Notebook, Page, Sender, Store};
-use crate::{Ended, Session};
+use crate::session_peers::{Failure, Notebook, Page, Sender, Store};
 use arrayvec::ArrayVec;
+use mw_session::{Ended, Session};
 use mw_words::{Job, MAX_LINE};
 use std::alloc::Global;
 use std::sync::Wait;

@@ -2,9 +2,9 @@
 //! service in memory.
 ghost use Rattle.std.specs.Prelude.{None, []};
 
-use crate::service::Service;
 use arrayvec::ArrayVec;
 use mw_report::{Figures, TenantFigures};
+use mw_session::Service;
 use mw_words::{Entries, Entry, Job, Name, Reply};
 use std::alloc::Global;
 use std::io;
@@ -210,7 +210,7 @@ impl Notebook {
 impl Service for Notebook {
     ghost use Rattle.std.specs.Prelude.{Some, map};
     ghost use Rattle.mw_session.specs.Talk.{Asks};
-    ghost use Rattle.mw_session.specs.declared.peers.Note.{Note as NoteRead};
+    ghost use Rattle.mw_serving_tests.specs.declared.session_peers.Note.{Note as NoteRead};
 
     ghost tells = { λ s. s.complete };
 

@@ -1,10 +1,10 @@
 ghost use Rattle.std.specs.Prelude.{◌<◌};
 
-use crate::clients::{Caller, come_and_go};
-use crate::crowd::{Crowd, Heard, Script};
-use crate::shelf::{Clerk, Shelf};
-use crate::{Listener, ServeEnd, listen_at, port_of, serve_all};
+use crate::test_clients::{Caller, come_and_go};
+use crate::test_crowd::{Crowd, Heard, Script};
+use crate::test_shelf::{Clerk, Shelf};
 use mw_session::Ended;
+use mw_workers::{Listener, ServeEnd, listen_at, port_of, serve_all};
 use std::alloc::{AllocError, Global};
 use std::net::{Net, TcpListener, TcpStream};
 use std::sync::{Mutex, Wait};

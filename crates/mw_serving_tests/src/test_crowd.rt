@@ -1,9 +1,9 @@
 //! Clients in memory for the tests.
 ghost use Rattle.std.specs.Prelude.{None, Some};
 
-use crate::peer::{Connection, Listener};
 use arrayvec::ArrayVec;
 use mw_session::{Ended, Service, Session};
+use mw_workers::{Connection, Listener};
 use std::alloc::Global;
 use std::io;
 use std::io::{ErrorKind, Write};

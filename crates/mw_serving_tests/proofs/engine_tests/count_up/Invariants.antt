@@ -1,6 +1,6 @@
 use Rattle.std.proofs.Common.{◌≤◌}
 use Rattle.mw_engine.specs.Passes.{IsIdle}
-use Rattle.mw_engine.proofs.tests.count_up.Given as goal
+use Rattle.mw_serving_tests.proofs.engine_tests.count_up.Given as goal
 
 -- the pass is idle, and no more changes were made than asked for
 abbrev pub invariant-loop-value : goal.invariant-loop-value

@@ -1,6 +1,6 @@
 //! Which texts are schedules, and what they tell.
-use super::*;
 use mw_look::{Call, Kind};
+use mw_schedule::*;
 use mw_words::Job;
 use mw_world::{Interrupted, Outcome};
 use std::alloc::{AllocError, Global};

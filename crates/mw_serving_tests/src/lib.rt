@@ -1,0 +1,18 @@
+//! Tests of sessions, of the engine and of the serving of clients. They stand apart from the crates that
+//! they test, so that those are proved once.
+#![tactic(auto)]
+
+#[cfg(test)]
+mod engine_tests;
+#[cfg(test)]
+mod session_peers;
+#[cfg(test)]
+mod session_tests;
+#[cfg(test)]
+mod test_clients;
+#[cfg(test)]
+mod test_crowd;
+#[cfg(test)]
+mod test_shelf;
+#[cfg(test)]
+mod workers_tests;
