@@ -5,11 +5,8 @@ pub mod Balance
 pub mod Finishing
 pub mod Helping
 pub mod Inspecting
-pub mod Order
 pub mod Parts
 pub mod Program
 pub mod Ranges
-pub mod Rising
-pub mod Runs
 pub mod Stages
 pub mod Sweeping

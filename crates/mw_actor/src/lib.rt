@@ -24,19 +24,14 @@
 //!
 //! The definitions, in the order of reading: `specs/Acting` (a request), `specs/Asks` (its step at each
 //! point), `specs/Program` (where it goes from there, with `Admitting`, `Inspecting`, `Helping`,
-//! `Sweeping` and `Finishing` for the parts of it), and then what is claimed: `specs/Ranges` of its
-//! numbers, `specs/Runs`, `specs/Order` and `specs/Rising` of its runs. `specs/Parts` divides the points
-//! among the functions of the code; `specs/Stages` and `specs/Balance` group them by what is held there.
+//! `Sweeping` and `Finishing` for the parts of it), and then `specs/Ranges`, what is claimed of its
+//! numbers. `specs/Parts` divides the points among the functions of the code; `specs/Stages` and
+//! `specs/Balance` group them by what is held there. What holds of all its runs stands in mw_law_requests.
 #![tactic(auto)]
 
 mod actor;
-mod laws;
 mod points;
 mod tasks;
 
 pub use actor::Actor;
-pub use laws::{
-    file_calls_are_of_pinned_slots, gates_are_moved_by_the_rules, last_pins_are_freed, plants_rise,
-    replies_give_back, requests_stay_with_their_tenant, steps_come_in_turn,
-};
 pub use points::{After, Attempt, Point, Slot, Sweep, Task};

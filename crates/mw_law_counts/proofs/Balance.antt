@@ -22,9 +22,9 @@ use Rattle.mw_actor.specs.Admitting.{admitted}
 use Rattle.mw_actor.specs.Helping.{others_read}
 use Rattle.mw_actor.specs.Program.{goes}
 use Rattle.mw_actor.specs.Stages.{Stage, Reading, Outside, Entering, Seeking, Claiming, WritingStatus, WritingCount, WritingAddr, WritingExpected, WritingNew, Preparing, Checking, Inspecting, Holding, Deciding, Working, Nearing, Pinning, Fetching, Leaving, Freeing, Lowering, GivingUp, stage, Resumes, turned, OnTask, Scans, Leads}
-use Rattle.mw_actor.proofs.StageLaws.{goes_leads}
+use Rattle.mw_law_requests.proofs.StageLaws.{goes_leads}
 use Rattle.mw_actor.specs.Balance.{task_pins, pins_after, pins_at, to_free, to_lower}
-use Rattle.mw_actor.proofs.BalanceLaws.{own_alone}
+use Rattle.mw_law_requests.proofs.BalanceLaws.{own_alone}
 use Rattle.mw_law_counts.specs.Ready.{IsReadyAt}
 use Rattle.mw_law_counts.specs.Then.{pins_then, frees_then, waits_then}
 

@@ -4,10 +4,8 @@
 
 mod player;
 mod replaying;
-mod streams;
 
 pub use replaying::{replay, replay_args};
-pub use streams::hold_streams;
 
 #[cfg(test)]
 mod line_tests;

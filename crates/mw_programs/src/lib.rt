@@ -6,9 +6,7 @@ mod notes;
 mod opening;
 mod served;
 mod serving;
-mod streams;
 mod worker;
 
 pub use making::init;
 pub use serving::serve;
-pub use streams::hold_streams;

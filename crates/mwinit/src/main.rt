@@ -1,7 +1,8 @@
 //! `mwinit PATH WORDS PLACES` makes a tenant's file.
 #![tactic(auto)]
 
-use mw_programs::{hold_streams, init};
+use mw_programs::init;
+use mw_streams::hold_streams;
 use std::io::ErrorKind;
 use std::process::ExitCode;
 use std::{env, io};

@@ -1,7 +1,8 @@
 //! `mwreplay [--trace] FILE` plays a schedule.
 #![tactic(auto)]
 
-use mw_player::{hold_streams, replay_args};
+use mw_player::replay_args;
+use mw_streams::hold_streams;
 use std::io::ErrorKind;
 use std::process::ExitCode;
 use std::{env, io};

@@ -2,7 +2,8 @@
 //! one session that it reads from a file with `--script FILE`.
 #![tactic(auto)]
 
-use mw_programs::{hold_streams, serve};
+use mw_programs::serve;
+use mw_streams::hold_streams;
 use std::io::ErrorKind;
 use std::process::ExitCode;
 use std::{env, io};

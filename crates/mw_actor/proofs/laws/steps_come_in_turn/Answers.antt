@@ -1,5 +1,0 @@
-use Rattle.mw_actor.proofs.OrderLaws.{steps-come-in-turn}
-use Rattle.mw_actor.proofs.laws.steps_come_in_turn.Goals as goal
-
-pub returns : goal.returns
-returns c = steps-come-in-turn

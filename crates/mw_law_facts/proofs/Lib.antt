@@ -1,4 +1,0 @@
-pub mod GoingOn
-pub mod Living
-pub mod Staying
-pub mod StayingFacts

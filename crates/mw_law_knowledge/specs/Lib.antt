@@ -1,0 +1,12 @@
+pub mod Calls
+pub mod Deeds
+pub mod Facts
+pub mod Guarding
+pub mod Informed
+pub mod Keeping
+pub mod Laws
+pub mod Leaving
+pub mod Live
+pub mod Looks
+pub mod Points
+pub mod Told

@@ -1,5 +1,0 @@
-use Rattle.mw_law_owed.proofs.Leaving.{last_pins_are_free}
-use Rattle.mw_law_owed.proofs.laws.last_pins_are_free.Goals as goal
-
-pub returns : goal.returns
-returns c = last_pins_are_free

@@ -1,0 +1,5 @@
+pub mod BalanceLaws
+pub mod OrderLaws
+pub mod RisingLaws
+pub mod RunLaws
+pub mod StageLaws

@@ -1,0 +1,15 @@
+pub mod Beginning
+pub mod Carrying
+pub mod Ending
+pub mod Files
+pub mod Filing
+pub mod Fitting
+pub mod Numbers
+pub mod Others
+pub mod Owed
+pub mod Ranging
+pub mod Running
+pub mod Seating
+pub mod Sharing
+pub mod Tests
+pub mod Turning

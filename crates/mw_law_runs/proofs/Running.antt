@@ -1,0 +1,165 @@
+-- Every run of a new world leads to a sound one.
+use Rattle.std.specs.Prelude.{ℕ, ◌≡◌, ◌==◌, ◌&&◌, true, List, [], ◌∷◌, length, replicate, Option, Some, None}
+use Rattle.std.specs.Option.{option_and_then}
+use Rattle.std.proofs.Common.{refl, sym, subst, arith}
+use Rattle.std.proofs.lemmas.Bool.Decides.{nat_tests}
+use Rattle.std.proofs.lemmas.List.{get_or-replicate, length-replicate}
+use Rattle.mw_words.specs.declared.jobs.Job.{Job}
+use Rattle.mw_words.specs.declared.replies.Reply.{Reply}
+use Rattle.mw_words.specs.Change.{AreWords}
+use Rattle.mw_actor.specs.Acting.{Acting, own_entries}
+use Rattle.mw_actor.specs.Program.{replied}
+use Rattle.mw_world_file.specs.declared.outcomes.Outcome.{Outcome}
+use Rattle.mw_world.specs.declared.config.Config.{Config}
+use Rattle.mw_world.specs.Definition.Calls.{Called, call, call_if, called_at, calling, calls_made, can_be_made, fails_on, moved_if, place_for, starts_from}
+use Rattle.mw_world.specs.Definition.Extent.{has_slot}
+use Rattle.mw_world.specs.Definition.Happenings.{Found, Happening, Come, Step, File, Hand, Restart}
+use Rattle.mw_world.specs.Definition.Restarts.{found_of, may_all_be_found, restart, restarted}
+use Rattle.mw_world.specs.Definition.State.{State, IsConfig, new_world, tenant_at, tenants_of}
+use Rattle.mw_world.specs.Memory.Stepping.{came, gave}
+use Rattle.mw_world.specs.Definition.Turns.{turn}
+use Rattle.mw_world.specs.Definition.World.{come, hand, handed, may_come, run, step}
+use Rattle.mw_law_counts.proofs.Room.{doors-count-the-taken, who-waits-has-room}
+use Rattle.mw_law_runs.proofs.Owed.Owing.{owed_words_are_owed}
+use Rattle.mw_law_runs.specs.Files.{AreEntries, FileFits, FilesFit}
+use Rattle.mw_law_runs.specs.Laws.{EventsKeepSound, RoomIsLeft, RunsAreSound, SoundWorldsAreRight}
+use Rattle.mw_law_runs.specs.Sound.{IsSound}
+use Rattle.mw_law_runs.proofs.Beginning.{comes_keep_sound, hands_keep_sound, new_worlds_are_sound, restarts_keep_sound}
+use Rattle.mw_law_runs.proofs.Ending.{same_file, turn_ends}
+use Rattle.mw_law_runs.proofs.Files.{all_found, called_fits, new_fits, opened_fits, own_fit, words_fit}
+use Rattle.mw_law_runs.proofs.Filing.{calls_keep_sound}
+use Rattle.mw_law_runs.proofs.Seating.{are_seated}
+use Rattle.mw_law_runs.proofs.Tests.{first_holds, guarded, if_slot, second_holds}
+use Rattle.mw_law_runs.proofs.Turning.{turns_keep_sound}
+
+pub sound_worlds_are_right : SoundWorldsAreRight
+sound_worlds_are_right config state sound = record {
+  requests = record { seats = sound.counts.seats; standing = sound.points.standing; arm = sound.points.arm; idle = sound.points.idle };
+  claims = sound.memory.claims;
+  slots = sound.memory.slots;
+  references = sound.memory.references;
+  attempts = sound.memory.attempts;
+  words = sound.memory.words;
+  late = sound.memory.late;
+  owed = owed_words_are_owed state sound.owed;
+  counts = sound.counts.counts;
+}
+
+-- files that are as they were fit
+same_fit : (state next : State) → FilesFit state → ((tenant : ℕ) → (next.accounts tenant).file ≡ (state.accounts tenant).file) → FilesFit next
+same_fit state next fit same tenant = subst FileFits (sym (same tenant)) (fit tenant)
+
+turned_fit : (config : Config) (state next : State) (worker : ℕ) (found : Option Acting) → IsSound config state → FilesFit state → (state.seats worker).actor ≡ found → turn config state worker found ≡ Some next
+    → FilesFit next
+turned_fit config state next worker None sound fit sits is = absurd (none is)
+  where
+    none : None ≡ Some next → ⊥
+    none e = cc
+turned_fit config state next worker (Some actor) sound fit sits is =
+    let seat = are_seated config state sound worker actor sits in
+    same_fit state next fit (turn_ends config state actor seat.informed next (subst (λ (n : ℕ). turn config state n (Some actor) ≡ Some next) (sym seat.same_worker) is)).files
+
+called_if : (config : Config) (state next : State) (worker : ℕ) (actor : Acting) (found : Option Called) (outcome : Outcome) → FilesFit state → AreEntries (own_entries actor)
+    → call_if config state worker actor found outcome ≡ Some next → FilesFit next
+called_if config state next worker actor None outcome fit entries is = absurd (none is)
+  where
+    none : None ≡ Some next → ⊥
+    none e = cc
+called_if config state next worker actor (Some called) outcome fit entries is =
+    let file = (state.accounts actor.tenant).file in
+    let places = (tenant_at config actor.tenant).quota in
+    let status = state.cells.statuses called.change.slot in
+    let place = place_for called.call file places called.change.slot in
+    called_fits state worker actor fit entries (starts_from called.call status) (fails_on called.call file) (can_be_made called.call file places place (own_entries actor))
+    called.call called.change status place (calls_made called.call status file place) outcome next
+    (if_slot (has_slot config called.change.slot) (moved_if state worker actor (calling config state actor called outcome)) next is)
+
+filed_fit : (config : Config) (state next : State) (worker : ℕ) (found : Option Acting) (outcome : Outcome) → IsSound config state → FilesFit state → (state.seats worker).actor ≡ found
+    → call config state worker found outcome ≡ Some next → FilesFit next
+filed_fit config state next worker None outcome sound fit sits is = absurd (none is)
+  where
+    none : None ≡ Some next → ⊥
+    none e = cc
+filed_fit config state next worker (Some actor) outcome sound fit sits is =
+    called_if config state next worker actor (called_at actor.point) outcome fit (own_fit actor.job (sound.requests worker actor sits).in_range.formed) is
+
+handed_fit : (state next : State) (worker tenant : ℕ) (reply : Option Reply) → FilesFit state → handed state worker tenant reply ≡ Some next → FilesFit next
+handed_fit state next worker tenant None fit is = absurd (none is)
+  where
+    none : None ≡ Some next → ⊥
+    none e = cc
+handed_fit state next worker tenant (Some reply) fit is =
+    guarded FilesFit true (gave state worker tenant) next (λ so. same_fit state (gave state worker tenant) fit (λ other. same_file state.accounts tenant other _ refl)) is
+
+hand_fit : (state next : State) (worker : ℕ) (found : Option Acting) → FilesFit state → hand state worker found ≡ Some next → FilesFit next
+hand_fit state next worker None fit is = absurd (none is)
+  where
+    none : None ≡ Some next → ⊥
+    none e = cc
+hand_fit state next worker (Some actor) fit is = handed_fit state next worker actor.tenant (replied actor) fit is
+
+came_fit : (config : Config) (state next : State) (worker tenant : ℕ) (job : Job) → FilesFit state → come config state worker tenant job ≡ Some next → FilesFit next
+came_fit config state next worker tenant job fit is =
+    guarded FilesFit (may_come config state worker tenant job) (came config state worker tenant job) next
+    (λ so. same_fit state (came config state worker tenant job) fit (λ other. same_file state.accounts tenant other _ refl)) is
+
+-- what a start finds
+module _ (config : Config) (state next : State) (founds : List Found) (fit : FilesFit state) where
+  founds_fit : ((length founds == tenants_of config) && may_all_be_found config state founds (tenants_of config)) ≡ true → (tenant : ℕ) → AreWords (found_of founds tenant).words
+  founds_fit may =
+      all_found config state founds fit (first_holds (length founds == tenants_of config) (may_all_be_found config state founds (tenants_of config)) may)
+      (second_holds (length founds == tenants_of config) (may_all_be_found config state founds (tenants_of config)) may)
+
+  started_fit : restart config state founds ≡ Some next → ((tenant : ℕ) → AreWords (found_of founds tenant).words) × FilesFit next
+  started_fit is =
+      let test = (length founds == tenants_of config) && may_all_be_found config state founds (tenants_of config) in (
+        guarded (λ (one : State). (tenant : ℕ) → AreWords (found_of founds tenant).words) test (restarted config state founds) next founds_fit is,
+        guarded FilesFit test (restarted config state founds) next (λ may tenant. opened_fits (found_of founds tenant).words (found_of founds tenant).fails_at (founds_fit may tenant)) is,
+      )
+
+pub events_keep_sound : EventsKeepSound
+events_keep_sound config state next (Come worker tenant job) is_config sound fit is =
+    (comes_keep_sound config state next worker tenant job is_config sound is, came_fit config state next worker tenant job fit is)
+events_keep_sound config state next (Step worker) is_config sound fit is =
+    (turns_keep_sound config state next worker sound is, turned_fit config state next worker (state.seats worker).actor sound fit refl is)
+events_keep_sound config state next (File worker outcome) is_config sound fit is =
+    (calls_keep_sound config state next worker outcome sound is, filed_fit config state next worker (state.seats worker).actor outcome sound fit refl is)
+events_keep_sound config state next (Hand worker) is_config sound fit is =
+    (hands_keep_sound config state next worker sound is, hand_fit state next worker (state.seats worker).actor fit is)
+events_keep_sound config state next (Restart founds) is_config sound fit is =
+    let found = started_fit config state next founds fit is in
+    (restarts_keep_sound config state next founds is_config (λ tenant address. words_fit (found_of founds tenant).words address (found.0 tenant)) sound is, found.1)
+
+-- from any sound world on
+runs_on : (config : Config) (events : List Happening) (state last : State) → IsConfig config → IsSound config state → FilesFit state → run config state events ≡ Some last
+    → IsSound config last × FilesFit last
+runs_on config [] state last is_config sound fit is = subst (λ (one : State). IsSound config one × FilesFit one) (some_same is) (sound, fit)
+  where
+    some_same : Some state ≡ Some last → state ≡ last
+    some_same e = cc
+runs_on config (event ∷ events) state last is_config sound fit is = by_step (step config state event) refl is (λ next. runs_on config events next last is_config)
+  where
+    by_step : (found : Option State) → step config state event ≡ found → option_and_then (λ next. run config next events) found ≡ Some last
+        → ((next : State) → IsSound config next → FilesFit next → run config next events ≡ Some last → IsSound config last × FilesFit last) → IsSound config last × FilesFit last
+    by_step None stepped came goes_on = absurd (none came)
+      where
+        none : None ≡ Some last → ⊥
+        none e = cc
+    by_step (Some next) stepped came goes_on =
+        let both = events_keep_sound config state next event is_config sound fit stepped in
+        goes_on next both.0 both.1 came
+
+zeros_fit : (many : ℕ) → AreWords (replicate many 0)
+zeros_fit many index none low = grind (arith, nat_tests, get_or-replicate {A = ℕ} many index 0 none, length-replicate {A = ℕ} many 0, low)
+
+pub runs_are_sound : RunsAreSound
+runs_are_sound config events state is_config is =
+    runs_on config events (new_world config) state is_config (new_worlds_are_sound config is_config) (λ tenant. new_fits (replicate (tenant_at config tenant).words 0) (zeros_fit (tenant_at config tenant).words)) is
+
+pub room_is_left : RoomIsLeft
+room_is_left config events state is_config is =
+    let sound = (runs_are_sound config events state is_config is).0 in
+    record {
+      room = doors-count-the-taken config state sound.counts;
+      free = λ worker actor sits waits. who-waits-has-room config state worker actor is_config sound.counts sits waits;
+    }

@@ -1,0 +1,5 @@
+use Rattle.mw_law_runs.proofs.Filing.{calls_keep_sound}
+use Rattle.mw_law_runs.proofs.laws.calls_keep_sound.Goals as goal
+
+pub returns : goal.returns
+returns c = calls_keep_sound

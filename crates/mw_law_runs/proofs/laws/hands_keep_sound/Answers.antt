@@ -1,0 +1,5 @@
+use Rattle.mw_law_runs.proofs.Beginning.{hands_keep_sound}
+use Rattle.mw_law_runs.proofs.laws.hands_keep_sound.Goals as goal
+
+pub returns : goal.returns
+returns c = hands_keep_sound

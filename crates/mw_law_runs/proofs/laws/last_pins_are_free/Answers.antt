@@ -1,0 +1,5 @@
+use Rattle.mw_law_runs.proofs.Owed.Leaving.{last_pins_are_free}
+use Rattle.mw_law_runs.proofs.laws.last_pins_are_free.Goals as goal
+
+pub returns : goal.returns
+returns c = last_pins_are_free

@@ -1,0 +1,5 @@
+use Rattle.mw_law_runs.proofs.Turning.{turns_keep_sound}
+use Rattle.mw_law_runs.proofs.laws.turns_keep_sound.Goals as goal
+
+pub returns : goal.returns
+returns c = turns_keep_sound

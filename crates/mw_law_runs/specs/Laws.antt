@@ -1,0 +1,65 @@
+-- What is proved of sound worlds.
+use Rattle.std.specs.Prelude.{ℕ, ◌≡◌, ◌≤◌, List, Some}
+use Rattle.mw_words.specs.declared.jobs.Job.{Job}
+use Rattle.mw_words.specs.declared.limits.TheConstants.{MAX_VALUE}
+use Rattle.mw_words.specs.Change.{word_at}
+use Rattle.mw_world_file.specs.declared.outcomes.Outcome.{Outcome}
+use Rattle.mw_world.specs.declared.config.Config.{Config}
+use Rattle.mw_world.specs.Definition.Calls.{call}
+use Rattle.mw_world.specs.Definition.Happenings.{Found, Happening}
+use Rattle.mw_world.specs.Definition.Restarts.{restart, found_of}
+use Rattle.mw_world.specs.Definition.State.{State, IsConfig, new_world}
+use Rattle.mw_world.specs.Definition.Turns.{turn}
+use Rattle.mw_world.specs.Definition.World.{come, hand, run, step}
+use Rattle.mw_law_counts.specs.Laws.{HasRoom}
+use Rattle.mw_law_counts.specs.Standing.{CountsRestOn}
+use Rattle.mw_law_runs.specs.Files.{FilesFit}
+use Rattle.mw_law_runs.specs.Sound.{IsSound, IsRightButForFiles}
+
+-- In a sound world the counts have what they rest on.
+abbrev pub CountsHaveRest : Type 0
+CountsHaveRest = (config : Config) (state : State) → IsSound config state → CountsRestOn state
+
+-- A step of a request that is no call on a file leaves a sound world sound.
+abbrev pub TurnsKeepSound : Type 0
+TurnsKeepSound = (config : Config) (state next : State) (worker : ℕ) → IsSound config state → turn config state worker (state.seats worker).actor ≡ Some next → IsSound config next
+
+-- So does a call on a file, however it ends.
+abbrev pub CallsKeepSound : Type 0
+CallsKeepSound = (config : Config) (state next : State) (worker : ℕ) (outcome : Outcome) → IsSound config state → call config state worker (state.seats worker).actor outcome ≡ Some next
+    → IsSound config next
+
+-- So does a request that comes, where the world is of a configuration of which one can be made.
+abbrev pub ComesKeepSound : Type 0
+ComesKeepSound = (config : Config) (state next : State) (worker tenant : ℕ) (job : Job) → IsConfig config → IsSound config state → come config state worker tenant job ≡ Some next → IsSound config next
+
+-- And a reply that is handed out.
+abbrev pub HandsKeepSound : Type 0
+HandsKeepSound = (config : Config) (state next : State) (worker : ℕ) → IsSound config state → hand state worker (state.seats worker).actor ≡ Some next → IsSound config next
+
+-- A new world is sound.
+abbrev pub NewWorldsAreSound : Type 0
+NewWorldsAreSound = (config : Config) → IsConfig config → IsSound config (new_world config)
+
+-- So is a world after a start that finds words none of which is past the greatest value.
+abbrev pub RestartsKeepSound : Type 0
+RestartsKeepSound = (config : Config) (state next : State) (founds : List Found) → IsConfig config → ((tenant address : ℕ) → word_at (found_of founds tenant).words address ≤ MAX_VALUE)
+    → IsSound config state → restart config state founds ≡ Some next → IsSound config next
+
+-- Every event leaves a sound world sound, and its files with words that fit, if they had such before it and the world is of a configuration of which
+-- one can be made.
+abbrev pub EventsKeepSound : Type 0
+EventsKeepSound = (config : Config) (state next : State) (event : Happening) → IsConfig config → IsSound config state → FilesFit state → step config state event ≡ Some next
+    → IsSound config next × FilesFit next
+
+-- A sound world has all that is to hold of worlds, but for files and their places.
+abbrev pub SoundWorldsAreRight : Type 0
+SoundWorldsAreRight = (config : Config) (state : State) → IsSound config state → IsRightButForFiles config state
+
+-- Every run of a new world, of a configuration of which one can be made, leads to a sound world, whose files have words that fit.
+abbrev pub RunsAreSound : Type 0
+RunsAreSound = (config : Config) (events : List Happening) (state : State) → IsConfig config → run config (new_world config) events ≡ Some state → IsSound config state × FilesFit state
+
+-- There is room in the pool after every such run: while a tenant's door counts a slot that a request hasn't taken yet, some slot isn't taken.
+abbrev pub RoomIsLeft : Type 0
+RoomIsLeft = (config : Config) (events : List Happening) (state : State) → IsConfig config → run config (new_world config) events ≡ Some state → HasRoom config state

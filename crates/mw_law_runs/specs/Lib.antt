@@ -1,0 +1,5 @@
+pub mod Files
+pub mod Laws
+pub mod Owed
+pub mod Owing
+pub mod Sound

@@ -1,0 +1,75 @@
+//! What holds of sound worlds: facts for proofs to cite. The functions do nothing.
+ghost use Rattle.mw_law_runs.specs.Laws.{CallsKeepSound, ComesKeepSound, CountsHaveRest, EventsKeepSound, HandsKeepSound, NewWorldsAreSound, RestartsKeepSound, RoomIsLeft, RunsAreSound, SoundWorldsAreRight, TurnsKeepSound};
+ghost use Rattle.mw_law_runs.specs.Owing.{CallsKeepOwed, LastPinsAreFree, OwedWordsAreOwed, StepsKeepOwed};
+
+/// Where words are owed as `WordsAreOwed` says, a word that is held for a refused change, or that has the
+/// value of a made one and its slot, is owed as is to hold of worlds.
+pub fn owed_words_are_owed()
+    ensures { OwedWordsAreOwed }
+{}
+
+/// Where the counts stand, words are owed, what workers may do is told by their requests' points, and each
+/// request has its worker and knows what it is to know, no word refers to a slot of which a request takes
+/// the last pin back.
+pub fn last_pins_are_free()
+    ensures { LastPinsAreFree }
+{}
+
+/// Under the same premises words stay owed over a step of a request that is no call on a file, where each of
+/// its moves has what it asks for.
+pub fn steps_keep_owed()
+    ensures { StepsKeepOwed }
+{}
+
+/// They stay owed over a call on a file, however it ends, where each request has its worker and knows what
+/// it is to know.
+pub fn calls_keep_owed()
+    ensures { CallsKeepOwed }
+{}
+
+/// In a sound world the counts of pins and slots have what they rest on.
+pub fn counts_have_rest()
+    ensures { CountsHaveRest }
+{}
+
+/// A step of a request that is no call on a file leaves a sound world sound.
+pub fn turns_keep_sound()
+    ensures { TurnsKeepSound }
+{}
+
+/// A call on a file leaves a sound world sound, however it ends.
+pub fn calls_keep_sound()
+    ensures { CallsKeepSound }
+{}
+
+/// A request that comes leaves a sound world sound, of a configuration of which a world can be made.
+pub fn comes_keep_sound()
+    ensures { ComesKeepSound }
+{}
+
+/// A reply that is handed out leaves a sound world sound.
+pub fn hands_keep_sound()
+    ensures { HandsKeepSound }
+{}
+
+/// A new world is sound, of a configuration of which one can be made. So is a world after a start from a
+/// sound one, of such a configuration, if the start finds words none of which is past the greatest value.
+pub fn starts_are_sound()
+    ensures new { NewWorldsAreSound }
+    ensures again { RestartsKeepSound }
+{}
+
+/// Every event leaves a sound world sound, and its files with words that fit, if they had such before it and
+/// the world is of a configuration of which one can be made.
+pub fn events_keep_sound()
+    ensures { EventsKeepSound }
+{}
+
+/// Every run of a new world, of a configuration of which one can be made, leads to a sound world; a sound
+/// world has all of the invariant but what is said of files and of changes' places in them; and there is
+/// room in the pool after every such run.
+pub fn runs_are_sound()
+    ensures runs { RunsAreSound }
+    ensures right { SoundWorldsAreRight }
+    ensures room { RoomIsLeft }
+{}

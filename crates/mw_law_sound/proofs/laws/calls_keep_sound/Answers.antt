@@ -1,5 +1,0 @@
-use Rattle.mw_law_sound.proofs.Filing.{calls_keep_sound}
-use Rattle.mw_law_sound.proofs.laws.calls_keep_sound.Goals as goal
-
-pub returns : goal.returns
-returns c = calls_keep_sound

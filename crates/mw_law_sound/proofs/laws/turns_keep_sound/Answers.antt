@@ -1,5 +1,0 @@
-use Rattle.mw_law_sound.proofs.Turning.{turns_keep_sound}
-use Rattle.mw_law_sound.proofs.laws.turns_keep_sound.Goals as goal
-
-pub returns : goal.returns
-returns c = turns_keep_sound

@@ -1,0 +1,31 @@
+//! Holding the descriptors of standard streams that are closed.
+
+use std::fs::{File, OpenOptions};
+use std::io;
+use std::os::fd::AsRawFd;
+use std::rt::Files;
+
+/// The highest descriptor of a standard stream: that of standard error.
+const LAST_STREAM: i32 = 2;
+
+/// Opens `/dev/null` on each descriptor of a standard stream that is free, since the first file that is
+/// opened next would take its number, and what is meant for the stream would be written over that file.
+/// To be called before anything else is opened, and what it gives is to be kept until the program ends.
+///
+/// # Errors
+///
+/// `/dev/null` can't be opened. Then no descriptor is held.
+pub fn hold_streams<R: Files<File = File>>(rt: &R) -> io::Result<[Option<File>; 3]> {
+    let mut options = OpenOptions::new();
+    options.read(true).write(true);
+    let mut held = [None, None, None];
+    for place in &mut held {
+        let file = options.open(rt, "/dev/null")?;
+        // The system gives the lowest number that is free.
+        if file.as_raw_fd() > LAST_STREAM {
+            break;
+        }
+        *place = Some(file);
+    }
+    Ok(held)
+}
