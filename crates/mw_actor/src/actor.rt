@@ -21,7 +21,7 @@ use std::marker::Model;
 /// A request that a worker works on: a read, or a change. It is asked for its next step and told what
 /// that step found, until its reply stands. A thing told that doesn't fit the step leaves the request
 /// where it is.
-#[derive(Debug, Drop)]
+#[derive(Drop)]
 pub struct Actor {
     worker: u8,
     tenant: u8,

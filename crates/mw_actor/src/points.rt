@@ -67,7 +67,7 @@ pub enum After {
 
 /// Where a request is in its program: the next step, and what is known by then. Words and entries are
 /// those of the change that is worked on, its `target`, if nothing else is said.
-#[derive(Clone, Copy, Debug)]
+#[derive(Clone, Copy)]
 pub enum Point {
     /// The request is a read, which has its own program.
     Read(Look),

@@ -115,48 +115,48 @@ fn number_of(matches: &ArgMatches<'_>, name: &str, most: u32) -> Option<u32>
         .filter(|number| (1..=most).contains(number))
 }
 
-fn command<'a>(alloc: Global) -> Result<Command<'a>, clap::Error> {
-    let tenants = Arg::new(alloc, "tenants")
-        .long("tenants")
-        .value_name("FILE")
+fn command<'a>(alloc: Global) -> Result<Command<'a>, AllocError> {
+    let tenants = text(alloc, "tenants", "FILE")
         .required(true)
-        .action(ArgAction::Set)
         .help("which tenants are served, and from which files");
+    let command = Command::new(alloc, "mwserve")
+        .about("Serves tenants' words.")
+        .arg(tenants)?;
+    add_sources(alloc, add_sizes(alloc, command)?)
+}
+
+/// The command with the options that say how much there is of what all tenants share.
+fn add_sizes<'a>(alloc: Global, command: Command<'a>) -> Result<Command<'a>, AllocError> {
     let pool = number(alloc, "pool", "P", u64::from(MAX_POOL))
         .default_value("256")
         .help("how many changes of all tenants may be under way at a time, 1 to 256");
     let workers = number(alloc, "workers", "N", u64::from(MAX_WORKERS))
         .default_value("4")
         .help("how many clients are served at once, 1 to 64");
-    let listen = Arg::new(alloc, "listen")
-        .long("listen")
-        .value_name("ADDR")
-        .action(ArgAction::Set)
+    command.arg(pool)?.arg(workers)
+}
+
+/// The command with the options that say where sessions come from.
+fn add_sources<'a>(alloc: Global, command: Command<'a>) -> Result<Command<'a>, AllocError> {
+    let listen = text(alloc, "listen", "ADDR")
         .help("where to wait for connections, each of them a session");
     let connections = number(alloc, "connections", "C", u64::from(MAX_CONNECTIONS)).help(
         "after how many connections to end, 1 to 1000000; without it, never",
     );
-    let script = Arg::new(alloc, "script")
-        .long("script")
-        .value_name("FILE")
-        .action(ArgAction::Set)
+    let script = text(alloc, "script", "FILE")
         .help("the lines of one session, in place of connections");
-    let command = Command::new(alloc, "mwserve")
-        .about("Serves tenants' words.")
-        .arg(tenants)?
-        .arg(pool)?
-        .arg(workers)?
-        .arg(listen)?
-        .arg(connections)?
-        .arg(script)?;
-    Ok(command)
+    command.arg(listen)?.arg(connections)?.arg(script)
 }
 
-/// An option with a number from 1 to `most`.
-fn number<'a>(alloc: Global, name: &'a str, value: &'a str, most: u64) -> Arg<'a> {
+/// An option with a text.
+fn text<'a>(alloc: Global, name: &'a str, value: &'a str) -> Arg<'a> {
     Arg::new(alloc, name)
         .long(name)
         .value_name(value)
         .action(ArgAction::Set)
-        .value_parser(ValueParser::unsigned(1, most))
+}
+
+/// An option with a number from 1 to `most`.
+fn number<'a>(alloc: Global, name: &'a str, value: &'a str, most: u64) -> Arg<'a> {
+    text(alloc, name, value).value_parser(ValueParser::unsigned(1, most))
 }

@@ -17,7 +17,7 @@ use std::marker::Model;
 
 /// A read of one word of a tenant. It is asked for its next step and told what that step found, until
 /// its reply stands. A thing told that doesn't fit the step leaves the read where it is.
-#[derive(Clone, Copy, Debug)]
+#[derive(Clone, Copy)]
 pub struct Look {
     tenant: u8,
     address: u16,

@@ -38,7 +38,7 @@ pub enum After {
 }
 
 /// Where a read is in its program: the next step, and what is known by then.
-#[derive(Clone, Copy, Debug)]
+#[derive(Clone, Copy)]
 pub enum Point {
     /// Load the tenant's door.
     ReadDoor,

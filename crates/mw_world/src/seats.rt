@@ -12,7 +12,7 @@ use crate::notes::Note;
 use mw_actor::Actor;
 
 /// A worker.
-#[derive(Debug, Drop)]
+#[derive(Drop)]
 pub(crate) struct Seat {
     /// Its request, if it has one.
     pub actor: Option<Actor>,
