@@ -13,8 +13,7 @@ use Rattle.mw_actor.specs.declared.points.Point.TheVariants.{Read, Admit, Claim,
 use Rattle.mw_actor.specs.Acting.{Acting}
 use Rattle.mw_actor.specs.Asks.{asks_at}
 use Rattle.mw_actor.specs.Ranges.{IsPointInRange}
-use Rattle.mw_world.specs.Definition.Cells.{Cells}
-use Rattle.mw_world.specs.Memory.Ties.{AllFit}
+use Rattle.mw_world.specs.Definition.Cells.{Cells, AllFit}
 use Rattle.mw_law_counts.specs.Exact.{IsLookInRange, ExchangesAreExact}
 use Rattle.mw_law_counts.specs.Standing.{IsExact}
 

@@ -17,7 +17,7 @@ use Rattle.mw_world.specs.Definition.Counting.{pins_held, frees_at, waits_for, o
 use Rattle.mw_world.specs.Definition.Happenings.{Found}
 use Rattle.mw_world.specs.Claim.Invariant.{IsOfWorker}
 use Rattle.mw_world.specs.Definition.Restarts.{restart, restarted, reopened, found_of, under_way, may_all_be_found}
-use Rattle.mw_world.specs.Memory.Stepping.{came, gave}
+use Rattle.mw_world.specs.Definition.Requests.{came, gave}
 use Rattle.mw_world.specs.declared.config.TheConstants.{MOST_REQUESTS}
 use Rattle.mw_words.specs.Change.{is_well_formed}
 use Rattle.mw_world.specs.Definition.State.{State, Account, started, idle_seat, tenant_at, tenants_of}

@@ -5,8 +5,7 @@ use Rattle.mw_actor.specs.declared.points.Point.TheVariants.{Read}
 use Rattle.mw_actor.specs.Acting.{Acting}
 use Rattle.mw_actor.specs.Asks.{asks}
 use Rattle.mw_actor.specs.Ranges.{IsInRange}
-use Rattle.mw_world.specs.Definition.Cells.{Cells}
-use Rattle.mw_world.specs.Memory.Ties.{AllFit}
+use Rattle.mw_world.specs.Definition.Cells.{Cells, AllFit}
 use Rattle.mw_law_counts.specs.Standing.{IsExact}
 
 -- what a read keeps at its point is in range

@@ -8,7 +8,7 @@ use Rattle.mw_words.specs.declared.places.At.TheVariants.{Door as AtDoor, Gate a
 use Rattle.mw_words.specs.Change.{word_at}
 use Rattle.mw_world.specs.declared.config.Config.{Config}
 use Rattle.mw_world.specs.Definition.State.{Account, IsConfig, started, first_account, tenant_at}
-use Rattle.mw_world.specs.Memory.Ties.{AllFit}
+use Rattle.mw_world.specs.Definition.Cells.{AllFit}
 use Rattle.mw_law_moves.specs.Laws.{StartsHaveMemory, NewWorldsHaveMemory}
 
 first_fit : (config : Config) (accounts : ℕ → Account) → IsConfig config

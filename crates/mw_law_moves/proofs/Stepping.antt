@@ -13,7 +13,7 @@ use Rattle.mw_world.specs.Definition.Cells.{read}
 use Rattle.mw_world_file.specs.Maps.{upd}
 use Rattle.mw_world.specs.Definition.Restarts.{restarted, found_of, may_all_be_found, reopened, under_way, opened_file}
 use Rattle.mw_world.specs.Definition.State.{State, Seat, tenants_of}
-use Rattle.mw_world.specs.Memory.Stepping.{came, gave}
+use Rattle.mw_world.specs.Definition.Requests.{came, gave}
 use Rattle.mw_world.specs.Definition.World.{may_come, handed, hand}
 use Rattle.mw_law_moves.specs.Memory.{Memory}
 use Rattle.mw_law_moves.specs.Moves.{made_all}

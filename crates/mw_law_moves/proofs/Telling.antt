@@ -31,7 +31,7 @@ use Rattle.mw_world_file.specs.Maps.{upd}
 use Rattle.mw_world.specs.Definition.Noting.{noted}
 use Rattle.mw_world.specs.Definition.Restarts.{restarted, may_all_be_found}
 use Rattle.mw_world.specs.Definition.State.{State, Seat, tenant_at, tenants_of}
-use Rattle.mw_world.specs.Memory.Stepping.{came, gave}
+use Rattle.mw_world.specs.Definition.Requests.{came, gave}
 use Rattle.mw_world.specs.Definition.Turns.{turn, turned, may_make, moved, moved_to, made_of, next_attempt, Made}
 use Rattle.mw_world.specs.Definition.World.{may_come, handed, hand}
 use Rattle.mw_law_moves.specs.Steps.{PointsAreTold, EventsTellPoints}

@@ -5,7 +5,7 @@ use Rattle.mw_world.specs.declared.config.Config.{Config}
 use Rattle.mw_world.specs.declared.notes.Phase.TheVariants.{Inked}
 use Rattle.mw_world.specs.Claim.Invariant.{ChangesClaimTheirSlots, SlotsTellTheirChanges, ReferencesArePinned, AttemptsAreTheirWorkers, WordsFollowTheirChanges, LateFinishersLose}
 use Rattle.mw_world.specs.Definition.State.{State}
-use Rattle.mw_world.specs.Memory.Ties.{AllFit}
+use Rattle.mw_world.specs.Definition.Cells.{AllFit}
 
 -- Claims, slots, references, attempts, changes' words and late finishers are as they are to be. A change that has written a word, and whose
 -- slot the word still names, has that slot now. What stands at each place is in range; so a gate that isn't taken has no pins.

@@ -9,12 +9,11 @@ use Rattle.mw_actor.specs.Acting.{Acting}
 use Rattle.mw_world.specs.declared.config.Config.{Config}
 use Rattle.mw_world_file.specs.declared.outcomes.Outcome.{Outcome}
 use Rattle.mw_world.specs.Definition.Calls.{Called, call, called_at}
-use Rattle.mw_world.specs.Definition.Cells.{Cells, read}
+use Rattle.mw_world.specs.Definition.Cells.{Cells, read, AllFit}
 use Rattle.mw_world.specs.Definition.Happenings.{Found, Happening}
 use Rattle.mw_world.specs.Definition.History.{Resting, Idle, standing_at, arm_at}
 use Rattle.mw_world.specs.Definition.Restarts.{restart, found_of}
 use Rattle.mw_world.specs.Definition.State.{State, IsConfig}
-use Rattle.mw_world.specs.Memory.Ties.{AllFit}
 use Rattle.mw_world.specs.Definition.Turns.{turn}
 use Rattle.mw_world.specs.Definition.World.{come, hand, step}
 use Rattle.mw_law_moves.specs.Guards.{Guards}

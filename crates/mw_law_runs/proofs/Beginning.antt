@@ -24,7 +24,7 @@ use Rattle.mw_world.specs.Definition.Counting.{pins_held, pin_of}
 use Rattle.mw_world.specs.Definition.Happenings.{Come, Hand, Restart}
 use Rattle.mw_world.specs.Definition.Restarts.{restart, restarted, may_all_be_found}
 use Rattle.mw_world.specs.Definition.State.{State, Seat, Account, IsConfig, started, no_tenant, tenant_at, tenants_of}
-use Rattle.mw_world.specs.Memory.Stepping.{came, gave}
+use Rattle.mw_world.specs.Definition.Requests.{came, gave}
 use Rattle.mw_world.specs.Definition.World.{come, hand, handed, may_come}
 use Rattle.mw_law_moves.specs.Stepped.{SameMemory}
 use Rattle.mw_law_moves.proofs.Shared.{is_shared, memory_is_shared}

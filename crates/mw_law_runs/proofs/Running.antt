@@ -16,7 +16,7 @@ use Rattle.mw_world.specs.Definition.Extent.{has_slot}
 use Rattle.mw_world.specs.Definition.Happenings.{Found, Happening, Come, Step, File, Hand, Restart}
 use Rattle.mw_world.specs.Definition.Restarts.{found_of, may_all_be_found, restart, restarted}
 use Rattle.mw_world.specs.Definition.State.{State, IsConfig, new_world, tenant_at, tenants_of}
-use Rattle.mw_world.specs.Memory.Stepping.{came, gave}
+use Rattle.mw_world.specs.Definition.Requests.{came, gave}
 use Rattle.mw_world.specs.Definition.Turns.{turn}
 use Rattle.mw_world.specs.Definition.World.{come, hand, handed, may_come, run, step}
 use Rattle.mw_law_counts.proofs.Room.{doors-count-the-taken, who-waits-has-room}

@@ -9,6 +9,7 @@ pub mod History
 pub mod Logical
 pub mod Notes
 pub mod Noting
+pub mod Requests
 pub mod Restarts
 pub mod State
 pub mod Turns

@@ -1,6 +1,6 @@
 //! What holds of the definitions of the world: facts for proofs to cite. The functions do nothing.
 ghost use Rattle.mw_world.specs.Claim.Examples.{ComeOut};
-ghost use Rattle.mw_world.specs.Claim.Headline.{EqualMarksHaveEqualReplies, EveryImageIsOfStore, EveryRunServesAlone};
+ghost use Rattle.mw_world.specs.Claim.Headline.{EqualMarksHaveEqualReplies, EveryRunServesAlone};
 ghost use Rattle.mw_world.specs.Claim.Invariant.{Invariant};
 ghost use Rattle.mw_world.specs.Claim.Laws.{ReadSame, ReadOther, RunExtends};
 ghost use Rattle.mw_world.specs.Definition.State.{new_world};
@@ -27,9 +27,7 @@ pub fn new_worlds_keep_the_invariant()
     ensures { (config : Config) → Invariant config (new_world config) }
 {}
 
-/// If every run serves each tenant as its store alone would, equal marks have equal replies, and each image
-/// that a crash may leave has the store's words, with the change in doubt or without.
+/// If every run serves each tenant as its store alone would, equal marks have equal replies.
 pub fn what_serving_alone_gives()
     ensures replies { EveryRunServesAlone → EqualMarksHaveEqualReplies }
-    ensures images { EveryRunServesAlone → EveryImageIsOfStore }
 {}

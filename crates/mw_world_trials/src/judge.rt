@@ -2,8 +2,8 @@
 ghost use Rattle.std.specs.Prelude.{◌<◌, length};
 
 use mw_lone::{Lone, LoneFault, Mark};
+use mw_simulator::World;
 use mw_words::{At, Job, Reply, Word};
-use mw_world::World;
 use std::alloc::{AllocError, Global};
 
 /// How a world and a store alone disagree.

@@ -7,8 +7,9 @@ use super::*;
 use arrayvec::ArrayVec;
 use mw_lone::Lone;
 use mw_look::{Kind, Op};
+use mw_simulator::World;
 use mw_words::{Entries, Entry, Job, Name, Reply};
-use mw_world::{Config, Event, Outcome, Tenant, World};
+use mw_world::{Config, Event, Outcome, Tenant};
 use std::alloc::Global;
 use std::test::Fail;
 

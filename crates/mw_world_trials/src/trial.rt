@@ -6,8 +6,9 @@ use crate::dice::Dice;
 use crate::jobs::{job, small_world, stop};
 use crate::judge::{Disagreement, Handed, TrialFault, judge, judge_start};
 use mw_look::Op;
+use mw_simulator::{World, WorldFault};
 use mw_words::{At, Door, Reply};
-use mw_world::{Event, Outcome, World, WorldFault};
+use mw_world::{Event, Outcome};
 use std::alloc::{AllocError, Global};
 
 /// What happened in a trial.

@@ -1,22 +1,15 @@
 -- What is to hold of every run of a world: each tenant is served as its store alone would serve it.
-use Rattle.std.specs.Prelude.{ℕ, ◌≡◌, ◌≢◌, ◌<◌, ◌≤◌, ◌⊎◌, true, false, List, All, ◌++◌, replicate, slice_get, Option, Some, None}
+use Rattle.std.specs.Prelude.{ℕ, ◌≡◌, ◌≢◌, ◌<◌, ◌≤◌, true, false, List, All, ◌++◌, replicate, Option, Some, None}
 use Rattle.mw_words.specs.declared.limits.TheConstants.{WORN_NUMBER}
 use Rattle.mw_words.specs.declared.replies.Reply.TheVariants.{Worn}
-use Rattle.mw_disk.specs.Facts.{MayLeave}
-use Rattle.mw_disk.specs.Memory.{memory_facts}
-use Rattle.mw_record.specs.Damages.{file_words}
-use Rattle.mw_words.specs.declared.jobs.Entry.{Entry}
-use Rattle.mw_words.specs.Change.{word_at, put}
+use Rattle.mw_words.specs.Change.{word_at}
 use Rattle.mw_lone.specs.Store.{Store, entries_in_doubt, replies as replies_of_marks}
 use Rattle.mw_actor.specs.Acting.{Acting, own_entries}
 use Rattle.mw_actor.specs.Asks.{asks}
 use Rattle.mw_actor.specs.Program.{replied}
-use Rattle.mw_world_file.specs.Devices.{disk_under}
 use Rattle.mw_world_file.specs.Files.{File}
-use Rattle.mw_world.specs.declared.accounts.Account.{Account as AccountInMemory}
 use Rattle.mw_world.specs.declared.config.Config.{Config}
 use Rattle.mw_world.specs.declared.events.Interrupted.{Interrupted}
-use Rattle.mw_world.specs.declared.world.World.{World}
 use Rattle.mw_world.specs.Definition.Calls.{Called, called_at, starts_from, fails_on, place_for, can_be_made}
 use Rattle.mw_world.specs.Definition.Counting.{waits_at, taken_slots, used_slots}
 use Rattle.mw_world.specs.Definition.Extent.{has_slot}
@@ -24,7 +17,6 @@ use Rattle.mw_world.specs.Definition.Happenings.{Happening}
 use Rattle.mw_world.specs.Claim.Invariant.{Invariant}
 use Rattle.mw_world.specs.Definition.Logical.{logical}
 use Rattle.mw_world.specs.Definition.Restarts.{may_interrupt, under_way, interrupted_request, doubt_then, is_sealed_then, may_find}
-use Rattle.mw_world.specs.Memory.Shows.{Shows}
 use Rattle.mw_world.specs.Definition.State.{State, IsConfig, new_world, tenant_at, tenants_of, marks_of, store_of}
 use Rattle.mw_world.specs.Definition.Turns.{may_make}
 use Rattle.mw_world.specs.Definition.World.{run, replies_to}
@@ -131,14 +123,3 @@ EqualMarksHaveEqualReplies = (config other : Config) (events others : List Happe
     → tenant < tenants_of config → its < tenants_of other
     → (tenant_at config tenant).words ≡ (tenant_at other its).words → (tenant_at config tenant).quota ≡ (tenant_at other its).quota → marks_of state tenant ≡ marks_of there its
     → replies_to config tenant (new_world config) events ≡ replies_to other its (new_world other) others
-
--- These bytes are a file of these words, or of these with this change put over them.
-abbrev pub IsFileOfEither : List ℕ → List Entry → List ℕ → Type 0
-IsFileOfEither words change image = (file_words image ≡ Some words) ⊎ (file_words image ≡ Some (put words change))
-
--- In a world in memory that shows the world after a run, no call is under way. Whatever a crash may leave then of a tenant's disk is a file of
--- the store's words, or of these with the change in doubt put over them; where none is in doubt, as after a start, it is one of the store's words.
-abbrev pub EveryImageIsOfStore : Type 0
-EveryImageIsOfStore = (config : Config) (events : List Happening) (state : State) (world : World) (tenant : ℕ) (shown : AccountInMemory) (store : Store) (image : List ℕ)
-    → IsRun config events state → world.config ≡ config → Shows world state → slice_get world.accounts.items tenant ≡ Some shown → store_of config state tenant ≡ Some store
-    → MayLeave (memory_facts (disk_under shown.book.device)) image → IsFileOfEither store.words store.in_doubt image

@@ -7,7 +7,7 @@ use Rattle.mw_words.specs.declared.gates.Gate.{Gate}
 use Rattle.mw_words.specs.declared.rows.Row.{Row}
 use Rattle.mw_words.specs.declared.statuses.Status.{Status}
 use Rattle.mw_words.specs.declared.words.Word.{Word}
-use Rattle.mw_look.specs.Places.{Val}
+use Rattle.mw_look.specs.Places.{Fits, Val}
 use Rattle.mw_world_file.specs.Maps.{upd, upd_two}
 
 -- What stands at each place. Past the last tenant, slot or worker stands what stands there at first, and nothing changes it.
@@ -51,3 +51,7 @@ write cells (Count slot) number = record cells { counts = upd cells.counts slot 
 write cells (Addr slot entry) number = record cells { addrs = upd_two cells.addrs slot entry number }
 write cells (Expected slot entry) number = record cells { expecteds = upd_two cells.expecteds slot entry number }
 write cells (New slot entry) number = record cells { news = upd_two cells.news slot entry number }
+
+-- what stands at each place is in range
+abbrev pub AllFit : Cells → Type 0
+AllFit cells = (at : At) → Fits at (read cells at)

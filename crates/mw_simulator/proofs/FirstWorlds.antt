@@ -1,0 +1,127 @@
+-- A world in memory at a start shows the world that has just started.
+use Rattle.std.specs.Prelude.{ℕ, zero, suc, ◌≡◌, ◌+◌, ◌<◌, ◌≤◌, Bool, true, false, not, List, [], ◌∷◌, ◌++◌, length, replicate, slice_get, IfSome, MatchOption, Some, None, Vec}
+use Rattle.std.specs.declared.option.Option.{Option}
+use Rattle.std.specs.declared.alloc.Global.{Global}
+use Rattle.std.proofs.Common.{refl, sym, ap, subst, ◌∙◌, inl, inr, arith, get_or}
+use Rattle.std.proofs.lemmas.List.{get_or_past, length_push}
+use Rattle.std.proofs.lemmas.List.Elements.{All-replicate}
+use Rattle.std.proofs.lemmas.Option.{get_or_from_slice_get, slice_get-get_or, slice_get_cases, slice_get_within}
+use Rattle.mw_words.specs.Change.{AreWords}
+use Rattle.mw_words.specs.declared.limits.TheConstants.{MAX_VALUE}
+use Rattle.mw_world_file.specs.declared.kept.Book.{Book}
+use Rattle.mw_world_file.specs.Giving.{IsGiven}
+use Rattle.mw_world.specs.declared.config.Config.{Config}
+use Rattle.mw_world.specs.Definition.History.{no_history}
+use Rattle.mw_world.specs.Definition.State.{Account, first_account, first_cells, idle_seat, no_tenant, started, tenant_at, tenants_of}
+use Rattle.mw_simulator.specs.declared.accounts.Account.{Account as AccountInMemory}
+use Rattle.mw_simulator.specs.declared.seats.Seat.{Seat}
+use Rattle.mw_simulator.specs.declared.world.World.{World}
+use Rattle.mw_simulator.specs.Claims.{Recalls}
+use Rattle.mw_simulator.specs.Openings.{AreOpenings, Gave, Openings, opening_at}
+use Rattle.mw_simulator.specs.Seats.{seat_of}
+use Rattle.mw_simulator.specs.Shows.{Shows, ShowsAccount}
+use Rattle.mw_simulator.specs.Starts.{AreFresh, AreGiven, AreIdle, AreTenants, Each, EachOf, HaveWords}
+use Rattle.mw_simulator.specs.Ties.{Tie}
+use Rattle.mw_simulator.proofs.FirstBits.{first_cells_fit}
+
+pub each_none : {A : Type 0} (P : ℕ → A → Type 0) → Each P []
+each_none {A} P index x is = absurd (cc)
+
+-- one element more
+pub each_more : {A : Type 0} (P : ℕ → A → Type 0) (xs : List A) (x : A) → Each P xs → P (length xs) x → Each P (xs ++ x ∷ [])
+each_more P [] x all here zero y is = let same : x ≡ y = cc in subst (P 0) same here
+each_more P [] x all here (suc index) y is = absurd (cc)
+each_more P (z ∷ zs) x all here zero y is = all zero y is
+each_more P (z ∷ zs) x all here (suc index) y is = each_more (λ k. P (suc k)) zs x (λ k a e. all (suc k) a e) here index y is
+
+-- workers without requests
+pub idle_none : AreIdle 0 []
+idle_none = record { count = refl; each = each_none (λ worker seat. seat_of seat ≡ idle_seat) }
+
+pub idle_more : (workers : ℕ) (seats : List Seat) (seat : Seat) → AreIdle workers seats → seat_of seat ≡ idle_seat → AreIdle (workers + 1) (seats ++ seat ∷ [])
+idle_more workers seats seat are is = record {
+  count = length_push seats seat ∙ ap (λ n. n + 1) are.count;
+  each = each_more (λ worker seat. seat_of seat ≡ idle_seat) seats seat are.each is;
+}
+
+reads_same : {A : Type 0} (xs : List A) (index : ℕ) (x y : A) → x ≡ get_or xs index x → slice_get xs index ≡ Some y → x ≡ y
+reads_same xs index x y is there = is ∙ get_or_from_slice_get xs index y x there
+
+-- one element more, for the one that was read at its index
+pub each_of_more : {A B : Type 0} (R : ℕ → A → B → Type 0) (xs : List A) (ys : List B) (index : ℕ) (x : A) (y : B) → length ys ≡ index → x ≡ get_or xs index x → R index x y
+    → EachOf R xs ys → EachOf R xs (ys ++ y ∷ [])
+each_of_more {A} {B} R xs ys index x y long is so all = each_more (λ k b. (a : A) → slice_get xs k ≡ Some a → R k a b) ys y all here
+  where
+    here : (a : A) → slice_get xs (length ys) ≡ Some a → R (length ys) a y
+    here a there =
+        let read : slice_get xs index ≡ Some a = subst (λ k. slice_get xs k ≡ Some a) long there in
+        subst (λ k. R k a y) (sym long) (subst (λ b. R index b y) (reads_same xs index x a is read) so)
+
+-- what was given is as long as the file's words
+long_given : (book : Book) (opening : Option (Vec ℕ Global)) (words : ℕ) → IsGiven book opening → length book.contents.items ≡ words → IfSome opening (λ given. length given.items ≡ words)
+long_given book (Some given) words gave long = ap length gave.1 ∙ long
+long_given book None words gave long = tt
+
+one_gave : (book : Book) (opening : Option (Vec ℕ Global)) (words : List ℕ) (up : Bool) → IsGiven book opening → book.contents.items ≡ words → up ≡ not book.has_failed
+    → MatchOption opening (up ≡ false) (λ given. (up ≡ true) × (given.items ≡ words))
+one_gave book (Some given) words up gave same is = (is ∙ ap not gave.0, gave.1 ∙ same)
+one_gave book None words up gave same is = is ∙ ap not gave
+
+module _ (accounts : List AccountInMemory) (openings : Openings) (given : AreGiven accounts openings) where
+  -- the tenant that gave this
+  at_tenant : (P : Option (Vec ℕ Global) → Type 0) (tenant : ℕ) → tenant < length openings
+      → ((shown : AccountInMemory) (opening : Option (Vec ℕ Global)) → slice_get accounts tenant ≡ Some shown → IsGiven shown.book opening → P opening) → P (opening_at openings tenant)
+  at_tenant P tenant low then = elim ((slice_get_cases accounts tenant).1) [
+    | inl shown ↦
+        then shown.0 (opening_at openings tenant) shown.2 (given.each tenant (opening_at openings tenant) (slice_get-get_or openings tenant None low) shown.0 shown.2)
+    | inr past ↦ absurd (omega (arith, low, past.0, given.count))
+  ]
+
+  pub are_openings : (config : Config) → AreTenants config accounts → AreOpenings config openings
+  are_openings config tenants = record {
+    one_each = given.count ∙ tenants.one_each;
+    as_long = λ tenant. elim ((slice_get_cases openings tenant).1) [
+      | inl there ↦ at_tenant (λ o. IfSome o (λ words. length words.items ≡ (tenant_at config tenant).words)) tenant there.1
+          (λ shown opening is gave. long_given shown.book opening (tenant_at config tenant).words gave (tenants.as_long tenant shown is))
+      | inr past ↦ subst (λ o. IfSome o (λ words. length words.items ≡ (tenant_at config tenant).words)) (sym (get_or_past openings tenant None past.0)) tt
+    ];
+  }
+
+  pub all_gave : (words : ℕ → List ℕ) (is_up : ℕ → Bool) → HaveWords accounts words is_up → Gave openings words is_up
+  all_gave words is_up have tenant low =
+      at_tenant (λ o. MatchOption o (is_up tenant ≡ false) (λ given. (is_up tenant ≡ true) × (given.items ≡ words tenant))) tenant low
+      (λ shown opening is gave. one_gave shown.book opening (words tenant) (is_up tenant) gave ((have tenant shown is).0) ((have tenant shown is).1))
+
+-- the tenants in memory are these
+abbrev pub AreShown : Config → List AccountInMemory → (ℕ → Account) → Type 0
+AreShown config accounts made = Each (λ tenant shown. ShowsAccount (tenant_at config tenant).words (tenant_at config tenant).quota shown (made tenant)) accounts
+
+module _ (config : Config) (accounts : List AccountInMemory) (made : ℕ → Account) (shows : AreShown config accounts made) where
+  pub are_tenants : length accounts ≡ tenants_of config → AreTenants config accounts
+  are_tenants one_each = record { one_each = one_each; as_long = λ tenant shown is. (shows tenant shown is).words_are }
+
+  pub have_words : ((tenant : ℕ) → (made tenant).is_up ≡ not (made tenant).file.has_failed) → HaveWords accounts (λ tenant. (made tenant).file.contents) (λ tenant. (made tenant).is_up)
+  have_words up tenant shown is = (sym (shows tenant shown is).book.same_contents, up tenant ∙ ap not (shows tenant shown is).book.same_failed)
+
+-- tenants as they are at first show the tenants of a new world
+pub fresh_shown : (config : Config) (accounts : List AccountInMemory) → AreFresh config.tenants.items accounts → AreShown config accounts (first_account config)
+fresh_shown config accounts are tenant shown is =
+    let low : tenant < length config.tenants.items = omega (arith, slice_get_within accounts tenant shown is, are.count) in
+    are.each tenant shown is (tenant_at config tenant) (slice_get-get_or config.tenants.items tenant no_tenant low)
+
+pub zeros_are_words : (count : ℕ) → AreWords (replicate count 0)
+zeros_are_words count = All-replicate (λ v. v ≤ MAX_VALUE) count 0 (omega arith)
+
+-- a world in memory at a start
+pub shows_start : (world : World) (made : ℕ → Account) → Tie world.cells (first_cells world.config (λ tenant. (made tenant).file.contents) (λ tenant. (made tenant).is_up))
+    → AreIdle world.config.workers world.seats.items → Recalls world.claims no_history → AreShown world.config world.accounts.items made
+    → ((tenant : ℕ) → (made tenant).is_up ≡ true → AreWords (made tenant).file.contents) → Shows world (started world.config made)
+shows_start world made tied idle recalls shows are = record {
+  tied = tied;
+  fit = first_cells_fit world.config (λ tenant. (made tenant).file.contents) (λ tenant. (made tenant).is_up) world.configured are;
+  seats = idle.each;
+  idle = λ worker past. refl;
+  homes = λ worker actor is. absurd (cc);
+  claims = recalls;
+  accounts = shows;
+}

@@ -1,0 +1,169 @@
+-- A world in memory to which one event more happens.
+use Rattle.std.specs.Prelude.{ℕ, ◌≡◌, ◌<◌, ◌==◌, ◌&&◌, ◌+◌, Bool, if◌then◌else◌, List, [], ◌∷◌, ◌++◌, length, take, slice_get, Some, None, Result, Ok, Err}
+use Rattle.std.specs.Option.{option_and_then}
+use Rattle.std.proofs.Common.{refl, sym, ap, subst, ◌∙◌, inl, inr, arith, get_or, append_assoc}
+use Rattle.std.proofs.lemmas.Bool.Decides.{nat_tests}
+use Rattle.std.proofs.lemmas.List.{append-nil, take_more}
+use Rattle.std.proofs.lemmas.Option.{slice_get_cases, slice_get_read}
+use Rattle.mw_world_file.specs.declared.faults.BookFault.{BookFault as WorldFault}
+use Rattle.mw_world_file.specs.declared.faults.BookFault.TheVariants.{NotEnabled, Memory}
+use Rattle.mw_world.specs.declared.config.Config.{Config}
+use Rattle.mw_world.specs.declared.events.Event.{Event}
+use Rattle.mw_world.specs.declared.events.Event.TheVariants.{Come as IsCome, Step as IsStep, File as IsFile, Hand as IsHand, Restart as IsRestart}
+use Rattle.mw_world.specs.declared.events.Stop.{Stop}
+use Rattle.mw_world.specs.Definition.Happenings.{Happening, Come, Step, File, Hand, Restart}
+use Rattle.mw_world.specs.Definition.Restarts.{may_all_be_found, restarted}
+use Rattle.mw_world.proofs.RunsExtend.{run-extends}
+use Rattle.mw_world.specs.Definition.State.{State, new_world, tenants_of}
+use Rattle.mw_world.specs.Definition.World.{run, step}
+use Rattle.mw_simulator.specs.declared.world.World.{World}
+use Rattle.mw_simulator.specs.Running.{AllStep, AllTell, AreTold, Cannot, CannotRestart, GoesOn, Happens, IsRefused, Stands, StandsAfter, Started, Steps, StopsAt, Tells}
+use Rattle.mw_simulator.specs.Shows.{Leads, Shows}
+
+-- What an event says has happened.
+record HasHappened (config : Config) (new : World) (state : State) (event : Event) : Type 0 where
+  happening : Happening
+  tells : Tells event happening
+  leads : Leads (step config state happening) new
+
+counted : {A : Type 0} (m n : ℕ) (b : Bool) (x y : A) → (if (m == n) && b then Some x else None) ≡ Some y → m ≡ n
+counted m n b x y e = grind (arith, nat_tests, e)
+
+-- what was found of the tenants' files is what the stops say
+all_told : (old new : World) (state : State) (stops : List Stop) (started : Started old new state stops) → AreTold stops started.founds
+all_told old new state stops started tenant lt = elim ((slice_get_cases old.accounts.items tenant).1) [
+  | inl w ↦ let found = started.found tenant w.0 w.2 in (found.same_call, found.same_failure)
+  | inr past ↦ absurd (omega (arith, past.0, lt, count, old.tenants))
+]
+  where
+    count : length started.founds ≡ tenants_of old.config
+    count = counted (length started.founds) (tenants_of old.config) (may_all_be_found old.config state started.founds (tenants_of old.config)) (restarted old.config state started.founds) started.leads.state started.leads.is
+
+has_happened : (old new : World) (state : State) (event : Event) (x : Unit {0}) → Happens old new state event (Ok x) → HasHappened old.config new state event
+has_happened old new state (IsCome worker tenant job) x leads = record { happening = Come worker tenant job; tells = refl; leads = leads }
+has_happened old new state (IsStep worker) x leads = record { happening = Step worker; tells = refl; leads = leads }
+has_happened old new state (IsFile worker outcome) x leads = record { happening = File worker outcome; tells = refl; leads = leads }
+has_happened old new state (IsHand worker) x leads = record { happening = Hand worker; tells = refl; leads = leads }
+has_happened old new state (IsRestart stops) x started =
+    record { happening = Restart started.founds; tells = (started.founds, refl, all_told old new state stops.items started); leads = started.leads }
+
+all_tell_more : (events : List Event) (happenings : List Happening) (event : Event) (happening : Happening) → AllTell events happenings → Tells event happening
+    → AllTell (events ++ event ∷ []) (happenings ++ happening ∷ [])
+all_tell_more [] [] event happening all tells = (tells, tt)
+all_tell_more [] (first ∷ happenings) event happening all tells = absurd all
+all_tell_more (first ∷ events) [] event happening all tells = absurd all
+all_tell_more (first ∷ events) (one ∷ happenings) event happening all tells = (all.0, all_tell_more events happenings event happening all.1 tells)
+
+-- the world is the one after what has happened and one thing more
+stands_more : (old new : World) (happened more : List Happening) (happening : Happening) → new.config ≡ old.config → (stands : Stands old (happened ++ more))
+    → Leads (step old.config stands.state happening) new → Stands new (happened ++ (more ++ happening ∷ []))
+stands_more old new happened more happening same stands leads = record {
+  state = leads.state;
+  runs = subst (λ config. run config (new_world config) (happened ++ (more ++ happening ∷ [])) ≡ Some leads.state) (sym same) runs_on;
+  shows = leads.shows;
+}
+  where
+    runs_on : run old.config (new_world old.config) (happened ++ (more ++ happening ∷ [])) ≡ Some leads.state
+    runs_on =
+        ap (λ all. run old.config (new_world old.config) all) (sym (append_assoc happened more (happening ∷ [])))
+        ∙ run-extends old.config (new_world old.config) (happened ++ more) happening
+        ∙ ap (λ o. option_and_then (λ next. step old.config next happening) o) stands.runs
+        ∙ leads.is
+
+-- no event has happened yet
+pub goes_nowhere : (world : World) (happened : List Happening) → Stands world happened → GoesOn world happened []
+goes_nowhere world happened stands = record { more = []; tell = tt; stands = subst (λ all. Stands world all) (sym (append-nil happened)) stands }
+
+-- one event more has happened
+pub goes_on_more : (old new : World) (happened : List Happening) (events : List Event) (event : Event) (x : Unit {0}) → new.config ≡ old.config
+    → ((state : State) → Shows old state → Happens old new state event (Ok x)) → GoesOn old happened events → GoesOn new happened (events ++ event ∷ [])
+goes_on_more old new happened events event x same happens goes =
+    let now = has_happened old new goes.stands.state event x (happens goes.stands.state goes.stands.shows) in
+    record {
+      more = goes.more ++ now.happening ∷ [];
+      tell = all_tell_more events goes.more event now.happening goes.tell now.tells;
+      stands = stands_more old new happened goes.more now.happening same goes.stands now.leads;
+    }
+
+-- an event that is refused leaves the world that was shown
+shown_still : (old new : World) (state : State) (event : Event) (fault : WorldFault) → Shows old state → Happens old new state event (Err fault) → Shows new state
+shown_still old new state (IsCome worker tenant job) NotEnabled shows ends = ends.1
+shown_still old new state (IsCome worker tenant job) Memory shows ends = ends
+shown_still old new state (IsStep worker) NotEnabled shows ends = ends.1
+shown_still old new state (IsStep worker) Memory shows ends = ends
+shown_still old new state (IsFile worker outcome) NotEnabled shows ends = ends.1
+shown_still old new state (IsFile worker outcome) Memory shows ends = ends
+shown_still old new state (IsHand worker) NotEnabled shows ends = ends.1
+shown_still old new state (IsHand worker) Memory shows ends = ends
+shown_still old new state (IsRestart stops) NotEnabled shows ends = subst (λ world. Shows world state) (sym ends.0) shows
+shown_still old new state (IsRestart stops) Memory shows ends = subst (λ world. Shows world state) (sym ends) shows
+
+-- an event that can't happen in a world of one configuration can't happen in one of the same
+none_told : (old new : World) (state : State) (happening told : Happening) → new.config ≡ old.config → step old.config state told ≡ None → happening ≡ told
+    → step new.config state happening ≡ None
+none_told old new state happening told same none is =
+    subst (λ config. step config state happening ≡ None) (sym same) (ap (λ one. step old.config state one) is ∙ none)
+
+cannot : (old new : World) (state : State) (event : Event) → new.config ≡ old.config → Happens old new state event (Err NotEnabled) → Cannot new state event
+cannot old new state (IsCome worker tenant job) same ends = λ happening is. none_told old new state happening (Come worker tenant job) same ends.0 is
+cannot old new state (IsStep worker) same ends = λ happening is. none_told old new state happening (Step worker) same ends.0 is
+cannot old new state (IsFile worker outcome) same ends = λ happening is. none_told old new state happening (File worker outcome) same ends.0 is
+cannot old new state (IsHand worker) same ends = λ happening is. none_told old new state happening (Hand worker) same ends.0 is
+cannot old new state (IsRestart stops) same ends = subst (λ world. CannotRestart world state stops.items) (sym ends.0) ends.1
+
+refused : (old new : World) (happened : List Happening) (event : Event) (fault : WorldFault) (state : State) → new.config ≡ old.config → Shows old state
+    → Happens old new state event (Err fault) → IsRefused new happened (Some event) fault
+refused old new happened event Memory state same shows ends = tt
+refused old new happened event NotEnabled state same shows ends =
+    (state, shown_still old new state event NotEnabled shows ends, cannot old new state event same ends)
+
+-- the events before one that was refused have happened
+pub stops_at : (old new : World) (happened : List Happening) (events : List Event) (index : ℕ) (event : Event) (fault : WorldFault) → new.config ≡ old.config
+    → slice_get events index ≡ Some event → index < length events
+    → ((state : State) → Shows old state → Happens old new state event (Err fault)) → GoesOn old happened (take index events) → StopsAt new happened events index fault
+stops_at old new happened events index event fault same here lt happens goes = record {
+  there = lt;
+  goes = record { more = goes.more; tell = goes.tell; stands = stands };
+  refused = subst (λ o. IsRefused new happened o fault) (sym here) (refused old new happened event fault goes.stands.state same goes.stands.shows ends);
+}
+  where
+    ends : Happens old new goes.stands.state event (Err fault)
+    ends = happens goes.stands.state goes.stands.shows
+
+    stands : Stands new (happened ++ goes.more)
+    stands = record {
+      state = goes.stands.state;
+      runs = subst (λ config. run config (new_world config) (happened ++ goes.more) ≡ Some goes.stands.state) (sym same) goes.stands.runs;
+      shows = shown_still old new goes.stands.state event fault goes.stands.shows ends;
+    }
+
+-- The world is the one after what had happened and an event, or is still the one after what had happened.
+pub stands_after : (old new : World) (happened : List Happening) (event : Event) (result : Result (Unit {0}) WorldFault) → new.config ≡ old.config
+    → ((state : State) → Shows old state → Happens old new state event result) → Stands old happened → StandsAfter new happened event result
+stands_after old new happened event (Ok x) same happens stands = goes_on_more old new happened [] event x same happens (goes_nowhere old happened stands)
+stands_after old new happened event (Err fault) same happens stands = record {
+  state = stands.state;
+  runs = subst (λ config. run config (new_world config) happened ≡ Some stands.state) (sym same) stands.runs;
+  shows = shown_still old new stands.state event fault stands.shows (happens stands.state stands.shows);
+}
+
+-- the first so many events and the next
+pub one_event_more : (world : World) (happened : List Happening) (events : List Event) (index : ℕ) (event : Event) → index < length events → event ≡ get_or events index event
+    → GoesOn world happened (take index events ++ event ∷ []) → GoesOn world happened (take (index + 1) events)
+one_event_more world happened events index event lt is goes =
+    subst (λ all. GoesOn world happened all) (ap (λ e. take index events ++ e ∷ []) is ∙ sym (take_more events index event lt)) goes
+
+-- the event that was read is the one at that index
+pub event_read : (events : List Event) (index : ℕ) (event : Event) → index < length events → event ≡ get_or events index event → slice_get events index ≡ Some event
+event_read events index event lt is = slice_get_read events (length events) index event refl lt is
+
+-- one event after those that were made
+steps_more : (old last new : World) (events : List Event) (event : Event) → AllStep old events last → Steps last event new → AllStep old (events ++ event ∷ []) new
+steps_more old last new [] event all one = (new, subst (λ world. Steps world event new) all one, refl)
+steps_more old last new (first ∷ events) event all one = (all.0, all.1, steps_more all.0 last new events event all.2 one)
+
+-- the first so many events and the next
+pub one_step_more : (old last new : World) (events : List Event) (index : ℕ) (event : Event) → index < length events → event ≡ get_or events index event → AllStep old (take index events) last
+    → Steps last event new → AllStep old (take (index + 1) events) new
+one_step_more old last new events index event lt is all one =
+    subst (λ made. AllStep old made new) (ap (λ e. take index events ++ e ∷ []) is ∙ sym (take_more events index event lt)) (steps_more old last new (take index events) event all one)

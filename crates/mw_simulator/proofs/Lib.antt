@@ -1,0 +1,17 @@
+pub mod Calling
+pub mod Coming
+pub mod Entering
+pub mod FirstBits
+pub mod FirstWorlds
+pub mod Frames
+pub mod GoingOn
+pub mod Halting
+pub mod Images
+pub mod MadeSteps
+pub mod Reopened
+pub mod Restarted
+pub mod ShownAccounts
+pub mod SoundBooks
+pub mod Turning
+pub mod Tying
+pub mod Unchanged

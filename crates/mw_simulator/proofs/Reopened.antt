@@ -1,0 +1,121 @@
+-- A tenant in memory after a start.
+use Rattle.std.specs.Prelude.{ℕ, ◌≡◌, ◌&&◌, Bool, true, false, List, [], ◌∷◌, ◌++◌, is_none, slice_get, Option, Some, Err}
+use Rattle.std.proofs.Common.{refl, sym, ap, subst, ◌∙◌, inl, inr, arith}
+use Rattle.std.proofs.lemmas.Option.{slice_get_within}
+use Rattle.mw_lone.specs.declared.marks.Mark.TheVariants.{Restart as IsRestart}
+use Rattle.mw_file.specs.Opening.{open_calls}
+use Rattle.mw_world_file.specs.declared.faults.BookFault.{BookFault as WorldFault}
+use Rattle.mw_world_file.specs.declared.faults.BookFault.TheVariants.{NotEnabled, Memory}
+use Rattle.mw_world_file.specs.Books.{quota_of}
+use Rattle.mw_world_file.specs.Devices.{disk_under}
+use Rattle.mw_world_file.specs.Reopening.{IsLeft, IsLeftOf, IsRestarted, Restarts, doubt_left, is_sealed_left, may_be_made}
+use Rattle.mw_world.specs.declared.config.Config.{Config}
+use Rattle.mw_world.specs.declared.events.Interrupted.{Interrupted}
+use Rattle.mw_world.specs.declared.events.Stop.{Stop}
+use Rattle.mw_world.specs.Definition.Restarts.{doubt_then, interrupted_request, is_sealed_then, may_fail, may_find, may_interrupt, takes, under_way}
+use Rattle.mw_world.specs.Definition.State.{State, marks_in, tenant_at}
+use Rattle.mw_simulator.specs.declared.accounts.Account.{Account as AccountInMemory}
+use Rattle.mw_simulator.specs.declared.world.halts.Halt.{Halt}
+use Rattle.mw_simulator.specs.declared.world.World.{World}
+use Rattle.mw_simulator.specs.Running.{IsFoundBy, fails_in, interrupted_in, stop_of, torn_in}
+use Rattle.mw_simulator.specs.Shows.{Shows, ShowsAccount}
+use Rattle.mw_simulator.specs.Stops.{AllReopen, IsHalted, IsReopened, Reopens}
+
+all_true : (a b c : Bool) → a ≡ true → b ≡ true → c ≡ true → (a && b && c) ≡ true
+all_true true true true a b c = refl
+all_true true true false a b c = absurd (cc)
+all_true true false z a b c = absurd (cc)
+all_true false y z a b c = absurd (cc)
+
+module _ (config : Config) (state : State) (tenant : ℕ) (shown : AccountInMemory) (interrupted : Option Interrupted) (torn : List ℕ) (fails_at : Option ℕ) (halt : Halt)
+    (words_of quota : ℕ) (same_quota : (tenant_at config tenant).quota ≡ quota)
+    (shows : ShowsAccount words_of quota shown (state.accounts tenant)) (halted : IsHalted config state tenant interrupted halt) where
+  places_are : quota_of shown.book ≡ (tenant_at config tenant).quota
+  places_are = shows.places ∙ sym same_quota
+
+  doubt_is : doubt_then (state.accounts tenant).file (under_way config state interrupted) ≡ doubt_left (state.accounts tenant).file (quota_of shown.book) halt.cut
+  doubt_is = halted.is.doubt ∙ ap (λ places. doubt_left (state.accounts tenant).file places halt.cut) (sym places_are)
+
+  sealed_is : is_sealed_then (under_way config state interrupted) ≡ is_sealed_left (state.accounts tenant).file (quota_of shown.book) halt.cut
+  sealed_is = halted.is.sealed ∙ ap (λ places. is_sealed_left (state.accounts tenant).file places halt.cut) (sym places_are)
+
+  may_is : may_interrupt config state tenant interrupted ≡ may_be_made (state.accounts tenant).file (quota_of shown.book) halt.cut
+  may_is = halted.may ∙ ap (λ places. may_be_made (state.accounts tenant).file places halt.cut) (sym places_are)
+
+  found_by : (words image : List ℕ) → IsLeft shown.book (state.accounts tenant).file halt.cut torn words image
+      → IsFoundBy shown interrupted torn fails_at (record { interrupted = interrupted; words = words; opening_calls = open_calls image; fails_at = fails_at })
+  found_by words image left = record { same_call = refl; same_failure = refl; image = image; words = left.has; calls = refl; left = subst (λ made. IsLeftOf (disk_under shown.book.device) made torn image) halted.made_so left.left }
+
+  may_have_words : (words image : List ℕ) → IsLeft shown.book (state.accounts tenant).file halt.cut torn words image
+      → may_find (is_sealed_then (under_way config state interrupted)) (state.accounts tenant).file.contents
+      (doubt_then (state.accounts tenant).file (under_way config state interrupted)) words ≡ true
+  may_have_words words image left =
+      let contents = (state.accounts tenant).file.contents in
+      let doubt = doubt_then (state.accounts tenant).file (under_way config state interrupted) in
+      ap (λ whole. may_find whole contents doubt words) sealed_is
+      ∙ ap (λ doubted. may_find (is_sealed_left (state.accounts tenant).file (quota_of shown.book) halt.cut) contents doubted words) doubt_is
+      ∙ left.found
+
+  -- the tenant after a start that went well
+  pub is_reopened : (took opened : Bool) (new : AccountInMemory) → IsRestarted shown.book (state.accounts tenant).file halt.cut torn fails_at new.book took → opened ≡ is_none fails_at
+      → new.asked ≡ shown.asked → new.lines.lines.items ≡ []
+      → new.lines.closed.items ≡ shown.lines.closed.items ++ marks_in shown.lines.lines.items ++ IsRestart halt.sealing took opened ∷ []
+      → words_of ≡ (tenant_at config tenant).words → IsReopened config state tenant interrupted torn fails_at shown new
+  is_reopened took opened new started up asked none closed long =
+      let account = state.accounts tenant in
+      let call = under_way config state interrupted in
+      let taken = started.taken ∙ ap (λ doubt. takes account.file.contents doubt started.words) (sym doubt_is) in
+      record {
+        found = record { interrupted = interrupted; words = started.words; opening_calls = open_calls started.image; fails_at = fails_at };
+        found_so = found_by started.words started.image started.left;
+        may = all_true (may_interrupt config state tenant interrupted)
+            (may_find (is_sealed_then call) account.file.contents (doubt_then account.file call) started.words)
+            (may_fail (open_calls started.image) fails_at)
+            (may_is ∙ started.left.made) (may_have_words started.words started.image started.left) started.fails;
+        shows = record {
+          book = started.shows;
+          places = started.count ∙ places_are;
+          words_are = started.long ∙ shows.words_are ∙ long;
+          asked = asked ∙ shows.asked;
+          closed = closed ∙ ap (λ marks. marks ++ marks_in shown.lines.lines.items ++ IsRestart halt.sealing took opened ∷ []) shows.closed
+              ∙ ap (λ lines. account.closed ++ marks_in lines ++ IsRestart halt.sealing took opened ∷ []) shows.lines
+              ∙ ap (λ request. account.closed ++ marks_in account.lines ++ IsRestart request took opened ∷ []) (sym halted.is.request)
+              ∙ ap (λ take. account.closed ++ marks_in account.lines ++ IsRestart (interrupted_request call) take opened ∷ []) taken
+              ∙ ap (λ was. account.closed ++ marks_in account.lines ++ IsRestart (interrupted_request call)
+              (takes account.file.contents (doubt_then account.file call) started.words) was ∷ []) up;
+          lines = none;
+        };
+      }
+
+-- a start of a tenant that was refused
+pub not_reopened : (world : World) (state : State) (tenant : ℕ) (shown : AccountInMemory) (interrupted : Option Interrupted) (torn : List ℕ) (fails_at : Option ℕ) (halt : Halt)
+    (fault : WorldFault) → slice_get world.accounts.items tenant ≡ Some shown → Shows world state → IsHalted world.config state tenant interrupted halt
+    → Restarts shown.book halt.cut torn fails_at (Err fault) → Reopens world state tenant shown interrupted torn fails_at (Err fault)
+not_reopened world state tenant shown interrupted torn fails_at halt Memory here shows halted ends = tt
+not_reopened world state tenant shown interrupted torn fails_at halt NotEnabled here shows halted ends =
+    let account = state.accounts tenant in
+    let shown_so = shows.accounts tenant shown here in
+    let config = world.config in
+    let words = (tenant_at config tenant).words in
+    let quota = (tenant_at config tenant).quota in
+    record {
+      there = omega (arith, slice_get_within world.accounts.items tenant shown here, world.tenants);
+      why = elim (ends account.file shown_so.book) [
+        | inl few ↦ inl (may_is config state tenant shown interrupted torn fails_at halt words quota refl shown_so halted ∙ few)
+        | inr cannot ↦ inr (record {
+          shown = shown;
+          is = here;
+          found = record { interrupted = interrupted; words = cannot.words; opening_calls = open_calls cannot.image; fails_at = fails_at };
+          found_so = found_by config state tenant shown interrupted torn fails_at halt words quota refl shown_so halted cannot.words cannot.image cannot.left;
+          may = may_have_words config state tenant shown interrupted torn fails_at halt words quota refl shown_so halted cannot.words cannot.image cannot.left;
+          fails = cannot.fails;
+        })
+      ];
+    }
+
+-- a start at which one tenant was refused
+pub one_refused : (world : World) (stops : List Stop) (tenant : ℕ) (shown : AccountInMemory) (fault : WorldFault)
+    → ((state : State) → Shows world state → Reopens world state tenant shown (interrupted_in (stop_of stops tenant)) (torn_in (stop_of stops tenant)) (fails_in (stop_of stops tenant)) (Err fault))
+    → AllReopen world stops (Err fault)
+one_refused world stops tenant shown Memory ends = tt
+one_refused world stops tenant shown NotEnabled ends = λ state shows. (tenant, ends state shows)

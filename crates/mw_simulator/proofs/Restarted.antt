@@ -1,0 +1,177 @@
+-- A world in memory after a start.
+use Rattle.std.specs.Prelude.{ℕ, zero, suc, ◌≡◌, ◌<◌, ◌+◌, ◌==◌, ◌&&◌, Bool, true, false, not, if◌then◌else◌, List, [], ◌∷◌, ◌++◌, is_none, is_some, length, slice_get, Option, Some, None}
+use Rattle.std.proofs.Common.{refl, sym, subst, ◌∙◌, inl, inr, arith}
+use Rattle.std.proofs.Math.Seq.{get_or-append_seam}
+use Rattle.std.proofs.lemmas.Bool.{cases_lt}
+use Rattle.std.proofs.lemmas.Bool.Decides.{nat_tests}
+use Rattle.std.proofs.lemmas.List.{get_or_append_left, get_or_past, length_push}
+use Rattle.std.proofs.lemmas.Option.{slice_get_cases, slice_get_within}
+use Rattle.mw_words.specs.Change.{AreWords}
+use Rattle.mw_record.specs.Damages.{file_words, words_of, places_of}
+use Rattle.mw_record.proofs.Sound.{are_words, words_iff}
+use Rattle.mw_world.specs.declared.config.Config.{Config}
+use Rattle.mw_world.specs.declared.events.Stop.{Stop}
+use Rattle.mw_world.specs.Definition.Happenings.{Found}
+use Rattle.mw_world.specs.Definition.History.{no_history}
+use Rattle.mw_world.specs.Definition.Restarts.{found_of, may_all_be_found, may_be_found, nothing_found, opened_file, reopened, restart, restarted, under_way}
+use Rattle.mw_world.specs.Definition.State.{Account, State, first_cells, started, tenant_at, tenants_of}
+use Rattle.mw_simulator.specs.declared.accounts.Account.{Account as AccountInMemory}
+use Rattle.mw_simulator.specs.declared.world.World.{World}
+use Rattle.mw_simulator.specs.Claims.{Recalls}
+use Rattle.mw_simulator.specs.Running.{IsFoundBy, Started, are_named, fails_in, interrupted_in, stop_of, torn_in}
+use Rattle.mw_simulator.specs.Shows.{Shows, ShowsAccount}
+use Rattle.mw_simulator.specs.Starts.{AreIdle, HaveWords}
+use Rattle.mw_simulator.specs.Stops.{AreReopened, IsReopened}
+use Rattle.mw_simulator.specs.Ties.{Tie}
+use Rattle.mw_simulator.proofs.FirstWorlds.{AreShown, have_words, shows_start, zeros_are_words}
+
+pub none_is : {A : Type 0} (o : Option A) (b : Bool) → is_some o ≡ not b → b ≡ is_none o
+none_is None true is = refl
+none_is None false is = absurd (cc)
+none_is (Some x) true is = absurd (cc)
+none_is (Some x) false is = refl
+
+guarded : {A : Type 0} (m n : ℕ) (b : Bool) (x : A) → m ≡ n → b ≡ true → (if (m == n) && b then Some x else None) ≡ Some x
+guarded m n true x same is = grind (arith, nat_tests, same)
+guarded m n false x same is = absurd (cc)
+
+both : (a b : Bool) → a ≡ true → b ≡ true → (a && b) ≡ true
+both true true a b = refl
+both true false a b = absurd (cc)
+both false b a c = absurd (cc)
+
+some_same : {A : Type 0} (o : Option A) (x y : A) → o ≡ Some x → o ≡ Some y → x ≡ y
+some_same o x y a b = cc
+
+-- what was found of each tenant's file, as one list
+pub record Gathered (P : ℕ → Found → Type 0) (count : ℕ) : Type 0 where
+  pub founds : List Found
+  pub long : length founds ≡ count
+  pub each : (k : ℕ) → k < count → P k (found_of founds k)
+
+gather : (P : ℕ → Found → Type 0) (count : ℕ) → ((k : ℕ) → k < count → (f : Found) × P k f) → Gathered P count
+gather P zero all = record { founds = []; long = refl; each = λ k lt. absurd (omega (arith, lt)) }
+gather P (suc count) all =
+    let before = gather P count (λ k lt. all k (omega (arith, lt))) in
+    let last = all count (omega arith) in
+    let founds = before.founds ++ last.0 ∷ [] in
+    let more : length before.founds + 1 ≡ suc count = omega (arith, before.long) in
+    record {
+      founds = founds;
+      long = length_push before.founds last.0 ∙ more;
+      each = λ k lt. elim (cases_lt k count) [
+        | inl low ↦
+            let within : k < length before.founds = omega (arith, low, before.long) in
+            subst (P k) (sym (get_or_append_left before.founds (last.0 ∷ []) nothing_found k within)) (before.each k low)
+        | inr past ↦
+            let same : count ≡ k = omega (arith, lt, past) in
+            let end : found_of founds count ≡ last.0 = subst (λ i. found_of founds i ≡ last.0) before.long (get_or-append_seam before.founds last.0 [] nothing_found) in
+            subst (λ i. P i (found_of founds i)) same (subst (P count) (sym end) last.1)
+      ];
+    }
+
+all_may : (config : Config) (state : State) (founds : List Found) (count : ℕ) → ((k : ℕ) → k < count → may_be_found config state k (found_of founds k) ≡ true)
+    → may_all_be_found config state founds count ≡ true
+all_may config state founds zero each = refl
+all_may config state founds (suc count) each =
+    both (may_all_be_found config state founds count) (may_be_found config state count (found_of founds count)) (all_may config state founds count (λ k lt. each k (omega (arith, lt)))) (each count (omega arith))
+
+up_is : (words : List ℕ) (fails_at : Option ℕ) → is_none fails_at ≡ not (opened_file words fails_at).has_failed
+up_is words None = refl
+up_is words (Some number) = refl
+
+opened_words : (words : List ℕ) (fails_at : Option ℕ) → AreWords words → AreWords (opened_file words fails_at).contents
+opened_words words None are = are
+opened_words words (Some number) are = are
+
+-- a file's words are values of a word
+found_words : (image words : List ℕ) → file_words image ≡ Some words → AreWords words
+found_words image words is = are_words (words_of image) (places_of image) words image ((words_iff words image).0 is)
+
+-- This was found of a tenant's file, and the tenant is reopened so.
+pub record WasFound (config : Config) (state : State) (stops : List Stop) (olds news : List AccountInMemory) (tenant : ℕ) (found : Found) : Type 0 where
+  pub by : (old : AccountInMemory) → slice_get olds tenant ≡ Some old → IsFoundBy old (interrupted_in (stop_of stops tenant)) (torn_in (stop_of stops tenant)) (fails_in (stop_of stops tenant)) found
+  pub may : may_be_found config state tenant found ≡ true
+  pub shows : (new : AccountInMemory) → slice_get news tenant ≡ Some new
+      → ShowsAccount (tenant_at config tenant).words (tenant_at config tenant).quota new (reopened (state.accounts tenant) found (under_way config state found.interrupted))
+  pub words : AreWords found.words
+
+was_found : (config : Config) (state : State) (stops : List Stop) (olds news : List AccountInMemory) (tenant : ℕ) (old new : AccountInMemory)
+    → slice_get olds tenant ≡ Some old → slice_get news tenant ≡ Some new
+    → (is : IsReopened config state tenant (interrupted_in (stop_of stops tenant)) (torn_in (stop_of stops tenant)) (fails_in (stop_of stops tenant)) old new) → WasFound config state stops olds news tenant is.found
+was_found config state stops olds news tenant old new at_old at_new is = record {
+  by = λ other at. subst (λ o. IsFoundBy o (interrupted_in (stop_of stops tenant)) (torn_in (stop_of stops tenant)) (fails_in (stop_of stops tenant)) is.found) (some_same (slice_get olds tenant) old other at_old at) is.found_so;
+  may = is.may;
+  shows = λ other at. subst (λ o. ShowsAccount (tenant_at config tenant).words (tenant_at config tenant).quota o (reopened (state.accounts tenant) is.found (under_way config state is.found.interrupted)))
+      (some_same (slice_get news tenant) new other at_new at) is.shows;
+  words = found_words is.found_so.image is.found.words is.found_so.words;
+}
+
+module _ (old : World) (state : State) (stops : List Stop) (news : List AccountInMemory) (shows : Shows old state)
+    (long : length news ≡ length old.accounts.items) (are : AreReopened old stops news) where
+  each_found : (tenant : ℕ) → tenant < tenants_of old.config → (found : Found) × WasFound old.config state stops old.accounts.items news tenant found
+  each_found tenant low = elim ((slice_get_cases old.accounts.items tenant).1) [
+    | inr past ↦ absurd (omega (arith, low, past.0, old.tenants))
+    | inl v ↦ elim ((slice_get_cases news tenant).1) [
+      | inr past ↦ absurd (omega (arith, low, past.0, old.tenants, long))
+      | inl w ↦
+          let is = are tenant w.0 w.2 v.0 v.2 state shows in
+          (is.found, was_found old.config state stops old.accounts.items news tenant v.0 w.0 v.2 w.2 is)
+    ]
+  ]
+
+-- the tenants after a start at which this was found
+abbrev pub made : Config → State → List Found → ℕ → Account
+made config state founds tenant = reopened (state.accounts tenant) (found_of founds tenant) (under_way config state (found_of founds tenant).interrupted)
+
+-- what was found of all tenants' files
+pub record AllFound (old : World) (state : State) (stops : List Stop) (news : List AccountInMemory) : Type 0 where
+  pub founds : List Found
+  pub long : length founds ≡ tenants_of old.config
+  pub each : (tenant : ℕ) → tenant < tenants_of old.config → WasFound old.config state stops old.accounts.items news tenant (found_of founds tenant)
+
+pub all_found : (old : World) (state : State) (stops : List Stop) (news : List AccountInMemory) → Shows old state → length news ≡ length old.accounts.items
+    → AreReopened old stops news → AllFound old state stops news
+all_found old state stops news shows long are =
+    let all = gather (λ tenant found. WasFound old.config state stops old.accounts.items news tenant found) (tenants_of old.config) (each_found old state stops news shows long are) in
+    record { founds = all.founds; long = all.long; each = all.each }
+
+module _ (old : World) (state : State) (stops : List Stop) (news : List AccountInMemory) (long : length news ≡ length old.accounts.items) (found : AllFound old state stops news) where
+  pub news_shown : AreShown old.config news (made old.config state found.founds)
+  news_shown tenant new at = (found.each tenant (omega (arith, slice_get_within news tenant new at, long, old.tenants))).shows new at
+
+  pub news_words : HaveWords news (λ tenant. (made old.config state found.founds tenant).file.contents) (λ tenant. (made old.config state found.founds tenant).is_up)
+  news_words = have_words old.config news (made old.config state found.founds) news_shown
+      (λ tenant. up_is (found_of found.founds tenant).words (found_of found.founds tenant).fails_at)
+
+  are_all_words : (tenant : ℕ) → AreWords (found_of found.founds tenant).words
+  are_all_words tenant = elim (cases_lt tenant (tenants_of old.config)) [
+    | inl low ↦ (found.each tenant low).words
+    | inr past ↦ subst (λ f. AreWords f.words) (sym (get_or_past found.founds tenant nothing_found (omega (arith, past, found.long)))) (zeros_are_words 0)
+  ]
+
+  restarts_to : restart old.config state found.founds ≡ Some (restarted old.config state found.founds)
+  restarts_to = guarded (length found.founds) (tenants_of old.config) (may_all_be_found old.config state found.founds (tenants_of old.config)) (restarted old.config state found.founds)
+      found.long (all_may old.config state found.founds (tenants_of old.config) (λ tenant low. (found.each tenant low).may))
+
+  -- the start went well
+  pub has_started : (new : World) → new.config ≡ old.config → are_named (tenants_of old.config) stops ≡ true → new.accounts.items ≡ news
+      → Tie new.cells (first_cells old.config (λ tenant. (made old.config state found.founds tenant).file.contents) (λ tenant. (made old.config state found.founds tenant).is_up))
+      → AreIdle old.config.workers new.seats.items → Recalls new.claims no_history → Started old new state stops
+  has_started new same named is tied idle recalls = record {
+    named = named;
+    founds = found.founds;
+    found = λ tenant shown at. (found.each tenant (omega (arith, slice_get_within old.accounts.items tenant shown at, old.tenants))).by shown at;
+    leads = record {
+      state = restarted old.config state found.founds;
+      is = restarts_to;
+      shows = subst (λ config. Shows new (started config (made old.config state found.founds))) same
+          (shows_start new (made old.config state found.founds)
+          (subst (λ config. Tie new.cells (first_cells config (λ tenant. (made old.config state found.founds tenant).file.contents) (λ tenant. (made old.config state found.founds tenant).is_up))) (sym same) tied)
+          (subst (λ config. AreIdle config.workers new.seats.items) (sym same) idle)
+          recalls
+          (subst (λ config. AreShown config new.accounts.items (made old.config state found.founds)) (sym same)
+          (subst (λ all. AreShown old.config all (made old.config state found.founds)) (sym is) news_shown))
+          (λ tenant up. opened_words (found_of found.founds tenant).words (found_of found.founds tenant).fails_at (are_all_words tenant)));
+    };
+  }

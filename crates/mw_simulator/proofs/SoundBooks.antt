@@ -1,0 +1,24 @@
+-- The tenants' books in memory show their files, whatever happens.
+use Rattle.std.specs.Prelude.{◌≡◌, List, length}
+use Rattle.std.proofs.Math.Logic.{∥∥₁_elim}
+use Rattle.std.specs.Coded.{Coded-set, coded_ℕ}
+use Rattle.mw_world_file.specs.SoundBooks.{sound_by}
+use Rattle.mw_world.specs.declared.config.Config.{Config}
+use Rattle.mw_world.specs.Definition.State.{first_account, tenant_at, tenants_of}
+use Rattle.mw_simulator.specs.declared.accounts.Account.{Account as AccountInMemory}
+use Rattle.mw_simulator.specs.Starts.{AreFresh, AreTenants}
+use Rattle.mw_simulator.specs.TenantBooks.{AreSound}
+use Rattle.mw_simulator.proofs.FirstWorlds.{fresh_shown}
+
+-- each has as many words as its tenant
+pub sound_tenants : (config : Config) (accounts : List AccountInMemory) → length accounts ≡ tenants_of config → AreSound config accounts → AreTenants config accounts
+sound_tenants config accounts one_each all = record {
+  one_each = one_each;
+  as_long = λ tenant shown is. ∥∥₁_elim (all tenant shown is) (Coded-set coded_ℕ _ _) (λ one. one.long);
+}
+
+-- new tenants' books
+pub fresh_sound : (config : Config) (accounts : List AccountInMemory) → AreFresh config.tenants.items accounts → AreSound config accounts
+fresh_sound config accounts fresh tenant shown is =
+    let one = fresh_shown config accounts fresh tenant shown is in
+    sound_by (tenant_at config tenant).words shown.book (first_account config tenant).file one.book one.words_are

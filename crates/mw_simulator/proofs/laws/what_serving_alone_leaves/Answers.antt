@@ -1,0 +1,5 @@
+use Rattle.mw_simulator.proofs.Images.{images_of_store}
+use Rattle.mw_simulator.proofs.laws.what_serving_alone_leaves.Goals as goal
+
+pub returns : goal.returns
+returns c = record { images = images_of_store }

@@ -1,0 +1,47 @@
+use Rattle.std.proofs.Common.{◌≡◌, ℕ, ap, length, get_or, subst, sym, ◌∙◌, ◌+◌, arith}
+use Rattle.std.proofs.lemmas.List.{length_push}
+use Rattle.mw_world_file.specs.SoundBooks.{HasSound}
+use Rattle.mw_world.specs.Definition.State.{State, tenant_at}
+use Rattle.mw_simulator.specs.declared.accounts.Account.{Account}
+use Rattle.mw_simulator.specs.Running.{fails_in, interrupted_in, stop_of, torn_in}
+use Rattle.mw_simulator.specs.Shows.{Shows}
+use Rattle.mw_simulator.specs.Stops.{AreReopened, IsReopened}
+use Rattle.mw_simulator.specs.TenantBooks.{AreSound}
+use Rattle.mw_simulator.proofs.Reopened.{one_refused}
+use Rattle.mw_simulator.proofs.FirstWorlds.{each_more, each_none, each_of_more}
+use Rattle.mw_simulator.proofs.world.World.all_reopened.Goals as goal
+
+pub loop-tenant-init : goal.loop-tenant-init
+loop-tenant-init c = record {
+  count = ap length c.in-Ok.ensures.items;
+  each = subst (AreReopened c.args.self.now c.args.stops.now) (sym c.in-Ok.ensures.items) (each_none _);
+  sound = subst (AreSound c.args.self.now.config) (sym c.in-Ok.ensures.items) (each_none _);
+}
+
+pub loop-tenant-preserved : goal.loop-tenant-preserved
+loop-tenant-preserved c =
+    let world = c.args.self.now in
+    let stops = c.args.stops.now in
+    let before = c.loop-tenant.accounts.items in
+    let tenant = c.loop-tenant.tenant in
+    let new = c.in-Ok-stopped.reopened in
+    let old = c.account-item.result in
+    let R : ℕ → Account → Account → Type 0 = λ k a b. (state : State) → Shows world state
+    → IsReopened world.config state k (interrupted_in (stop_of stops k)) (torn_in (stop_of stops k)) (fails_in (stop_of stops k)) a b in
+    let read = subst (λ all. old ≡ get_or all tenant old) c.deref-account-items.ensures.value c.account-item.is in
+    record {
+      count = ap length c.in-Ok-push.ensures.items ∙ length_push before new ∙ ap (λ n. n + 1) c.loop-tenant.invariant.count;
+      each = subst (AreReopened world stops) (sym c.in-Ok-push.ensures.items)
+          (each_of_more R world.accounts.items before tenant old new c.loop-tenant.invariant.count read c.in-Ok-stopped.ensures.reopens c.loop-tenant.invariant.each);
+      sound = subst (AreSound world.config) (sym c.in-Ok-push.ensures.items)
+          (each_more (λ k (one : Account). HasSound (tenant_at world.config k).words one.book) before new c.loop-tenant.invariant.sound
+          (subst (λ k. HasSound (tenant_at world.config k).words new.book) (sym c.loop-tenant.invariant.count) c.in-Ok-stopped.ensures.sound));
+    }
+
+pub returns-in-Err-clause-reopen : goal.returns-in-Err-clause-reopen
+returns-in-Err-clause-reopen c = one_refused c.args.self.now c.args.stops.now c.loop-tenant.tenant c.account-item.result c.in-Err.fault c.in-Err.ensures.reopens
+
+pub returns-clause-reopen : goal.returns-clause-reopen
+returns-clause-reopen c =
+    let done : c.loop-tenant.tenant ≡ length c.args.self.now.accounts.items = omega (arith, ap length c.deref-account-items.ensures.value, c.loop-tenant-test.false) in
+    (c.loop-tenant.invariant.count ∙ done, c.loop-tenant.invariant.each)

@@ -1,0 +1,28 @@
+-- The request is told how its call ended.
+use Rattle.std.proofs.Common.{ap, sym, subst, ◌∙◌}
+use Rattle.mw_world.specs.Definition.Calls.{called_at, calling}
+use Rattle.mw_world.specs.Definition.Extent.{has_slot}
+use Rattle.mw_simulator.specs.Ending.{Closed, called_of}
+use Rattle.mw_simulator.specs.Stepping.{HasRoom}
+use Rattle.mw_simulator.proofs.Calling.{call_ends_well, room_if, status_is_so}
+use Rattle.mw_simulator.proofs.world.World.call.Goals as goal
+
+pub tell_file-requires-clause-room : goal.tell_file-requires-clause-room
+tell_file-requires-clause-room c =
+    c.end.ensures.rest.room c.in-Some.actor.tenant
+    (subst (λ t. HasRoom c.reserve.new.self.claims c.reserve.new.self.accounts.items t) c.tenant.ensures
+    (room_if c.reserve.result _ c.reserve.ensures.room (sym c.is_err.ensures.value ∙ c.if-is_err.false)))
+
+pub returns-in-Ok-clause-ends : goal.returns-in-Ok-clause-ends
+returns-in-Ok-clause-ends c state shows =
+    let config = c.args.self.now.config in
+    let actor = c.in-Some.actor in
+    let called = called_of c.in-Some-called_at.called in
+    let status = c.in-Some-status.status in
+    let at = sym (c.in-Some-called_at.ensures ∙ ap (λ point. called_at point) c.point.ensures.is) in
+    let slot = c.in-Some-status.ensures.shown state shows in
+    let same = status_is_so (has_slot config called.change.slot) (state.cells.statuses called.change.slot) status slot in
+    let closed = subst (λ config. Closed c.end.new.self state actor.tenant (calling config state actor called c.args.outcome) c.in-Ok.ended) c.reserve.ensures.config
+    (c.in-Ok.ensures.ends state (c.reserve.ensures.shows state shows) same) in
+    call_ends_well config state c.args.worker actor (state.seats c.args.worker).actor called status c.args.outcome (c.in-Some.ensures.shown state shows) at slot
+    c.end.new.self c.tell_file.new.self c.in-Ok.ended closed (λ s shown. c.tell_file.ensures.shows s shown)

@@ -1,0 +1,15 @@
+use Rattle.std.proofs.Common.{◌≡◌, subst}
+use Rattle.std.specs.Prelude.{IfOk}
+use Rattle.mw_world.specs.Definition.State.{tenant_at}
+use Rattle.mw_simulator.proofs.ShownAccounts.{account_read, marks_shown}
+use Rattle.mw_simulator.proofs.world.World.marks.Goals as goal
+
+pub returns : goal.returns
+returns c state shows =
+    let world = c.args.self.now in
+    let tenant = c.args.tenant in
+    let shown = c.index.result.now in
+    let here = account_read world c.from.result tenant shown c.requires c.from.ensures c.index.ensures in
+    let shows_it = shows.accounts tenant shown here in
+    let is = marks_shown (tenant_at world.config tenant).words (tenant_at world.config tenant).quota shown (state.accounts tenant) shows_it in
+    subst (λ all. IfOk c.marks.result (λ marks. marks.items ≡ all)) is c.marks.ensures

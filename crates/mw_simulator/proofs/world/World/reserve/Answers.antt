@@ -1,0 +1,19 @@
+-- Room is made, and the world is what it was.
+use Rattle.std.proofs.Common.{refl, ◌<◌, length, arith}
+use Rattle.mw_simulator.proofs.Entering.{reserved, room_made}
+use Rattle.mw_simulator.proofs.world.World.reserve.Goals as goal
+
+pub returns-in_err-reserve-clause-shows : goal.returns-in_err-reserve-clause-shows
+returns-in_err-reserve-clause-shows c =
+    let there : c.from.result < length c.args.self.now.accounts.items = omega (arith, c.from.ensures, c.requires.tenant) in
+    λ state shows. reserved c.args.self.now _ state c.from.result c.index_mut.result.now c.reserve.new.self shows refl refl refl refl there c.index_mut.ensures.value c.reserve.ensures.same (λ past recalls. recalls)
+
+pub returns-clause-shows : goal.returns-clause-shows
+returns-clause-shows c =
+    let there : c.from.result < length c.args.self.now.accounts.items = omega (arith, c.from.ensures, c.requires.tenant) in
+    λ state shows. reserved c.args.self.now _ state c.from.result c.index_mut.result.now c.reserve.new.self shows refl refl refl refl there c.index_mut.ensures.value c.reserve.ensures.same c.reserve-2.ensures.keeps
+
+pub returns-clause-room : goal.returns-clause-room
+returns-clause-room c =
+    let there : c.from.result < length c.args.self.now.accounts.items = omega (arith, c.from.ensures, c.requires.tenant) in
+    room_made c.reserve-2.result c.reserve-2.new.self c.args.self.now.accounts.items c.from.result c.args.tenant _ c.from.ensures there c.in_ok-reserve.ensures.room c.reserve-2.ensures.room

@@ -1,0 +1,48 @@
+-- A world in memory, and the world as it is defined.
+use Rattle.std.specs.Prelude.{ℕ, ◌≡◌, ◌<◌, ◌≤◌, length, slice_get, Option, Some, None, Result, Ok, Err}
+use Rattle.mw_actor.specs.Acting.{Acting}
+use Rattle.mw_world_file.specs.declared.faults.BookFault.{BookFault as WorldFault}
+use Rattle.mw_world_file.specs.declared.faults.BookFault.TheVariants.{NotEnabled, Memory}
+use Rattle.mw_world_file.specs.Books.{Shows as ShowsFile, quota_of}
+use Rattle.mw_world.specs.Definition.State.{State, Account, tenant_at, tenants_of}
+use Rattle.mw_world.specs.Definition.Cells.{AllFit}
+use Rattle.mw_simulator.specs.declared.accounts.Account.{Account as AccountInMemory}
+use Rattle.mw_simulator.specs.declared.seats.Seat.{Seat as SeatInMemory}
+use Rattle.mw_simulator.specs.declared.world.World.{World}
+use Rattle.mw_simulator.specs.Claims.{Recalls}
+use Rattle.mw_simulator.specs.Seats.{seat_of}
+use Rattle.mw_simulator.specs.Ties.{Tie}
+
+-- A tenant in memory, which has so many words and such a quota, is this tenant. Whether its file opened at the last start isn't kept in memory:
+-- it is told by the run alone.
+pub record ShowsAccount (words quota : ℕ) (shown : AccountInMemory) (account : Account) : Type 0 where
+  pub book : ShowsFile shown.book account.file
+  pub places : quota_of shown.book ≡ quota
+  pub words_are : length shown.book.contents.items ≡ words
+  pub asked : shown.asked ≡ account.asked
+  pub closed : shown.lines.closed.items ≡ account.closed
+  pub lines : shown.lines.lines.items ≡ account.lines
+
+-- A world in memory is this world: the shared words in bits, the workers, the tenants, and what is known of the claims.
+pub record Shows (world : World) (state : State) : Type 0 where
+  pub tied : Tie world.cells state.cells
+  pub fit : AllFit state.cells
+  pub seats : (worker : ℕ) (seat : SeatInMemory) → slice_get world.seats.items worker ≡ Some seat → seat_of seat ≡ state.seats worker
+  pub idle : (worker : ℕ) → world.config.workers ≤ worker → (state.seats worker).actor ≡ None
+  pub homes : (worker : ℕ) (actor : Acting) → (state.seats worker).actor ≡ Some actor → actor.tenant < tenants_of world.config
+  pub claims : Recalls world.claims state.history
+  pub accounts : (tenant : ℕ) (shown : AccountInMemory) → slice_get world.accounts.items tenant ≡ Some shown
+      → ShowsAccount (tenant_at world.config tenant).words (tenant_at world.config tenant).quota shown (state.accounts tenant)
+
+-- The world after an event that can happen, and the world in memory after it.
+pub record Leads (after : Option State) (new : World) : Type 0 where
+  pub state : State
+  pub is : after ≡ Some state
+  pub shows : Shows new state
+
+-- How an event ends, by its answer: what the event makes of the world that was shown. After an error the world in memory shows what it
+-- showed, and if it isn't for want of memory, the event can't happen.
+abbrev pub Ends : World → State → Option State → Result (Unit {0}) WorldFault → Type 0
+Ends new before after (Ok x) = Leads after new
+Ends new before after (Err NotEnabled) = (after ≡ None) × Shows new before
+Ends new before after (Err Memory) = Shows new before

@@ -1,0 +1,10 @@
+//! What holds of a world in memory if every run of a world is as it is to be: a fact for proofs to cite. The
+//! function does nothing.
+ghost use Rattle.mw_world.specs.Claim.Headline.{EveryRunServesAlone};
+ghost use Rattle.mw_simulator.specs.Images.{EveryImageIsOfStore};
+
+/// If every run serves each tenant as its store alone would, each image that a crash may leave has the
+/// store's words, with the change in doubt or without.
+pub fn what_serving_alone_leaves()
+    ensures images { EveryRunServesAlone → EveryImageIsOfStore }
+{}

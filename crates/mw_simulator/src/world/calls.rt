@@ -1,0 +1,363 @@
+//! Calls on a tenant's file.
+ghost use Rattle.std.specs.Option.{option_map};
+ghost use Rattle.std.specs.Prelude.{◌≡◌, ◌≢◌, ◌<◌, ℕ, true, false, if◌then◌else◌, IfSome, IsTrue, OnErr, Option, Some, None, length, slice_get};
+ghost use Rattle.mw_words.specs.Change.{is_change};
+ghost use Rattle.mw_words.specs.Patterns.{IsStatusInRange};
+ghost use Rattle.mw_look.specs.declared.news.News.TheVariants.{Filed};
+ghost use Rattle.mw_actor.specs.Acting.{entries_of_job};
+ghost use Rattle.mw_world_file.specs.Files.{File};
+ghost use Rattle.mw_world_file.specs.SoundBooks.{HasSound};
+ghost use Rattle.mw_world.specs.Definition.Calls as calls;
+ghost use Rattle.mw_world.specs.Definition.Extent.{has_slot};
+ghost use Rattle.mw_world.specs.Definition.State.{State, tenant_at};
+ghost use Rattle.mw_simulator.specs.declared.accounts.Account.{Account};
+ghost use Rattle.mw_simulator.specs.Ending as ending;
+ghost use Rattle.mw_simulator.specs.Shows.{Ends, Shows};
+ghost use Rattle.mw_simulator.specs.Staying.{IsUnchanged, SameBooks, SameBooksBut, book_at, served_by};
+ghost use Rattle.mw_simulator.specs.Stepping as stepping;
+
+use crate::faults::WorldFault;
+use crate::world::World;
+use crate::world::turns::next_attempt;
+use mw_actor::{Actor, Point, Slot};
+use mw_look::{Call, Got, Kind, Op, Told};
+use mw_words::{At, Entries, Job, Status, copy_of, is_change};
+use mw_world::{Note, Outcome};
+use mw_world_file::Book;
+
+/// A call on a tenant's file, for a change.
+#[derive(Clone, Copy, Debug)]
+pub(crate) struct Called {
+    /// The call.
+    pub(crate) call: Call,
+    /// The change.
+    pub(crate) change: Slot,
+}
+
+/// How a call on a tenant's file ended.
+#[derive(Clone, Copy, Debug)]
+pub(crate) struct Ended {
+    /// Whether it went well.
+    went_well: bool,
+    /// What it means.
+    note: Note,
+}
+
+impl World {
+    /// The next step of a worker's request, a call on its tenant's file.
+    pub(crate) fn call(&mut self, worker: u8, outcome: Outcome) -> Result<(), WorldFault>
+        ensures config { self.new.config ≡ self.old.config }
+        ensures ends { (state : State) → Shows self.old state
+            → Ends self.new state (calls.call self.old.config state worker (state.seats worker).actor outcome) result }
+        ensures unchanged { OnErr result (IsUnchanged self.old self.new) }
+        ensures files { (tenant : ℕ) → served_by self.old worker ≢ Some tenant → book_at self.new tenant ≡ book_at self.old tenant }
+    {
+        let Some(actor) = self.actor_of(worker) else {
+            return Err(WorldFault::NotEnabled);
+        };
+        let Some(called) = called_at(actor.point()) else {
+            return Err(WorldFault::NotEnabled);
+        };
+        let Some(status) = self.status(called.change.slot) else {
+            return Err(WorldFault::NotEnabled);
+        };
+        if self.reserve(actor.tenant()).is_err() {
+            return Err(WorldFault::Memory);
+        }
+        match self.end(&actor, called, status, outcome) {
+            Ok(ended) => {
+                self.tell_file(worker, &actor, ended);
+                Ok(())
+            }
+            Err(fault) => Err(fault),
+        }
+    }
+
+    /// The status of a slot, or `None` where there is no such slot.
+    pub(crate) fn status(&self, slot: u8) -> Option<Status>
+        ensures in_range { IfSome result IsStatusInRange }
+        ensures shown { (state : State) → Shows self.now state
+            → result ≡ (if has_slot self.now.config slot then Some (state.cells.statuses slot) else None) }
+    {
+        match self.cells.get(At::Status(slot)) {
+            Some(bits) => Status::unpack(bits),
+            None => None,
+        }
+    }
+
+    /// A worker's request goes on from a call on its file that ended so. There is room for it.
+    fn tell_file(&mut self, worker: u8, actor: &Actor, ended: Ended)
+        requires worker { worker < length self.old.seats.items }
+        requires tenant { actor.now.tenant < length self.old.accounts.items }
+        requires room { stepping.HasRoom self.old.claims self.old.accounts.items actor.now.tenant }
+        ensures config { self.new.config ≡ self.old.config }
+        ensures shows { (state : State) → Shows self.old state
+            → Shows self.new (stepping.told state worker actor.now (Filed ended.went_well) ended.note) }
+        ensures files { SameBooks self.old self.new }
+    {
+        let attempt = next_attempt(actor, self.seats[usize::from(worker)].attempt);
+        let mut next = actor.copy();
+        next.tell(Told {
+            got: Got::File(ended.went_well),
+            next: attempt,
+        });
+        self.enter(worker, ended.note, next, attempt);
+    }
+
+    /// Makes a call on a tenant's file, which does nothing where the status isn't the one that it starts
+    /// from, and fails where the file failed before.
+    fn end(
+        &mut self,
+        actor: &Actor,
+        called: Called,
+        status: Status,
+        outcome: Outcome,
+    ) -> Result<Ended, WorldFault>
+        requires tenant { actor.now.tenant < length self.old.accounts.items }
+        requires in_range { IsStatusInRange status }
+        ensures rest { ending.SameButFiles self.old self.new }
+        ensures unchanged { OnErr result (self.new ≡ self.old) }
+        ensures files { SameBooksBut actor.now.tenant self.old self.new }
+        ensures ends { (state : State) → Shows self.old state → state.cells.statuses called.change.slot ≡ status
+            → ending.Closes self.new state actor.now.tenant (calls.calling self.old.config state actor.now (ending.called_of called) outcome) result }
+    {
+        if !starts_from(called.call, status) {
+            return skipped(outcome);
+        }
+        if fails_on(
+            called.call,
+            self.accounts[usize::from(actor.tenant())].book.has_failed(),
+        ) {
+            return self.refuse(actor.tenant(), outcome);
+        }
+        self.work(actor, called, status, outcome)
+    }
+
+    /// A call on a file that failed before, so that none of its device calls can fail.
+    fn refuse(&mut self, tenant: u8, outcome: Outcome) -> Result<Ended, WorldFault>
+        requires tenant { tenant < length self.old.accounts.items }
+        ensures rest { ending.SameButFiles self.old self.new }
+        ensures is { result ≡ ending.makes_none ending.refused outcome }
+        ensures files { SameBooks self.old self.new }
+        ensures unchanged { OnErr result (self.new ≡ self.old) }
+        ensures good { outcome ≡ Outcome.Good → (state : State) → Shows self.old state
+            → Shows self.new (stepping.with_cells state (ending.faulted state.cells tenant)) }
+        ensures other { (outcome ≡ Outcome.Good → ⊥) → self.new ≡ self.old }
+    {
+        match outcome {
+            Outcome::Good => {
+                self.fault(tenant);
+                Ok(Ended {
+                    went_well: false,
+                    note: Note::Nothing,
+                })
+            }
+            Outcome::Fail(_) => Err(WorldFault::NotEnabled),
+        }
+    }
+
+    /// Makes a call on a tenant's file that starts, on one that hasn't failed unless the call can't fail.
+    fn work(
+        &mut self,
+        actor: &Actor,
+        called: Called,
+        status: Status,
+        outcome: Outcome,
+    ) -> Result<Ended, WorldFault>
+        requires tenant { actor.now.tenant < length self.old.accounts.items }
+        requires in_range { IsStatusInRange status }
+        requires sound { (called.call ≡ Call.Cancel → ⊥) → (account : Account) → slice_get self.old.accounts.items actor.now.tenant ≡ Some account → account.book.has_failed ≡ false }
+        ensures rest { ending.SameButFiles self.old self.new }
+        ensures unchanged { OnErr result (self.new ≡ self.old) }
+        ensures files { SameBooksBut actor.now.tenant self.old self.new }
+        ensures ends { (state : State) → Shows self.old state → state.cells.statuses called.change.slot ≡ status
+            → calls.starts_from called.call status ≡ true → calls.fails_on called.call (state.accounts actor.now.tenant).file ≡ false
+            → ending.Closes self.new state actor.now.tenant (calls.calling self.old.config state actor.now (ending.called_of called) outcome) result }
+    {
+        let tenant = usize::from(actor.tenant());
+        let entries = entries_of(actor.job());
+        if !is_formed(called.call, self.accounts[tenant].book.words(), &entries) {
+            return Err(WorldFault::NotEnabled);
+        }
+        let book = match self.accounts[tenant].book.work(
+            self.alloc,
+            called.call,
+            called.change.slot,
+            &entries,
+            outcome,
+        ) {
+            Ok(book) => book,
+            Err(fault) => return Err(fault),
+        };
+        self.file(actor.tenant(), book);
+        Ok(self.close(actor.tenant(), called, status, outcome))
+    }
+
+    /// A tenant's file is the one of this book from now on.
+    fn file(&mut self, tenant: u8, book: Book)
+        requires tenant { tenant < length self.old.accounts.items }
+        requires sound { HasSound (tenant_at self.old.config tenant).words book }
+        ensures rest { ending.SameButFiles self.old self.new }
+        ensures others { SameBooksBut tenant self.old self.new }
+        ensures shows { (state : State) (file : File) → Shows self.old state → ending.IsBookOf self.old.config tenant book file
+            → Shows self.new (stepping.with_file state tenant file) }
+    {
+        self.accounts[usize::from(tenant)].book = book;
+    }
+
+    /// The end of a call on a tenant's file that was made, by what the device did.
+    fn close(&mut self, tenant: u8, called: Called, status: Status, outcome: Outcome) -> Ended
+        requires tenant { tenant < length self.old.accounts.items }
+        requires in_range { IsStatusInRange status }
+        ensures rest { ending.SameButFiles self.old self.new }
+        ensures is { result ≡ ending.ended called.call called.change status outcome }
+        ensures files { SameBooks self.old self.new }
+        ensures shows { (state : State) → Shows self.old state → state.cells.statuses called.change.slot ≡ status
+            → Shows self.new (stepping.with_cells state (ending.cells_closed state.cells tenant called.call called.change.slot status outcome)) }
+    {
+        match outcome {
+            Outcome::Good => {
+                let after = status_after(called.call, status);
+                self.cells.put(At::Status(called.change.slot), after.pack());
+                Ended {
+                    went_well: true,
+                    note: good_note(called, after),
+                }
+            }
+            Outcome::Fail(_) => {
+                self.fault(tenant);
+                Ended {
+                    went_well: false,
+                    note: fault_note(called),
+                }
+            }
+        }
+    }
+
+    /// A tenant's door has the fault.
+    fn fault(&mut self, tenant: u8)
+        requires tenant { tenant < length self.old.accounts.items }
+        ensures config { self.new.config ≡ self.old.config }
+        ensures seats { self.new.seats ≡ self.old.seats }
+        ensures accounts { self.new.accounts ≡ self.old.accounts }
+        ensures claims { self.new.claims ≡ self.old.claims }
+        ensures shows { (state : State) → Shows self.old state → Shows self.new (stepping.with_cells state (ending.faulted state.cells tenant)) }
+    {
+        self.cells.make(Op::Change {
+            kind: Kind::Fault,
+            at: At::Door(tenant),
+            from: 0,
+            to: 0,
+        });
+    }
+}
+
+/// The call on a file that a request comes to at a point.
+pub(crate) fn called_at(point: Point) -> Option<Called>
+    ensures { option_map ending.called_of result ≡ calls.called_at point }
+{
+    let (call, change) = match point {
+        Point::Prepare(own) => (Call::Prepare, own),
+        Point::Seal(task) => (Call::Seal, task.target),
+        Point::Settle(task) => (Call::Settle, task.target),
+        Point::Cancel(task) => (Call::Cancel, task.target),
+        _ => return None,
+    };
+    Some(Called { call, change })
+}
+
+/// Whether the status is the one that a call starts from.
+pub(crate) fn starts_from(call: Call, status: Status) -> bool
+    ensures { result ≡ calls.starts_from call status }
+{
+    matches!(
+        (call, status),
+        (Call::Prepare, Status::Draft)
+            | (Call::Seal, Status::YesDirty)
+            | (Call::Settle, Status::Yes)
+            | (Call::Cancel, Status::No { .. })
+    )
+}
+
+/// Whether a call fails on a file because the file failed before, if it did.
+fn fails_on(call: Call, has_failed: bool) -> bool
+    ensures is { (file : File) → file.has_failed ≡ has_failed → result ≡ calls.fails_on call file }
+    ensures unless { result ≡ false → (call ≡ Call.Cancel → ⊥) → has_failed ≡ false }
+{
+    match call {
+        Call::Prepare | Call::Seal | Call::Settle => has_failed,
+        Call::Cancel => false,
+    }
+}
+
+/// The entries of a request's own change. A read has none.
+pub(crate) fn entries_of(job: &Job) -> Entries
+    ensures { result.items ≡ entries_of_job job.now }
+{
+    match job {
+        Job::Get(_) => Entries::new(),
+        Job::Cas(entries) => copy_of(entries),
+    }
+}
+
+/// Whether what a call writes down is a well-formed change of a file with so many words. Only one call
+/// writes a change down.
+pub(crate) fn is_formed(call: Call, words: usize, entries: &Entries) -> bool
+    ensures is { (file : File) → length file.contents ≡ words → result ≡ calls.is_formed call file entries.now.items }
+    ensures formed { result ≡ true → call ≡ Call.Prepare → IsTrue (is_change words entries.now.items) }
+{
+    match call {
+        Call::Prepare => is_change(entries, words),
+        Call::Seal | Call::Settle | Call::Cancel => true,
+    }
+}
+
+/// The status after a call that went well, by the one that it starts from.
+fn status_after(call: Call, status: Status) -> Status
+    ensures is { result ≡ calls.status_after call status }
+    ensures in_range { IsStatusInRange status → IsStatusInRange result }
+{
+    match (call, status) {
+        (Call::Prepare, _) => Status::Open,
+        (Call::Seal, _) => Status::Yes,
+        (Call::Settle, _) => Status::DoneYes,
+        (Call::Cancel, Status::No { entry, value }) => Status::DoneNo { entry, value },
+        (Call::Cancel, _) => status,
+    }
+}
+
+/// A call that does nothing, and so no device call.
+fn skipped(outcome: Outcome) -> Result<Ended, WorldFault>
+    ensures { result ≡ ending.makes_none ending.skipped outcome }
+{
+    match outcome {
+        Outcome::Good => Ok(Ended {
+            went_well: true,
+            note: Note::Nothing,
+        }),
+        Outcome::Fail(_) => Err(WorldFault::NotEnabled),
+    }
+}
+
+/// What a call means that went well, and left this status.
+fn good_note(called: Called, status: Status) -> Note
+    ensures { result ≡ calls.good_note called.call called.change status }
+{
+    match called.call {
+        Call::Seal => Note::SealedIt(called.change),
+        _ => Note::Decided {
+            target: called.change,
+            status,
+        },
+    }
+}
+
+/// What a call means in which the device failed.
+fn fault_note(called: Called) -> Note
+    ensures { result ≡ calls.fault_note called.call called.change }
+{
+    match called.call {
+        Call::Seal => Note::FailedToSeal(called.change),
+        _ => Note::FailedFile,
+    }
+}

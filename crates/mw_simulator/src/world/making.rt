@@ -1,0 +1,106 @@
+//! New worlds.
+ghost use Rattle.std.specs.Prelude.{◌≡◌, ℕ, ◌≤◌, [], All, Bool, IfOk, List};
+ghost use Rattle.mw_world.specs.Definition.State as spec;
+ghost use Rattle.mw_world.specs.Definition.State.{IsConfig};
+ghost use Rattle.mw_simulator.specs.BitPlaces.{HasPlacesOf};
+ghost use Rattle.mw_simulator.specs.Running.{Stands};
+ghost use Rattle.mw_simulator.specs.Starts.{AreFresh, AreGiven, AreIdle, AreTenants, HaveWords, IsFresh};
+ghost use Rattle.mw_simulator.specs.Ties.{Tie};
+
+use crate::accounts::Account;
+use crate::cells::Cells;
+use crate::claims::Claims;
+use crate::lines::Lines;
+use crate::seats::Seat;
+use crate::world::World;
+use mw_words::{MAX_QUOTA, MAX_WORDS};
+use mw_world::{Config, Tenant};
+use mw_world_file::Book;
+use std::alloc::{AllocError, Global};
+
+impl World {
+    /// A new world of this configuration: no worker has a request, and each tenant's file has zeros, and
+    /// as many places as the tenant may use slots. The only error is want of memory.
+    pub fn new(alloc: Global, config: Config) -> Result<World, AllocError>
+        requires { IsConfig config }
+        ensures config { IfOk result (λ world. world.config ≡ config) }
+        ensures stands { IfOk result (λ world. Stands world []) }
+    {
+        let accounts = fresh_accounts(alloc, &config.tenants)?;
+        let cells = first_cells(alloc, &config, &accounts)?;
+        let seats = idle_seats(alloc, config.workers)?;
+        Ok(World {
+            alloc,
+            config,
+            cells,
+            seats,
+            accounts,
+            claims: Claims::new(alloc),
+        })
+    }
+}
+
+/// The tenants at first.
+fn fresh_accounts(alloc: Global, tenants: &[Tenant]) -> Result<Vec<Account>, AllocError>
+    requires words { All (λ tenant. (1 ≤ tenant.words) × (tenant.words ≤ MAX_WORDS)) tenants.now }
+    requires quotas { All (λ tenant. (1 ≤ tenant.quota) × (tenant.quota ≤ MAX_QUOTA)) tenants.now }
+    ensures { IfOk result (λ accounts. AreFresh tenants.now accounts.items) }
+{
+    let mut accounts = Vec::with_capacity(alloc, tenants.len())?;
+    for tenant in tenants {
+        accounts.push(fresh_account(alloc, tenant)?)?;
+    }
+    Ok(accounts)
+}
+
+/// A tenant at first.
+fn fresh_account(alloc: Global, tenant: &Tenant) -> Result<Account, AllocError>
+    requires words { (1 ≤ tenant.now.words) × (tenant.now.words ≤ MAX_WORDS) }
+    requires quota { (1 ≤ tenant.now.quota) × (tenant.now.quota ≤ MAX_QUOTA) }
+    ensures { IfOk result (IsFresh tenant.now) }
+{
+    let book = Book::new(alloc, tenant.words, tenant.quota)?;
+    Ok(Account {
+        book,
+        lines: Lines::new(alloc),
+        asked: 0,
+    })
+}
+
+/// Workers that have no requests.
+pub(crate) fn idle_seats(alloc: Global, workers: u8) -> Result<Vec<Seat>, AllocError>
+    ensures { IfOk result (λ seats. AreIdle workers seats.items) }
+{
+    let mut seats = Vec::with_capacity(alloc, usize::from(workers))?;
+    for _ in 0..workers {
+        seats.push(Seat::idle())?;
+    }
+    Ok(seats)
+}
+
+/// The shared words at a start, by the tenants' files: the words of each, or zeros where it has failed,
+/// and then its door has the fault.
+pub(crate) fn first_cells(
+    alloc: Global,
+    config: &Config,
+    accounts: &[Account],
+) -> Result<Cells, AllocError>
+    requires config { IsConfig config.now }
+    requires accounts { AreTenants config.now accounts.now }
+    ensures places { IfOk result (HasPlacesOf config.now) }
+    ensures tie { IfOk result (λ cells. (words : ℕ → List ℕ) (is_up : ℕ → Bool) → HaveWords accounts.now words is_up → Tie cells (spec.first_cells config.now words is_up)) }
+{
+    let openings = openings(alloc, accounts)?;
+    Cells::new(alloc, config, &openings)
+}
+
+/// What each tenant's file gives.
+fn openings(alloc: Global, accounts: &[Account]) -> Result<Vec<Option<Vec<u64>>>, AllocError>
+    ensures { IfOk result (λ openings. AreGiven accounts.now openings.items) }
+{
+    let mut openings = Vec::with_capacity(alloc, accounts.len())?;
+    for account in accounts {
+        openings.push(account.book.opening(alloc)?)?;
+    }
+    Ok(openings)
+}
