@@ -4,5 +4,4 @@ pub mod Performing
 pub mod Turning
 pub mod Ending
 pub mod Judging
-pub mod Figured
 pub mod Hearing
