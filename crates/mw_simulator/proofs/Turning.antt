@@ -10,6 +10,7 @@ use Rattle.mw_look.specs.declared.news.Got.{Got}
 use Rattle.mw_look.specs.News.{news_of}
 use Rattle.mw_look.specs.Places.{Val, pack}
 use Rattle.mw_look.specs.Steps.{Step, Load, Change, File, op_of, place, place_of}
+use Rattle.mw_actor.specs.declared.points.Point.{Point}
 use Rattle.mw_actor.specs.Acting.{Acting}
 use Rattle.mw_actor.specs.Asks.{asks}
 use Rattle.mw_actor.specs.Program.{replied, tells}
@@ -98,6 +99,12 @@ told_with new state worker actor next news note means attempt is_attempt is_next
     (ap (λ n. entered state worker actor next note n) is_attempt ∙ ap (λ a. entered state worker actor a note number) same
     ∙ ap (λ m. entered state worker actor (tells actor news number) m number) is_note)
     shows
+
+-- what a step meant, by what it was told and by the point after it
+pub meant : (actor : Acting) (news said : News) (after point : Point) (note : Note) → note ≡ note_of actor actor.point said point → said ≡ news → point ≡ after
+    → note ≡ note_of actor actor.point news after
+meant actor news said after point note is same there =
+    subst (λ n. note ≡ note_of actor actor.point n after) same (subst (λ p. note ≡ note_of actor actor.point said p) there is)
 
 pub told_so : (new : World) (state : State) (worker : ℕ) (actor next : Acting) (news : News) (note : Note) (attempt : ℕ) → attempt ≡ attempt_after state worker actor
     → next ≡ tells actor news attempt → note ≡ note_of actor actor.point news next.point
