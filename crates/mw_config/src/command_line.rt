@@ -138,13 +138,15 @@ fn add_sizes<'a>(alloc: Global, command: Command<'a>) -> Result<Command<'a>, All
 
 /// The command with the options that say where sessions come from.
 fn add_sources<'a>(alloc: Global, command: Command<'a>) -> Result<Command<'a>, AllocError> {
-    let listen = text(alloc, "listen", "ADDR")
-        .help("where to wait for connections, each of them a session");
+    let listen = text(alloc, "listen", "ADDR").help(
+        "where to wait for connections, each of them a session",
+    );
     let connections = number(alloc, "connections", "C", u64::from(MAX_CONNECTIONS)).help(
         "after how many connections to end, 1 to 1000000; without it, never",
     );
-    let script = text(alloc, "script", "FILE")
-        .help("the lines of one session, in place of connections");
+    let script = text(alloc, "script", "FILE").help(
+        "the lines of one session, in place of connections",
+    );
     command.arg(listen)?.arg(connections)?.arg(script)
 }
 
