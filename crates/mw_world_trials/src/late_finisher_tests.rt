@@ -3,7 +3,7 @@
 ghost use Rattle.std.specs.Prelude.{◌≡◌, ◌<◌, length};
 ghost use Rattle.mw_world.specs.Definition.State.{IsConfig};
 
-use super::*;
+use crate::judge::{Disagreement, TrialFault};
 use arrayvec::ArrayVec;
 use mw_lone::Lone;
 use mw_look::{Kind, Op};

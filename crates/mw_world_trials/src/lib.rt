@@ -4,19 +4,19 @@
 //! handed out, and have the words that the world has after each start.
 #![tactic(auto)]
 
+#[cfg(test)]
 mod dice;
-mod jobs;
-mod judge;
-mod trial;
-
-pub use judge::{Disagreement, TrialFault};
-pub use trial::{Tally, play};
-
 #[cfg(test)]
 mod example_marks_tests;
+#[cfg(test)]
+mod jobs;
+#[cfg(test)]
+mod judge;
 #[cfg(test)]
 mod late_finisher_tests;
 #[cfg(test)]
 mod schedule_tests;
 #[cfg(test)]
 mod tests;
+#[cfg(test)]
+mod trial;

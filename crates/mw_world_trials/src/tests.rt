@@ -1,6 +1,6 @@
 //! Ten thousand trials.
 
-use super::*;
+use crate::trial::play;
 use std::test::Fail;
 
 /// How many trials there are.
