@@ -18,7 +18,6 @@ use Rattle.mw_world.specs.Definition.Happenings.{Found}
 use Rattle.mw_world.specs.Claim.Invariant.{IsOfWorker}
 use Rattle.mw_world.specs.Definition.Restarts.{restart, restarted, reopened, found_of, under_way, may_all_be_found}
 use Rattle.mw_world.specs.Definition.Requests.{came, gave}
-use Rattle.mw_world.specs.declared.config.TheConstants.{MOST_REQUESTS}
 use Rattle.mw_words.specs.Change.{is_well_formed}
 use Rattle.mw_world.specs.Definition.State.{State, Account, started, idle_seat, tenant_at, tenants_of}
 use Rattle.mw_world.specs.Definition.World.{come, may_come, begun, hand, handed}
@@ -78,12 +77,11 @@ record AllHold (there known free formed : Bool) : Type 0 where
   pub is_free : free ≡ true
   pub is_formed : formed ≡ true
 
-all_hold : (there known free numbered formed : Bool) → (there && known && free && numbered && formed) ≡ true → AllHold there known free formed
-all_hold true true true true formed is = record { is_there = refl; is_known = refl; is_free = refl; is_formed = is }
-all_hold true true true false formed is = absurd (grind (arith, is))
-all_hold true true false numbered formed is = absurd (grind (arith, is))
-all_hold true false free numbered formed is = absurd (grind (arith, is))
-all_hold false known free numbered formed is = absurd (grind (arith, is))
+all_hold : (there known free formed : Bool) → (there && known && free && formed) ≡ true → AllHold there known free formed
+all_hold true true true formed is = record { is_there = refl; is_known = refl; is_free = refl; is_formed = is }
+all_hold true true false formed is = absurd (grind (arith, is))
+all_hold true false free formed is = absurd (grind (arith, is))
+all_hold false known free formed is = absurd (grind (arith, is))
 
 below : (n limit : ℕ) → nat_lt n limit ≡ true → n < limit
 below n limit is = grind (arith, nat_tests, is)
@@ -113,7 +111,7 @@ come_keeps config state worker tenant job next stand e =
     guarded (CountsStand config) (may_come config state worker tenant job) (came config state worker tenant job) next
     (λ may.
     let tests : AllHold (nat_lt worker config.workers) (nat_lt tenant (tenants_of config)) (is_none (state.seats worker).actor) (is_well_formed (tenant_at config tenant).words job) =
-    all_hold (nat_lt worker config.workers) (nat_lt tenant (tenants_of config)) (is_none (state.seats worker).actor) (nat_lt (state.accounts tenant).asked MOST_REQUESTS)
+    all_hold (nat_lt worker config.workers) (nat_lt tenant (tenants_of config)) (is_none (state.seats worker).actor)
     (is_well_formed (tenant_at config tenant).words job) may in
     came_stands config state worker tenant job stand (below worker config.workers tests.is_there) (below tenant (tenants_of config) tests.is_known) tests.is_formed
     (is_idle (state.seats worker).actor tests.is_free)) e

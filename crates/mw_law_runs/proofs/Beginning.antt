@@ -99,12 +99,11 @@ record MayCome (there known free formed : Bool) : Type 0 where
   pub is_free : free ≡ true
   pub is_formed : formed ≡ true
 
-all_hold : (there known free numbered formed : Bool) → (there && known && free && numbered && formed) ≡ true → MayCome there known free formed
-all_hold true true true true formed is = record { is_there = refl; is_known = refl; is_free = refl; is_formed = is }
-all_hold true true true false formed is = absurd (grind (arith, is))
-all_hold true true false numbered formed is = absurd (grind (arith, is))
-all_hold true false free numbered formed is = absurd (grind (arith, is))
-all_hold false known free numbered formed is = absurd (grind (arith, is))
+all_hold : (there known free formed : Bool) → (there && known && free && formed) ≡ true → MayCome there known free formed
+all_hold true true true formed is = record { is_there = refl; is_known = refl; is_free = refl; is_formed = is }
+all_hold true true false formed is = absurd (grind (arith, is))
+all_hold true false free formed is = absurd (grind (arith, is))
+all_hold false known free formed is = absurd (grind (arith, is))
 
 is_idle : (found : Option Acting) → is_none found ≡ true → found ≡ None
 is_idle None is = refl
@@ -120,7 +119,7 @@ begins state worker tenant quota pool (Cas entries) range = record { in_range = 
 
 module _ (config : Config) (state : State) (worker tenant : ℕ) (job : Job) (is_config : IsConfig config) (sound : IsSound config state) (may : may_come config state worker tenant job ≡ true) where
   tells : MayCome (nat_lt worker config.workers) (nat_lt tenant (tenants_of config)) (is_none (state.seats worker).actor) (is_well_formed (tenant_at config tenant).words job)
-  tells = all_hold (nat_lt worker config.workers) (nat_lt tenant (tenants_of config)) (is_none (state.seats worker).actor) _ _ may
+  tells = all_hold (nat_lt worker config.workers) (nat_lt tenant (tenants_of config)) (is_none (state.seats worker).actor) _ may
 
   known : tenant < tenants_of config
   known = below tenant (tenants_of config) tells.is_known

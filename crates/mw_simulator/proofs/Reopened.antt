@@ -4,7 +4,7 @@ use Rattle.std.proofs.Common.{refl, sym, ap, subst, ◌∙◌, inl, inr, arith}
 use Rattle.std.proofs.lemmas.Option.{slice_get_within}
 use Rattle.mw_lone.specs.declared.marks.Mark.TheVariants.{Restart as IsRestart}
 use Rattle.mw_file.specs.Opening.{open_calls}
-use Rattle.mw_world_file.specs.declared.faults.BookFault.{BookFault as WorldFault}
+use Rattle.mw_world_file.specs.declared.faults.BookFault.{BookFault}
 use Rattle.mw_world_file.specs.declared.faults.BookFault.TheVariants.{NotEnabled, Memory}
 use Rattle.mw_world_file.specs.Books.{quota_of}
 use Rattle.mw_world_file.specs.Devices.{disk_under}
@@ -89,7 +89,7 @@ module _ (config : Config) (state : State) (tenant : ℕ) (shown : AccountInMemo
 
 -- a start of a tenant that was refused
 pub not_reopened : (world : World) (state : State) (tenant : ℕ) (shown : AccountInMemory) (interrupted : Option Interrupted) (torn : List ℕ) (fails_at : Option ℕ) (halt : Halt)
-    (fault : WorldFault) → slice_get world.accounts.items tenant ≡ Some shown → Shows world state → IsHalted world.config state tenant interrupted halt
+    (fault : BookFault) → slice_get world.accounts.items tenant ≡ Some shown → Shows world state → IsHalted world.config state tenant interrupted halt
     → Restarts shown.book halt.cut torn fails_at (Err fault) → Reopens world state tenant shown interrupted torn fails_at (Err fault)
 not_reopened world state tenant shown interrupted torn fails_at halt Memory here shows halted ends = tt
 not_reopened world state tenant shown interrupted torn fails_at halt NotEnabled here shows halted ends =
@@ -114,7 +114,7 @@ not_reopened world state tenant shown interrupted torn fails_at halt NotEnabled 
     }
 
 -- a start at which one tenant was refused
-pub one_refused : (world : World) (stops : List Stop) (tenant : ℕ) (shown : AccountInMemory) (fault : WorldFault)
+pub one_refused : (world : World) (stops : List Stop) (tenant : ℕ) (shown : AccountInMemory) (fault : BookFault)
     → ((state : State) → Shows world state → Reopens world state tenant shown (interrupted_in (stop_of stops tenant)) (torn_in (stop_of stops tenant)) (fails_in (stop_of stops tenant)) (Err fault))
     → AllReopen world stops (Err fault)
 one_refused world stops tenant shown Memory ends = tt

@@ -8,7 +8,7 @@ use Rattle.mw_look.specs.declared.news.News.TheVariants.{Filed}
 use Rattle.mw_actor.specs.declared.points.Slot.{Slot}
 use Rattle.mw_world_file.specs.declared.outcomes.Outcome.{Outcome}
 use Rattle.mw_world_file.specs.declared.outcomes.Outcome.TheVariants.{Good, Fail}
-use Rattle.mw_world_file.specs.declared.faults.BookFault.{BookFault as WorldFault}
+use Rattle.mw_world_file.specs.declared.faults.BookFault.{BookFault}
 use Rattle.mw_world_file.specs.declared.faults.BookFault.TheVariants.{NotEnabled, Memory}
 use Rattle.mw_world_file.specs.declared.kept.Book.{Book}
 use Rattle.mw_world_file.specs.Books.{Shows as ShowsFile, quota_of}
@@ -43,7 +43,7 @@ is_good Good = true
 is_good (Fail number) = false
 
 -- a call that makes no device call ends so: none can fail
-abbrev pub makes_none : Ended → Outcome → Result Ended WorldFault
+abbrev pub makes_none : Ended → Outcome → Result Ended BookFault
 makes_none ended Good = Ok ended
 makes_none ended (Fail number) = Err NotEnabled
 
@@ -93,7 +93,7 @@ pub record Closed (new : World) (before : State) (tenant : ℕ) (found : Option 
 
 -- How a call ends, by its answer. After an error the world in memory shows what it showed, and if it isn't for want of memory, the call
 -- can't end so.
-abbrev pub Closes : World → State → ℕ → Option Made → Result Ended WorldFault → Type 0
+abbrev pub Closes : World → State → ℕ → Option Made → Result Ended BookFault → Type 0
 Closes new before tenant found (Ok end) = Closed new before tenant found end
 Closes new before tenant found (Err NotEnabled) = (found ≡ None) × Shows new before
 Closes new before tenant found (Err Memory) = Shows new before

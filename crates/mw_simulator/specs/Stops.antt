@@ -4,7 +4,7 @@ use Rattle.std.specs.declared.alloc.Global.{Global}
 use Rattle.mw_look.specs.declared.steps.Call.{Call}
 use Rattle.mw_look.specs.declared.steps.Call.TheVariants.{Seal as SealCall}
 use Rattle.mw_actor.specs.Acting.{Acting}
-use Rattle.mw_world_file.specs.declared.faults.BookFault.{BookFault as WorldFault}
+use Rattle.mw_world_file.specs.declared.faults.BookFault.{BookFault}
 use Rattle.mw_world_file.specs.declared.faults.BookFault.TheVariants.{NotEnabled, Memory}
 use Rattle.mw_world_file.specs.Files.{File}
 use Rattle.mw_world_file.specs.Reopening.{doubt_left, is_sealed_left, made_of, may_be_made}
@@ -63,7 +63,7 @@ pub record IsReopened (config : Config) (state : State) (tenant : ℕ) (interrup
   pub shows : ShowsAccount (tenant_at config tenant).words (tenant_at config tenant).quota new (reopened (state.accounts tenant) found (under_way config state found.interrupted))
 
 -- how a tenant is reopened, by the answer
-abbrev pub Reopens : World → State → ℕ → AccountInMemory → Option Interrupted → List ℕ → Option ℕ → Result AccountInMemory WorldFault → Type 0
+abbrev pub Reopens : World → State → ℕ → AccountInMemory → Option Interrupted → List ℕ → Option ℕ → Result AccountInMemory BookFault → Type 0
 Reopens world state tenant shown interrupted torn fails_at (Ok new) = IsReopened world.config state tenant interrupted torn fails_at shown new
 Reopens world state tenant shown interrupted torn fails_at (Err NotEnabled) = CannotStop world state tenant interrupted torn fails_at
 Reopens world state tenant shown interrupted torn fails_at (Err Memory) = Unit {0}
@@ -74,7 +74,7 @@ AreReopened world stops news = EachOf (λ tenant old new. (state : State) → Sh
     → IsReopened world.config state tenant (interrupted_in (stop_of stops tenant)) (torn_in (stop_of stops tenant)) (fails_in (stop_of stops tenant)) old new) world.accounts.items news
 
 -- how all tenants are reopened, by the answer
-abbrev pub AllReopen : World → List Stop → Result (Vec AccountInMemory Global) WorldFault → Type 0
+abbrev pub AllReopen : World → List Stop → Result (Vec AccountInMemory Global) BookFault → Type 0
 AllReopen world stops (Ok news) = (length news.items ≡ length world.accounts.items) × AreReopened world stops news.items
 AllReopen world stops (Err NotEnabled) = (state : State) → Shows world state
     → (tenant : ℕ) × CannotStop world state tenant (interrupted_in (stop_of stops tenant)) (torn_in (stop_of stops tenant)) (fails_in (stop_of stops tenant))

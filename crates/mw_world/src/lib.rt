@@ -15,7 +15,7 @@ mod events;
 mod laws;
 mod notes;
 
-pub use config::{Config, MOST_REQUESTS, Tenant};
+pub use config::{Config, Tenant};
 pub use events::{Event, Interrupted, Outcome, Stop};
 pub use laws::{
     new_worlds_keep_the_invariant, places_are_apart, runs_come_out, runs_extend,
