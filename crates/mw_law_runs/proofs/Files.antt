@@ -102,7 +102,7 @@ module _ (config : Config) (state : State) (fit : FilesFit state) where
       by_called : (called : Option Called) → CallFits (option_map (stopped_call config state actor made) called)
       by_called None = tt
       by_called (Some called) =
-          (fit actor.tenant).places (place_for called.call (state.accounts actor.tenant).file (tenant_at config actor.tenant).quota called.change.slot)
+          (fit actor.tenant).places (place_for called.call (state.accounts actor.tenant).file (state.accounts actor.tenant).quota called.change.slot)
 
   under_way_fits : (interrupted : Option Interrupted) → CallFits (under_way config state interrupted)
   under_way_fits None = tt

@@ -136,7 +136,7 @@ module _ (config : Config) (state next : State) (actor : Acting) (called : Calle
   stepped : OneStepped state next actor.worker later_actor
   stepped =
       let file = (state.accounts actor.tenant).file in
-      let places = (tenant_at config actor.tenant).quota in
+      let places = (state.accounts actor.tenant).quota in
       let status = state.cells.statuses called.change.slot in
       let place = place_for called.call file places called.change.slot in
       ended state actor.worker actor (starts_from called.call status) (fails_on called.call file) (can_be_made called.call file places place (own_entries actor))

@@ -116,7 +116,7 @@ module _ (config : Config) (state : State) (actor : Acting) (called : Called) (s
   file_then = (state.accounts actor.tenant).file
 
   abbrev places_then : ℕ
-  places_then = (tenant_at config actor.tenant).quota
+  places_then = (state.accounts actor.tenant).quota
 
   abbrev place_then : ℕ
   place_then = place_for called.call file_then places_then called.change.slot
@@ -256,7 +256,7 @@ room_if (Err e) P room ok = absurd (cc)
 pub refiled : (old new : World) (state : State) (tenant place : ℕ) (shown : AccountInMemory) (book : Book) (file : File)
     → Shows old state → new.config ≡ old.config → new.cells ≡ old.cells → new.seats ≡ old.seats → new.claims ≡ old.claims
     → place ≡ tenant → tenant < length old.accounts.items → shown ≡ slice_index_or old.accounts.items place shown
-    → new.accounts.items ≡ slice_set old.accounts.items place (record shown { book = book }) → IsBookOf old.config tenant book file
+    → new.accounts.items ≡ slice_set old.accounts.items place (record shown { book = book }) → IsBookOf old.config state tenant book file
     → Shows new (with_file state tenant file)
 refiled old new state tenant place shown book file shows config cells seats claims at there is accounts of = record {
   tied = subst (λ bits. Tie bits state.cells) (sym cells) shows.tied;
@@ -268,7 +268,7 @@ refiled old new state tenant place shown book file shows config cells seats clai
   accounts = subst (λ (c : Config). ShowsAccounts c new.accounts.items (upd state.accounts tenant after)) (sym config)
       (subst (λ kept. ShowsAccounts old.config kept (upd state.accounts tenant after)) (sym (accounts ∙ ap (λ i. slice_set old.accounts.items i (record shown { book = book })) at))
       (accounts_set old.config old.accounts.items state.accounts tenant (record shown { book = book }) after there
-      (record { book = of.shows; places = of.places; words_are = of.words; asked = one.asked; closed = one.closed; lines = one.lines }) shows.accounts));
+      (record { book = of.shows; quota = one.quota; places = of.places; words_are = of.words; asked = one.asked; closed = one.closed; lines = one.lines }) shows.accounts));
 }
   where
     after : Account

@@ -35,6 +35,12 @@ pub asked_at : (world : World) (state : State) (place tenant : ℕ) (shown : Acc
 asked_at world state place tenant shown shows at there is =
     (shows.accounts tenant shown (element world.accounts.items tenant shown there (subst (λ i. shown ≡ slice_index_or world.accounts.items i shown) at is))).asked
 
+-- and its quota
+pub quota_at : (world : World) (state : State) (place tenant : ℕ) (shown : AccountInMemory) → Shows world state → place ≡ tenant → tenant < length world.accounts.items
+    → shown ≡ slice_index_or world.accounts.items place shown → shown.quota ≡ (state.accounts tenant).quota
+quota_at world state place tenant shown shows at there is =
+    (shows.accounts tenant shown (element world.accounts.items tenant shown there (subst (λ i. shown ≡ slice_index_or world.accounts.items i shown) at is))).quota
+
 -- the first step of a request, and a job that is well formed, by the tenant that was looked up
 pub first_so : (actor : Acting) (worker tenant quota other pool : ℕ) (job same : Job) → actor ≡ first worker tenant quota pool job → quota ≡ other → job ≡ same
     → actor ≡ first worker tenant other pool same

@@ -31,10 +31,10 @@ use Rattle.mw_simulator.specs.Stepping.{HasRoom, with_cells, with_file}
 abbrev pub called_of : CalledInMemory → Called
 called_of called = record { call = called.call; change = called.change }
 
--- the book of a tenant's file, with as many words and places as the tenant has
-pub record IsBookOf (config : Config) (tenant : ℕ) (book : Book) (file : File) : Type 0 where
+-- the book of a tenant's file, with as many words as the tenant has, and as many places as it may use slots
+pub record IsBookOf (config : Config) (state : State) (tenant : ℕ) (book : Book) (file : File) : Type 0 where
   pub shows : ShowsFile book file
-  pub places : quota_of book ≡ (tenant_at config tenant).quota
+  pub places : quota_of book ≡ (state.accounts tenant).quota
   pub words : length book.contents.items ≡ (tenant_at config tenant).words
 
 -- no device call fails

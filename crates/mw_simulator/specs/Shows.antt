@@ -14,11 +14,12 @@ use Rattle.mw_simulator.specs.Claims.{Recalls}
 use Rattle.mw_simulator.specs.Seats.{seat_of}
 use Rattle.mw_simulator.specs.Ties.{Tie}
 
--- A tenant in memory, which has so many words and such a quota, is this tenant. Whether its file opened at the last start isn't kept in memory:
+-- A tenant in memory, which has so many words, is this tenant. Whether its file opened at the last start isn't kept in memory:
 -- it is told by the run alone.
-pub record ShowsAccount (words quota : ℕ) (shown : AccountInMemory) (account : Account) : Type 0 where
+pub record ShowsAccount (words : ℕ) (shown : AccountInMemory) (account : Account) : Type 0 where
   pub book : ShowsFile shown.book account.file
-  pub places : quota_of shown.book ≡ quota
+  pub quota : shown.quota ≡ account.quota
+  pub places : quota_of shown.book ≡ account.quota
   pub words_are : length shown.book.contents.items ≡ words
   pub asked : shown.asked ≡ account.asked
   pub closed : shown.lines.closed.items ≡ account.closed
@@ -33,7 +34,7 @@ pub record Shows (world : World) (state : State) : Type 0 where
   pub homes : (worker : ℕ) (actor : Acting) → (state.seats worker).actor ≡ Some actor → actor.tenant < tenants_of world.config
   pub claims : Recalls world.claims state.history
   pub accounts : (tenant : ℕ) (shown : AccountInMemory) → slice_get world.accounts.items tenant ≡ Some shown
-      → ShowsAccount (tenant_at world.config tenant).words (tenant_at world.config tenant).quota shown (state.accounts tenant)
+      → ShowsAccount (tenant_at world.config tenant).words shown (state.accounts tenant)
 
 -- The world after an event that can happen, and the world in memory after it.
 pub record Leads (after : Option State) (new : World) : Type 0 where

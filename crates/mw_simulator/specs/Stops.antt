@@ -35,8 +35,8 @@ pub record IsOf (file : File) (places : ℕ) (call : Option UnderWay) (halt : Ha
 
 -- This is what a call left that a request had come to, of which so many device calls were made.
 pub record IsCut (config : Config) (state : State) (actor : Acting) (called : Called) (made : ℕ) (halt : Halt) : Type 0 where
-  pub may : nat_le made (stopped_call config state actor made called).calls ≡ may_be_made (state.accounts actor.tenant).file (tenant_at config actor.tenant).quota halt.cut
-  pub is : IsOf (state.accounts actor.tenant).file (tenant_at config actor.tenant).quota (Some (stopped_call config state actor made called)) halt
+  pub may : nat_le made (stopped_call config state actor made called).calls ≡ may_be_made (state.accounts actor.tenant).file (state.accounts actor.tenant).quota halt.cut
+  pub is : IsOf (state.accounts actor.tenant).file (state.accounts actor.tenant).quota (Some (stopped_call config state actor made called)) halt
   pub made_so : made_of halt.cut ≡ made
 
 -- the same, or the call doesn't make so many
@@ -46,8 +46,8 @@ Cuts config state actor called made None = nat_le made (stopped_call config stat
 
 -- This was under way on a tenant's file.
 pub record IsHalted (config : Config) (state : State) (tenant : ℕ) (interrupted : Option Interrupted) (halt : Halt) : Type 0 where
-  pub may : may_interrupt config state tenant interrupted ≡ may_be_made (state.accounts tenant).file (tenant_at config tenant).quota halt.cut
-  pub is : IsOf (state.accounts tenant).file (tenant_at config tenant).quota (under_way config state interrupted) halt
+  pub may : may_interrupt config state tenant interrupted ≡ may_be_made (state.accounts tenant).file (state.accounts tenant).quota halt.cut
+  pub is : IsOf (state.accounts tenant).file (state.accounts tenant).quota (under_way config state interrupted) halt
   pub made_so : made_of halt.cut ≡ made_in interrupted
 
 -- the same, or nothing can have been under way so
@@ -60,7 +60,7 @@ pub record IsReopened (config : Config) (state : State) (tenant : ℕ) (interrup
   pub found : Found
   pub found_so : IsFoundBy old interrupted torn fails_at found
   pub may : may_be_found config state tenant found ≡ true
-  pub shows : ShowsAccount (tenant_at config tenant).words (tenant_at config tenant).quota new (reopened (state.accounts tenant) found (under_way config state found.interrupted))
+  pub shows : ShowsAccount (tenant_at config tenant).words new (reopened (state.accounts tenant) found (under_way config state found.interrupted))
 
 -- how a tenant is reopened, by the answer
 abbrev pub Reopens : World → State → ℕ → AccountInMemory → Option Interrupted → List ℕ → Option ℕ → Result AccountInMemory BookFault → Type 0

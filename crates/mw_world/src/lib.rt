@@ -18,7 +18,7 @@ mod notes;
 pub use config::{Config, Tenant};
 pub use events::{Event, Interrupted, Outcome, Stop};
 pub use laws::{
-    new_worlds_keep_the_invariant, places_are_apart, runs_come_out, runs_extend,
+    new_worlds_start, places_are_apart, runs_come_out, runs_extend, starts_keep_the_invariant,
     what_serving_alone_gives,
 };
 pub use notes::{Note, Phase};

@@ -199,7 +199,7 @@ impl World {
         requires sound { HasSound (tenant_at self.old.config tenant).words book }
         ensures rest { ending.SameButFiles self.old self.new }
         ensures others { SameBooksBut tenant self.old self.new }
-        ensures shows { (state : State) (file : File) → Shows self.old state → ending.IsBookOf self.old.config tenant book file
+        ensures shows { (state : State) (file : File) → Shows self.old state → ending.IsBookOf self.old.config state tenant book file
             → Shows self.new (stepping.with_file state tenant file) }
     {
         self.accounts[usize::from(tenant)].book = book;

@@ -124,6 +124,7 @@ impl World {
         lines.reopen(closed);
         Ok(Account {
             book,
+            quota: account.quota,
             lines,
             asked: account.asked,
         })

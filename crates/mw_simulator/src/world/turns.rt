@@ -88,9 +88,8 @@ impl World {
             → Shows self.new (came self.old.config state worker tenant job.now) }
         ensures files { SameBooks self.old self.new }
     {
-        let quota = self.config.tenants[usize::from(tenant)].quota;
-        let actor = Actor::new(worker, tenant, quota, self.config.pool, job.copy());
         let account = &mut self.accounts[usize::from(tenant)];
+        let actor = Actor::new(worker, tenant, account.quota, self.config.pool, job.copy());
         account.lines.more(Some(Mark::Ask(request, job.copy())));
         account.asked = request + 1;
         let seat = &mut self.seats[usize::from(worker)];

@@ -18,22 +18,22 @@ use Rattle.mw_world.specs.Definition.Counting.{pins_held, frees_at, waits_for, o
 use Rattle.mw_world.specs.Definition.History.{History, Resting, Stands, Idle, Armed, has, new, standing_at, arm_at}
 use Rattle.mw_world.specs.Definition.Logical.{logical}
 use Rattle.mw_world.specs.Claim.Owing.{IsEntryAt, IsOwed, IsOwner, IsCleaner}
-use Rattle.mw_world.specs.Definition.State.{State, Account, tenant_at, tenants_of}
+use Rattle.mw_world.specs.Definition.State.{State, Account, QuotasFit, quotas_of, tenant_at, tenants_of}
 
 -- Requests.
 
--- The request of a worker of the world is this worker's, of one of its tenants, under that one's quota, and asks for what the tenant may ask for.
+-- The request of a worker of the world is this worker's, of one of its tenants, and asks for what the tenant may ask for.
 pub record IsOfWorker (config : Config) (worker : ℕ) (actor : Acting) : Type 0 where
   pub there : worker < config.workers
   pub same_worker : actor.worker ≡ worker
   pub tenant : actor.tenant < tenants_of config
-  pub quota : actor.quota ≡ (tenant_at config actor.tenant).quota
   pub pool : actor.pool ≡ config.pool
   pub job : is_well_formed (tenant_at config actor.tenant).words actor.job ≡ true
 
--- Each request is its worker's, and what its worker may do is told by where the request is; an idle worker may do nothing.
+-- Each request is its worker's, under its tenant's quota, and what its worker may do is told by where the request is; an idle worker may do nothing.
 pub record RequestsAreTheirWorkers (config : Config) (state : State) : Type 0 where
   pub seats : (worker : ℕ) (actor : Acting) → (state.seats worker).actor ≡ Some actor → IsOfWorker config worker actor
+  pub quotas : (worker : ℕ) (actor : Acting) → (state.seats worker).actor ≡ Some actor → actor.quota ≡ (state.accounts actor.tenant).quota
   pub standing : (worker : ℕ) (actor : Acting) → (state.seats worker).actor ≡ Some actor → state.history.standing worker ≡ standing_at actor actor.point
   pub arm : (worker : ℕ) (actor : Acting) → (state.seats worker).actor ≡ Some actor → state.history.arm worker ≡ arm_at actor actor.point
   pub idle : (worker : ℕ) → (state.seats worker).actor ≡ None → (state.history.standing worker ≡ Resting) × (state.history.arm worker ≡ Idle)
@@ -260,7 +260,7 @@ pub record IsPlaceOf (state : State) (tenant place : ℕ) : Type 0 where
 
 -- Each change that is in its tenant's file is in a place of its own there, prepared or sealed by its status; no other place is in use.
 pub record ChangesHavePlaces (config : Config) (state : State) : Type 0 where
-  pub within : (tenant slot : ℕ) → IsInFile state tenant slot → (state.accounts tenant).file.place_of slot < (tenant_at config tenant).quota
+  pub within : (tenant slot : ℕ) → IsInFile state tenant slot → (state.accounts tenant).file.place_of slot < (state.accounts tenant).quota
   pub there : (tenant slot : ℕ) → IsInFile state tenant slot
       → (state.accounts tenant).file.places ((state.accounts tenant).file.place_of slot)
       ≡ placed (state.history.fate slot (state.cells.gates slot).seq) (state.history.change slot (state.cells.gates slot).seq)
@@ -271,7 +271,8 @@ pub record ChangesHavePlaces (config : Config) (state : State) : Type 0 where
 -- Counts.
 
 -- A gate counts the pins that requests hold and the one that was left behind; a slot that is taken and has no pin is to be freed by just one
--- request. A door counts the slots that are taken for the tenant and those that its requests are to take or have freed, no more than the quota.
+-- request. A door counts the slots that are taken for the tenant and those that its requests are to take or have freed, no more than the quota; and
+-- the quotas fit.
 pub record CountsAreRight (config : Config) (state : State) : Type 0 where
   pub pins : (slot : ℕ) → (state.cells.gates slot).pins
       ≡ over_workers (λ actor. pins_held slot actor.point) state.seats config.workers + (if state.history.stays slot (state.cells.gates slot).seq then 1 else 0)
@@ -280,7 +281,8 @@ pub record CountsAreRight (config : Config) (state : State) : Type 0 where
       ≡ (if (state.cells.gates slot).taken && ((state.cells.gates slot).pins == 0) then 1 else 0)
   pub doors : (tenant : ℕ) → tenant < tenants_of config → (state.cells.doors tenant).used
       ≡ slots_taken_for state tenant config.pool + over_workers (waits_for tenant) state.seats config.workers
-  pub quotas : (tenant : ℕ) → tenant < tenants_of config → (state.cells.doors tenant).used ≤ (tenant_at config tenant).quota
+  pub quotas : (tenant : ℕ) → tenant < tenants_of config → (state.cells.doors tenant).used ≤ (state.accounts tenant).quota
+  pub limits : QuotasFit config (quotas_of state)
 
 -- All of this, by its subject. References, attempts, late finishers, owed words and the sealed changes of a file are what no step of a
 -- late worker may harm; the rest is what they stand on.

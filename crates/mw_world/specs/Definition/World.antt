@@ -34,7 +34,7 @@ abbrev pub come : Config → State → ℕ → ℕ → Job → Option State
 come config state worker tenant job =
     if may_come config state worker tenant job
     then Some (record state {
-      seats = upd state.seats worker (begun (state.seats worker) (first worker tenant (tenant_at config tenant).quota config.pool job) (state.accounts tenant).asked);
+      seats = upd state.seats worker (begun (state.seats worker) (first worker tenant (state.accounts tenant).quota config.pool job) (state.accounts tenant).asked);
       accounts = upd state.accounts tenant (asked (state.accounts tenant) job);
     })
     else None
