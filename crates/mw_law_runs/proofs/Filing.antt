@@ -163,7 +163,7 @@ module _ (config : Config) (state next : State) (actor : Acting) (called : Calle
       }
 
   -- a call changes no gate
-  gates_stay : (slot : ℕ) → StaysTaken state next slot
+  pub gates_stay : (slot : ℕ) → StaysTaken state next slot
   gates_stay slot = gates_same state next (ap (λ (cells : Cells). cells.gates) same.cells ∙ call_gates state actor.worker actor called (state.cells.statuses called.change.slot) (starts_from called.call (state.cells.statuses called.change.slot)) (fails_on called.call (state.accounts actor.tenant).file) outcome) slot
 
   pub call_keeps : IsSound config next

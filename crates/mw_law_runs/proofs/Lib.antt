@@ -11,5 +11,6 @@ pub mod Ranging
 pub mod Running
 pub mod Seating
 pub mod Sharing
+pub mod ShortRuns
 pub mod Tests
 pub mod Turning

@@ -1,4 +1,5 @@
 //! What holds of sound worlds: facts for proofs to cite. The functions do nothing.
+ghost use Rattle.mw_world.specs.Claim.Headline.{ShortRunsHaveNumbers};
 ghost use Rattle.mw_law_runs.specs.Laws.{CallsKeepSound, ComesKeepSound, CountsHaveRest, EventsKeepSound, HandsKeepSound, RestartsKeepSound, RoomIsLeft, RunsAreSound, SoundWorldsAreRight, StartsAreSound, TurnsKeepSound};
 ghost use Rattle.mw_law_runs.specs.Owing.{CallsKeepOwed, LastPinsAreFree, OwedWordsAreOwed, StepsKeepOwed};
 
@@ -58,6 +59,12 @@ pub fn hands_keep_sound()
 pub fn starts_are_sound()
     ensures first { StartsAreSound }
     ensures again { RestartsKeepSound }
+{}
+
+/// A run that has fewer events than there are numbers from the first one on has numbers left at every moment:
+/// an event raises the number of a slot, or of a worker's next attempt, by one at the most.
+pub fn short_runs_have_numbers()
+    ensures { ShortRunsHaveNumbers }
 {}
 
 /// Every event leaves a sound world sound, and its files with words that fit, if they had such before it and
