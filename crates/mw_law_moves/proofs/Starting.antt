@@ -24,7 +24,7 @@ first_fit config accounts is fit (New slot entry) = grind (arith, nat_tests)
 
 pub starts_have_memory : StartsHaveMemory
 starts_have_memory config accounts is fit = record {
-  claims = grind (arith, nat_tests);
+  claims = grind (arith, nat_tests, is.pool);
   slots = grind (arith, nat_tests);
   references = grind (arith, nat_tests);
   attempts = grind (arith, nat_tests);

@@ -16,8 +16,8 @@ module _ (config : Config) (openings : ℕ → Opening) where
   requests : RequestsAreTheirWorkers config (world_at config openings)
   requests = grind (arith, nat_tests)
 
-  claims : ChangesClaimTheirSlots config (world_at config openings)
-  claims = grind (arith, nat_tests)
+  claims : IsConfig config → ChangesClaimTheirSlots config (world_at config openings)
+  claims made = grind (arith, nat_tests, made.pool)
 
   slots : SlotsTellTheirChanges (world_at config openings)
   slots = grind (arith, nat_tests)
@@ -70,10 +70,10 @@ counts config openings is = record {
   limits = is.quotas;
 }
 
-pub first_invariant : (config : Config) (openings : ℕ → Opening) → IsStart config openings → Invariant config (world_at config openings)
-first_invariant config openings is = record {
+pub first_invariant : (config : Config) (openings : ℕ → Opening) → IsConfig config → IsStart config openings → Invariant config (world_at config openings)
+first_invariant config openings made is = record {
   requests = requests config openings;
-  claims = claims config openings;
+  claims = claims config openings made;
   slots = slots config openings;
   references = references config openings;
   attempts = attempts config openings;

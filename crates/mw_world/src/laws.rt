@@ -25,7 +25,7 @@ pub fn runs_come_out()
 
 /// What is to hold at every moment of a run holds where it begins: at every start of a server's tenants.
 pub fn starts_keep_the_invariant()
-    ensures { (config : Config) (openings : ℕ → Opening) → IsStart config openings → Invariant config (world_at config openings) }
+    ensures { (config : Config) (openings : ℕ → Opening) → IsConfig config → IsStart config openings → Invariant config (world_at config openings) }
 {}
 
 /// A new world, of a configuration of which one can be made, is a world at a start.

@@ -41,7 +41,7 @@ pub record RequestsAreTheirWorkers (config : Config) (state : State) : Type 0 wh
 -- Changes and their slots.
 
 -- A slot is taken for a change that claimed it, a well-formed one of its tenant; the slot's earlier changes have lower numbers. What was never
--- claimed is a draft.
+-- claimed is a draft. A slot that was claimed, or that a row names, is one of the pool.
 pub record ChangesClaimTheirSlots (config : Config) (state : State) : Type 0 where
   pub there : (slot : ℕ) → (state.cells.gates slot).taken ≡ true → slot < config.pool
   pub claimed : (slot : ℕ) → (state.cells.gates slot).taken ≡ true → state.history.is_born slot (state.cells.gates slot).seq ≡ true
@@ -50,6 +50,8 @@ pub record ChangesClaimTheirSlots (config : Config) (state : State) : Type 0 whe
   pub formed : (slot seq : ℕ) → state.history.is_born slot seq ≡ true
       → (state.history.tenant slot seq < tenants_of config) × (is_change (tenant_at config (state.history.tenant slot seq)).words (state.history.change slot seq) ≡ true)
   pub unclaimed : (slot seq : ℕ) → state.history.is_born slot seq ≡ false → state.history.fate slot seq ≡ Draft
+  pub born : (slot seq : ℕ) → state.history.is_born slot seq ≡ true → slot < config.pool
+  pub rows : (worker : ℕ) → (state.cells.rows worker).slot < config.pool
 
 -- What stands at the places of a slot's entry is this entry.
 pub record IsEntryOf (cells : Cells) (slot index : ℕ) (entry : Entry) : Type 0 where
