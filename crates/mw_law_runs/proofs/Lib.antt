@@ -1,4 +1,5 @@
 pub mod Beginning
+pub mod Callers
 pub mod Carrying
 pub mod Ending
 pub mod Files

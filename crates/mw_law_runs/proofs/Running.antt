@@ -25,6 +25,7 @@ use Rattle.mw_law_runs.specs.Files.{AreEntries, FileFits, FilesFit}
 use Rattle.mw_law_runs.specs.Laws.{EventsKeepSound, RoomIsLeft, RunsAreSound, SoundWorldsAreRight}
 use Rattle.mw_law_runs.specs.Sound.{IsSound}
 use Rattle.mw_law_runs.proofs.Beginning.{comes_keep_sound, hands_keep_sound, starts_are_sound, restarts_keep_sound}
+use Rattle.mw_law_runs.proofs.Callers.{of_caller}
 use Rattle.mw_law_runs.proofs.Ending.{same_file, turn_ends}
 use Rattle.mw_law_runs.proofs.Files.{all_found, called_fits, new_fits, opened_fits, own_fit, words_fit}
 use Rattle.mw_law_runs.proofs.Filing.{calls_keep_sound}
@@ -34,7 +35,7 @@ use Rattle.mw_law_runs.proofs.Turning.{turns_keep_sound}
 
 pub sound_worlds_are_right : SoundWorldsAreRight
 sound_worlds_are_right config state sound = record {
-  requests = record { seats = sound.counts.seats; quotas = sound.counts.quotas; standing = sound.points.standing; arm = sound.points.arm; idle = sound.points.idle };
+  requests = record { seats = sound.counts.seats; quotas = sound.counts.quotas; calls = λ worker actor called sits at. of_caller config state worker actor called sound sits at; standing = sound.points.standing; arm = sound.points.arm; idle = sound.points.idle };
   claims = sound.memory.claims;
   slots = sound.memory.slots;
   references = sound.memory.references;

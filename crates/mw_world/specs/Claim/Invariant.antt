@@ -8,11 +8,13 @@ use Rattle.mw_words.specs.declared.statuses.Status.{Status}
 use Rattle.mw_words.specs.declared.statuses.Status.TheVariants.{Draft, Open, YesDirty, Yes, No, DoneYes, DoneNo}
 use Rattle.mw_words.specs.declared.words.Word.TheVariants.{Planted, Held, Dirty}
 use Rattle.mw_words.specs.Change.{word_at, is_change, is_well_formed}
+use Rattle.mw_actor.specs.declared.points.Slot.{Slot}
 use Rattle.mw_actor.specs.Acting.{Acting, entry_at}
 use Rattle.mw_world_file.specs.Files.{File, Place, Empty, Prepared, Sealed, is_empty, is_sealed, entries_at, share_a_word}
 use Rattle.mw_world.specs.declared.config.Config.{Config}
 use Rattle.mw_world.specs.declared.notes.Phase.{Phase}
 use Rattle.mw_world.specs.declared.notes.Phase.TheVariants.{Fresh, Keeping, Inked, Gone}
+use Rattle.mw_world.specs.Definition.Calls.{Called, called_at}
 use Rattle.mw_world.specs.Definition.Cells.{Cells}
 use Rattle.mw_world.specs.Definition.Counting.{pins_held, frees_at, waits_for, over_workers, slots_taken_for}
 use Rattle.mw_world.specs.Definition.History.{History, Resting, Stands, Idle, Armed, has, new, standing_at, arm_at}
@@ -22,6 +24,14 @@ use Rattle.mw_world.specs.Definition.State.{State, Account, QuotasFit, quotas_of
 
 -- Requests.
 
+-- the gate is taken and pinned
+abbrev pub IsPinned : Gate → Type 0
+IsPinned gate = (gate.taken ≡ true) × (1 ≤ gate.pins)
+
+-- the same, under this sequence number
+abbrev pub IsPinnedAs : ℕ → Gate → Type 0
+IsPinnedAs seq gate = IsPinned gate × (gate.seq ≡ seq)
+
 -- The request of a worker of the world is this worker's, of one of its tenants, and asks for what the tenant may ask for.
 pub record IsOfWorker (config : Config) (worker : ℕ) (actor : Acting) : Type 0 where
   pub there : worker < config.workers
@@ -30,10 +40,17 @@ pub record IsOfWorker (config : Config) (worker : ℕ) (actor : Acting) : Type 0
   pub pool : actor.pool ≡ config.pool
   pub job : is_well_formed (tenant_at config actor.tenant).words actor.job ≡ true
 
+-- The change of a call on a file is one of this tenant, and its slot is taken for it and pinned.
+pub record IsOfCaller (state : State) (tenant : ℕ) (change : Slot) : Type 0 where
+  pub pinned : IsPinnedAs change.seq (state.cells.gates change.slot)
+  pub same_tenant : state.history.tenant change.slot change.seq ≡ tenant
+
 -- Each request is its worker's, under its tenant's quota, and what its worker may do is told by where the request is; an idle worker may do nothing.
+-- A request that has come to a call on its file holds the slot of the call's change, which is one of its tenant.
 pub record RequestsAreTheirWorkers (config : Config) (state : State) : Type 0 where
   pub seats : (worker : ℕ) (actor : Acting) → (state.seats worker).actor ≡ Some actor → IsOfWorker config worker actor
   pub quotas : (worker : ℕ) (actor : Acting) → (state.seats worker).actor ≡ Some actor → actor.quota ≡ (state.accounts actor.tenant).quota
+  pub calls : (worker : ℕ) (actor : Acting) (called : Called) → (state.seats worker).actor ≡ Some actor → called_at actor.point ≡ Some called → IsOfCaller state actor.tenant called.change
   pub standing : (worker : ℕ) (actor : Acting) → (state.seats worker).actor ≡ Some actor → state.history.standing worker ≡ standing_at actor actor.point
   pub arm : (worker : ℕ) (actor : Acting) → (state.seats worker).actor ≡ Some actor → state.history.arm worker ≡ arm_at actor actor.point
   pub idle : (worker : ℕ) → (state.seats worker).actor ≡ None → (state.history.standing worker ≡ Resting) × (state.history.arm worker ≡ Idle)
@@ -70,14 +87,6 @@ pub record SlotsTellTheirChanges (state : State) : Type 0 where
       → IsEntryOf state.cells slot index (entry_at (state.history.change slot (state.cells.gates slot).seq) index)
 
 -- References.
-
--- the gate is taken and pinned
-abbrev pub IsPinned : Gate → Type 0
-IsPinned gate = (gate.taken ≡ true) × (1 ≤ gate.pins)
-
--- the same, under this sequence number
-abbrev pub IsPinnedAs : ℕ → Gate → Type 0
-IsPinnedAs seq gate = IsPinned gate × (gate.seq ≡ seq)
 
 -- A change of this tenant that is no draft has an entry of the word.
 pub record HasWord (past : History) (tenant address slot seq : ℕ) : Type 0 where
