@@ -7,7 +7,8 @@
 //! what may happen; `World` has each event and whole runs, by `Turns` and `Changes` (a step on a shared
 //! word), `Calls` (a call on a file), `Restarts`, and `Notes` and `Noting` (what a step means for the
 //! marks and the history). Then `specs/Claim`: `Headline` is what is to hold of every run, `Invariant` and
-//! `Owing` what is kept on the way, `Examples` runs that come out by computation.
+//! `Owing` what is kept on the way, `Lawful` what running threads will ask of every run, `Examples` runs that
+//! come out by computation.
 #![tactic(auto)]
 
 mod config;
