@@ -1,6 +1,6 @@
 -- A request that has come to a call on its file holds the slot of the call's change, which is one of its tenant.
 use Rattle.std.specs.Prelude.{ℕ, ◌≡◌, ◌≤◌, Some}
-use Rattle.std.proofs.Common.{refl, sym, subst, arith}
+use Rattle.std.proofs.Common.{refl, subst, arith}
 use Rattle.mw_actor.specs.declared.points.Point.{Point}
 use Rattle.mw_actor.specs.declared.points.Point.TheVariants.{Prepare, Seal, Settle, Cancel}
 use Rattle.mw_actor.specs.declared.points.Slot.{Slot}

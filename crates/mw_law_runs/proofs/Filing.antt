@@ -19,7 +19,7 @@ use Rattle.mw_world.specs.Definition.Cells.{Cells}
 use Rattle.mw_world.specs.declared.notes.Note.TheVariants.{Nothing}
 use Rattle.mw_world.specs.Definition.Extent.{has_slot}
 use Rattle.mw_world.specs.Definition.Happenings.{File as FileEvent}
-use Rattle.mw_world.specs.Definition.State.{State, Seat, tenant_at}
+use Rattle.mw_world.specs.Definition.State.{State, Seat}
 use Rattle.mw_world.specs.Definition.Turns.{Made, moved, next_attempt}
 use Rattle.mw_law_moves.specs.Guards.{Guards}
 use Rattle.mw_law_moves.specs.Memory.{Memory}

@@ -1,9 +1,7 @@
 -- Every run of a new world leads to a sound one.
-use Rattle.std.specs.Prelude.{ℕ, ◌≡◌, ◌==◌, ◌&&◌, true, List, [], ◌∷◌, length, replicate, Option, Some, None}
+use Rattle.std.specs.Prelude.{ℕ, ◌≡◌, ◌==◌, ◌&&◌, true, List, [], ◌∷◌, length, Option, Some, None}
 use Rattle.std.specs.Option.{option_and_then}
-use Rattle.std.proofs.Common.{refl, sym, subst, arith}
-use Rattle.std.proofs.lemmas.Bool.Decides.{nat_tests}
-use Rattle.std.proofs.lemmas.List.{get_or-replicate, length-replicate}
+use Rattle.std.proofs.Common.{refl, sym, subst}
 use Rattle.mw_words.specs.declared.jobs.Job.{Job}
 use Rattle.mw_words.specs.declared.replies.Reply.{Reply}
 use Rattle.mw_words.specs.Change.{AreWords}
@@ -27,7 +25,7 @@ use Rattle.mw_law_runs.specs.Sound.{IsSound}
 use Rattle.mw_law_runs.proofs.Beginning.{comes_keep_sound, hands_keep_sound, starts_are_sound, restarts_keep_sound}
 use Rattle.mw_law_runs.proofs.Callers.{of_caller}
 use Rattle.mw_law_runs.proofs.Ending.{same_file, turn_ends}
-use Rattle.mw_law_runs.proofs.Files.{all_found, called_fits, new_fits, opened_fits, own_fit, words_fit}
+use Rattle.mw_law_runs.proofs.Files.{all_found, called_fits, opened_fits, own_fit, words_fit}
 use Rattle.mw_law_runs.proofs.Filing.{calls_keep_sound}
 use Rattle.mw_law_runs.proofs.Seating.{are_seated}
 use Rattle.mw_law_runs.proofs.Tests.{first_holds, guarded, if_slot, second_holds}

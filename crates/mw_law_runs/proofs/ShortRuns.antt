@@ -1,5 +1,5 @@
 -- A run that has fewer events than there are numbers has numbers left: an event raises a slot's number, or the number of a worker's next attempt, by one at the most.
-use Rattle.std.specs.Prelude.{ℕ, ◌≡◌, ◌≢◌, ◌<◌, ◌≤◌, ◌⊎◌, ◌+◌, ◌==◌, ◌&&◌, ◌++◌, Bool, true, false, not, cond, is_some, List, [], ◌∷◌, length, if◌then◌else◌, Option, Some, None}
+use Rattle.std.specs.Prelude.{ℕ, ◌≡◌, ◌<◌, ◌≤◌, ◌⊎◌, ◌+◌, ◌==◌, ◌&&◌, ◌++◌, Bool, true, false, not, cond, is_some, List, [], ◌∷◌, length, if◌then◌else◌, Option, Some, None}
 use Rattle.std.specs.Option.{option_and_then}
 use Rattle.std.proofs.Common.{refl, sym, ap, subst, ◌∙◌, inl, inr, arith}
 use Rattle.std.proofs.lemmas.Bool.Decides.{nat_tests}
@@ -22,14 +22,14 @@ use Rattle.mw_actor.specs.Program.{replied}
 use Rattle.mw_world_file.specs.declared.outcomes.Outcome.{Outcome}
 use Rattle.mw_world_file.specs.Maps.{upd}
 use Rattle.mw_world.specs.declared.config.Config.{Config}
-use Rattle.mw_world.specs.Claim.Headline.{HasNumbers, IsPlayed, ShortRunsHaveNumbers}
+use Rattle.mw_world.specs.Claim.Headline.{ShortRunsHaveNumbers}
 use Rattle.mw_world.specs.Definition.Calls.{Called, call, call_if, called_at, calling, moved_if}
 use Rattle.mw_world.specs.Definition.Cells.{Cells, read, write}
 use Rattle.mw_world.specs.Definition.Changes.{Shape, Exchange, Store, Fetch, shape_of, changed, done}
 use Rattle.mw_world.specs.Definition.Counting.{frees_at}
 use Rattle.mw_world.specs.Definition.Extent.{has_slot}
-use Rattle.mw_world.specs.Definition.Happenings.{Happening, Come, Step as StepEvent, File as FileEvent, Hand, Restart, Found}
-use Rattle.mw_world.specs.Definition.Restarts.{restart, restarted, may_all_be_found}
+use Rattle.mw_world.specs.Definition.Happenings.{Happening, Come, Step as StepEvent, File as FileEvent, Hand, Restart}
+use Rattle.mw_world.specs.Definition.Restarts.{restarted, may_all_be_found}
 use Rattle.mw_world.specs.Definition.State.{State, Seat, IsConfig, tenants_of, world_at}
 use Rattle.mw_world.specs.Definition.Turns.{Made, turn, turned, may_make, moved, made_of, next_attempt}
 use Rattle.mw_world.specs.Definition.World.{run, step}

@@ -1,6 +1,6 @@
 -- What is to hold of every run holds where it begins, and a new world is one of those worlds.
-use Rattle.std.specs.Prelude.{◌≤◌, ◌<◌, ◌+◌, if◌then◌else◌, List, [], ◌∷◌, length, replicate, slice_index_or, sum_by}
-use Rattle.std.proofs.Common.{◌≡◌, ℕ, zero, suc, refl, subst, sym, arith, true}
+use Rattle.std.specs.Prelude.{◌+◌, if◌then◌else◌, List, [], ◌∷◌, length, replicate, slice_index_or, sum_by}
+use Rattle.std.proofs.Common.{◌≡◌, ℕ, zero, suc, refl, subst, sym, arith}
 use Rattle.std.proofs.lemmas.Bool.Decides.{nat_tests}
 use Rattle.std.proofs.lemmas.List.{get_or-replicate, length-replicate}
 use Rattle.std.proofs.lemmas.List.Sums.{sum_by-cons}
@@ -10,7 +10,7 @@ use Rattle.mw_world.specs.declared.config.Config.{Config}
 use Rattle.mw_world.specs.declared.config.Tenant.{Tenant}
 use Rattle.mw_world.specs.Definition.Counting.{pins_held, frees_at, waits_for, over_workers, slots_taken_for}
 use Rattle.mw_world.specs.Claim.Invariant.{Invariant, RequestsAreTheirWorkers, ChangesClaimTheirSlots, SlotsTellTheirChanges, ReferencesArePinned, AttemptsAreTheirWorkers, WordsFollowTheirChanges, LateFinishersLose, HeldWordsAreOwed, FilesAreTold, ChangesHavePlaces, CountsAreRight}
-use Rattle.mw_world.specs.Definition.State.{IsConfig, IsStart, Opening, first_openings, idle_seat, no_tenant, quotas_together, tenant_at, tenants_of, world_at}
+use Rattle.mw_world.specs.Definition.State.{IsConfig, IsStart, Opening, first_openings, idle_seat, no_tenant, quotas_together, tenant_at, world_at}
 
 module _ (config : Config) (openings : ℕ → Opening) where
   requests : RequestsAreTheirWorkers config (world_at config openings)
