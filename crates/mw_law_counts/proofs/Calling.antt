@@ -18,7 +18,7 @@ use Rattle.mw_world.specs.Definition.Extent.{has_slot}
 use Rattle.mw_world_file.specs.Files.{File}
 use Rattle.mw_world_file.specs.Maps.{upd}
 use Rattle.mw_world.specs.Definition.Noting.{noted}
-use Rattle.mw_world.specs.Definition.State.{State, tenant_at}
+use Rattle.mw_world.specs.Definition.State.{State}
 use Rattle.mw_world.specs.Definition.Turns.{Made, moved}
 use Rattle.mw_law_counts.specs.Standing.{CountsStand}
 use Rattle.mw_law_counts.proofs.Points.{IsQuiet}
@@ -108,7 +108,7 @@ module _ (config : Config) (state : State) (worker : ℕ) (stand : CountsStand c
   where_there actor called outcome false next is is_quiet e = absurd (none_some next e)
   where_there actor called outcome true next is is_quiet e =
       let file : File = (state.accounts actor.tenant).file in
-      let places : ℕ = (tenant_at config actor.tenant).quota in
+      let places : ℕ = (state.accounts actor.tenant).quota in
       let status : Status = state.cells.statuses called.change.slot in
       let place : ℕ = place_for called.call file places called.change.slot in
       after_call actor (calling config state actor called outcome) next is is_quiet

@@ -130,14 +130,14 @@ module _ (config : Config) (state later : State) (stand : CountsStand config sta
   })
 
   -- a change is admitted: its tenant's door counts a slot more
-  pub admits : (from to : Door) → state.cells.doors own ≡ from → Admits (tenant_at config own).quota from to
+  pub admits : (from to : Door) → state.cells.doors own ≡ from → Admits (state.accounts own).quota from to
       → ((slot : ℕ) → later.cells.gates slot ≡ state.cells.gates slot) → later.cells.doors own ≡ to
       → ((tenant : ℕ) → tenant ≢ own → later.cells.doors tenant ≡ state.cells.doors tenant)
       → ((slot seq : ℕ) → later.history.stays slot seq ≡ state.history.stays slot seq) → ((slot seq : ℕ) → later.history.tenant slot seq ≡ state.history.tenant slot seq)
       → Shifts config state later own (λ slot. 0) (λ slot. 0) (λ slot. 0) (λ slot. 0) 0 1
   admits from to found allowed gates here elsewhere stays tenants =
       let one_more : (later.cells.doors own).used ≡ (state.cells.doors own).used + 1 = ap (λ d. d.used) here ∙ allowed.one_more ∙ ap (λ d. d.used + 1) (sym found) in
-      let below : (state.cells.doors own).used < (tenant_at config own).quota = subst (λ d. d.used < (tenant_at config own).quota) (sym found) allowed.was_below_quota in
+      let below : (state.cells.doors own).used < (state.accounts own).quota = subst (λ d. d.used < (state.accounts own).quota) (sym found) allowed.was_below_quota in
       of_door config state later own (λ slot. 0) (λ slot. 0) (λ slot. 0) (λ slot. 0) 0 1 stand (record {
         gates = gates;
         stays = stays;
@@ -149,7 +149,7 @@ module _ (config : Config) (state later : State) (stand : CountsStand config sta
           | inr apart ↦ omega (arith, ap (λ d. d.used) (elsewhere tenant apart), none_of own tenant, none_else own tenant apart)
         ];
         quotas = λ tenant low. elim (cases_eq tenant own) [
-          | inl e ↦ omega (arith, ap (λ t. (later.cells.doors t).used) e, ap (λ t. (tenant_at config t).quota) e, one_more, below)
+          | inl e ↦ omega (arith, ap (λ t. (later.cells.doors t).used) e, ap (λ t. (state.accounts t).quota) e, one_more, below)
           | inr apart ↦ omega (arith, ap (λ d. d.used) (elsewhere tenant apart), stand.counts.quotas tenant low)
         ];
       })

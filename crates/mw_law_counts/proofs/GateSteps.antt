@@ -103,7 +103,7 @@ module _ (config : Config) (state : State) (worker : ℕ) (stand : CountsStand c
       either_way (CountsStand config) (packed_door (state.cells.doors actor.tenant) == packed_door from) won lost
       (λ same.
       let found : state.cells.doors actor.tenant ≡ from = rest.exact worker a is (same_numbers (packed_door (state.cells.doors actor.tenant)) (packed_door from) same) in
-      let allowed : Admits (tenant_at config actor.tenant).quota from to = subst (λ q. Admits q from to) (stand.seats worker a is).quota (stand.ready worker a is) in
+      let allowed : Admits (state.accounts actor.tenant).quota from to = subst (λ q. Admits q from to) (stand.quotas worker a is) (stand.ready worker a is) in
       goes_on config state worker a (made_of state worker a (write state.cells (AtDoor actor.tenant) to) Won) (λ slot. 0) (λ slot. 0) 1 stand (stand.seats worker a is).there is
       (change_goes a (number (Admit from to)) (Admit from to) Won (stand.ready worker a is))
       (admits config state won stand actor.tenant from to found allowed (λ slot. refl) (upd_here state.cells.doors actor.tenant to)

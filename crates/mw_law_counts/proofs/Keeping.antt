@@ -4,24 +4,24 @@ use Rattle.std.specs.Option.{option_and_then}
 use Rattle.std.proofs.Common.{refl, ap, subst, ◌∙◌}
 use Rattle.mw_world.specs.declared.config.Config.{Config}
 use Rattle.mw_world.specs.Definition.Happenings.{Happening, Come, Step, File, Hand, Restart}
-use Rattle.mw_world.specs.Definition.State.{State, new_world, first_account}
+use Rattle.mw_world.specs.Definition.State.{State, account_at, world_at}
 use Rattle.mw_world.specs.Definition.World.{step, run}
 use Rattle.mw_law_counts.specs.Standing.{CountsStand, CountsRestOn}
-use Rattle.mw_law_counts.specs.Laws.{EventsKeepCounts, RunsKeepCounts, RunsLeaveRoom}
+use Rattle.mw_law_counts.specs.Laws.{EventsKeepCounts, RunsKeepCounts, RunsLeaveRoom, StartsStand}
 use Rattle.mw_law_counts.proofs.Calling.{call_keeps}
 use Rattle.mw_law_counts.proofs.Room.{doors-count-the-taken, who-waits-has-room}
 use Rattle.mw_law_counts.proofs.Starting.{start_stands, come_keeps, hand_keeps, restart_keeps}
 use Rattle.mw_law_counts.proofs.Turning.{turn_keeps}
 
-pub new_world_stands : (config : Config) → CountsStand config (new_world config)
-new_world_stands config = start_stands config (first_account config)
+pub openings_stand : StartsStand
+openings_stand config openings starts = start_stands config (λ tenant. account_at (openings tenant)) starts.quotas
 
 pub step_keeps : EventsKeepCounts
 step_keeps config state (Come worker tenant job) next stand rest e = come_keeps config state worker tenant job next stand e
 step_keeps config state (Step worker) next stand rest e = turn_keeps config state worker stand rest (state.seats worker).actor next refl e
 step_keeps config state (File worker outcome) next stand rest e = call_keeps config state worker stand (state.seats worker).actor outcome next refl e
 step_keeps config state (Hand worker) next stand rest e = hand_keeps config state worker (state.seats worker).actor next stand refl e
-step_keeps config state (Restart founds) next stand rest e = restart_keeps config state founds next e
+step_keeps config state (Restart founds) next stand rest e = restart_keeps config state founds next stand e
 
 none_some : {A : Type 0} (x : A) → None ≡ Some x → ⊥
 none_some x e = cc
@@ -52,12 +52,13 @@ from_here config (event ∷ events) state start stand rests is =
     one_more config start event events state (step config start event) (from_here config events state) stand rests refl is
 
 pub run_keeps : RunsKeepCounts
-run_keeps config events state rests is = from_here config events state (new_world config) (new_world_stands config) rests is
+run_keeps config openings events state rests played =
+    from_here config events state (world_at config openings) (openings_stand config openings played.starts) rests played.runs
 
 pub run_leaves_room : RunsLeaveRoom
-run_leaves_room config events state rests played =
-    let stand : CountsStand config state = run_keeps config events state rests played.runs in
+run_leaves_room config openings events state rests played =
+    let stand : CountsStand config state = run_keeps config openings events state rests played in
     record {
       room = doors-count-the-taken config state stand;
-      free = λ worker actor is waits. who-waits-has-room config state worker actor played.made stand is waits;
+      free = λ worker actor is waits. who-waits-has-room config state worker actor stand is waits;
     }

@@ -37,12 +37,12 @@ use Rattle.mw_world.specs.Claim.Invariant.{IsOfWorker}
 use Rattle.mw_world.specs.Definition.Notes.{note_of, door_note, inspect_note, resolve_note, release_note, read_note, read_door_note, read_word_note, read_status_note, answer_note, recheck_note, read_point, won_note, exchange_note}
 use Rattle.mw_world.specs.Definition.Noting.{noted, seated}
 use Rattle.mw_world.specs.Definition.State.{State, Seat}
-use Rattle.mw_world.specs.Definition.Turns.{Made, made_of, moved, turned, next_attempt, goes_on as goes_on_as}
+use Rattle.mw_world.specs.Definition.Turns.{Made, accounted, made_of, moved, turned, next_attempt, goes_on as goes_on_as}
 use Rattle.mw_law_counts.specs.Ready.{IsReady}
 use Rattle.mw_law_counts.specs.Standing.{CountsStand}
 use Rattle.mw_law_counts.proofs.Effects.{quiet as moves_nothing}
 use Rattle.mw_law_counts.proofs.Points.{PointHolds, IsQuiet, IsQuietRead, quiet_goes}
-use Rattle.mw_law_counts.proofs.Shifts.{Shifts, Counts, of_point, of_request, shifted}
+use Rattle.mw_law_counts.proofs.Shifts.{Shifts, Counts, of_point, of_request, same_quota, shifted}
 
 -- the step touches no gate and no door
 abbrev IsAsidePlace : At → Type 0
@@ -199,7 +199,7 @@ same_some one other is = cc
 
 -- a request that goes on is its worker's
 still_its : (config : Config) (worker : ℕ) (actor : Acting) (news : News) (number : ℕ) → IsOfWorker config worker actor → IsOfWorker config worker (tells actor news number)
-still_its config worker actor news number its = record { there = its.there; same_worker = its.same_worker; tenant = its.tenant; quota = its.quota; pool = its.pool; job = its.job }
+still_its config worker actor news number its = record { there = its.there; same_worker = its.same_worker; tenant = its.tenant; pool = its.pool; job = its.job }
 
 -- The worker's request goes on, and the counts stand if both sides of each change by the same.
 pub goes_on : (config : Config) (state : State) (worker : ℕ) (actor : Acting) (made : Made) (held frees : ℕ → ℕ) (waits : ℕ) → CountsStand config state → worker < config.workers
@@ -218,6 +218,8 @@ goes_on config state worker actor made held frees waits stand low is on shift =
     (of_point next held frees waits held_next)
     (λ other same. subst (λ a. IsOfWorker config worker a) (same_some next other same) (still_its config worker actor made.news number (stand.seats worker actor is)))
     (λ other same. subst (λ a. IsReady a a.point) (same_some next other same) held_next.ready)
+    (λ other same. subst (λ (a : Acting). a.quota ≡ (state.accounts a.tenant).quota) (same_some next other same) (stand.quotas worker actor is))
+    (same_quota state.accounts actor.tenant (accounted (state.accounts actor.tenant) (state.seats worker) made state) refl)
     shift
 
 -- A quiet step keeps the counts, whatever else it made.

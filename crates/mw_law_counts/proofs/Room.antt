@@ -1,16 +1,14 @@
 -- There is room in the pool: the slots that are taken, summed by tenant, are no more than the doors count.
-use Rattle.std.specs.Prelude.{ℕ, zero, suc, ◌≡◌, ◌≢◌, ◌<◌, ◌≤◌, ◌+◌, ◌==◌, ◌&&◌, Bool, true, false, if◌then◌else◌, List, [], ◌∷◌, length, slice_index_or, sum_by, Some}
+use Rattle.std.specs.Prelude.{ℕ, zero, suc, ◌≡◌, ◌≢◌, ◌<◌, ◌≤◌, ◌+◌, ◌==◌, ◌&&◌, Bool, true, false, if◌then◌else◌, Some}
 use Rattle.std.proofs.Common.{refl, ap, ◌∙◌, inl, inr, arith}
 use Rattle.std.proofs.lemmas.Bool.{cases_eq}
 use Rattle.std.proofs.lemmas.Bool.Decides.{nat_tests}
-use Rattle.std.proofs.lemmas.List.Sums.{sum_by-cons}
 use Rattle.mw_actor.specs.Acting.{Acting}
 use Rattle.mw_world.specs.declared.config.Config.{Config}
-use Rattle.mw_world.specs.declared.config.Tenant.{Tenant}
 use Rattle.mw_world.specs.Definition.Counting.{pins_held, frees_at, waits_at, waits_for, counted, over_workers, slots_taken_for, taken_slots, used_slots}
 use Rattle.mw_world.specs.Claim.Headline.{FreeSlot}
 use Rattle.mw_world.specs.Claim.Invariant.{IsOfWorker}
-use Rattle.mw_world.specs.Definition.State.{State, no_tenant, tenants_of}
+use Rattle.mw_world.specs.Definition.State.{State, quotas_of, quotas_together, tenants_of}
 use Rattle.mw_law_counts.specs.Alone.{WhoFreesIsAlone, DoorsCountTheTaken, WhoWaitsHasRoom}
 use Rattle.mw_law_counts.specs.Standing.{CountsStand}
 use Rattle.mw_law_counts.proofs.Effects.{none_left, taken_and_unpinned}
@@ -131,24 +129,10 @@ pub doors-count-the-taken : DoorsCountTheTaken
 doors-count-the-taken config state stand =
     omega (arith, taken_by_tenants state (tenants_of config) config.pool stand.tenants, taken_are_used config state stand (tenants_of config) (omega arith))
 
--- a sum of the first so many
-abbrev total : ℕ → (ℕ → ℕ) → ℕ
-total zero f = 0
-total (suc n) f = total n f + f n
-
-total_first : (n : ℕ) (f : ℕ → ℕ) → total (suc n) f ≡ f 0 + total n (λ k. f (suc k))
-total_first zero f = omega arith
-total_first (suc n) f = omega (arith, total_first n f)
-
-used_total : (state : State) (n : ℕ) → used_slots state n ≡ total n (λ tenant. (state.cells.doors tenant).used)
-used_total state zero = refl
-used_total state (suc n) = omega (arith, used_total state n)
-
--- what is no more, for each of the list, is no more in all
-no_more : (tenants : List Tenant) (f : ℕ → ℕ) → ((k : ℕ) → k < length tenants → f k ≤ (slice_index_or tenants k no_tenant).quota) → total (length tenants) f ≤ sum_by (λ tenant. tenant.quota) tenants
-no_more [] f each = omega arith
-no_more (tenant ∷ tenants) f each =
-    omega (arith, sum_by-cons (λ t. t.quota) tenant tenants, total_first (length tenants) f, each 0 (omega arith), no_more tenants (λ k. f (suc k)) (λ k low. each (suc k) (omega (arith, low))))
+-- slots of the doors that count no more than their quotas are no more than all quotas
+no_more : (state : State) (quotas : ℕ → ℕ) (n : ℕ) → ((tenant : ℕ) → tenant < n → (state.cells.doors tenant).used ≤ quotas tenant) → used_slots state n ≤ quotas_together quotas n
+no_more state quotas zero each = omega arith
+no_more state quotas (suc n) each = omega (arith, each n (omega arith), no_more state quotas n (λ tenant low. each tenant (omega (arith, low))))
 
 -- where fewer slots are taken than there are, there is one that isn't
 find_free : (config : Config) (state : State) (slots : ℕ) → slots ≤ config.pool → taken_slots state slots < slots → FreeSlot config state
@@ -160,7 +144,7 @@ find_free config state (suc slot) few low = look (state.cells.gates slot).taken 
     look true is before = before (omega (arith, low, ap one_if is))
 
 pub who-waits-has-room : WhoWaitsHasRoom
-who-waits-has-room config state worker actor made stand is waits =
+who-waits-has-room config state worker actor stand is waits =
     let its : IsOfWorker config worker actor = stand.seats worker actor is in
     find_free config state config.pool (omega arith)
     (omega (
@@ -168,7 +152,6 @@ who-waits-has-room config state worker actor made stand is waits =
       taken_by_tenants state (tenants_of config) config.pool stand.tenants,
       one_more_is_used config state stand worker actor is its waits (tenants_of config) (omega arith),
       among actor.tenant (tenants_of config) its.tenant,
-      used_total state (tenants_of config),
-      no_more config.tenants.items (λ tenant. (state.cells.doors tenant).used) stand.counts.quotas,
-      made.slots,
+      no_more state (quotas_of state) (tenants_of config) stand.counts.quotas,
+      stand.counts.limits.together,
     ))

@@ -1,5 +1,5 @@
 -- One worker goes on, and with it one gate or one door: the counts stay right where what changes on both sides of each count is the same.
-use Rattle.std.specs.Prelude.{ℕ, ◌≡◌, ◌≢◌, ◌<◌, ◌≤◌, ◌+◌, ◌==◌, ◌&&◌, true, false, if◌then◌else◌, Option, Some, None}
+use Rattle.std.specs.Prelude.{ℕ, zero, suc, ◌≡◌, ◌≢◌, ◌<◌, ◌≤◌, ◌+◌, ◌==◌, ◌&&◌, true, false, if◌then◌else◌, Option, Some, None}
 use Rattle.std.proofs.Common.{refl, sym, ap, subst, ◌∙◌, inl, inr, arith}
 use Rattle.std.proofs.lemmas.Bool.{cases_eq}
 use Rattle.std.proofs.lemmas.Bool.Decides.{nat_tests}
@@ -8,7 +8,7 @@ use Rattle.mw_world.specs.declared.config.Config.{Config}
 use Rattle.mw_world.specs.Definition.Counting.{pins_held, frees_at, waits_for, waits_at, counted, over_workers, slots_taken_for}
 use Rattle.mw_world.specs.Claim.Invariant.{IsPinnedAs, IsOfWorker}
 use Rattle.mw_world_file.specs.Maps.{upd}
-use Rattle.mw_world.specs.Definition.State.{State, Seat, tenant_at, tenants_of}
+use Rattle.mw_world.specs.Definition.State.{Account, State, Seat, QuotasFit, quotas_of, quotas_together, tenants_of}
 use Rattle.mw_law_counts.specs.Ready.{IsReady}
 use Rattle.mw_law_counts.specs.Sides.{left_pin, idle}
 use Rattle.mw_law_counts.specs.Standing.{CountsStand}
@@ -52,7 +52,7 @@ module _ (config : Config) (state later : State) (own : ℕ) (had freed held fre
     pub doors : (tenant : ℕ) → tenant < tenants_of config
         → (later.cells.doors tenant).used + of_tenant own waited tenant + slots_taken_for state tenant config.pool
         ≡ (state.cells.doors tenant).used + of_tenant own waits tenant + slots_taken_for later tenant config.pool
-    pub quotas : (tenant : ℕ) → tenant < tenants_of config → (later.cells.doors tenant).used ≤ (tenant_at config tenant).quota
+    pub quotas : (tenant : ℕ) → tenant < tenants_of config → (later.cells.doors tenant).used ≤ (state.accounts tenant).quota
     pub unpinned : (slot : ℕ) → (later.cells.gates slot).taken ≡ false → (later.cells.gates slot).pins ≡ 0
     pub taken_for : (slot : ℕ) → (later.cells.gates slot).taken ≡ true → later.history.tenant slot (later.cells.gates slot).seq < tenants_of config
 
@@ -70,7 +70,7 @@ module _ (config : Config) (state later : State) (own : ℕ) (had freed held fre
     pub doors : (tenant : ℕ) → tenant < tenants_of config
         → (later.cells.doors tenant).used + of_tenant own waited tenant + claimed state tenant slot
         ≡ (state.cells.doors tenant).used + of_tenant own waits tenant + claimed later tenant slot
-    pub quotas : (tenant : ℕ) → tenant < tenants_of config → (later.cells.doors tenant).used ≤ (tenant_at config tenant).quota
+    pub quotas : (tenant : ℕ) → tenant < tenants_of config → (later.cells.doors tenant).used ≤ (state.accounts tenant).quota
     pub unpinned : (later.cells.gates slot).taken ≡ false → (later.cells.gates slot).pins ≡ 0
     pub taken_for : (later.cells.gates slot).taken ≡ true → later.history.tenant slot (later.cells.gates slot).seq < tenants_of config
 
@@ -83,7 +83,7 @@ module _ (config : Config) (state later : State) (own : ℕ) (had freed held fre
     pub frees_one : (slot : ℕ) → frees slot ≡ freed slot
     pub doors : (tenant : ℕ) → tenant < tenants_of config
         → (later.cells.doors tenant).used + of_tenant own waited tenant ≡ (state.cells.doors tenant).used + of_tenant own waits tenant
-    pub quotas : (tenant : ℕ) → tenant < tenants_of config → (later.cells.doors tenant).used ≤ (tenant_at config tenant).quota
+    pub quotas : (tenant : ℕ) → tenant < tenants_of config → (later.cells.doors tenant).used ≤ (state.accounts tenant).quota
 
 -- a slot whose gate is as it was, and of whose changes nothing new is known
 same_left : (state later : State) (slot : ℕ) → later.cells.gates slot ≡ state.cells.gates slot → ((seq : ℕ) → later.history.stays slot seq ≡ state.history.stays slot seq)
@@ -169,6 +169,11 @@ over_later counts state later worker seat was is n low seats old new =
     let same : over_workers counts later.seats n ≡ over_workers counts (upd state.seats worker seat) n = ap (λ s. over_workers counts s n) seats in
     omega (arith, sums, same, old, new)
 
+-- a tenant with the same quota
+pub same_quota : (accounts : ℕ → Account) (own : ℕ) (account : Account) → account.quota ≡ (accounts own).quota → (tenant : ℕ)
+    → (upd accounts own account tenant).quota ≡ (accounts tenant).quota
+same_quota accounts own account same tenant = grind (arith, nat_tests, same)
+
 -- what was so of the others' requests is so
 still_so : (P : ℕ → Acting → Type 0) (state later : State) (worker : ℕ) (seat : Seat) → later.seats ≡ upd state.seats worker seat
     → ((other : ℕ) (actor : Acting) → (state.seats other).actor ≡ Some actor → P other actor)
@@ -185,13 +190,25 @@ still_so P state later worker seat seats were here other actor is = elim (cases_
     set_else : (k : ℕ) → k ≢ worker → upd state.seats worker seat k ≡ state.seats k
     set_else k apart = grind (arith, nat_tests, apart)
 
--- The counts stand where one worker goes on and both sides of each count change by the same.
+-- quotas that are the same fit too
+quotas_fit_still : (config : Config) (old new : ℕ → ℕ) → ((tenant : ℕ) → new tenant ≡ old tenant) → QuotasFit config old → QuotasFit config new
+quotas_fit_still config old new same fit = record {
+  each = λ tenant low. (omega (arith, same tenant, (fit.each tenant low).0), omega (arith, same tenant, (fit.each tenant low).1));
+  together = omega (arith, same_together (tenants_of config), fit.together);
+}
+  where
+    same_together : (n : ℕ) → quotas_together new n ≡ quotas_together old n
+    same_together zero = refl
+    same_together (suc n) = omega (arith, same n, same_together n)
+
+-- The counts stand where one worker goes on and both sides of each count change by the same; quotas stay.
 pub shifted : (config : Config) (state later : State) (worker own : ℕ) (seat : Seat) (had freed held frees : ℕ → ℕ) (waited waits : ℕ)
     → CountsStand config state → worker < config.workers → later.seats ≡ upd state.seats worker seat
     → Counts own had freed waited (state.seats worker).actor → Counts own held frees waits seat.actor
     → ((actor : Acting) → seat.actor ≡ Some actor → IsOfWorker config worker actor) → ((actor : Acting) → seat.actor ≡ Some actor → IsReady actor actor.point)
+    → ((actor : Acting) → seat.actor ≡ Some actor → actor.quota ≡ (state.accounts actor.tenant).quota) → ((tenant : ℕ) → (later.accounts tenant).quota ≡ (state.accounts tenant).quota)
     → Shifts config state later own had freed held frees waited waits → CountsStand config later
-shifted config state later worker own seat had freed held frees waited waits stand low seats old new its ready on = record {
+shifted config state later worker own seat had freed held frees waited waits stand low seats old new its ready quota kept on = record {
   counts = record {
     pins = λ slot. omega (arith, stand.counts.pins slot, on.pins slot, over_later (λ actor. pins_held slot actor.point) state later worker seat (had slot) (held slot) config.workers low seats (old.pins_are slot) (new.pins_are slot));
     left = on.left;
@@ -202,10 +219,13 @@ shifted config state later worker own seat had freed held frees waited waits sta
       on.doors tenant there,
       over_later (waits_for tenant) state later worker seat (of_tenant own waited tenant) (of_tenant own waits tenant) config.workers low seats (old.waits_are tenant) (new.waits_are tenant),
     );
-    quotas = on.quotas;
+    quotas = λ tenant there. omega (arith, on.quotas tenant there, kept tenant);
+    limits = quotas_fit_still config (quotas_of state) (quotas_of later) kept stand.counts.limits;
   };
   unpinned = on.unpinned;
   tenants = on.taken_for;
+  quotas = still_so (λ other actor. actor.quota ≡ (later.accounts actor.tenant).quota) state later worker seat seats
+      (λ other actor is. stand.quotas other actor is ∙ sym (kept actor.tenant)) (λ actor is. quota actor is ∙ sym (kept actor.tenant));
   seats = still_so (IsOfWorker config) state later worker seat seats stand.seats its;
   ready = still_so (λ other actor. IsReady actor actor.point) state later worker seat seats stand.ready ready;
 }

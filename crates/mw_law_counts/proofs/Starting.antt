@@ -18,15 +18,14 @@ use Rattle.mw_world.specs.Definition.Happenings.{Found}
 use Rattle.mw_world.specs.Claim.Invariant.{IsOfWorker}
 use Rattle.mw_world.specs.Definition.Restarts.{restart, restarted, reopened, found_of, under_way, may_all_be_found}
 use Rattle.mw_world.specs.Definition.Requests.{came, gave}
-use Rattle.mw_world.specs.declared.config.TheConstants.{MOST_REQUESTS}
 use Rattle.mw_words.specs.Change.{is_well_formed}
-use Rattle.mw_world.specs.Definition.State.{State, Account, started, idle_seat, tenant_at, tenants_of}
-use Rattle.mw_world.specs.Definition.World.{come, may_come, begun, hand, handed}
+use Rattle.mw_world.specs.Definition.State.{State, Account, QuotasFit, started, idle_seat, tenant_at, tenants_of}
+use Rattle.mw_world.specs.Definition.World.{come, may_come, asked, begun, hand, handed}
 use Rattle.mw_law_counts.specs.Ready.{IsReady}
 use Rattle.mw_law_counts.specs.Standing.{CountsStand}
 use Rattle.mw_law_counts.proofs.Effects.{quiet}
 use Rattle.mw_law_counts.proofs.Points.{PointHolds}
-use Rattle.mw_law_counts.proofs.Shifts.{Counts, of_point, of_idle, shifted}
+use Rattle.mw_law_counts.proofs.Shifts.{Counts, of_point, of_idle, same_quota, shifted}
 
 none_some : {A : Type 0} (x : A) → None ≡ Some x → ⊥
 none_some x e = cc
@@ -47,17 +46,19 @@ false_true : false ≡ true → ⊥
 false_true e = cc
 
 -- The counts stand at every start.
-pub start_stands : (config : Config) (accounts : ℕ → Account) → CountsStand config (started config accounts)
-start_stands config accounts = record {
+pub start_stands : (config : Config) (accounts : ℕ → Account) → QuotasFit config (λ tenant. (accounts tenant).quota) → CountsStand config (started config accounts)
+start_stands config accounts fit = record {
   counts = record {
     pins = λ slot. grind (arith, nat_tests, none_idle (λ actor. pins_held slot actor.point) config.workers);
     left = λ slot seq e. grind (arith, nat_tests);
     frees = λ slot. grind (arith, nat_tests, none_idle (λ actor. frees_at slot actor.point) config.workers);
     doors = λ tenant low. grind (arith, nat_tests, none_idle (waits_for tenant) config.workers, none_taken config accounts tenant config.pool);
     quotas = λ tenant low. grind (arith, nat_tests);
+    limits = fit;
   };
   unpinned = λ slot e. refl;
   tenants = λ slot e. absurd (false_true e);
+  quotas = λ worker actor is. absurd (none_some actor is);
   seats = λ worker actor is. absurd (none_some actor is);
   ready = λ worker actor is. absurd (none_some actor is);
 }
@@ -78,12 +79,11 @@ record AllHold (there known free formed : Bool) : Type 0 where
   pub is_free : free ≡ true
   pub is_formed : formed ≡ true
 
-all_hold : (there known free numbered formed : Bool) → (there && known && free && numbered && formed) ≡ true → AllHold there known free formed
-all_hold true true true true formed is = record { is_there = refl; is_known = refl; is_free = refl; is_formed = is }
-all_hold true true true false formed is = absurd (grind (arith, is))
-all_hold true true false numbered formed is = absurd (grind (arith, is))
-all_hold true false free numbered formed is = absurd (grind (arith, is))
-all_hold false known free numbered formed is = absurd (grind (arith, is))
+all_hold : (there known free formed : Bool) → (there && known && free && formed) ≡ true → AllHold there known free formed
+all_hold true true true formed is = record { is_there = refl; is_known = refl; is_free = refl; is_formed = is }
+all_hold true true false formed is = absurd (grind (arith, is))
+all_hold true false free formed is = absurd (grind (arith, is))
+all_hold false known free formed is = absurd (grind (arith, is))
 
 below : (n limit : ℕ) → nat_lt n limit ≡ true → n < limit
 below n limit is = grind (arith, nat_tests, is)
@@ -97,14 +97,16 @@ came_stands : (config : Config) (state : State) (worker tenant : ℕ) (job : Job
     → (state.seats worker).actor ≡ None
     → CountsStand config (came config state worker tenant job)
 came_stands config state worker tenant job stand low known formed idle =
-    let request : Acting = first worker tenant (tenant_at config tenant).quota config.pool job in
-    let begins_with : PointHolds request (λ slot. 0) (λ slot. 0) 0 request.point = begins worker tenant (tenant_at config tenant).quota config.pool job in
+    let request : Acting = first worker tenant (state.accounts tenant).quota config.pool job in
+    let begins_with : PointHolds request (λ slot. 0) (λ slot. 0) 0 request.point = begins worker tenant (state.accounts tenant).quota config.pool job in
     shifted config state (came config state worker tenant job) worker tenant (begun (state.seats worker) request (state.accounts tenant).asked) (λ slot. 0) (λ slot. 0) (λ slot. 0) (λ slot. 0) 0 0
     stand low refl
     (subst (λ a. Counts tenant (λ slot. 0) (λ slot. 0) 0 a) (sym idle) (of_idle tenant))
     (of_point request (λ slot. 0) (λ slot. 0) 0 begins_with)
-    (λ actor is. subst (λ a. IsOfWorker config worker a) (same_some request actor is) (record { there = low; same_worker = refl; tenant = known; quota = refl; pool = refl; job = formed }))
+    (λ actor is. subst (λ a. IsOfWorker config worker a) (same_some request actor is) (record { there = low; same_worker = refl; tenant = known; pool = refl; job = formed }))
     (λ actor is. subst (λ a. IsReady a a.point) (same_some request actor is) begins_with.ready)
+    (λ actor is. subst (λ (a : Acting). a.quota ≡ (state.accounts a.tenant).quota) (same_some request actor is) refl)
+    (same_quota state.accounts tenant (asked (state.accounts tenant) job) refl)
     (quiet config state (came config state worker tenant job) stand tenant (λ slot. 0) (λ slot. 0) 0 (λ slot. refl) (λ other. refl) (λ slot seq. refl) (λ slot seq. refl))
 
 -- A request that comes keeps the counts.
@@ -113,7 +115,7 @@ come_keeps config state worker tenant job next stand e =
     guarded (CountsStand config) (may_come config state worker tenant job) (came config state worker tenant job) next
     (λ may.
     let tests : AllHold (nat_lt worker config.workers) (nat_lt tenant (tenants_of config)) (is_none (state.seats worker).actor) (is_well_formed (tenant_at config tenant).words job) =
-    all_hold (nat_lt worker config.workers) (nat_lt tenant (tenants_of config)) (is_none (state.seats worker).actor) (nat_lt (state.accounts tenant).asked MOST_REQUESTS)
+    all_hold (nat_lt worker config.workers) (nat_lt tenant (tenants_of config)) (is_none (state.seats worker).actor)
     (is_well_formed (tenant_at config tenant).words job) may in
     came_stands config state worker tenant job stand (below worker config.workers tests.is_there) (below tenant (tenants_of config) tests.is_known) tests.is_formed
     (is_idle (state.seats worker).actor tests.is_free)) e
@@ -138,6 +140,8 @@ gave_stands config state worker actor reply stand low is said =
     (of_idle actor.tenant)
     (λ other e. absurd (none_some other e))
     (λ other e. absurd (none_some other e))
+    (λ other e. absurd (none_some other e))
+    (same_quota state.accounts actor.tenant _ refl)
     (quiet config state (gave state worker actor.tenant) stand actor.tenant (λ slot. 0) (λ slot. 0) 0 (λ slot. refl) (λ other. refl) (λ slot seq. refl) (λ slot seq. refl))
 
 handed_keeps : (config : Config) (state : State) (worker : ℕ) (actor : Acting) (reply : Option Reply) (next : State) → CountsStand config state → worker < config.workers → (state.seats worker).actor ≡ Some actor
@@ -153,7 +157,7 @@ hand_keeps config state worker None next stand is e = absurd (none_some next e)
 hand_keeps config state worker (Some actor) next stand is e = handed_keeps config state worker actor (replied actor) next stand (stand.seats worker actor is).there is refl e
 
 -- All stops and starts again: the counts stand.
-pub restart_keeps : (config : Config) (state : State) (founds : List Found) (next : State) → restart config state founds ≡ Some next → CountsStand config next
-restart_keeps config state founds next e =
+pub restart_keeps : (config : Config) (state : State) (founds : List Found) (next : State) → CountsStand config state → restart config state founds ≡ Some next → CountsStand config next
+restart_keeps config state founds next stand e =
     guarded (CountsStand config) ((length founds == tenants_of config) && may_all_be_found config state founds (tenants_of config)) (restarted config state founds) next
-    (λ may. start_stands config (λ tenant. reopened (state.accounts tenant) (found_of founds tenant) (under_way config state (found_of founds tenant).interrupted))) e
+    (λ may. start_stands config (λ tenant. reopened (state.accounts tenant) (found_of founds tenant) (under_way config state (found_of founds tenant).interrupted)) stand.counts.limits) e

@@ -4,7 +4,7 @@ use Rattle.mw_actor.specs.Acting.{Acting}
 use Rattle.mw_world.specs.declared.config.Config.{Config}
 use Rattle.mw_world.specs.Definition.Counting.{pins_held, frees_at, waits_at, taken_slots, used_slots}
 use Rattle.mw_world.specs.Claim.Headline.{FreeSlot}
-use Rattle.mw_world.specs.Definition.State.{State, IsConfig, tenants_of}
+use Rattle.mw_world.specs.Definition.State.{State, tenants_of}
 use Rattle.mw_law_counts.specs.Standing.{CountsStand}
 
 -- The worker is alone with the slot: the slot is taken and has no pin, none was left behind, no request of any worker holds one, and no
@@ -27,5 +27,5 @@ DoorsCountTheTaken = (config : Config) (state : State) → CountsStand config st
 
 -- While a tenant's door counts a slot that a request hasn't taken yet, or has freed already, some slot of the pool isn't taken.
 abbrev pub WhoWaitsHasRoom : Type 0
-WhoWaitsHasRoom = (config : Config) (state : State) (worker : ℕ) (actor : Acting) → IsConfig config → CountsStand config state
+WhoWaitsHasRoom = (config : Config) (state : State) (worker : ℕ) (actor : Acting) → CountsStand config state
     → (state.seats worker).actor ≡ Some actor → waits_at actor.point ≡ 1 → FreeSlot config state

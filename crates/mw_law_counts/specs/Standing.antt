@@ -16,12 +16,13 @@ use Rattle.mw_world.specs.Definition.State.{State, tenants_of}
 use Rattle.mw_law_counts.specs.Ready.{IsReady}
 
 -- The counts are right; a gate that isn't taken has no pins; a slot that is taken is taken for one of the tenants; and each request is its
--- worker's, of one of the tenants, and ready for what it is about to do.
+-- worker's, of one of the tenants and under that one's quota, and ready for what it is about to do.
 pub record CountsStand (config : Config) (state : State) : Type 0 where
   pub counts : CountsAreRight config state
   pub unpinned : (slot : ℕ) → (state.cells.gates slot).taken ≡ false → (state.cells.gates slot).pins ≡ 0
   pub tenants : (slot : ℕ) → (state.cells.gates slot).taken ≡ true → state.history.tenant slot (state.cells.gates slot).seq < tenants_of config
   pub seats : (worker : ℕ) (actor : Acting) → (state.seats worker).actor ≡ Some actor → IsOfWorker config worker actor
+  pub quotas : (worker : ℕ) (actor : Acting) → (state.seats worker).actor ≡ Some actor → actor.quota ≡ (state.accounts actor.tenant).quota
   pub ready : (worker : ℕ) (actor : Acting) → (state.seats worker).actor ≡ Some actor → IsReady actor actor.point
 
 -- An exchange compares bits. If the step changes a door or a gate, what stands there is what the step expects, where it has the bits of that.

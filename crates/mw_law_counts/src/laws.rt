@@ -1,11 +1,11 @@
 //! What holds of the counts of a world: facts for proofs to cite. The functions do nothing.
 ghost use Rattle.mw_law_counts.specs.Alone.{DoorsCountTheTaken, WhoFreesIsAlone, WhoWaitsHasRoom};
 ghost use Rattle.mw_law_counts.specs.Exact.{ExchangesAreExact};
-ghost use Rattle.mw_law_counts.specs.Laws.{EventsKeepCounts, NewWorldsStand, RunsKeepCounts, RunsLeaveRoom};
+ghost use Rattle.mw_law_counts.specs.Laws.{EventsKeepCounts, RunsKeepCounts, RunsLeaveRoom, StartsStand};
 
-/// In a new world the counts stand (`CountsStand`).
-pub fn new_worlds_count_right()
-    ensures { NewWorldsStand }
+/// The counts stand at every start of a server's tenants (`CountsStand`).
+pub fn starts_count_right()
+    ensures { StartsStand }
 {}
 
 /// Every event keeps `CountsStand`: the counts are right (pins, slots that are to be freed, doors, quotas),

@@ -9,6 +9,6 @@
 mod laws;
 
 pub use laws::{
-    events_keep_counts, exchanges_are_exact, new_worlds_count_right, pool_has_room,
-    runs_keep_counts, who_frees_is_alone,
+    events_keep_counts, exchanges_are_exact, pool_has_room, runs_keep_counts, starts_count_right,
+    who_frees_is_alone,
 };

@@ -94,7 +94,7 @@ by_called config state next worker actor called outcome found is came = subst (Î
 pub calls_are_moves : CallsAreMoves
 calls_are_moves config state next worker actor called outcome is came =
     let file = (state.accounts actor.tenant).file in
-    let places = (tenant_at config actor.tenant).quota in
+    let places = (state.accounts actor.tenant).quota in
     let status = state.cells.statuses called.change.slot in
     let place = place_for called.call file places called.change.slot in
     ended state worker actor (Î» number. calm_if actor.point called number is) (starts_from called.call status) (fails_on called.call file) (can_be_made called.call file places place (own_entries actor))

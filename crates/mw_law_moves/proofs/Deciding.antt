@@ -21,6 +21,8 @@ prepare_keeps config state mover target guard memory =
         latest = λ slot seq is. grind (arith, nat_tests, memory.claims.latest slot seq, guard.live.taken, guard.live.seq, guard.draft);
         formed = λ slot seq is. grind (arith, nat_tests, memory.claims.formed slot seq, guard.live.taken, guard.live.seq, guard.draft);
         unclaimed = λ slot seq is. grind (arith, nat_tests, memory.claims.unclaimed slot seq, guard.live.taken, guard.live.seq, guard.draft, memory.claims.claimed target.slot);
+        born = λ slot seq is. grind (arith, nat_tests, memory.claims.born slot seq, guard.live.taken, guard.live.seq, guard.draft);
+        rows = λ worker. grind (arith, nat_tests, memory.claims.rows worker, guard.live.taken, guard.live.seq, guard.draft);
       };
       slots = record {
         status = λ slot taken ready. grind (arith, nat_tests, memory.slots.status slot, guard.live.taken, guard.live.seq, guard.draft);
@@ -62,6 +64,8 @@ say_yes_keeps config state mover target guard memory =
         latest = λ slot seq is. grind (arith, nat_tests, memory.claims.latest slot seq, guard.live.taken, guard.live.seq, guard.is_open);
         formed = λ slot seq is. grind (arith, nat_tests, memory.claims.formed slot seq, guard.live.taken, guard.live.seq, guard.is_open);
         unclaimed = λ slot seq is. grind (arith, nat_tests, memory.claims.unclaimed slot seq, guard.live.taken, guard.live.seq, guard.is_open, memory.claims.claimed target.slot);
+        born = λ slot seq is. grind (arith, nat_tests, memory.claims.born slot seq, guard.live.taken, guard.live.seq, guard.is_open);
+        rows = λ worker. grind (arith, nat_tests, memory.claims.rows worker, guard.live.taken, guard.live.seq, guard.is_open);
       };
       slots = record {
         status = λ slot taken ready. grind (arith, nat_tests, memory.slots.status slot, guard.live.taken, guard.live.seq, guard.is_open);
@@ -103,6 +107,8 @@ say_no_keeps config state mover target entry value_there guard memory =
         latest = λ slot seq is. grind (arith, nat_tests, memory.claims.latest slot seq, guard.live.taken, guard.live.seq, guard.is_open);
         formed = λ slot seq is. grind (arith, nat_tests, memory.claims.formed slot seq, guard.live.taken, guard.live.seq, guard.is_open);
         unclaimed = λ slot seq is. grind (arith, nat_tests, memory.claims.unclaimed slot seq, guard.live.taken, guard.live.seq, guard.is_open, memory.claims.claimed target.slot);
+        born = λ slot seq is. grind (arith, nat_tests, memory.claims.born slot seq, guard.live.taken, guard.live.seq, guard.is_open);
+        rows = λ worker. grind (arith, nat_tests, memory.claims.rows worker, guard.live.taken, guard.live.seq, guard.is_open);
       };
       slots = record {
         status = λ slot taken ready. grind (arith, nat_tests, memory.slots.status slot, guard.live.taken, guard.live.seq, guard.is_open);
@@ -144,6 +150,8 @@ seal_keeps config state mover target guard memory =
         latest = λ slot seq is. grind (arith, nat_tests, memory.claims.latest slot seq, guard.live.taken, guard.live.seq, guard.decided);
         formed = λ slot seq is. grind (arith, nat_tests, memory.claims.formed slot seq, guard.live.taken, guard.live.seq, guard.decided);
         unclaimed = λ slot seq is. grind (arith, nat_tests, memory.claims.unclaimed slot seq, guard.live.taken, guard.live.seq, guard.decided, memory.claims.claimed target.slot);
+        born = λ slot seq is. grind (arith, nat_tests, memory.claims.born slot seq, guard.live.taken, guard.live.seq, guard.decided);
+        rows = λ worker. grind (arith, nat_tests, memory.claims.rows worker, guard.live.taken, guard.live.seq, guard.decided);
       };
       slots = record {
         status = λ slot taken ready. grind (arith, nat_tests, memory.slots.status slot, guard.live.taken, guard.live.seq, guard.decided);
@@ -185,6 +193,8 @@ settle_keeps config state mover target guard memory =
         latest = λ slot seq is. grind (arith, nat_tests, memory.claims.latest slot seq, guard.live.taken, guard.live.seq, guard.is_made);
         formed = λ slot seq is. grind (arith, nat_tests, memory.claims.formed slot seq, guard.live.taken, guard.live.seq, guard.is_made);
         unclaimed = λ slot seq is. grind (arith, nat_tests, memory.claims.unclaimed slot seq, guard.live.taken, guard.live.seq, guard.is_made, memory.claims.claimed target.slot);
+        born = λ slot seq is. grind (arith, nat_tests, memory.claims.born slot seq, guard.live.taken, guard.live.seq, guard.is_made);
+        rows = λ worker. grind (arith, nat_tests, memory.claims.rows worker, guard.live.taken, guard.live.seq, guard.is_made);
       };
       slots = record {
         status = λ slot taken ready. grind (arith, nat_tests, memory.slots.status slot, guard.live.taken, guard.live.seq, guard.is_made);
@@ -226,6 +236,8 @@ cancel_keeps config state mover target entry value_there guard memory =
         latest = λ slot seq is. grind (arith, nat_tests, memory.claims.latest slot seq, guard.live.taken, guard.live.seq, guard.refused);
         formed = λ slot seq is. grind (arith, nat_tests, memory.claims.formed slot seq, guard.live.taken, guard.live.seq, guard.refused);
         unclaimed = λ slot seq is. grind (arith, nat_tests, memory.claims.unclaimed slot seq, guard.live.taken, guard.live.seq, guard.refused, memory.claims.claimed target.slot);
+        born = λ slot seq is. grind (arith, nat_tests, memory.claims.born slot seq, guard.live.taken, guard.live.seq, guard.refused);
+        rows = λ worker. grind (arith, nat_tests, memory.claims.rows worker, guard.live.taken, guard.live.seq, guard.refused);
       };
       slots = record {
         status = λ slot taken ready. grind (arith, nat_tests, memory.slots.status slot, guard.live.taken, guard.live.seq, guard.refused);

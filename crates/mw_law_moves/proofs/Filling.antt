@@ -20,6 +20,8 @@ door_keeps config state mover at_tenant door guard memory =
         latest = λ slot seq is. grind (arith, nat_tests, memory.claims.latest slot seq);
         formed = λ slot seq is. grind (arith, nat_tests, memory.claims.formed slot seq);
         unclaimed = λ slot seq is. grind (arith, nat_tests, memory.claims.unclaimed slot seq);
+        born = λ slot seq is. grind (arith, nat_tests, memory.claims.born slot seq);
+        rows = λ worker. grind (arith, nat_tests, memory.claims.rows worker);
       };
       slots = record {
         status = λ slot taken ready. grind (arith, nat_tests, memory.slots.status slot);
@@ -61,6 +63,8 @@ status_keeps config state mover own guard memory =
         latest = λ slot seq is. grind (arith, nat_tests, memory.claims.latest slot seq);
         formed = λ slot seq is. grind (arith, nat_tests, memory.claims.formed slot seq);
         unclaimed = λ slot seq is. grind (arith, nat_tests, memory.claims.unclaimed slot seq);
+        born = λ slot seq is. grind (arith, nat_tests, memory.claims.born slot seq);
+        rows = λ worker. grind (arith, nat_tests, memory.claims.rows worker);
       };
       slots = record {
         status = λ slot taken ready. grind (arith, nat_tests, memory.slots.status slot, guard.draft);
@@ -102,6 +106,8 @@ count_keeps config state mover own number guard memory =
         latest = λ slot seq is. grind (arith, nat_tests, memory.claims.latest slot seq);
         formed = λ slot seq is. grind (arith, nat_tests, memory.claims.formed slot seq);
         unclaimed = λ slot seq is. grind (arith, nat_tests, memory.claims.unclaimed slot seq);
+        born = λ slot seq is. grind (arith, nat_tests, memory.claims.born slot seq);
+        rows = λ worker. grind (arith, nat_tests, memory.claims.rows worker);
       };
       slots = record {
         status = λ slot taken ready. grind (arith, nat_tests, memory.slots.status slot, guard.draft.draft);
@@ -143,6 +149,8 @@ addr_keeps config state mover own entry number guard memory =
         latest = λ slot seq is. grind (arith, nat_tests, memory.claims.latest slot seq);
         formed = λ slot seq is. grind (arith, nat_tests, memory.claims.formed slot seq);
         unclaimed = λ slot seq is. grind (arith, nat_tests, memory.claims.unclaimed slot seq);
+        born = λ slot seq is. grind (arith, nat_tests, memory.claims.born slot seq);
+        rows = λ worker. grind (arith, nat_tests, memory.claims.rows worker);
       };
       slots = record {
         status = λ slot taken ready. grind (arith, nat_tests, memory.slots.status slot, guard.draft.draft);
@@ -184,6 +192,8 @@ expected_keeps config state mover own entry number guard memory =
         latest = λ slot seq is. grind (arith, nat_tests, memory.claims.latest slot seq);
         formed = λ slot seq is. grind (arith, nat_tests, memory.claims.formed slot seq);
         unclaimed = λ slot seq is. grind (arith, nat_tests, memory.claims.unclaimed slot seq);
+        born = λ slot seq is. grind (arith, nat_tests, memory.claims.born slot seq);
+        rows = λ worker. grind (arith, nat_tests, memory.claims.rows worker);
       };
       slots = record {
         status = λ slot taken ready. grind (arith, nat_tests, memory.slots.status slot, guard.draft.draft);
@@ -225,6 +235,8 @@ new_keeps config state mover own entry number guard memory =
         latest = λ slot seq is. grind (arith, nat_tests, memory.claims.latest slot seq);
         formed = λ slot seq is. grind (arith, nat_tests, memory.claims.formed slot seq);
         unclaimed = λ slot seq is. grind (arith, nat_tests, memory.claims.unclaimed slot seq);
+        born = λ slot seq is. grind (arith, nat_tests, memory.claims.born slot seq);
+        rows = λ worker. grind (arith, nat_tests, memory.claims.rows worker);
       };
       slots = record {
         status = λ slot taken ready. grind (arith, nat_tests, memory.slots.status slot, guard.draft.draft);

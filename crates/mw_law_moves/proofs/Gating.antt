@@ -29,6 +29,8 @@ claim_keeps config state mover own gate at_tenant request entries guard memory =
         latest = λ slot seq is. grind (arith, nat_tests, memory.claims.latest slot seq, guard.was_free, guard.had_number, guard.is_taken, guard.has_number, guard.has_pin, draft);
         formed = λ slot seq is. grind (arith, nat_tests, memory.claims.formed slot seq, guard.was_free, guard.had_number, guard.is_taken, guard.has_number, guard.has_pin, draft, guard.tenant_there, guard.formed);
         unclaimed = λ slot seq is. grind (arith, nat_tests, memory.claims.unclaimed slot seq, guard.was_free, guard.had_number, guard.is_taken, guard.has_number, guard.has_pin, draft);
+        born = λ slot seq is. grind (arith, nat_tests, memory.claims.born slot seq, guard.was_free, guard.had_number, guard.is_taken, guard.has_number, guard.has_pin, draft, guard.there);
+        rows = λ worker. grind (arith, nat_tests, memory.claims.rows worker, guard.was_free, guard.had_number, guard.is_taken, guard.has_number, guard.has_pin, draft, guard.there);
       };
       slots = record {
         status = λ slot taken ready. grind (arith, nat_tests, memory.slots.status slot, guard.was_free, guard.had_number, guard.is_taken, guard.has_number, guard.has_pin, draft);
@@ -70,6 +72,8 @@ pin_keeps config state mover pinned gate guard memory =
         latest = λ slot seq is. grind (arith, nat_tests, memory.claims.latest slot seq, guard.pins.is_taken, guard.pins.one_more, guard.pins.same_number, guard.pins.was_taken);
         formed = λ slot seq is. grind (arith, nat_tests, memory.claims.formed slot seq, guard.pins.is_taken, guard.pins.one_more, guard.pins.same_number, guard.pins.was_taken);
         unclaimed = λ slot seq is. grind (arith, nat_tests, memory.claims.unclaimed slot seq, guard.pins.is_taken, guard.pins.one_more, guard.pins.same_number, guard.pins.was_taken);
+        born = λ slot seq is. grind (arith, nat_tests, memory.claims.born slot seq, guard.pins.is_taken, guard.pins.one_more, guard.pins.same_number, guard.pins.was_taken);
+        rows = λ worker. grind (arith, nat_tests, memory.claims.rows worker, guard.pins.is_taken, guard.pins.one_more, guard.pins.same_number, guard.pins.was_taken);
       };
       slots = record {
         status = λ slot taken ready. grind (arith, nat_tests, memory.slots.status slot, guard.pins.is_taken, guard.pins.one_more, guard.pins.same_number, guard.pins.was_taken);
@@ -111,6 +115,8 @@ unpin_keeps config state mover pinned guard memory =
         latest = λ slot seq is. grind (arith, nat_tests, memory.claims.latest slot seq, guard.pinned);
         formed = λ slot seq is. grind (arith, nat_tests, memory.claims.formed slot seq, guard.pinned);
         unclaimed = λ slot seq is. grind (arith, nat_tests, memory.claims.unclaimed slot seq, guard.pinned);
+        born = λ slot seq is. grind (arith, nat_tests, memory.claims.born slot seq, guard.pinned);
+        rows = λ worker. grind (arith, nat_tests, memory.claims.rows worker, guard.pinned);
       };
       slots = record {
         status = λ slot taken ready. grind (arith, nat_tests, memory.slots.status slot, guard.pinned);
@@ -152,6 +158,8 @@ free_keeps config state mover freed gate guard memory =
         latest = λ slot seq is. grind (arith, nat_tests, memory.claims.latest slot seq, guard.frees.was_taken, guard.frees.had_no_pins, guard.frees.is_not_taken, guard.frees.has_no_pins, guard.frees.next_number);
         formed = λ slot seq is. grind (arith, nat_tests, memory.claims.formed slot seq, guard.frees.was_taken, guard.frees.had_no_pins, guard.frees.is_not_taken, guard.frees.has_no_pins, guard.frees.next_number);
         unclaimed = λ slot seq is. grind (arith, nat_tests, memory.claims.unclaimed slot seq, guard.frees.was_taken, guard.frees.had_no_pins, guard.frees.is_not_taken, guard.frees.has_no_pins, guard.frees.next_number);
+        born = λ slot seq is. grind (arith, nat_tests, memory.claims.born slot seq, guard.frees.was_taken, guard.frees.had_no_pins, guard.frees.is_not_taken, guard.frees.has_no_pins, guard.frees.next_number);
+        rows = λ worker. grind (arith, nat_tests, memory.claims.rows worker, guard.frees.was_taken, guard.frees.had_no_pins, guard.frees.is_not_taken, guard.frees.has_no_pins, guard.frees.next_number);
       };
       slots = record {
         status = λ slot taken ready. grind (arith, nat_tests, memory.slots.status slot, guard.frees.was_taken, guard.frees.had_no_pins, guard.frees.is_not_taken, guard.frees.has_no_pins, guard.frees.next_number);

@@ -27,6 +27,8 @@ hold_keeps config state mover in_tenant in_address owner number target guard mem
         latest = λ slot seq is. grind (arith, nat_tests, memory.claims.latest slot seq, guard.word);
         formed = λ slot seq is. grind (arith, nat_tests, memory.claims.formed slot seq, guard.word);
         unclaimed = λ slot seq is. grind (arith, nat_tests, memory.claims.unclaimed slot seq, guard.word);
+        born = λ slot seq is. grind (arith, nat_tests, memory.claims.born slot seq, guard.word);
+        rows = λ worker. grind (arith, nat_tests, memory.claims.rows worker, guard.word);
       };
       slots = record {
         status = λ slot taken ready. grind (arith, nat_tests, memory.slots.status slot, guard.word);
@@ -69,6 +71,8 @@ ink_keeps config state mover in_tenant in_address target written_value guard mem
         latest = λ slot seq is. grind (arith, nat_tests, memory.claims.latest slot seq, guard.word);
         formed = λ slot seq is. grind (arith, nat_tests, memory.claims.formed slot seq, guard.word);
         unclaimed = λ slot seq is. grind (arith, nat_tests, memory.claims.unclaimed slot seq, guard.word);
+        born = λ slot seq is. grind (arith, nat_tests, memory.claims.born slot seq, guard.word);
+        rows = λ worker. grind (arith, nat_tests, memory.claims.rows worker, guard.word);
       };
       slots = record {
         status = λ slot taken ready. grind (arith, nat_tests, memory.slots.status slot, guard.word);
@@ -111,6 +115,8 @@ let_go_keeps config state mover in_tenant in_address target plain_value guard me
         latest = λ slot seq is. grind (arith, nat_tests, memory.claims.latest slot seq, guard.word);
         formed = λ slot seq is. grind (arith, nat_tests, memory.claims.formed slot seq, guard.word);
         unclaimed = λ slot seq is. grind (arith, nat_tests, memory.claims.unclaimed slot seq, guard.word);
+        born = λ slot seq is. grind (arith, nat_tests, memory.claims.born slot seq, guard.word);
+        rows = λ worker. grind (arith, nat_tests, memory.claims.rows worker, guard.word);
       };
       slots = record {
         status = λ slot taken ready. grind (arith, nat_tests, memory.slots.status slot, guard.word);
@@ -153,6 +159,8 @@ clean_keeps config state mover in_tenant in_address target plain_value guard mem
         latest = λ slot seq is. grind (arith, nat_tests, memory.claims.latest slot seq, guard.word, guard.seq);
         formed = λ slot seq is. grind (arith, nat_tests, memory.claims.formed slot seq, guard.word, guard.seq);
         unclaimed = λ slot seq is. grind (arith, nat_tests, memory.claims.unclaimed slot seq, guard.word, guard.seq);
+        born = λ slot seq is. grind (arith, nat_tests, memory.claims.born slot seq, guard.word, guard.seq);
+        rows = λ worker. grind (arith, nat_tests, memory.claims.rows worker, guard.word, guard.seq);
       };
       slots = record {
         status = λ slot taken ready. grind (arith, nat_tests, memory.slots.status slot, guard.word, guard.seq);

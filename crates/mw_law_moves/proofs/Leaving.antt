@@ -22,6 +22,8 @@ row_keeps config state mover row guard memory =
         latest = λ slot seq is. grind (arith, nat_tests, memory.claims.latest slot seq, guard.rests);
         formed = λ slot seq is. grind (arith, nat_tests, memory.claims.formed slot seq, guard.rests);
         unclaimed = λ slot seq is. grind (arith, nat_tests, memory.claims.unclaimed slot seq, guard.rests);
+        born = λ slot seq is. grind (arith, nat_tests, memory.claims.born slot seq, guard.rests);
+        rows = λ worker. grind (arith, nat_tests, memory.claims.rows worker, guard.rests, guard.there);
       };
       slots = record {
         status = λ slot taken ready. grind (arith, nat_tests, memory.slots.status slot, guard.rests);
@@ -63,6 +65,8 @@ forgo_keeps config state mover number guard memory =
         latest = λ slot seq is. grind (arith, nat_tests, memory.claims.latest slot seq);
         formed = λ slot seq is. grind (arith, nat_tests, memory.claims.formed slot seq);
         unclaimed = λ slot seq is. grind (arith, nat_tests, memory.claims.unclaimed slot seq);
+        born = λ slot seq is. grind (arith, nat_tests, memory.claims.born slot seq);
+        rows = λ worker. grind (arith, nat_tests, memory.claims.rows worker);
       };
       slots = record {
         status = λ slot taken ready. grind (arith, nat_tests, memory.slots.status slot);
@@ -104,6 +108,8 @@ leave_pin_keeps config state mover target guard memory =
         latest = λ slot seq is. grind (arith, nat_tests, memory.claims.latest slot seq);
         formed = λ slot seq is. grind (arith, nat_tests, memory.claims.formed slot seq);
         unclaimed = λ slot seq is. grind (arith, nat_tests, memory.claims.unclaimed slot seq);
+        born = λ slot seq is. grind (arith, nat_tests, memory.claims.born slot seq);
+        rows = λ worker. grind (arith, nat_tests, memory.claims.rows worker);
       };
       slots = record {
         status = λ slot taken ready. grind (arith, nat_tests, memory.slots.status slot);
@@ -145,6 +151,8 @@ spoil_keeps config state mover target guard memory =
         latest = λ slot seq is. grind (arith, nat_tests, memory.claims.latest slot seq);
         formed = λ slot seq is. grind (arith, nat_tests, memory.claims.formed slot seq);
         unclaimed = λ slot seq is. grind (arith, nat_tests, memory.claims.unclaimed slot seq);
+        born = λ slot seq is. grind (arith, nat_tests, memory.claims.born slot seq);
+        rows = λ worker. grind (arith, nat_tests, memory.claims.rows worker);
       };
       slots = record {
         status = λ slot taken ready. grind (arith, nat_tests, memory.slots.status slot);
@@ -186,6 +194,8 @@ pose_keeps config state mover standing arm guard memory =
         latest = λ slot seq is. grind (arith, nat_tests, memory.claims.latest slot seq);
         formed = λ slot seq is. grind (arith, nat_tests, memory.claims.formed slot seq);
         unclaimed = λ slot seq is. grind (arith, nat_tests, memory.claims.unclaimed slot seq);
+        born = λ slot seq is. grind (arith, nat_tests, memory.claims.born slot seq);
+        rows = λ worker. grind (arith, nat_tests, memory.claims.rows worker);
       };
       slots = record {
         status = λ slot taken ready. grind (arith, nat_tests, memory.slots.status slot);

@@ -19,6 +19,8 @@ plant_keeps config state mover in_tenant in_address number guard memory =
         latest = λ slot seq is. grind (arith, nat_tests, memory.claims.latest slot seq, guard.word);
         formed = λ slot seq is. grind (arith, nat_tests, memory.claims.formed slot seq, guard.word);
         unclaimed = λ slot seq is. grind (arith, nat_tests, memory.claims.unclaimed slot seq, guard.word);
+        born = λ slot seq is. grind (arith, nat_tests, memory.claims.born slot seq, guard.word);
+        rows = λ worker. grind (arith, nat_tests, memory.claims.rows worker, guard.word);
       };
       slots = record {
         status = λ slot taken ready. grind (arith, nat_tests, memory.slots.status slot, guard.word);
@@ -60,6 +62,8 @@ take_back_keeps config state mover in_tenant in_address owner number plain_value
         latest = λ slot seq is. grind (arith, nat_tests, memory.claims.latest slot seq, guard.word);
         formed = λ slot seq is. grind (arith, nat_tests, memory.claims.formed slot seq, guard.word);
         unclaimed = λ slot seq is. grind (arith, nat_tests, memory.claims.unclaimed slot seq, guard.word);
+        born = λ slot seq is. grind (arith, nat_tests, memory.claims.born slot seq, guard.word);
+        rows = λ worker. grind (arith, nat_tests, memory.claims.rows worker, guard.word);
       };
       slots = record {
         status = λ slot taken ready. grind (arith, nat_tests, memory.slots.status slot, guard.word);

@@ -23,6 +23,8 @@ module _ (state : State) (seats : ℕ → Seat) (accounts : ℕ → Account) (sa
       latest = λ slot seq is. grind (arith, nat_tests, memory.claims.latest slot seq);
       formed = λ slot seq is. grind (arith, nat_tests, memory.claims.formed slot seq);
       unclaimed = λ slot seq is. grind (arith, nat_tests, memory.claims.unclaimed slot seq);
+      born = λ slot seq is. grind (arith, nat_tests, memory.claims.born slot seq);
+      rows = λ worker. grind (arith, nat_tests, memory.claims.rows worker);
     };
     slots = record {
       status = λ slot taken ready. grind (arith, nat_tests, memory.slots.status slot);

@@ -1,15 +1,14 @@
 -- What holds of memory holds at each start.
-use Rattle.std.specs.Prelude.{ℕ, ◌≤◌, replicate, slice_index}
+use Rattle.std.specs.Prelude.{ℕ, ◌≤◌}
 use Rattle.std.proofs.Common.{arith}
 use Rattle.std.proofs.lemmas.Bool.Decides.{nat_tests}
-use Rattle.std.proofs.lemmas.List.{get_or-replicate, get_or_past, length-replicate}
 use Rattle.mw_words.specs.declared.limits.TheConstants.{MAX_VALUE}
 use Rattle.mw_words.specs.declared.places.At.TheVariants.{Door as AtDoor, Gate as AtGate, Row as AtRow, Data, Status as AtStatus, Count, Addr, Expected, New}
 use Rattle.mw_words.specs.Change.{word_at}
 use Rattle.mw_world.specs.declared.config.Config.{Config}
-use Rattle.mw_world.specs.Definition.State.{Account, IsConfig, started, first_account, tenant_at}
+use Rattle.mw_world.specs.Definition.State.{Account, IsConfig, started}
 use Rattle.mw_world.specs.Definition.Cells.{AllFit}
-use Rattle.mw_law_moves.specs.Laws.{StartsHaveMemory, NewWorldsHaveMemory}
+use Rattle.mw_law_moves.specs.Laws.{StartsHaveMemory}
 
 first_fit : (config : Config) (accounts : ℕ → Account) → IsConfig config
     → ((tenant address : ℕ) → word_at (accounts tenant).file.contents address ≤ MAX_VALUE) → AllFit (started config accounts).cells
@@ -25,7 +24,7 @@ first_fit config accounts is fit (New slot entry) = grind (arith, nat_tests)
 
 pub starts_have_memory : StartsHaveMemory
 starts_have_memory config accounts is fit = record {
-  claims = grind (arith, nat_tests);
+  claims = grind (arith, nat_tests, is.pool);
   slots = grind (arith, nat_tests);
   references = grind (arith, nat_tests);
   attempts = grind (arith, nat_tests);
@@ -34,9 +33,3 @@ starts_have_memory config accounts is fit = record {
   written = λ slot seq address inked. grind (arith, nat_tests);
   fits = first_fit config accounts is fit;
 }
-
-zeros : (many address : ℕ) → slice_index (replicate many 0) address ≤ MAX_VALUE
-zeros many address = grind (arith, nat_tests, get_or-replicate {A = ℕ} many address 0 0, get_or_past {X = ℕ} (replicate {A = ℕ} many 0) address 0, length-replicate {A = ℕ} many 0)
-
-pub new_worlds_have_memory : NewWorldsHaveMemory
-new_worlds_have_memory config is = starts_have_memory config (first_account config) is (λ tenant address. zeros (tenant_at config tenant).words address)

@@ -155,9 +155,9 @@ free_worker config state worker tenant job may = none_of (state.seats worker).ac
 
 came_tells : (config : Config) (state : State) (worker tenant : ℕ) (job : Job) → (state.seats worker).actor ≡ None → PointsAreTold state → PointsAreTold (came config state worker tenant job)
 came_tells config state worker tenant job free points =
-    let actor = first worker tenant (tenant_at config tenant).quota config.pool job in
+    let actor = first worker tenant (state.accounts tenant).quota config.pool job in
     let idle = points.idle worker free in
-    let begin = begins worker tenant (tenant_at config tenant).quota config.pool job in
+    let begin = begins worker tenant (state.accounts tenant).quota config.pool job in
     record {
       standing = comes_told (λ (one : Acting). standing_at one one.point) state.seats state.history.standing worker _ actor refl (cc (idle.0, begin.0)) points.standing;
       arm = comes_told (λ (one : Acting). arm_at one one.point) state.seats state.history.arm worker _ actor refl (cc (idle.1, begin.1)) points.arm;

@@ -40,9 +40,10 @@ pub record MayFill (state : State) (by slot number : ℕ) : Type 0 where
   pub draft : IsDraftOf state by slot
   pub fits : number < 2 ^ 64
 
--- A worker's row names another entry once no attempt of the worker stands.
-pub record MaySetRow (state : State) (by : ℕ) (row : Row) : Type 0 where
+-- A worker's row names another entry, of a slot of the pool, once no attempt of the worker stands.
+pub record MaySetRow (config : Config) (state : State) (by : ℕ) (row : Row) : Type 0 where
   pub fits : IsRowInRange row
+  pub there : row.slot < config.pool
   pub rests : state.history.standing by ≡ Resting
 
 -- A slot of the pool that isn't taken is claimed for a well-formed change of a tenant, with a pin and under the number that it has.
@@ -189,7 +190,7 @@ Guard config state by (FillCount slot number) = MayFill state by slot number
 Guard config state by (FillAddr slot entry number) = MayFill state by slot number
 Guard config state by (FillExpected slot entry number) = MayFill state by slot number
 Guard config state by (FillNew slot entry number) = MayFill state by slot number
-Guard config state by (SetRow row) = MaySetRow state by row
+Guard config state by (SetRow row) = MaySetRow config state by row
 Guard config state by (Claim own gate tenant request entries) = MayClaim config state own gate tenant entries
 Guard config state by (Pin slot gate) = MayPin state slot gate
 Guard config state by (Unpin slot) = MayUnpin state slot

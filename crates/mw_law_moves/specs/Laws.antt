@@ -3,7 +3,7 @@ use Rattle.std.specs.Prelude.{ℕ, ◌≤◌, List}
 use Rattle.mw_words.specs.declared.limits.TheConstants.{MAX_VALUE}
 use Rattle.mw_words.specs.Change.{word_at}
 use Rattle.mw_world.specs.declared.config.Config.{Config}
-use Rattle.mw_world.specs.Definition.State.{State, Account, IsConfig, new_world, started}
+use Rattle.mw_world.specs.Definition.State.{State, Account, IsConfig, started}
 use Rattle.mw_law_moves.specs.Guards.{Guard, Guards}
 use Rattle.mw_law_moves.specs.Memory.{Memory}
 use Rattle.mw_law_moves.specs.Moves.{Move, made, made_all}
@@ -21,7 +21,3 @@ MovesKeepMemory = (config : Config) (state : State) (by : ℕ) (moves : List Mov
 abbrev pub StartsHaveMemory : Type 0
 StartsHaveMemory = (config : Config) (accounts : ℕ → Account) → IsConfig config
     → ((tenant address : ℕ) → word_at (accounts tenant).file.contents address ≤ MAX_VALUE) → Memory config (started config accounts)
-
--- It holds of a new world.
-abbrev pub NewWorldsHaveMemory : Type 0
-NewWorldsHaveMemory = (config : Config) → IsConfig config → Memory config (new_world config)

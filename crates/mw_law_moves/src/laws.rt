@@ -1,5 +1,5 @@
 //! What holds of the moves: facts for proofs to cite. The functions do nothing.
-ghost use Rattle.mw_law_moves.specs.Laws.{MoveKeepsMemory, MovesKeepMemory, NewWorldsHaveMemory, StartsHaveMemory};
+ghost use Rattle.mw_law_moves.specs.Laws.{MoveKeepsMemory, MovesKeepMemory, StartsHaveMemory};
 ghost use Rattle.mw_law_moves.specs.Relying.{OthersRely, OthersRelyOnAll, RelianceGoesOn};
 ghost use Rattle.mw_law_moves.specs.Stepped.{CallsAreMoves, TurnsAreMoves};
 ghost use Rattle.mw_law_moves.specs.Values.{MovesKeepValues, SealsPutValues, TurnsKeepValues, WordsTellValues};
@@ -12,10 +12,9 @@ pub fn moves_keep_memory()
     ensures all { MovesKeepMemory }
 {}
 
-/// It holds at each start at which the files have words that fit, and of a new world.
+/// It holds at each start at which the files have words that fit.
 pub fn starts_have_memory()
-    ensures start { StartsHaveMemory }
-    ensures new { NewWorldsHaveMemory }
+    ensures { StartsHaveMemory }
 {}
 
 /// What others may rely on where a worker moves: at each move that has what it asks for, over one

@@ -4,7 +4,7 @@ use Rattle.std.proofs.Common.{refl, sym, ap, subst, ◌∙◌, inl, inr, arith}
 use Rattle.std.proofs.lemmas.Bool.Decides.{nat_tests}
 use Rattle.mw_words.specs.declared.jobs.Job.{Job}
 use Rattle.mw_words.specs.declared.jobs.Job.TheVariants.{Get, Cas}
-use Rattle.mw_words.specs.declared.limits.TheConstants.{MAX_WORDS, MAX_QUOTA}
+use Rattle.mw_words.specs.declared.limits.TheConstants.{MAX_WORDS}
 use Rattle.mw_words.specs.declared.replies.Reply.{Reply}
 use Rattle.mw_words.specs.declared.words.Word.TheVariants.{Plain, Held, Dirty}
 use Rattle.mw_words.specs.Change.{is_well_formed}
@@ -23,19 +23,20 @@ use Rattle.mw_world.specs.declared.config.Tenant.{Tenant}
 use Rattle.mw_world.specs.Definition.Counting.{pins_held, pin_of}
 use Rattle.mw_world.specs.Definition.Happenings.{Come, Hand, Restart}
 use Rattle.mw_world.specs.Definition.Restarts.{restart, restarted, may_all_be_found}
-use Rattle.mw_world.specs.Definition.State.{State, Seat, Account, IsConfig, started, no_tenant, tenant_at, tenants_of}
+use Rattle.mw_world.specs.Definition.State.{State, Seat, Account, IsConfig, account_at, started, no_tenant, tenant_at, tenants_of}
 use Rattle.mw_world.specs.Definition.Requests.{came, gave}
 use Rattle.mw_world.specs.Definition.World.{come, hand, handed, may_come}
 use Rattle.mw_law_moves.specs.Stepped.{SameMemory}
 use Rattle.mw_law_moves.proofs.Shared.{is_shared, memory_is_shared}
-use Rattle.mw_law_moves.proofs.Starting.{new_worlds_have_memory}
+use Rattle.mw_law_moves.proofs.Starting.{starts_have_memory}
 use Rattle.mw_law_moves.proofs.Stepping.{comes_leave, hands_leave, restarts_have}
 use Rattle.mw_law_moves.proofs.Telling.{events_tell_points}
-use Rattle.mw_law_counts.proofs.Keeping.{new_world_stands, step_keeps}
+use Rattle.mw_law_counts.proofs.Keeping.{openings_stand, step_keeps}
 use Rattle.mw_law_knowledge.proofs.Deeds.Keeping.{upd_here, upd_else}
 use Rattle.mw_law_runs.specs.Owed.{WordsAreOwed, IsOwnerOf, IsCleanerOf}
-use Rattle.mw_law_runs.specs.Laws.{ComesKeepSound, HandsKeepSound, NewWorldsAreSound, RestartsKeepSound}
+use Rattle.mw_law_runs.specs.Laws.{ComesKeepSound, HandsKeepSound, RestartsKeepSound, StartsAreSound}
 use Rattle.mw_law_runs.specs.Sound.{IsSound, IsSoundRequest}
+use Rattle.mw_law_runs.proofs.Files.{words_fit}
 use Rattle.mw_law_runs.proofs.Seating.{rest_on}
 use Rattle.mw_law_runs.proofs.Sharing.{stands_shared}
 use Rattle.mw_law_runs.proofs.Tests.{guarded}
@@ -99,12 +100,11 @@ record MayCome (there known free formed : Bool) : Type 0 where
   pub is_free : free ≡ true
   pub is_formed : formed ≡ true
 
-all_hold : (there known free numbered formed : Bool) → (there && known && free && numbered && formed) ≡ true → MayCome there known free formed
-all_hold true true true true formed is = record { is_there = refl; is_known = refl; is_free = refl; is_formed = is }
-all_hold true true true false formed is = absurd (grind (arith, is))
-all_hold true true false numbered formed is = absurd (grind (arith, is))
-all_hold true false free numbered formed is = absurd (grind (arith, is))
-all_hold false known free numbered formed is = absurd (grind (arith, is))
+all_hold : (there known free formed : Bool) → (there && known && free && formed) ≡ true → MayCome there known free formed
+all_hold true true true formed is = record { is_there = refl; is_known = refl; is_free = refl; is_formed = is }
+all_hold true true false formed is = absurd (grind (arith, is))
+all_hold true false free formed is = absurd (grind (arith, is))
+all_hold false known free formed is = absurd (grind (arith, is))
 
 is_idle : (found : Option Acting) → is_none found ≡ true → found ≡ None
 is_idle None is = refl
@@ -120,7 +120,7 @@ begins state worker tenant quota pool (Cas entries) range = record { in_range = 
 
 module _ (config : Config) (state : State) (worker tenant : ℕ) (job : Job) (is_config : IsConfig config) (sound : IsSound config state) (may : may_come config state worker tenant job ≡ true) where
   tells : MayCome (nat_lt worker config.workers) (nat_lt tenant (tenants_of config)) (is_none (state.seats worker).actor) (is_well_formed (tenant_at config tenant).words job)
-  tells = all_hold (nat_lt worker config.workers) (nat_lt tenant (tenants_of config)) (is_none (state.seats worker).actor) _ _ may
+  tells = all_hold (nat_lt worker config.workers) (nat_lt tenant (tenants_of config)) (is_none (state.seats worker).actor) _ may
 
   known : tenant < tenants_of config
   known = below tenant (tenants_of config) tells.is_known
@@ -131,11 +131,11 @@ module _ (config : Config) (state : State) (worker tenant : ℕ) (job : Job) (is
   abbrev next : State
   next = came config state worker tenant job
 
-  comes_in_range : IsInRange (first worker tenant (tenant_at config tenant).quota config.pool job)
+  comes_in_range : IsInRange (first worker tenant (state.accounts tenant).quota config.pool job)
   comes_in_range =
-      begins_in_range worker tenant (tenant_at config tenant).quota config.pool job [] (first_point tenant job) refl refl
+      begins_in_range worker tenant (state.accounts tenant).quota config.pool job [] (first_point tenant job) refl refl
       (omega (arith, below worker config.workers tells.is_there, is_config.workers.1))
-      (omega (arith, (all_at (λ (one : Tenant). (1 ≤ one.quota) × (one.quota ≤ MAX_QUOTA)) config.tenants.items tenant no_tenant is_config.quotas known).1))
+      (omega (arith, (sound.counts.counts.limits.each tenant known).1))
       is_config.pool
       (well_formed_is_formed (tenant_at config tenant).words job tells.is_formed (all_at (λ (one : Tenant). (1 ≤ one.words) × (one.words ≤ MAX_WORDS)) config.tenants.items tenant no_tenant is_config.words known).1)
 
@@ -154,9 +154,9 @@ module _ (config : Config) (state : State) (worker tenant : ℕ) (job : Job) (is
       by_worker : (other : ℕ) (one : Acting) → (next.seats other).actor ≡ Some one → (other ≡ worker) ⊎ (other ≢ worker) → IsSoundRequest next one
       by_worker other one there (inl here) =
           subst (IsSoundRequest next)
-          (same_request (first worker tenant (tenant_at config tenant).quota config.pool job) one
+          (same_request (first worker tenant (state.accounts tenant).quota config.pool job) one
           (sym (ap (λ (seat : Seat). seat.actor) (upd_here state.seats worker _)) ∙ ap (λ (n : ℕ). (next.seats n).actor) (sym here) ∙ there))
-          (begins next worker tenant (tenant_at config tenant).quota config.pool job comes_in_range)
+          (begins next worker tenant (state.accounts tenant).quota config.pool job comes_in_range)
       by_worker other one there (inr apart) =
           still_sound config state next other one sound same (sym (ap (λ (seat : Seat). seat.actor) (upd_else state.seats worker other _ apart)) ∙ there)
 
@@ -278,11 +278,11 @@ restarts_keep_sound config state next founds is_config fits sound is =
       owed = starts_owed config _;
     }) is is
 
-pub new_worlds_are_sound : NewWorldsAreSound
-new_worlds_are_sound config is_config = record {
-  memory = new_worlds_have_memory config is_config;
+pub starts_are_sound : StartsAreSound
+starts_are_sound config openings is_config starts = record {
+  memory = starts_have_memory config (λ tenant. account_at (openings tenant)) is_config (λ tenant address. words_fit (openings tenant).words address (starts.words tenant));
   points = record { standing = λ worker actor is. absurd (none_is_some actor is); arm = λ worker actor is. absurd (none_is_some actor is); idle = λ worker is. (refl, refl) };
-  counts = new_world_stands config;
+  counts = openings_stand config openings starts;
   requests = nobody config _;
   owed = starts_owed config _;
 }

@@ -27,7 +27,7 @@ use Rattle.mw_world.specs.Definition.Calls.{Called, breaks, called_at, doubt_of,
 use Rattle.mw_world.specs.declared.events.Interrupted.{Interrupted}
 use Rattle.mw_world.specs.Definition.Happenings.{Found}
 use Rattle.mw_world.specs.Definition.Restarts.{UnderWay, stopped_call, doubt_if, doubt_then, found_of, is_sealed_then, may_all_be_found, may_be_found, may_fail, may_find, may_interrupt, nothing_found, opened_file, stopped_at, takes, under_way}
-use Rattle.mw_world.specs.Definition.State.{State, Account, tenant_at, tenants_of}
+use Rattle.mw_world.specs.Definition.State.{State, Account, tenants_of}
 use Rattle.mw_world.specs.Definition.Turns.{Made, moved}
 use Rattle.mw_law_runs.proofs.Tests.{first_holds, second_holds}
 use Rattle.mw_law_runs.specs.Files.{AreEntries, FileFits, FilesFit}
@@ -102,7 +102,7 @@ module _ (config : Config) (state : State) (fit : FilesFit state) where
       by_called : (called : Option Called) → CallFits (option_map (stopped_call config state actor made) called)
       by_called None = tt
       by_called (Some called) =
-          (fit actor.tenant).places (place_for called.call (state.accounts actor.tenant).file (tenant_at config actor.tenant).quota called.change.slot)
+          (fit actor.tenant).places (place_for called.call (state.accounts actor.tenant).file (state.accounts actor.tenant).quota called.change.slot)
 
   under_way_fits : (interrupted : Option Interrupted) → CallFits (under_way config state interrupted)
   under_way_fits None = tt

@@ -19,7 +19,7 @@ use Rattle.mw_world.specs.Definition.Cells.{Cells}
 use Rattle.mw_world.specs.declared.notes.Note.TheVariants.{Nothing}
 use Rattle.mw_world.specs.Definition.Extent.{has_slot}
 use Rattle.mw_world.specs.Definition.Happenings.{File as FileEvent}
-use Rattle.mw_world.specs.Definition.State.{State, Seat, tenant_at}
+use Rattle.mw_world.specs.Definition.State.{State, Seat}
 use Rattle.mw_world.specs.Definition.Turns.{Made, moved, next_attempt}
 use Rattle.mw_law_moves.specs.Guards.{Guards}
 use Rattle.mw_law_moves.specs.Memory.{Memory}
@@ -136,7 +136,7 @@ module _ (config : Config) (state next : State) (actor : Acting) (called : Calle
   stepped : OneStepped state next actor.worker later_actor
   stepped =
       let file = (state.accounts actor.tenant).file in
-      let places = (tenant_at config actor.tenant).quota in
+      let places = (state.accounts actor.tenant).quota in
       let status = state.cells.statuses called.change.slot in
       let place = place_for called.call file places called.change.slot in
       ended state actor.worker actor (starts_from called.call status) (fails_on called.call file) (can_be_made called.call file places place (own_entries actor))
@@ -163,7 +163,7 @@ module _ (config : Config) (state next : State) (actor : Acting) (called : Calle
       }
 
   -- a call changes no gate
-  gates_stay : (slot : ℕ) → StaysTaken state next slot
+  pub gates_stay : (slot : ℕ) → StaysTaken state next slot
   gates_stay slot = gates_same state next (ap (λ (cells : Cells). cells.gates) same.cells ∙ call_gates state actor.worker actor called (state.cells.statuses called.change.slot) (starts_from called.call (state.cells.statuses called.change.slot)) (fails_on called.call (state.accounts actor.tenant).file) outcome) slot
 
   pub call_keeps : IsSound config next

@@ -1,4 +1,5 @@
 pub mod Beginning
+pub mod Callers
 pub mod Carrying
 pub mod Ending
 pub mod Files
@@ -11,5 +12,6 @@ pub mod Ranging
 pub mod Running
 pub mod Seating
 pub mod Sharing
+pub mod ShortRuns
 pub mod Tests
 pub mod Turning

@@ -1,9 +1,7 @@
 -- Every run of a new world leads to a sound one.
-use Rattle.std.specs.Prelude.{ℕ, ◌≡◌, ◌==◌, ◌&&◌, true, List, [], ◌∷◌, length, replicate, Option, Some, None}
+use Rattle.std.specs.Prelude.{ℕ, ◌≡◌, ◌==◌, ◌&&◌, true, List, [], ◌∷◌, length, Option, Some, None}
 use Rattle.std.specs.Option.{option_and_then}
-use Rattle.std.proofs.Common.{refl, sym, subst, arith}
-use Rattle.std.proofs.lemmas.Bool.Decides.{nat_tests}
-use Rattle.std.proofs.lemmas.List.{get_or-replicate, length-replicate}
+use Rattle.std.proofs.Common.{refl, sym, subst}
 use Rattle.mw_words.specs.declared.jobs.Job.{Job}
 use Rattle.mw_words.specs.declared.replies.Reply.{Reply}
 use Rattle.mw_words.specs.Change.{AreWords}
@@ -15,7 +13,7 @@ use Rattle.mw_world.specs.Definition.Calls.{Called, call, call_if, called_at, ca
 use Rattle.mw_world.specs.Definition.Extent.{has_slot}
 use Rattle.mw_world.specs.Definition.Happenings.{Found, Happening, Come, Step, File, Hand, Restart}
 use Rattle.mw_world.specs.Definition.Restarts.{found_of, may_all_be_found, restart, restarted}
-use Rattle.mw_world.specs.Definition.State.{State, IsConfig, new_world, tenant_at, tenants_of}
+use Rattle.mw_world.specs.Definition.State.{State, IsConfig, IsStart, Opening, tenants_of, world_at}
 use Rattle.mw_world.specs.Definition.Requests.{came, gave}
 use Rattle.mw_world.specs.Definition.Turns.{turn}
 use Rattle.mw_world.specs.Definition.World.{come, hand, handed, may_come, run, step}
@@ -24,9 +22,10 @@ use Rattle.mw_law_runs.proofs.Owed.Owing.{owed_words_are_owed}
 use Rattle.mw_law_runs.specs.Files.{AreEntries, FileFits, FilesFit}
 use Rattle.mw_law_runs.specs.Laws.{EventsKeepSound, RoomIsLeft, RunsAreSound, SoundWorldsAreRight}
 use Rattle.mw_law_runs.specs.Sound.{IsSound}
-use Rattle.mw_law_runs.proofs.Beginning.{comes_keep_sound, hands_keep_sound, new_worlds_are_sound, restarts_keep_sound}
+use Rattle.mw_law_runs.proofs.Beginning.{comes_keep_sound, hands_keep_sound, starts_are_sound, restarts_keep_sound}
+use Rattle.mw_law_runs.proofs.Callers.{of_caller}
 use Rattle.mw_law_runs.proofs.Ending.{same_file, turn_ends}
-use Rattle.mw_law_runs.proofs.Files.{all_found, called_fits, new_fits, opened_fits, own_fit, words_fit}
+use Rattle.mw_law_runs.proofs.Files.{all_found, called_fits, opened_fits, own_fit, words_fit}
 use Rattle.mw_law_runs.proofs.Filing.{calls_keep_sound}
 use Rattle.mw_law_runs.proofs.Seating.{are_seated}
 use Rattle.mw_law_runs.proofs.Tests.{first_holds, guarded, if_slot, second_holds}
@@ -34,7 +33,7 @@ use Rattle.mw_law_runs.proofs.Turning.{turns_keep_sound}
 
 pub sound_worlds_are_right : SoundWorldsAreRight
 sound_worlds_are_right config state sound = record {
-  requests = record { seats = sound.counts.seats; standing = sound.points.standing; arm = sound.points.arm; idle = sound.points.idle };
+  requests = record { seats = sound.counts.seats; quotas = sound.counts.quotas; calls = λ worker actor called sits at. of_caller config state worker actor called sound sits at; standing = sound.points.standing; arm = sound.points.arm; idle = sound.points.idle };
   claims = sound.memory.claims;
   slots = sound.memory.slots;
   references = sound.memory.references;
@@ -67,7 +66,7 @@ called_if config state next worker actor None outcome fit entries is = absurd (n
     none e = cc
 called_if config state next worker actor (Some called) outcome fit entries is =
     let file = (state.accounts actor.tenant).file in
-    let places = (tenant_at config actor.tenant).quota in
+    let places = (state.accounts actor.tenant).quota in
     let status = state.cells.statuses called.change.slot in
     let place = place_for called.call file places called.change.slot in
     called_fits state worker actor fit entries (starts_from called.call status) (fails_on called.call file) (can_be_made called.call file places place (own_entries actor))
@@ -149,17 +148,18 @@ runs_on config (event ∷ events) state last is_config sound fit is = by_step (s
         let both = events_keep_sound config state next event is_config sound fit stepped in
         goes_on next both.0 both.1 came
 
-zeros_fit : (many : ℕ) → AreWords (replicate many 0)
-zeros_fit many index none low = grind (arith, nat_tests, get_or-replicate {A = ℕ} many index 0 none, length-replicate {A = ℕ} many 0, low)
+-- The tenants' files fit at a start.
+pub starts_fit : (config : Config) (openings : ℕ → Opening) → IsStart config openings → FilesFit (world_at config openings)
+starts_fit config openings starts tenant = record { contents = starts.words tenant; places = λ place. refl; doubt = refl }
 
 pub runs_are_sound : RunsAreSound
-runs_are_sound config events state is_config is =
-    runs_on config events (new_world config) state is_config (new_worlds_are_sound config is_config) (λ tenant. new_fits (replicate (tenant_at config tenant).words 0) (zeros_fit (tenant_at config tenant).words)) is
+runs_are_sound config openings events state played =
+    runs_on config events (world_at config openings) state played.made (starts_are_sound config openings played.made played.starts) (starts_fit config openings played.starts) played.runs
 
 pub room_is_left : RoomIsLeft
-room_is_left config events state is_config is =
-    let sound = (runs_are_sound config events state is_config is).0 in
+room_is_left config openings events state played =
+    let sound = (runs_are_sound config openings events state played).0 in
     record {
       room = doors-count-the-taken config state sound.counts;
-      free = λ worker actor sits waits. who-waits-has-room config state worker actor is_config sound.counts sits waits;
+      free = λ worker actor sits waits. who-waits-has-room config state worker actor sound.counts sits waits;
     }

@@ -102,7 +102,7 @@ module _ (config : Config) (state next : State) (actor : Acting) (sound : IsSoun
       by_end (inl quiet) = looks_stay config state actor actor.point ended.news slot quiet
       by_end (inr changes) = deeds_stay config state actor actor.point ended.news slot informed changes none
 
-  stays_next : (slot : ℕ) → frees_at slot actor.point ≡ 0 → StaysTaken state next slot
+  pub stays_next : (slot : ℕ) → frees_at slot actor.point ≡ 0 → StaysTaken state next slot
   stays_next slot none =
       let there = stays_after slot none in
       record {

@@ -8,9 +8,10 @@ use Rattle.mw_world.specs.declared.config.Config.{Config}
 use Rattle.mw_world.specs.Definition.Calls.{call}
 use Rattle.mw_world.specs.Definition.Happenings.{Found, Happening}
 use Rattle.mw_world.specs.Definition.Restarts.{restart, found_of}
-use Rattle.mw_world.specs.Definition.State.{State, IsConfig, new_world}
+use Rattle.mw_world.specs.Definition.State.{State, IsConfig, IsStart, Opening, world_at}
 use Rattle.mw_world.specs.Definition.Turns.{turn}
-use Rattle.mw_world.specs.Definition.World.{come, hand, run, step}
+use Rattle.mw_world.specs.Definition.World.{come, hand, step}
+use Rattle.mw_world.specs.Claim.Headline.{IsPlayed}
 use Rattle.mw_law_counts.specs.Laws.{HasRoom}
 use Rattle.mw_law_counts.specs.Standing.{CountsRestOn}
 use Rattle.mw_law_runs.specs.Files.{FilesFit}
@@ -37,11 +38,11 @@ ComesKeepSound = (config : Config) (state next : State) (worker tenant : ℕ) (j
 abbrev pub HandsKeepSound : Type 0
 HandsKeepSound = (config : Config) (state next : State) (worker : ℕ) → IsSound config state → hand state worker (state.seats worker).actor ≡ Some next → IsSound config next
 
--- A new world is sound.
-abbrev pub NewWorldsAreSound : Type 0
-NewWorldsAreSound = (config : Config) → IsConfig config → IsSound config (new_world config)
+-- A world is sound at every start with which a run may begin.
+abbrev pub StartsAreSound : Type 0
+StartsAreSound = (config : Config) (openings : ℕ → Opening) → IsConfig config → IsStart config openings → IsSound config (world_at config openings)
 
--- So is a world after a start that finds words none of which is past the greatest value.
+-- So is the world after a start that finds words none of which is past the greatest value.
 abbrev pub RestartsKeepSound : Type 0
 RestartsKeepSound = (config : Config) (state next : State) (founds : List Found) → IsConfig config → ((tenant address : ℕ) → word_at (found_of founds tenant).words address ≤ MAX_VALUE)
     → IsSound config state → restart config state founds ≡ Some next → IsSound config next
@@ -56,10 +57,11 @@ EventsKeepSound = (config : Config) (state next : State) (event : Happening) →
 abbrev pub SoundWorldsAreRight : Type 0
 SoundWorldsAreRight = (config : Config) (state : State) → IsSound config state → IsRightButForFiles config state
 
--- Every run of a new world, of a configuration of which one can be made, leads to a sound world, whose files have words that fit.
+-- Every run leads to a sound world, whose files have words that fit.
 abbrev pub RunsAreSound : Type 0
-RunsAreSound = (config : Config) (events : List Happening) (state : State) → IsConfig config → run config (new_world config) events ≡ Some state → IsSound config state × FilesFit state
+RunsAreSound = (config : Config) (openings : ℕ → Opening) (events : List Happening) (state : State) → IsPlayed config openings events state
+    → IsSound config state × FilesFit state
 
--- There is room in the pool after every such run: while a tenant's door counts a slot that a request hasn't taken yet, some slot isn't taken.
+-- There is room in the pool after every run: while a tenant's door counts a slot that a request hasn't taken yet, some slot isn't taken.
 abbrev pub RoomIsLeft : Type 0
-RoomIsLeft = (config : Config) (events : List Happening) (state : State) → IsConfig config → run config (new_world config) events ≡ Some state → HasRoom config state
+RoomIsLeft = (config : Config) (openings : ℕ → Opening) (events : List Happening) (state : State) → IsPlayed config openings events state → HasRoom config state

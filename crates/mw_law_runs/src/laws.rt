@@ -1,5 +1,6 @@
 //! What holds of sound worlds: facts for proofs to cite. The functions do nothing.
-ghost use Rattle.mw_law_runs.specs.Laws.{CallsKeepSound, ComesKeepSound, CountsHaveRest, EventsKeepSound, HandsKeepSound, NewWorldsAreSound, RestartsKeepSound, RoomIsLeft, RunsAreSound, SoundWorldsAreRight, TurnsKeepSound};
+ghost use Rattle.mw_world.specs.Claim.Headline.{ShortRunsHaveNumbers};
+ghost use Rattle.mw_law_runs.specs.Laws.{CallsKeepSound, ComesKeepSound, CountsHaveRest, EventsKeepSound, HandsKeepSound, RestartsKeepSound, RoomIsLeft, RunsAreSound, SoundWorldsAreRight, StartsAreSound, TurnsKeepSound};
 ghost use Rattle.mw_law_runs.specs.Owing.{CallsKeepOwed, LastPinsAreFree, OwedWordsAreOwed, StepsKeepOwed};
 
 /// Where words are owed as `WordsAreOwed` says, a word that is held for a refused change, or that has the
@@ -52,11 +53,18 @@ pub fn hands_keep_sound()
     ensures { HandsKeepSound }
 {}
 
-/// A new world is sound, of a configuration of which one can be made. So is a world after a start from a
-/// sound one, of such a configuration, if the start finds words none of which is past the greatest value.
+/// A world is sound where a run begins: at every start that gives each tenant words and a quota that fit. So
+/// is the world after a start from a sound one, if the start finds words none of which is past the greatest
+/// value.
 pub fn starts_are_sound()
-    ensures new { NewWorldsAreSound }
+    ensures first { StartsAreSound }
     ensures again { RestartsKeepSound }
+{}
+
+/// A run that has fewer events than there are numbers from the first one on has numbers left at every moment:
+/// an event raises the number of a slot, or of a worker's next attempt, by one at the most.
+pub fn short_runs_have_numbers()
+    ensures { ShortRunsHaveNumbers }
 {}
 
 /// Every event leaves a sound world sound, and its files with words that fit, if they had such before it and
@@ -65,9 +73,8 @@ pub fn events_keep_sound()
     ensures { EventsKeepSound }
 {}
 
-/// Every run of a new world, of a configuration of which one can be made, leads to a sound world; a sound
-/// world has all of the invariant but what is said of files and of changes' places in them; and there is
-/// room in the pool after every such run.
+/// Every run leads to a sound world; a sound world has all of the invariant but what is said of files and
+/// of changes' places in them; and there is room in the pool after every run.
 pub fn runs_are_sound()
     ensures runs { RunsAreSound }
     ensures right { SoundWorldsAreRight }

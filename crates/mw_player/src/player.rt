@@ -21,6 +21,8 @@ const MOST_STEPS: u32 = 10_000;
 pub enum Halt {
     /// What it tells can't happen where the world is.
     NotEnabled,
+    /// It tells of a request under a number of which a world in memory gives none.
+    LastNumber,
     /// Its worker replies before it comes to what the line tells, or makes [`MOST_STEPS`] steps.
     DidNotArrive,
     /// Memory was refused.
@@ -33,6 +35,7 @@ impl From<WorldFault> for Halt {
     fn from(fault: WorldFault) -> Self {
         match fault {
             WorldFault::NotEnabled => Halt::NotEnabled,
+            WorldFault::LastNumber => Halt::LastNumber,
             WorldFault::Memory => Halt::Memory,
         }
     }

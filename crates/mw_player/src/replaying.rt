@@ -28,6 +28,9 @@ enum ReplayFault {
     /// What the line with this number tells can't happen where the world is.
     #[error("line {0} not enabled")]
     NotEnabled(u64),
+    /// The request of the line with this number would have a number of which a world in memory gives none.
+    #[error("line {0} last number")]
+    LastNumber(u64),
     /// The worker of the line with this number does not come to what the line tells.
     #[error("line {0} did not arrive")]
     DidNotArrive(u64),
@@ -41,6 +44,7 @@ impl ReplayFault {
     fn at(number: u64, halt: Halt) -> Self {
         match halt {
             Halt::NotEnabled => ReplayFault::NotEnabled(number),
+            Halt::LastNumber => ReplayFault::LastNumber(number),
             Halt::DidNotArrive => ReplayFault::DidNotArrive(number),
             Halt::Memory => ReplayFault::Memory,
             Halt::Output => ReplayFault::Output,
@@ -54,6 +58,7 @@ impl ReplayFault {
             ReplayFault::Args(_) | ReplayFault::Wrong(_) => 2,
             ReplayFault::NotEnabled(_) => 3,
             ReplayFault::DidNotArrive(_) => 4,
+            ReplayFault::LastNumber(_) => 5,
         }
     }
 }
@@ -118,8 +123,8 @@ pub fn replay_args<R: Files + AllocGlobal, O: Write, E: Write>(
 ///
 /// Gives the exit status: 0 where it was played to its end; 1 where `input` or `out` failed or memory
 /// was refused; 2 where the schedule has a wrong line, and then nothing is played; 3 where what a line
-/// tells can't happen, and 4 where its worker does not come to what it tells. What went wrong is
-/// written to `err`.
+/// tells can't happen; 4 where its worker does not come to what it tells; and 5 where its request would
+/// have number `2^64 - 1`. What went wrong is written to `err`.
 pub fn replay<R: AllocGlobal, I: Read, O: Write, E: Write>(
     rt: &R,
     input: &mut I,

@@ -18,7 +18,7 @@ use Rattle.mw_look.specs.declared.news.News.TheVariants.{Filed}
 use Rattle.mw_actor.specs.Acting.{Acting, own_entries}
 use Rattle.mw_actor.specs.Program.{tells}
 use Rattle.mw_world_file.specs.declared.kept.Book.{Book}
-use Rattle.mw_world_file.specs.declared.faults.BookFault.{BookFault as WorldFault}
+use Rattle.mw_world_file.specs.declared.faults.BookFault.{BookFault}
 use Rattle.mw_world_file.specs.declared.faults.BookFault.TheVariants.{NotEnabled, Memory}
 use Rattle.mw_world_file.specs.declared.outcomes.Outcome.{Outcome}
 use Rattle.mw_world_file.specs.declared.outcomes.Outcome.TheVariants.{Good, Fail}
@@ -116,7 +116,7 @@ module _ (config : Config) (state : State) (actor : Acting) (called : Called) (s
   file_then = (state.accounts actor.tenant).file
 
   abbrev places_then : ℕ
-  places_then = (tenant_at config actor.tenant).quota
+  places_then = (state.accounts actor.tenant).quota
 
   abbrev place_then : ℕ
   place_then = place_for called.call file_then places_then called.change.slot
@@ -135,7 +135,7 @@ module _ (config : Config) (state : State) (actor : Acting) (called : Called) (s
       ∙ ap (λ b. by_tests starts fails b status) is_form
 
   -- the status isn't the one that the call starts from
-  pub call_skips : (new : World) (result : Result Ended WorldFault) → starts_from called.call status ≡ false → result ≡ makes_none skipped outcome → Shows new state
+  pub call_skips : (new : World) (result : Result Ended BookFault) → starts_from called.call status ≡ false → result ≡ makes_none skipped outcome → Shows new state
       → Closes new state actor.tenant (calling config state actor called outcome) result
   call_skips new result none is shows =
       subst (λ r. Closes new state actor.tenant (calling config state actor called outcome) r) (sym is)
@@ -147,7 +147,7 @@ module _ (config : Config) (state : State) (actor : Acting) (called : Called) (s
       by (Fail number) e = (e, shows)
 
   -- the file failed before
-  pub call_refuses : (old new : World) (result : Result Ended WorldFault) → starts_from called.call status ≡ true → fails_on called.call file_then ≡ true → result ≡ makes_none refused outcome
+  pub call_refuses : (old new : World) (result : Result Ended BookFault) → starts_from called.call status ≡ true → fails_on called.call file_then ≡ true → result ≡ makes_none refused outcome
       → (outcome ≡ Good → Shows new (with_cells state (faulted state.cells actor.tenant))) → ((outcome ≡ Good → ⊥) → Shows new state)
       → Closes new state actor.tenant (calling config state actor called outcome) result
   call_refuses old new result starts fails is good other =
@@ -210,7 +210,7 @@ module _ (config : Config) (state : State) (actor : Acting) (called : Called) (s
         })
 
     -- it can't be made, or memory was refused
-    pub call_fails : (new : World) (book : Book) (fault : WorldFault) → Shows new state → quota_of book ≡ quota → (worked called.call file_then (quota_of book) called.change.slot (own_entries actor) outcome ≡ None ⊎ fault ≡ Memory)
+    pub call_fails : (new : World) (book : Book) (fault : BookFault) → Shows new state → quota_of book ≡ quota → (worked called.call file_then (quota_of book) called.change.slot (own_entries actor) outcome ≡ None ⊎ fault ≡ Memory)
         → Closes new state actor.tenant (calling config state actor called outcome) (Err fault)
     call_fails new book Memory shows same_quota why = shows
     call_fails new book NotEnabled shows same_quota why = elim why [
@@ -223,7 +223,7 @@ module _ (config : Config) (state : State) (actor : Acting) (called : Called) (s
     ]
 
 -- why a call on a book failed
-pub why_failed : (book : Book) (call : Call) (slot : ℕ) (entries : List Entry) (outcome : Outcome) (fault : WorldFault) (file : File) → Works book call slot entries outcome (Err fault)
+pub why_failed : (book : Book) (call : Call) (slot : ℕ) (entries : List Entry) (outcome : Outcome) (fault : BookFault) (file : File) → Works book call slot entries outcome (Err fault)
     → ShowsFile book file → worked call file (quota_of book) slot entries outcome ≡ None ⊎ fault ≡ Memory
 why_failed book call slot entries outcome NotEnabled file fails shows = inl (fails file shows)
 why_failed book call slot entries outcome Memory file fails shows = inr refl
@@ -256,7 +256,7 @@ room_if (Err e) P room ok = absurd (cc)
 pub refiled : (old new : World) (state : State) (tenant place : ℕ) (shown : AccountInMemory) (book : Book) (file : File)
     → Shows old state → new.config ≡ old.config → new.cells ≡ old.cells → new.seats ≡ old.seats → new.claims ≡ old.claims
     → place ≡ tenant → tenant < length old.accounts.items → shown ≡ slice_index_or old.accounts.items place shown
-    → new.accounts.items ≡ slice_set old.accounts.items place (record shown { book = book }) → IsBookOf old.config tenant book file
+    → new.accounts.items ≡ slice_set old.accounts.items place (record shown { book = book }) → IsBookOf old.config state tenant book file
     → Shows new (with_file state tenant file)
 refiled old new state tenant place shown book file shows config cells seats claims at there is accounts of = record {
   tied = subst (λ bits. Tie bits state.cells) (sym cells) shows.tied;
@@ -268,7 +268,7 @@ refiled old new state tenant place shown book file shows config cells seats clai
   accounts = subst (λ (c : Config). ShowsAccounts c new.accounts.items (upd state.accounts tenant after)) (sym config)
       (subst (λ kept. ShowsAccounts old.config kept (upd state.accounts tenant after)) (sym (accounts ∙ ap (λ i. slice_set old.accounts.items i (record shown { book = book })) at))
       (accounts_set old.config old.accounts.items state.accounts tenant (record shown { book = book }) after there
-      (record { book = of.shows; places = of.places; words_are = of.words; asked = one.asked; closed = one.closed; lines = one.lines }) shows.accounts));
+      (record { book = of.shows; quota = one.quota; places = of.places; words_are = of.words; asked = one.asked; closed = one.closed; lines = one.lines }) shows.accounts));
 }
   where
     after : Account

@@ -6,7 +6,6 @@ use Rattle.mw_words.specs.declared.jobs.Job.{Job}
 use Rattle.mw_words.specs.Change.{is_well_formed}
 use Rattle.mw_actor.specs.Acting.{Acting, first}
 use Rattle.mw_world.specs.declared.config.Config.{Config}
-use Rattle.mw_world.specs.declared.config.TheConstants.{MOST_REQUESTS}
 use Rattle.mw_world.specs.Definition.State.{State, tenant_at, tenants_of}
 use Rattle.mw_simulator.specs.declared.accounts.Account.{Account as AccountInMemory}
 use Rattle.mw_simulator.specs.declared.world.World.{World}
@@ -15,37 +14,32 @@ use Rattle.mw_simulator.specs.Stepping.{request_for}
 use Rattle.mw_simulator.proofs.Entering.{element}
 
 -- what a tenant may ask for
-three_refuse_second : (a b c : Bool) (x : ℕ) → b ≡ false → None ≡ (if a && b && c then Some x else None)
-three_refuse_second false b c x is = refl
-three_refuse_second true false c x is = refl
-three_refuse_second true true c x is = absurd (cc)
-
-three_agree : (a b c : Bool) (x : ℕ) → a ≡ true → b ≡ true → c ≡ true → Some x ≡ (if a && b && c then Some x else None)
-three_agree true true true x one two three = refl
-three_agree false b c x one two three = absurd (cc)
-three_agree true false c x one two three = absurd (cc)
-three_agree true true false x one two three = absurd (cc)
+both_agree : (a b : Bool) (x : ℕ) → a ≡ true → b ≡ true → Some x ≡ (if a && b then Some x else None)
+both_agree true true x one two = refl
+both_agree false b x one two = absurd (cc)
+both_agree true false x one two = absurd (cc)
 
 below : (m n : ℕ) → m < n → nat_lt m n ≡ true
 below m n lt = grind (arith, nat_tests, lt)
 
-not_below : (m n : ℕ) → n ≤ m → nat_lt m n ≡ false
-not_below m n le = grind (arith, nat_tests, le)
-
-module _ (config : Config) (state : State) (tenant : ℕ) (job : Job) where
-  pub too_many : MOST_REQUESTS ≤ (state.accounts tenant).asked → None ≡ request_for config state tenant job
-  too_many most = three_refuse_second (nat_lt tenant (tenants_of config)) (nat_lt (state.accounts tenant).asked MOST_REQUESTS) (is_well_formed (tenant_at config tenant).words job)
-      (state.accounts tenant).asked (not_below (state.accounts tenant).asked MOST_REQUESTS most)
-
-  pub formed : (number : ℕ) → number ≡ (state.accounts tenant).asked → tenant < tenants_of config → number < MOST_REQUESTS → is_well_formed (tenant_at config tenant).words job ≡ true → Some number ≡ request_for config state tenant job
-  formed number same there few is = ap (λ n. Some n) same ∙ three_agree (nat_lt tenant (tenants_of config)) (nat_lt (state.accounts tenant).asked MOST_REQUESTS) (is_well_formed (tenant_at config tenant).words job)
-      (state.accounts tenant).asked (below tenant (tenants_of config) there) (subst (λ n. nat_lt n MOST_REQUESTS ≡ true) same (below number MOST_REQUESTS few)) is
+-- the number of the next request, where the tenant is there and may ask
+pub formed : (config : Config) (state : State) (tenant : ℕ) (job : Job) (number : ℕ) → number ≡ (state.accounts tenant).asked → tenant < tenants_of config
+    → is_well_formed (tenant_at config tenant).words job ≡ true → Some number ≡ request_for config state tenant job
+formed config state tenant job number same there is =
+    ap (λ n. Some n) same ∙ both_agree (nat_lt tenant (tenants_of config)) (is_well_formed (tenant_at config tenant).words job) (state.accounts tenant).asked
+    (below tenant (tenants_of config) there) is
 
 -- the number of requests that a tenant in memory has had
 pub asked_at : (world : World) (state : State) (place tenant : ℕ) (shown : AccountInMemory) → Shows world state → place ≡ tenant → tenant < length world.accounts.items
     → shown ≡ slice_index_or world.accounts.items place shown → shown.asked ≡ (state.accounts tenant).asked
 asked_at world state place tenant shown shows at there is =
     (shows.accounts tenant shown (element world.accounts.items tenant shown there (subst (λ i. shown ≡ slice_index_or world.accounts.items i shown) at is))).asked
+
+-- and its quota
+pub quota_at : (world : World) (state : State) (place tenant : ℕ) (shown : AccountInMemory) → Shows world state → place ≡ tenant → tenant < length world.accounts.items
+    → shown ≡ slice_index_or world.accounts.items place shown → shown.quota ≡ (state.accounts tenant).quota
+quota_at world state place tenant shown shows at there is =
+    (shows.accounts tenant shown (element world.accounts.items tenant shown there (subst (λ i. shown ≡ slice_index_or world.accounts.items i shown) at is))).quota
 
 -- the first step of a request, and a job that is well formed, by the tenant that was looked up
 pub first_so : (actor : Acting) (worker tenant quota other pool : ℕ) (job same : Job) → actor ≡ first worker tenant quota pool job → quota ≡ other → job ≡ same

@@ -41,7 +41,7 @@ abbrev pub IsHome : Config → Seat → Type 0
 IsHome config seat = (actor : Acting) → seat.actor ≡ Some actor → actor.tenant < tenants_of config
 
 abbrev pub ShowsOne : Config → ℕ → AccountInMemory → Account → Type 0
-ShowsOne config tenant shown account = ShowsAccount (tenant_at config tenant).words (tenant_at config tenant).quota shown account
+ShowsOne config tenant shown account = ShowsAccount (tenant_at config tenant).words shown account
 
 abbrev pub ShowsAccounts : Config → List AccountInMemory → (ℕ → Account) → Type 0
 ShowsAccounts config kept accounts = (tenant : ℕ) (shown : AccountInMemory) → slice_get kept tenant ≡ Some shown → ShowsOne config tenant shown (accounts tenant)
@@ -113,7 +113,7 @@ pub lines_moved : (config : Config) (kept : List AccountInMemory) (accounts : �
 lines_moved config kept accounts tenant was lines there is same shows =
     let one = shows tenant was (element kept tenant was there is) in
     set_keeps_at (ShowsOne config) kept accounts tenant (record was { lines = lines }) there
-    (record { book = one.book; places = one.places; words_are = one.words_are; asked = one.asked; closed = ap (λ marks. marks.items) same.closed ∙ one.closed; lines = same.lines ∙ one.lines })
+    (record { book = one.book; quota = one.quota; places = one.places; words_are = one.words_are; asked = one.asked; closed = ap (λ marks. marks.items) same.closed ∙ one.closed; lines = same.lines ∙ one.lines })
     shows
 
 -- and then there is room for one more
@@ -186,7 +186,7 @@ seated_request note past lines seat = refl
 lines_grew : (config : Config) (tenant : ℕ) (was : AccountInMemory) (account : Account) (lines : Lines) (new : List (Option Mark)) → ShowsOne config tenant was account
     → lines.closed ≡ was.lines.closed → lines.lines.items ≡ new → ShowsOne config tenant (record was { lines = lines }) (record account { lines = new })
 lines_grew config tenant was account lines new one closed is =
-    record { book = one.book; places = one.places; words_are = one.words_are; asked = one.asked; closed = ap (λ marks. marks.items) closed ∙ one.closed; lines = is }
+    record { book = one.book; quota = one.quota; places = one.places; words_are = one.words_are; asked = one.asked; closed = ap (λ marks. marks.items) closed ∙ one.closed; lines = is }
 
 is_home : (world : World) (next : Acting) (seat : Seat) → seat.actor ≡ Some next → next.tenant < length world.accounts.items → IsHome world.config seat
 is_home world next seat has there actor is =
@@ -256,7 +256,7 @@ gives old new state worker tenant place home was shown lines shows at_worker at_
 -- the world once a worker began on a request
 pub begins : (old new : World) (state : State) (worker tenant place home request : ℕ) (job : Job) (actor : Acting) (was : SeatInMemory) (shown : AccountInMemory) (lines : Lines)
     → Shows old state → place ≡ worker → home ≡ tenant → new.config ≡ old.config → new.cells ≡ old.cells → new.claims ≡ old.claims
-    → actor ≡ first worker tenant (tenant_at old.config tenant).quota old.config.pool job → request ≡ (state.accounts tenant).asked
+    → actor ≡ first worker tenant (state.accounts tenant).quota old.config.pool job → request ≡ (state.accounts tenant).asked
     → new.seats.items ≡ slice_set old.seats.items place (record was { actor = Some actor; request = request; retiring = request })
     → new.accounts.items ≡ slice_set old.accounts.items home (record shown { lines = lines; asked = request + 1 })
     → worker < length old.seats.items → tenant < length old.accounts.items
@@ -266,7 +266,7 @@ pub begins : (old new : World) (state : State) (worker tenant place home request
 begins old new state worker tenant place home request job actor was shown lines shows at_worker at_home config cells claims is_actor is_request seats accounts has_worker has_tenant is_was is_shown closed marks =
     let seat : Seat = state.seats worker in
     let account : Account = state.accounts tenant in
-    let one_actor : Acting = first worker tenant (tenant_at old.config tenant).quota old.config.pool job in
+    let one_actor : Acting = first worker tenant (state.accounts tenant).quota old.config.pool job in
     let here = shows.seats worker was (element old.seats.items worker was has_worker (subst (λ i. was ≡ slice_index_or old.seats.items i was) at_worker is_was)) in
     let one = shows.accounts tenant shown (element old.accounts.items tenant shown has_tenant (subst (λ i. shown ≡ slice_index_or old.accounts.items i shown) at_home is_shown)) in
     let line : lines.lines.items ≡ more account.lines (Some (Ask account.asked job)) =
@@ -278,7 +278,7 @@ begins old new state worker tenant place home request job actor was shown lines 
     (accounts ∙ ap (λ i. slice_set old.accounts.items i (record shown { lines = lines; asked = request + 1 })) at_home) has_worker has_tenant
     (ap (λ s. begun s actor request) here ∙ ap (λ a. begun seat a request) is_actor ∙ ap (λ r. begun seat one_actor r) is_request)
     (is_home old one_actor last refl has_tenant)
-    (record { book = one.book; places = one.places; words_are = one.words_are; asked = ap (λ r. r + 1) is_request; closed = ap (λ ms. ms.items) closed ∙ one.closed; lines = line })
+    (record { book = one.book; quota = one.quota; places = one.places; words_are = one.words_are; asked = ap (λ r. r + 1) is_request; closed = ap (λ ms. ms.items) closed ∙ one.closed; lines = line })
     (subst (λ known. Recalls known state.history) (sym claims) shows.claims)
 
 -- the world once other bits stand at its places

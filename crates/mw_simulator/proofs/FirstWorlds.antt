@@ -12,7 +12,7 @@ use Rattle.mw_world_file.specs.declared.kept.Book.{Book}
 use Rattle.mw_world_file.specs.Giving.{IsGiven}
 use Rattle.mw_world.specs.declared.config.Config.{Config}
 use Rattle.mw_world.specs.Definition.History.{no_history}
-use Rattle.mw_world.specs.Definition.State.{Account, first_account, first_cells, idle_seat, no_tenant, started, tenant_at, tenants_of}
+use Rattle.mw_world.specs.Definition.State.{Account, account_at, first_openings, first_cells, idle_seat, no_tenant, started, tenant_at, tenants_of}
 use Rattle.mw_simulator.specs.declared.accounts.Account.{Account as AccountInMemory}
 use Rattle.mw_simulator.specs.declared.seats.Seat.{Seat}
 use Rattle.mw_simulator.specs.declared.world.World.{World}
@@ -94,7 +94,7 @@ module _ (accounts : List AccountInMemory) (openings : Openings) (given : AreGiv
 
 -- the tenants in memory are these
 abbrev pub AreShown : Config → List AccountInMemory → (ℕ → Account) → Type 0
-AreShown config accounts made = Each (λ tenant shown. ShowsAccount (tenant_at config tenant).words (tenant_at config tenant).quota shown (made tenant)) accounts
+AreShown config accounts made = Each (λ tenant shown. ShowsAccount (tenant_at config tenant).words shown (made tenant)) accounts
 
 module _ (config : Config) (accounts : List AccountInMemory) (made : ℕ → Account) (shows : AreShown config accounts made) where
   pub are_tenants : length accounts ≡ tenants_of config → AreTenants config accounts
@@ -103,8 +103,12 @@ module _ (config : Config) (accounts : List AccountInMemory) (made : ℕ → Acc
   pub have_words : ((tenant : ℕ) → (made tenant).is_up ≡ not (made tenant).file.has_failed) → HaveWords accounts (λ tenant. (made tenant).file.contents) (λ tenant. (made tenant).is_up)
   have_words up tenant shown is = (sym (shows tenant shown is).book.same_contents, up tenant ∙ ap not (shows tenant shown is).book.same_failed)
 
--- tenants as they are at first show the tenants of a new world
-pub fresh_shown : (config : Config) (accounts : List AccountInMemory) → AreFresh config.tenants.items accounts → AreShown config accounts (first_account config)
+-- the tenants of a new world
+abbrev pub first_accounts : Config → ℕ → Account
+first_accounts config tenant = account_at (first_openings config tenant)
+
+-- tenants as they are at first show these
+pub fresh_shown : (config : Config) (accounts : List AccountInMemory) → AreFresh config.tenants.items accounts → AreShown config accounts (first_accounts config)
 fresh_shown config accounts are tenant shown is =
     let low : tenant < length config.tenants.items = omega (arith, slice_get_within accounts tenant shown is, are.count) in
     are.each tenant shown is (tenant_at config tenant) (slice_get-get_or config.tenants.items tenant no_tenant low)

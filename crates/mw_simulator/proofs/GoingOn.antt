@@ -5,8 +5,6 @@ use Rattle.std.proofs.Common.{refl, sym, ap, subst, ◌∙◌, inl, inr, arith, 
 use Rattle.std.proofs.lemmas.Bool.Decides.{nat_tests}
 use Rattle.std.proofs.lemmas.List.{append-nil, take_more}
 use Rattle.std.proofs.lemmas.Option.{slice_get_cases, slice_get_read}
-use Rattle.mw_world_file.specs.declared.faults.BookFault.{BookFault as WorldFault}
-use Rattle.mw_world_file.specs.declared.faults.BookFault.TheVariants.{NotEnabled, Memory}
 use Rattle.mw_world.specs.declared.config.Config.{Config}
 use Rattle.mw_world.specs.declared.events.Event.{Event}
 use Rattle.mw_world.specs.declared.events.Event.TheVariants.{Come as IsCome, Step as IsStep, File as IsFile, Hand as IsHand, Restart as IsRestart}
@@ -15,10 +13,12 @@ use Rattle.mw_world.specs.Definition.Happenings.{Happening, Come, Step, File, Ha
 use Rattle.mw_world.specs.Definition.Restarts.{may_all_be_found, restarted}
 use Rattle.mw_world.proofs.RunsExtend.{run-extends}
 use Rattle.mw_world.specs.Definition.State.{State, new_world, tenants_of}
-use Rattle.mw_world.specs.Definition.World.{run, step}
+use Rattle.mw_world.specs.Definition.World.{come, run, step}
+use Rattle.mw_simulator.specs.declared.faults.WorldFault.{WorldFault}
+use Rattle.mw_simulator.specs.declared.faults.WorldFault.TheVariants.{NotEnabled, LastNumber, Memory}
 use Rattle.mw_simulator.specs.declared.world.World.{World}
-use Rattle.mw_simulator.specs.Running.{AllStep, AllTell, AreTold, Cannot, CannotRestart, GoesOn, Happens, IsRefused, Stands, StandsAfter, Started, Steps, StopsAt, Tells}
-use Rattle.mw_simulator.specs.Shows.{Leads, Shows}
+use Rattle.mw_simulator.specs.Running.{AllStep, AllTell, AreTold, Cannot, CannotRestart, ComesLast, GoesOn, Happens, IsRefused, Stands, StandsAfter, Started, Steps, StopsAt, Tells}
+use Rattle.mw_simulator.specs.Shows.{IsLast, Leads, Shows}
 
 -- What an event says has happened.
 record HasHappened (config : Config) (new : World) (state : State) (event : Event) : Type 0 where
@@ -40,7 +40,7 @@ all_told old new state stops started tenant lt = elim ((slice_get_cases old.acco
     count = counted (length started.founds) (tenants_of old.config) (may_all_be_found old.config state started.founds (tenants_of old.config)) (restarted old.config state started.founds) started.leads.state started.leads.is
 
 has_happened : (old new : World) (state : State) (event : Event) (x : Unit {0}) → Happens old new state event (Ok x) → HasHappened old.config new state event
-has_happened old new state (IsCome worker tenant job) x leads = record { happening = Come worker tenant job; tells = refl; leads = leads }
+has_happened old new state (IsCome worker tenant job) x comes = record { happening = Come worker tenant job; tells = refl; leads = comes.1 }
 has_happened old new state (IsStep worker) x leads = record { happening = Step worker; tells = refl; leads = leads }
 has_happened old new state (IsFile worker outcome) x leads = record { happening = File worker outcome; tells = refl; leads = leads }
 has_happened old new state (IsHand worker) x leads = record { happening = Hand worker; tells = refl; leads = leads }
@@ -88,14 +88,19 @@ goes_on_more old new happened events event x same happens goes =
 -- an event that is refused leaves the world that was shown
 shown_still : (old new : World) (state : State) (event : Event) (fault : WorldFault) → Shows old state → Happens old new state event (Err fault) → Shows new state
 shown_still old new state (IsCome worker tenant job) NotEnabled shows ends = ends.1
-shown_still old new state (IsCome worker tenant job) Memory shows ends = ends
+shown_still old new state (IsCome worker tenant job) LastNumber shows ends = ends.1
+shown_still old new state (IsCome worker tenant job) Memory shows ends = ends.1
 shown_still old new state (IsStep worker) NotEnabled shows ends = ends.1
+shown_still old new state (IsStep worker) LastNumber shows ends = absurd ends
 shown_still old new state (IsStep worker) Memory shows ends = ends
 shown_still old new state (IsFile worker outcome) NotEnabled shows ends = ends.1
+shown_still old new state (IsFile worker outcome) LastNumber shows ends = absurd ends
 shown_still old new state (IsFile worker outcome) Memory shows ends = ends
 shown_still old new state (IsHand worker) NotEnabled shows ends = ends.1
+shown_still old new state (IsHand worker) LastNumber shows ends = absurd ends
 shown_still old new state (IsHand worker) Memory shows ends = ends
 shown_still old new state (IsRestart stops) NotEnabled shows ends = subst (λ world. Shows world state) (sym ends.0) shows
+shown_still old new state (IsRestart stops) LastNumber shows ends = absurd ends
 shown_still old new state (IsRestart stops) Memory shows ends = subst (λ world. Shows world state) (sym ends) shows
 
 -- an event that can't happen in a world of one configuration can't happen in one of the same
@@ -103,6 +108,14 @@ none_told : (old new : World) (state : State) (happening told : Happening) → n
     → step new.config state happening ≡ None
 none_told old new state happening told same none is =
     subst (λ config. step config state happening ≡ None) (sym same) (ap (λ one. step old.config state one) is ∙ none)
+
+-- a request with the last number in a world of one configuration has it in one of the same
+comes_last : (old new : World) (state : State) (event : Event) → new.config ≡ old.config → Happens old new state event (Err LastNumber) → ComesLast new state event
+comes_last old new state (IsCome worker tenant job) same ends = subst (λ config. IsLast state tenant (come config state worker tenant job)) (sym same) ends.0
+comes_last old new state (IsStep worker) same ends = absurd ends
+comes_last old new state (IsFile worker outcome) same ends = absurd ends
+comes_last old new state (IsHand worker) same ends = absurd ends
+comes_last old new state (IsRestart stops) same ends = absurd ends
 
 cannot : (old new : World) (state : State) (event : Event) → new.config ≡ old.config → Happens old new state event (Err NotEnabled) → Cannot new state event
 cannot old new state (IsCome worker tenant job) same ends = λ happening is. none_told old new state happening (Come worker tenant job) same ends.0 is
@@ -114,6 +127,8 @@ cannot old new state (IsRestart stops) same ends = subst (λ world. CannotRestar
 refused : (old new : World) (happened : List Happening) (event : Event) (fault : WorldFault) (state : State) → new.config ≡ old.config → Shows old state
     → Happens old new state event (Err fault) → IsRefused new happened (Some event) fault
 refused old new happened event Memory state same shows ends = tt
+refused old new happened event LastNumber state same shows ends =
+    (state, shown_still old new state event LastNumber shows ends, comes_last old new state event same ends)
 refused old new happened event NotEnabled state same shows ends =
     (state, shown_still old new state event NotEnabled shows ends, cannot old new state event same ends)
 

@@ -13,7 +13,7 @@ use Rattle.mw_world.specs.declared.config.Config.{Config}
 use Rattle.mw_world.specs.Definition.Calls.{Called, device_calls, fails_on, is_formed, place_for, starts_from, suits}
 use Rattle.mw_world.specs.Definition.Extent.{has_slot}
 use Rattle.mw_world.specs.Definition.Restarts.{is_whole_seal, sealing, stopped_call}
-use Rattle.mw_world.specs.Definition.State.{State, tenant_at}
+use Rattle.mw_world.specs.Definition.State.{State}
 use Rattle.mw_simulator.specs.Stops.{IsCut, sealed_request}
 
 -- how many device calls there are, by what a call needs for them
@@ -45,7 +45,7 @@ module _ (config : Config) (state : State) (actor : Acting) (called : Called) (m
   pub not_formed : is_formed called.call (state.accounts actor.tenant).file (own_entries actor) ≡ false → 1 ≤ made → nat_le made (stopped_call config state actor made called).calls ≡ false
   not_formed formed some =
       let file = (state.accounts actor.tenant).file in
-      let places = (tenant_at config actor.tenant).quota in
+      let places = (state.accounts actor.tenant).quota in
       let place = place_for called.call file places called.change.slot in
       none_made (has_slot config called.change.slot) (is_formed called.call file (own_entries actor)) (suits called.call file places place)
       (starts_from called.call (state.cells.statuses called.change.slot)) (fails_on called.call file) (device_calls called.call (entries_at file place)) made formed some
@@ -56,7 +56,7 @@ module _ (config : Config) (state : State) (actor : Acting) (called : Called) (m
       (record { cut = Some (record { call = called.call; slot = called.change.slot; entries = entries; made = made }); sealing = sealed_request called.call request })
   cut_is entries request slot formed starts some same =
       let file = (state.accounts actor.tenant).file in
-      let places = (tenant_at config actor.tenant).quota in
+      let places = (state.accounts actor.tenant).quota in
       let place = place_for called.call file places called.change.slot in
       let calls = calls_same (has_slot config called.change.slot) (is_formed called.call file (own_entries actor)) (suits called.call file places place)
       (starts_from called.call (state.cells.statuses called.change.slot)) (fails_on called.call file) (device_calls called.call (entries_at file place)) slot formed starts in

@@ -31,10 +31,10 @@ there (account ∷ accounts) (suc tenant) shown is = let lt = there accounts ten
 
 -- the disk of a tenant in memory leaves the store's words
 pub images_of_store : EveryRunServesAlone → EveryImageIsOfStore
-images_of_store serves config events state world tenant shown store image is same_config shows is_shown legal may =
+images_of_store serves config openings events state world tenant shown store image is same_config shows is_shown legal may =
     let lt = there world.accounts.items tenant shown is_shown in
     let low : tenant < tenants_of config = subst (λ n. tenant < n) (world.tenants ∙ ap tenants_of same_config) lt in
-    let served = (serves config events state is).served tenant low in
+    let served = serves config openings events state tenant is low in
     let same_store : served.store ≡ store = (let e : Some served.store ≡ Some store = sym served.legal ∙ legal in cc) in
     let book = (shows.accounts tenant shown is_shown).book in
     let words : shown.book.contents.items ≡ store.words = sym book.same_contents ∙ served.left.words ∙ ap (λ s. s.words) same_store in

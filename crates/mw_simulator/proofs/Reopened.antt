@@ -4,7 +4,7 @@ use Rattle.std.proofs.Common.{refl, sym, ap, subst, ◌∙◌, inl, inr, arith}
 use Rattle.std.proofs.lemmas.Option.{slice_get_within}
 use Rattle.mw_lone.specs.declared.marks.Mark.TheVariants.{Restart as IsRestart}
 use Rattle.mw_file.specs.Opening.{open_calls}
-use Rattle.mw_world_file.specs.declared.faults.BookFault.{BookFault as WorldFault}
+use Rattle.mw_world_file.specs.declared.faults.BookFault.{BookFault}
 use Rattle.mw_world_file.specs.declared.faults.BookFault.TheVariants.{NotEnabled, Memory}
 use Rattle.mw_world_file.specs.Books.{quota_of}
 use Rattle.mw_world_file.specs.Devices.{disk_under}
@@ -28,10 +28,9 @@ all_true true false z a b c = absurd (cc)
 all_true false y z a b c = absurd (cc)
 
 module _ (config : Config) (state : State) (tenant : ℕ) (shown : AccountInMemory) (interrupted : Option Interrupted) (torn : List ℕ) (fails_at : Option ℕ) (halt : Halt)
-    (words_of quota : ℕ) (same_quota : (tenant_at config tenant).quota ≡ quota)
-    (shows : ShowsAccount words_of quota shown (state.accounts tenant)) (halted : IsHalted config state tenant interrupted halt) where
-  places_are : quota_of shown.book ≡ (tenant_at config tenant).quota
-  places_are = shows.places ∙ sym same_quota
+    (words_of : ℕ) (shows : ShowsAccount words_of shown (state.accounts tenant)) (halted : IsHalted config state tenant interrupted halt) where
+  places_are : quota_of shown.book ≡ (state.accounts tenant).quota
+  places_are = shows.places
 
   doubt_is : doubt_then (state.accounts tenant).file (under_way config state interrupted) ≡ doubt_left (state.accounts tenant).file (quota_of shown.book) halt.cut
   doubt_is = halted.is.doubt ∙ ap (λ places. doubt_left (state.accounts tenant).file places halt.cut) (sym places_are)
@@ -58,10 +57,10 @@ module _ (config : Config) (state : State) (tenant : ℕ) (shown : AccountInMemo
 
   -- the tenant after a start that went well
   pub is_reopened : (took opened : Bool) (new : AccountInMemory) → IsRestarted shown.book (state.accounts tenant).file halt.cut torn fails_at new.book took → opened ≡ is_none fails_at
-      → new.asked ≡ shown.asked → new.lines.lines.items ≡ []
+      → new.quota ≡ shown.quota → new.asked ≡ shown.asked → new.lines.lines.items ≡ []
       → new.lines.closed.items ≡ shown.lines.closed.items ++ marks_in shown.lines.lines.items ++ IsRestart halt.sealing took opened ∷ []
       → words_of ≡ (tenant_at config tenant).words → IsReopened config state tenant interrupted torn fails_at shown new
-  is_reopened took opened new started up asked none closed long =
+  is_reopened took opened new started up quota asked none closed long =
       let account = state.accounts tenant in
       let call = under_way config state interrupted in
       let taken = started.taken ∙ ap (λ doubt. takes account.file.contents doubt started.words) (sym doubt_is) in
@@ -74,6 +73,7 @@ module _ (config : Config) (state : State) (tenant : ℕ) (shown : AccountInMemo
             (may_is ∙ started.left.made) (may_have_words started.words started.image started.left) started.fails;
         shows = record {
           book = started.shows;
+          quota = quota ∙ shows.quota;
           places = started.count ∙ places_are;
           words_are = started.long ∙ shows.words_are ∙ long;
           asked = asked ∙ shows.asked;
@@ -89,7 +89,7 @@ module _ (config : Config) (state : State) (tenant : ℕ) (shown : AccountInMemo
 
 -- a start of a tenant that was refused
 pub not_reopened : (world : World) (state : State) (tenant : ℕ) (shown : AccountInMemory) (interrupted : Option Interrupted) (torn : List ℕ) (fails_at : Option ℕ) (halt : Halt)
-    (fault : WorldFault) → slice_get world.accounts.items tenant ≡ Some shown → Shows world state → IsHalted world.config state tenant interrupted halt
+    (fault : BookFault) → slice_get world.accounts.items tenant ≡ Some shown → Shows world state → IsHalted world.config state tenant interrupted halt
     → Restarts shown.book halt.cut torn fails_at (Err fault) → Reopens world state tenant shown interrupted torn fails_at (Err fault)
 not_reopened world state tenant shown interrupted torn fails_at halt Memory here shows halted ends = tt
 not_reopened world state tenant shown interrupted torn fails_at halt NotEnabled here shows halted ends =
@@ -97,24 +97,23 @@ not_reopened world state tenant shown interrupted torn fails_at halt NotEnabled 
     let shown_so = shows.accounts tenant shown here in
     let config = world.config in
     let words = (tenant_at config tenant).words in
-    let quota = (tenant_at config tenant).quota in
     record {
       there = omega (arith, slice_get_within world.accounts.items tenant shown here, world.tenants);
       why = elim (ends account.file shown_so.book) [
-        | inl few ↦ inl (may_is config state tenant shown interrupted torn fails_at halt words quota refl shown_so halted ∙ few)
+        | inl few ↦ inl (may_is config state tenant shown interrupted torn fails_at halt words shown_so halted ∙ few)
         | inr cannot ↦ inr (record {
           shown = shown;
           is = here;
           found = record { interrupted = interrupted; words = cannot.words; opening_calls = open_calls cannot.image; fails_at = fails_at };
-          found_so = found_by config state tenant shown interrupted torn fails_at halt words quota refl shown_so halted cannot.words cannot.image cannot.left;
-          may = may_have_words config state tenant shown interrupted torn fails_at halt words quota refl shown_so halted cannot.words cannot.image cannot.left;
+          found_so = found_by config state tenant shown interrupted torn fails_at halt words shown_so halted cannot.words cannot.image cannot.left;
+          may = may_have_words config state tenant shown interrupted torn fails_at halt words shown_so halted cannot.words cannot.image cannot.left;
           fails = cannot.fails;
         })
       ];
     }
 
 -- a start at which one tenant was refused
-pub one_refused : (world : World) (stops : List Stop) (tenant : ℕ) (shown : AccountInMemory) (fault : WorldFault)
+pub one_refused : (world : World) (stops : List Stop) (tenant : ℕ) (shown : AccountInMemory) (fault : BookFault)
     → ((state : State) → Shows world state → Reopens world state tenant shown (interrupted_in (stop_of stops tenant)) (torn_in (stop_of stops tenant)) (fails_in (stop_of stops tenant)) (Err fault))
     → AllReopen world stops (Err fault)
 one_refused world stops tenant shown Memory ends = tt

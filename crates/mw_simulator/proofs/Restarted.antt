@@ -93,7 +93,7 @@ pub record WasFound (config : Config) (state : State) (stops : List Stop) (olds 
   pub by : (old : AccountInMemory) → slice_get olds tenant ≡ Some old → IsFoundBy old (interrupted_in (stop_of stops tenant)) (torn_in (stop_of stops tenant)) (fails_in (stop_of stops tenant)) found
   pub may : may_be_found config state tenant found ≡ true
   pub shows : (new : AccountInMemory) → slice_get news tenant ≡ Some new
-      → ShowsAccount (tenant_at config tenant).words (tenant_at config tenant).quota new (reopened (state.accounts tenant) found (under_way config state found.interrupted))
+      → ShowsAccount (tenant_at config tenant).words new (reopened (state.accounts tenant) found (under_way config state found.interrupted))
   pub words : AreWords found.words
 
 was_found : (config : Config) (state : State) (stops : List Stop) (olds news : List AccountInMemory) (tenant : ℕ) (old new : AccountInMemory)
@@ -102,7 +102,7 @@ was_found : (config : Config) (state : State) (stops : List Stop) (olds news : L
 was_found config state stops olds news tenant old new at_old at_new is = record {
   by = λ other at. subst (λ o. IsFoundBy o (interrupted_in (stop_of stops tenant)) (torn_in (stop_of stops tenant)) (fails_in (stop_of stops tenant)) is.found) (some_same (slice_get olds tenant) old other at_old at) is.found_so;
   may = is.may;
-  shows = λ other at. subst (λ o. ShowsAccount (tenant_at config tenant).words (tenant_at config tenant).quota o (reopened (state.accounts tenant) is.found (under_way config state is.found.interrupted)))
+  shows = λ other at. subst (λ o. ShowsAccount (tenant_at config tenant).words o (reopened (state.accounts tenant) is.found (under_way config state is.found.interrupted)))
       (some_same (slice_get news tenant) new other at_new at) is.shows;
   words = found_words is.found_so.image is.found.words is.found_so.words;
 }

@@ -14,6 +14,6 @@ account_read world index tenant shown lt same is =
     slice_get_read world.accounts.items (tenants_of world.config) tenant shown (sym world.tenants) lt (subst (λ i. shown ≡ get_or world.accounts.items i shown) same is)
 
 -- its marks are those of the tenant that it shows
-pub marks_shown : (words quota : ℕ) (shown : AccountInMemory) (account : Account) → ShowsAccount words quota shown account
+pub marks_shown : (words : ℕ) (shown : AccountInMemory) (account : Account) → ShowsAccount words shown account
     → shown.lines.closed.items ++ marks_in shown.lines.lines.items ≡ account.closed ++ marks_in account.lines
-marks_shown words quota shown account shows = ap (λ closed. closed ++ marks_in shown.lines.lines.items) shows.closed ∙ ap (λ lines. account.closed ++ marks_in lines) shows.lines
+marks_shown words shown account shows = ap (λ closed. closed ++ marks_in shown.lines.lines.items) shows.closed ∙ ap (λ lines. account.closed ++ marks_in lines) shows.lines

@@ -4,11 +4,11 @@ use Rattle.std.proofs.Math.Logic.{∥∥₁_elim}
 use Rattle.std.specs.Coded.{Coded-set, coded_ℕ}
 use Rattle.mw_world_file.specs.SoundBooks.{sound_by}
 use Rattle.mw_world.specs.declared.config.Config.{Config}
-use Rattle.mw_world.specs.Definition.State.{first_account, tenant_at, tenants_of}
+use Rattle.mw_world.specs.Definition.State.{tenant_at, tenants_of}
 use Rattle.mw_simulator.specs.declared.accounts.Account.{Account as AccountInMemory}
 use Rattle.mw_simulator.specs.Starts.{AreFresh, AreTenants}
 use Rattle.mw_simulator.specs.TenantBooks.{AreSound}
-use Rattle.mw_simulator.proofs.FirstWorlds.{fresh_shown}
+use Rattle.mw_simulator.proofs.FirstWorlds.{first_accounts, fresh_shown}
 
 -- each has as many words as its tenant
 pub sound_tenants : (config : Config) (accounts : List AccountInMemory) → length accounts ≡ tenants_of config → AreSound config accounts → AreTenants config accounts
@@ -21,4 +21,4 @@ sound_tenants config accounts one_each all = record {
 pub fresh_sound : (config : Config) (accounts : List AccountInMemory) → AreFresh config.tenants.items accounts → AreSound config accounts
 fresh_sound config accounts fresh tenant shown is =
     let one = fresh_shown config accounts fresh tenant shown is in
-    sound_by (tenant_at config tenant).words shown.book (first_account config tenant).file one.book one.words_are
+    sound_by (tenant_at config tenant).words shown.book (first_accounts config tenant).file one.book one.words_are

@@ -38,8 +38,8 @@ room_alone old new tenant was lines config cells seats accounts there is same cl
 }
   where
     all_kept : kept_of (record was { lines = lines }) ≡ kept_of was
-    all_kept = ap (λ closed. record { book = was.book; asked = was.asked; closed = closed; lines = lines.lines.items }) (ap (λ marks. marks.items) same.closed)
-        ∙ ap (λ all. record { book = was.book; asked = was.asked; closed = was.lines.closed.items; lines = all }) same.lines
+    all_kept = ap (λ closed. record { book = was.book; quota = was.quota; asked = was.asked; closed = closed; lines = lines.lines.items }) (ap (λ marks. marks.items) same.closed)
+        ∙ ap (λ all. record { book = was.book; quota = was.quota; asked = was.asked; closed = was.lines.closed.items; lines = all }) same.lines
 
 -- a tenant was changed, but not its file
 pub books_stay : (old new : World) (tenant : ℕ) (was after : AccountInMemory) → new.accounts.items ≡ slice_set old.accounts.items tenant after → tenant < length old.accounts.items

@@ -8,7 +8,7 @@ use Rattle.mw_look.specs.declared.news.News.TheVariants.{Filed}
 use Rattle.mw_actor.specs.declared.points.Slot.{Slot}
 use Rattle.mw_world_file.specs.declared.outcomes.Outcome.{Outcome}
 use Rattle.mw_world_file.specs.declared.outcomes.Outcome.TheVariants.{Good, Fail}
-use Rattle.mw_world_file.specs.declared.faults.BookFault.{BookFault as WorldFault}
+use Rattle.mw_world_file.specs.declared.faults.BookFault.{BookFault}
 use Rattle.mw_world_file.specs.declared.faults.BookFault.TheVariants.{NotEnabled, Memory}
 use Rattle.mw_world_file.specs.declared.kept.Book.{Book}
 use Rattle.mw_world_file.specs.Books.{Shows as ShowsFile, quota_of}
@@ -31,10 +31,10 @@ use Rattle.mw_simulator.specs.Stepping.{HasRoom, with_cells, with_file}
 abbrev pub called_of : CalledInMemory → Called
 called_of called = record { call = called.call; change = called.change }
 
--- the book of a tenant's file, with as many words and places as the tenant has
-pub record IsBookOf (config : Config) (tenant : ℕ) (book : Book) (file : File) : Type 0 where
+-- the book of a tenant's file, with as many words as the tenant has, and as many places as it may use slots
+pub record IsBookOf (config : Config) (state : State) (tenant : ℕ) (book : Book) (file : File) : Type 0 where
   pub shows : ShowsFile book file
-  pub places : quota_of book ≡ (tenant_at config tenant).quota
+  pub places : quota_of book ≡ (state.accounts tenant).quota
   pub words : length book.contents.items ≡ (tenant_at config tenant).words
 
 -- no device call fails
@@ -43,7 +43,7 @@ is_good Good = true
 is_good (Fail number) = false
 
 -- a call that makes no device call ends so: none can fail
-abbrev pub makes_none : Ended → Outcome → Result Ended WorldFault
+abbrev pub makes_none : Ended → Outcome → Result Ended BookFault
 makes_none ended Good = Ok ended
 makes_none ended (Fail number) = Err NotEnabled
 
@@ -93,7 +93,7 @@ pub record Closed (new : World) (before : State) (tenant : ℕ) (found : Option 
 
 -- How a call ends, by its answer. After an error the world in memory shows what it showed, and if it isn't for want of memory, the call
 -- can't end so.
-abbrev pub Closes : World → State → ℕ → Option Made → Result Ended WorldFault → Type 0
+abbrev pub Closes : World → State → ℕ → Option Made → Result Ended BookFault → Type 0
 Closes new before tenant found (Ok end) = Closed new before tenant found end
 Closes new before tenant found (Err NotEnabled) = (found ≡ None) × Shows new before
 Closes new before tenant found (Err Memory) = Shows new before

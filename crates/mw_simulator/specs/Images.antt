@@ -9,7 +9,7 @@ use Rattle.mw_lone.specs.Store.{Store}
 use Rattle.mw_world_file.specs.Devices.{disk_under}
 use Rattle.mw_world.specs.declared.config.Config.{Config}
 use Rattle.mw_world.specs.Definition.Happenings.{Happening}
-use Rattle.mw_world.specs.Definition.State.{State, store_of}
+use Rattle.mw_world.specs.Definition.State.{Opening, State, store_of}
 use Rattle.mw_world.specs.Claim.Headline.{IsRun}
 use Rattle.mw_simulator.specs.declared.accounts.Account.{Account as AccountInMemory}
 use Rattle.mw_simulator.specs.declared.world.World.{World}
@@ -22,6 +22,6 @@ IsFileOfEither words change image = (file_words image ≡ Some words) ⊎ (file_
 -- In a world in memory that shows the world after a run, no call is under way. Whatever a crash may leave then of a tenant's disk is a file of
 -- the store's words, or of these with the change in doubt put over them; where none is in doubt, as after a start, it is one of the store's words.
 abbrev pub EveryImageIsOfStore : Type 0
-EveryImageIsOfStore = (config : Config) (events : List Happening) (state : State) (world : World) (tenant : ℕ) (shown : AccountInMemory) (store : Store) (image : List ℕ)
-    → IsRun config events state → world.config ≡ config → Shows world state → slice_get world.accounts.items tenant ≡ Some shown → store_of config state tenant ≡ Some store
+EveryImageIsOfStore = (config : Config) (openings : ℕ → Opening) (events : List Happening) (state : State) (world : World) (tenant : ℕ) (shown : AccountInMemory) (store : Store) (image : List ℕ)
+    → IsRun config openings events state → world.config ≡ config → Shows world state → slice_get world.accounts.items tenant ≡ Some shown → store_of openings state tenant ≡ Some store
     → MayLeave (memory_facts (disk_under shown.book.device)) image → IsFileOfEither store.words store.in_doubt image

@@ -2,6 +2,7 @@ pub mod BitPlaces
 pub mod Bits
 pub mod Claims
 pub mod Ending
+pub mod Faults
 pub mod Images
 pub mod Lines
 pub mod Making

@@ -3,8 +3,6 @@ use Rattle.std.specs.Prelude.{ℕ, ◌≡◌, ◌<◌, ◌==◌, ◌&&◌, ◌�
 use Rattle.std.specs.List.{list_any, find}
 use Rattle.mw_record.specs.Damages.{file_words}
 use Rattle.mw_file.specs.Opening.{open_calls}
-use Rattle.mw_world_file.specs.declared.faults.BookFault.{BookFault as WorldFault}
-use Rattle.mw_world_file.specs.declared.faults.BookFault.TheVariants.{NotEnabled, Memory}
 use Rattle.mw_world_file.specs.Devices.{disk_under}
 use Rattle.mw_world_file.specs.Files.{File}
 use Rattle.mw_world_file.specs.Reopening.{IsLeftOf}
@@ -19,8 +17,10 @@ use Rattle.mw_world.specs.Definition.State.{State, new_world, tenants_of}
 use Rattle.mw_world.specs.Definition.Turns.{turn}
 use Rattle.mw_world.specs.Definition.World.{come, hand, step, run}
 use Rattle.mw_simulator.specs.declared.accounts.Account.{Account as AccountInMemory}
+use Rattle.mw_simulator.specs.declared.faults.WorldFault.{WorldFault}
+use Rattle.mw_simulator.specs.declared.faults.WorldFault.TheVariants.{NotEnabled, LastNumber, Memory}
 use Rattle.mw_simulator.specs.declared.world.World.{World}
-use Rattle.mw_simulator.specs.Shows.{Shows, Ends, Leads}
+use Rattle.mw_simulator.specs.Shows.{Shows, Comes, Ends, IsLast, Leads}
 use Rattle.mw_simulator.specs.Staying.{IsUnchanged, LeavesFiles}
 
 -- a stop is of this tenant
@@ -99,11 +99,12 @@ CannotRestart world state stops = (are_named (tenants_of world.config) stops ≡
 abbrev pub Restarts : World → World → State → List Stop → Result (Unit {0}) WorldFault → Type 0
 Restarts old new state stops (Ok x) = Started old new state stops
 Restarts old new state stops (Err NotEnabled) = (new ≡ old) × CannotRestart old state stops
+Restarts old new state stops (Err LastNumber) = ⊥
 Restarts old new state stops (Err Memory) = new ≡ old
 
 -- how an event ends in a world that was this one, by its answer
 abbrev pub Happens : World → World → State → Event → Result (Unit {0}) WorldFault → Type 0
-Happens old new state (IsCome worker tenant job) result = Ends new state (come old.config state worker tenant job) result
+Happens old new state (IsCome worker tenant job) result = Comes new state tenant (come old.config state worker tenant job) result
 Happens old new state (IsStep worker) result = Ends new state (turn old.config state worker (state.seats worker).actor) result
 Happens old new state (IsFile worker outcome) result = Ends new state (call old.config state worker (state.seats worker).actor outcome) result
 Happens old new state (IsHand worker) result = Ends new state (hand state worker (state.seats worker).actor) result
@@ -151,12 +152,19 @@ abbrev pub Cannot : World → State → Event → Type 0
 Cannot world state (IsRestart stops) = CannotRestart world state stops.items
 Cannot world state event = (happening : Happening) → Tells event happening → step world.config state happening ≡ None
 
--- How a run of events ends: they have happened; or those before one that is refused, which can't happen where the world is then, if it
--- isn't for want of memory.
+-- An event is a request that can come, and its number would be the first of which a world in memory gives none.
+abbrev pub ComesLast : World → State → Event → Type 0
+ComesLast world state (IsCome worker tenant job) = IsLast state tenant (come world.config state worker tenant job)
+ComesLast world state event = ⊥
+
+-- How a run of events ends: they have happened; or those before one that is refused. If it isn't for want of memory, that one can't happen where
+-- the world is then, or is a request whose number would be one of which a world in memory gives none.
 abbrev pub IsRefused : World → List Happening → Option Event → WorldFault → Type 0
 IsRefused world happened event Memory = Unit {0}
 IsRefused world happened None NotEnabled = ⊥
+IsRefused world happened None LastNumber = ⊥
 IsRefused world happened (Some event) NotEnabled = (state : State) × Shows world state × Cannot world state event
+IsRefused world happened (Some event) LastNumber = (state : State) × Shows world state × ComesLast world state event
 
 pub record StopsAt (world : World) (happened : List Happening) (events : List Event) (index : ℕ) (fault : WorldFault) : Type 0 where
   pub there : index < length events

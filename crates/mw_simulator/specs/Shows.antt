@@ -1,23 +1,25 @@
 -- A world in memory, and the world as it is defined.
 use Rattle.std.specs.Prelude.{ℕ, ◌≡◌, ◌<◌, ◌≤◌, length, slice_get, Option, Some, None, Result, Ok, Err}
 use Rattle.mw_actor.specs.Acting.{Acting}
-use Rattle.mw_world_file.specs.declared.faults.BookFault.{BookFault as WorldFault}
-use Rattle.mw_world_file.specs.declared.faults.BookFault.TheVariants.{NotEnabled, Memory}
 use Rattle.mw_world_file.specs.Books.{Shows as ShowsFile, quota_of}
 use Rattle.mw_world.specs.Definition.State.{State, Account, tenant_at, tenants_of}
 use Rattle.mw_world.specs.Definition.Cells.{AllFit}
 use Rattle.mw_simulator.specs.declared.accounts.Account.{Account as AccountInMemory}
+use Rattle.mw_simulator.specs.declared.faults.TheConstants.{MOST_REQUESTS}
+use Rattle.mw_simulator.specs.declared.faults.WorldFault.{WorldFault}
+use Rattle.mw_simulator.specs.declared.faults.WorldFault.TheVariants.{NotEnabled, LastNumber, Memory}
 use Rattle.mw_simulator.specs.declared.seats.Seat.{Seat as SeatInMemory}
 use Rattle.mw_simulator.specs.declared.world.World.{World}
 use Rattle.mw_simulator.specs.Claims.{Recalls}
 use Rattle.mw_simulator.specs.Seats.{seat_of}
 use Rattle.mw_simulator.specs.Ties.{Tie}
 
--- A tenant in memory, which has so many words and such a quota, is this tenant. Whether its file opened at the last start isn't kept in memory:
+-- A tenant in memory, which has so many words, is this tenant. Whether its file opened at the last start isn't kept in memory:
 -- it is told by the run alone.
-pub record ShowsAccount (words quota : ℕ) (shown : AccountInMemory) (account : Account) : Type 0 where
+pub record ShowsAccount (words : ℕ) (shown : AccountInMemory) (account : Account) : Type 0 where
   pub book : ShowsFile shown.book account.file
-  pub places : quota_of shown.book ≡ quota
+  pub quota : shown.quota ≡ account.quota
+  pub places : quota_of shown.book ≡ account.quota
   pub words_are : length shown.book.contents.items ≡ words
   pub asked : shown.asked ≡ account.asked
   pub closed : shown.lines.closed.items ≡ account.closed
@@ -32,7 +34,7 @@ pub record Shows (world : World) (state : State) : Type 0 where
   pub homes : (worker : ℕ) (actor : Acting) → (state.seats worker).actor ≡ Some actor → actor.tenant < tenants_of world.config
   pub claims : Recalls world.claims state.history
   pub accounts : (tenant : ℕ) (shown : AccountInMemory) → slice_get world.accounts.items tenant ≡ Some shown
-      → ShowsAccount (tenant_at world.config tenant).words (tenant_at world.config tenant).quota shown (state.accounts tenant)
+      → ShowsAccount (tenant_at world.config tenant).words shown (state.accounts tenant)
 
 -- The world after an event that can happen, and the world in memory after it.
 pub record Leads (after : Option State) (new : World) : Type 0 where
@@ -40,9 +42,28 @@ pub record Leads (after : Option State) (new : World) : Type 0 where
   pub is : after ≡ Some state
   pub shows : Shows new state
 
--- How an event ends, by its answer: what the event makes of the world that was shown. After an error the world in memory shows what it
--- showed, and if it isn't for want of memory, the event can't happen.
+-- How an event ends that is no request, by its answer: what the event makes of the world that was shown. After an error the world in memory
+-- shows what it showed, and if it isn't for want of memory, the event can't happen.
 abbrev pub Ends : World → State → Option State → Result (Unit {0}) WorldFault → Type 0
 Ends new before after (Ok x) = Leads after new
 Ends new before after (Err NotEnabled) = (after ≡ None) × Shows new before
+Ends new before after (Err LastNumber) = ⊥
 Ends new before after (Err Memory) = Shows new before
+
+-- A request can come, and its number would be the first of which a world in memory gives none.
+pub record IsLast (before : State) (tenant : ℕ) (after : Option State) : Type 0 where
+  pub next : State
+  pub can : after ≡ Some next
+  pub number : (before.accounts tenant).asked ≡ MOST_REQUESTS
+
+-- The number of a tenant's next request is one that a world in memory gives.
+abbrev pub IsNumbered : State → ℕ → Type 0
+IsNumbered before tenant = (before.accounts tenant).asked < MOST_REQUESTS
+
+-- How it ends that a request of a tenant comes, by the answer. It is the same but for one case: a request that can come is refused just where its
+-- number would be one of which a world in memory gives none.
+abbrev pub Comes : World → State → ℕ → Option State → Result (Unit {0}) WorldFault → Type 0
+Comes new before tenant after (Ok x) = IsNumbered before tenant × Leads after new
+Comes new before tenant after (Err NotEnabled) = (after ≡ None) × Shows new before
+Comes new before tenant after (Err LastNumber) = IsLast before tenant after × Shows new before
+Comes new before tenant after (Err Memory) = IsNumbered before tenant × Shows new before

@@ -26,11 +26,11 @@ pub record AreIdle (workers : ℕ) (seats : List SeatInMemory) : Type 0 where
 
 -- a tenant of a new world
 abbrev pub fresh : Tenant → Account
-fresh tenant = record { file = file_of (replicate tenant.words 0); asked = 0; is_up = true; closed = []; lines = [] }
+fresh tenant = record { file = file_of (replicate tenant.words 0); quota = tenant.quota; asked = 0; is_up = true; closed = []; lines = [] }
 
 -- a tenant in memory is this one at first
 abbrev pub IsFresh : Tenant → AccountInMemory → Type 0
-IsFresh tenant shown = ShowsAccount tenant.words tenant.quota shown (fresh tenant)
+IsFresh tenant shown = ShowsAccount tenant.words shown (fresh tenant)
 
 -- there is one for each of these tenants, as it is at first
 pub record AreFresh (tenants : List Tenant) (accounts : List AccountInMemory) : Type 0 where

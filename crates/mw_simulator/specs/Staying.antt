@@ -13,12 +13,13 @@ use Rattle.mw_simulator.specs.Claims.{SameClaims}
 -- What there is of a tenant in memory, but for the room that is kept for further marks.
 pub record Kept : Type 0 where
   pub book : Book
+  pub quota : ℕ
   pub asked : ℕ
   pub closed : List Mark
   pub lines : List (Option Mark)
 
 abbrev pub kept_of : AccountInMemory → Kept
-kept_of account = record { book = account.book; asked = account.asked; closed = account.lines.closed.items; lines = account.lines.lines.items }
+kept_of account = record { book = account.book; quota = account.quota; asked = account.asked; closed = account.lines.closed.items; lines = account.lines.lines.items }
 
 -- a tenant of a list of tenants, if it is there
 abbrev pub kept_at : List AccountInMemory → ℕ → Option Kept

@@ -8,7 +8,6 @@ use Rattle.mw_actor.specs.Program.{tells}
 use Rattle.mw_world_file.specs.Files.{File}
 use Rattle.mw_world_file.specs.Maps.{upd}
 use Rattle.mw_world.specs.declared.config.Config.{Config}
-use Rattle.mw_world.specs.declared.config.TheConstants.{MOST_REQUESTS}
 use Rattle.mw_world.specs.declared.notes.Note.{Note}
 use Rattle.mw_world.specs.Definition.Cells.{Cells}
 use Rattle.mw_world.specs.Definition.Notes.{note_of}
@@ -60,10 +59,10 @@ meaning state worker actor news = note_of actor actor.point news (tells actor ne
 abbrev pub is_free : Config → State → ℕ → Bool
 is_free config state worker = nat_lt worker config.workers && is_none (state.seats worker).actor
 
--- a tenant is there, has a number left for a request, and may ask for this
-abbrev pub may_ask : Config → State → ℕ → Job → Bool
-may_ask config state tenant job = nat_lt tenant (tenants_of config) && nat_lt (state.accounts tenant).asked MOST_REQUESTS && is_well_formed (tenant_at config tenant).words job
+-- a tenant is there, and may ask for this
+abbrev pub may_ask : Config → ℕ → Job → Bool
+may_ask config tenant job = nat_lt tenant (tenants_of config) && is_well_formed (tenant_at config tenant).words job
 
 -- the number of a tenant's next request, if it may ask for this
 abbrev pub request_for : Config → State → ℕ → Job → Option ℕ
-request_for config state tenant job = if may_ask config state tenant job then Some (state.accounts tenant).asked else None
+request_for config state tenant job = if may_ask config tenant job then Some (state.accounts tenant).asked else None

@@ -4,7 +4,7 @@ use Rattle.std.specs.declared.alloc.Global.{Global}
 use Rattle.mw_look.specs.declared.steps.Call.{Call}
 use Rattle.mw_look.specs.declared.steps.Call.TheVariants.{Seal as SealCall}
 use Rattle.mw_actor.specs.Acting.{Acting}
-use Rattle.mw_world_file.specs.declared.faults.BookFault.{BookFault as WorldFault}
+use Rattle.mw_world_file.specs.declared.faults.BookFault.{BookFault}
 use Rattle.mw_world_file.specs.declared.faults.BookFault.TheVariants.{NotEnabled, Memory}
 use Rattle.mw_world_file.specs.Files.{File}
 use Rattle.mw_world_file.specs.Reopening.{doubt_left, is_sealed_left, made_of, may_be_made}
@@ -35,8 +35,8 @@ pub record IsOf (file : File) (places : ℕ) (call : Option UnderWay) (halt : Ha
 
 -- This is what a call left that a request had come to, of which so many device calls were made.
 pub record IsCut (config : Config) (state : State) (actor : Acting) (called : Called) (made : ℕ) (halt : Halt) : Type 0 where
-  pub may : nat_le made (stopped_call config state actor made called).calls ≡ may_be_made (state.accounts actor.tenant).file (tenant_at config actor.tenant).quota halt.cut
-  pub is : IsOf (state.accounts actor.tenant).file (tenant_at config actor.tenant).quota (Some (stopped_call config state actor made called)) halt
+  pub may : nat_le made (stopped_call config state actor made called).calls ≡ may_be_made (state.accounts actor.tenant).file (state.accounts actor.tenant).quota halt.cut
+  pub is : IsOf (state.accounts actor.tenant).file (state.accounts actor.tenant).quota (Some (stopped_call config state actor made called)) halt
   pub made_so : made_of halt.cut ≡ made
 
 -- the same, or the call doesn't make so many
@@ -46,8 +46,8 @@ Cuts config state actor called made None = nat_le made (stopped_call config stat
 
 -- This was under way on a tenant's file.
 pub record IsHalted (config : Config) (state : State) (tenant : ℕ) (interrupted : Option Interrupted) (halt : Halt) : Type 0 where
-  pub may : may_interrupt config state tenant interrupted ≡ may_be_made (state.accounts tenant).file (tenant_at config tenant).quota halt.cut
-  pub is : IsOf (state.accounts tenant).file (tenant_at config tenant).quota (under_way config state interrupted) halt
+  pub may : may_interrupt config state tenant interrupted ≡ may_be_made (state.accounts tenant).file (state.accounts tenant).quota halt.cut
+  pub is : IsOf (state.accounts tenant).file (state.accounts tenant).quota (under_way config state interrupted) halt
   pub made_so : made_of halt.cut ≡ made_in interrupted
 
 -- the same, or nothing can have been under way so
@@ -60,10 +60,10 @@ pub record IsReopened (config : Config) (state : State) (tenant : ℕ) (interrup
   pub found : Found
   pub found_so : IsFoundBy old interrupted torn fails_at found
   pub may : may_be_found config state tenant found ≡ true
-  pub shows : ShowsAccount (tenant_at config tenant).words (tenant_at config tenant).quota new (reopened (state.accounts tenant) found (under_way config state found.interrupted))
+  pub shows : ShowsAccount (tenant_at config tenant).words new (reopened (state.accounts tenant) found (under_way config state found.interrupted))
 
 -- how a tenant is reopened, by the answer
-abbrev pub Reopens : World → State → ℕ → AccountInMemory → Option Interrupted → List ℕ → Option ℕ → Result AccountInMemory WorldFault → Type 0
+abbrev pub Reopens : World → State → ℕ → AccountInMemory → Option Interrupted → List ℕ → Option ℕ → Result AccountInMemory BookFault → Type 0
 Reopens world state tenant shown interrupted torn fails_at (Ok new) = IsReopened world.config state tenant interrupted torn fails_at shown new
 Reopens world state tenant shown interrupted torn fails_at (Err NotEnabled) = CannotStop world state tenant interrupted torn fails_at
 Reopens world state tenant shown interrupted torn fails_at (Err Memory) = Unit {0}
@@ -74,7 +74,7 @@ AreReopened world stops news = EachOf (λ tenant old new. (state : State) → Sh
     → IsReopened world.config state tenant (interrupted_in (stop_of stops tenant)) (torn_in (stop_of stops tenant)) (fails_in (stop_of stops tenant)) old new) world.accounts.items news
 
 -- how all tenants are reopened, by the answer
-abbrev pub AllReopen : World → List Stop → Result (Vec AccountInMemory Global) WorldFault → Type 0
+abbrev pub AllReopen : World → List Stop → Result (Vec AccountInMemory Global) BookFault → Type 0
 AllReopen world stops (Ok news) = (length news.items ≡ length world.accounts.items) × AreReopened world stops news.items
 AllReopen world stops (Err NotEnabled) = (state : State) → Shows world state
     → (tenant : ℕ) × CannotStop world state tenant (interrupted_in (stop_of stops tenant)) (torn_in (stop_of stops tenant)) (fails_in (stop_of stops tenant))

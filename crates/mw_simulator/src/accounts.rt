@@ -8,6 +8,8 @@ use mw_world_file::Book;
 pub(crate) struct Account {
     /// Its file.
     pub(crate) book: Book,
+    /// How many slots it may use at a time, as the last start gave it.
+    pub(crate) quota: u8,
     /// Its marks.
     pub(crate) lines: Lines,
     /// The number of its next request.

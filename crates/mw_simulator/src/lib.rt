@@ -20,6 +20,6 @@ mod notes;
 mod seats;
 mod world;
 
-pub use faults::WorldFault;
+pub use faults::{MOST_REQUESTS, WorldFault};
 pub use laws::what_serving_alone_leaves;
 pub use world::World;

@@ -2,6 +2,7 @@
 pub mod Examples
 pub mod Headline
 pub mod Invariant
+pub mod Lawful
 pub mod Laws
 pub mod Owing
 pub mod Schedules

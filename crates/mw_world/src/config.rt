@@ -3,9 +3,6 @@
 use arrayvec::ArrayVec;
 use mw_words::{MAX_TENANTS, Name};
 
-/// A tenant's requests have numbers below this one.
-pub const MOST_REQUESTS: u64 = u64::MAX;
-
 /// A tenant of a world.
 #[derive(Debug, Default, Drop)]
 pub struct Tenant {

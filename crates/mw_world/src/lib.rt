@@ -7,7 +7,8 @@
 //! what may happen; `World` has each event and whole runs, by `Turns` and `Changes` (a step on a shared
 //! word), `Calls` (a call on a file), `Restarts`, and `Notes` and `Noting` (what a step means for the
 //! marks and the history). Then `specs/Claim`: `Headline` is what is to hold of every run, `Invariant` and
-//! `Owing` what is kept on the way, `Examples` runs that come out by computation.
+//! `Owing` what is kept on the way, `Lawful` what running threads will ask of every run, `Examples` runs that
+//! come out by computation.
 #![tactic(auto)]
 
 mod config;
@@ -15,10 +16,10 @@ mod events;
 mod laws;
 mod notes;
 
-pub use config::{Config, MOST_REQUESTS, Tenant};
+pub use config::{Config, Tenant};
 pub use events::{Event, Interrupted, Outcome, Stop};
 pub use laws::{
-    new_worlds_keep_the_invariant, places_are_apart, runs_come_out, runs_extend,
+    new_worlds_start, places_are_apart, runs_come_out, runs_extend, starts_keep_the_invariant,
     what_serving_alone_gives,
 };
 pub use notes::{Note, Phase};

@@ -157,7 +157,7 @@ impl Trial {
                 count(&mut self.tally.events);
                 Ok(true)
             }
-            Err(WorldFault::NotEnabled) => Ok(false),
+            Err(WorldFault::NotEnabled | WorldFault::LastNumber) => Ok(false),
             Err(WorldFault::Memory) => Err(TrialFault::Memory),
         }
     }

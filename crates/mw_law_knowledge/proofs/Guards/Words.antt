@@ -69,8 +69,8 @@ module _ (config : Config) (state : State) (memory : Memory config state) (actor
   }
 
   pub row_guard : (entry : ℕ) → IsLive state task.target → config.pool ≤ MAX_POOL → entry < MAX_ENTRIES → task.target.seq < WORN_NUMBER
-      → state.history.standing actor.worker ≡ Resting → MaySetRow state actor.worker (row_of task.target entry)
-  row_guard entry live small few low rests = record { fits = (slot_there config state memory task.target live small, few, at_most task.target.seq low); rests = rests }
+      → state.history.standing actor.worker ≡ Resting → MaySetRow config state actor.worker (row_of task.target entry)
+  row_guard entry live small few low rests = record { there = memory.claims.there task.target.slot live.taken; fits = (slot_there config state memory task.target live small, few, at_most task.target.seq low); rests = rests }
 
   -- the word of an entry
   module _ (entry : ℕ) (at : AtEntry state (without_point actor) task entry) where

@@ -1,9 +1,8 @@
 -- What isn't the same: words of different kinds, what is told of a lost and a won exchange, and statuses of changes that are done with and those that aren't.
 use Rattle.std.specs.Prelude.{ℕ, ◌≡◌, Bool, true, false}
 use Rattle.mw_law_runs.specs.Owed.{IsUnfinished}
-use Rattle.std.proofs.Common.{inl, inr}
 use Rattle.mw_words.specs.declared.statuses.Status.{Status}
-use Rattle.mw_words.specs.declared.statuses.Status.TheVariants.{No, DoneYes, DoneNo}
+use Rattle.mw_words.specs.declared.statuses.Status.TheVariants.{DoneYes, DoneNo}
 use Rattle.mw_words.specs.declared.words.Word.{Word}
 use Rattle.mw_words.specs.declared.words.Word.TheVariants.{Plain, Planted, Held, Dirty}
 use Rattle.mw_look.specs.declared.news.News.TheVariants.{SawWord, SawStatus, Won, Lost}

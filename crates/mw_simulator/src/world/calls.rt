@@ -23,7 +23,7 @@ use mw_actor::{Actor, Point, Slot};
 use mw_look::{Call, Got, Kind, Op, Told};
 use mw_words::{At, Entries, Job, Status, copy_of, is_change};
 use mw_world::{Note, Outcome};
-use mw_world_file::Book;
+use mw_world_file::{Book, BookFault};
 
 /// A call on a tenant's file, for a change.
 #[derive(Clone, Copy, Debug)]
@@ -69,7 +69,7 @@ impl World {
                 self.tell_file(worker, &actor, ended);
                 Ok(())
             }
-            Err(fault) => Err(fault),
+            Err(fault) => Err(WorldFault::from(fault)),
         }
     }
 
@@ -112,7 +112,7 @@ impl World {
         called: Called,
         status: Status,
         outcome: Outcome,
-    ) -> Result<Ended, WorldFault>
+    ) -> Result<Ended, BookFault>
         requires tenant { actor.now.tenant < length self.old.accounts.items }
         requires in_range { IsStatusInRange status }
         ensures rest { ending.SameButFiles self.old self.new }
@@ -134,7 +134,7 @@ impl World {
     }
 
     /// A call on a file that failed before, so that none of its device calls can fail.
-    fn refuse(&mut self, tenant: u8, outcome: Outcome) -> Result<Ended, WorldFault>
+    fn refuse(&mut self, tenant: u8, outcome: Outcome) -> Result<Ended, BookFault>
         requires tenant { tenant < length self.old.accounts.items }
         ensures rest { ending.SameButFiles self.old self.new }
         ensures is { result ≡ ending.makes_none ending.refused outcome }
@@ -152,7 +152,7 @@ impl World {
                     note: Note::Nothing,
                 })
             }
-            Outcome::Fail(_) => Err(WorldFault::NotEnabled),
+            Outcome::Fail(_) => Err(BookFault::NotEnabled),
         }
     }
 
@@ -163,7 +163,7 @@ impl World {
         called: Called,
         status: Status,
         outcome: Outcome,
-    ) -> Result<Ended, WorldFault>
+    ) -> Result<Ended, BookFault>
         requires tenant { actor.now.tenant < length self.old.accounts.items }
         requires in_range { IsStatusInRange status }
         requires sound { (called.call ≡ Call.Cancel → ⊥) → (account : Account) → slice_get self.old.accounts.items actor.now.tenant ≡ Some account → account.book.has_failed ≡ false }
@@ -177,7 +177,7 @@ impl World {
         let tenant = usize::from(actor.tenant());
         let entries = entries_of(actor.job());
         if !is_formed(called.call, self.accounts[tenant].book.words(), &entries) {
-            return Err(WorldFault::NotEnabled);
+            return Err(BookFault::NotEnabled);
         }
         let book = match self.accounts[tenant].book.work(
             self.alloc,
@@ -199,7 +199,7 @@ impl World {
         requires sound { HasSound (tenant_at self.old.config tenant).words book }
         ensures rest { ending.SameButFiles self.old self.new }
         ensures others { SameBooksBut tenant self.old self.new }
-        ensures shows { (state : State) (file : File) → Shows self.old state → ending.IsBookOf self.old.config tenant book file
+        ensures shows { (state : State) (file : File) → Shows self.old state → ending.IsBookOf self.old.config state tenant book file
             → Shows self.new (stepping.with_file state tenant file) }
     {
         self.accounts[usize::from(tenant)].book = book;
@@ -327,7 +327,7 @@ fn status_after(call: Call, status: Status) -> Status
 }
 
 /// A call that does nothing, and so no device call.
-fn skipped(outcome: Outcome) -> Result<Ended, WorldFault>
+fn skipped(outcome: Outcome) -> Result<Ended, BookFault>
     ensures { result ≡ ending.makes_none ending.skipped outcome }
 {
     match outcome {
@@ -335,7 +335,7 @@ fn skipped(outcome: Outcome) -> Result<Ended, WorldFault>
             went_well: true,
             note: Note::Nothing,
         }),
-        Outcome::Fail(_) => Err(WorldFault::NotEnabled),
+        Outcome::Fail(_) => Err(BookFault::NotEnabled),
     }
 }
 

@@ -62,6 +62,7 @@ fn fresh_account(alloc: Global, tenant: &Tenant) -> Result<Account, AllocError>
     let book = Book::new(alloc, tenant.words, tenant.quota)?;
     Ok(Account {
         book,
+        quota: tenant.quota,
         lines: Lines::new(alloc),
         asked: 0,
     })

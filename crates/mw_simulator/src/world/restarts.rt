@@ -17,6 +17,7 @@ use crate::world::World;
 use crate::world::making::{first_cells, idle_seats};
 use mw_lone::Mark;
 use mw_world::{Interrupted, Stop};
+use mw_world_file::BookFault;
 
 impl World {
     /// All stops, and starts again.
@@ -30,7 +31,7 @@ impl World {
         }
         let accounts = match self.all_reopened(stops) {
             Ok(accounts) => accounts,
-            Err(fault) => return Err(fault),
+            Err(fault) => return Err(WorldFault::from(fault)),
         };
         let Ok(cells) = first_cells(self.alloc, &self.config, &accounts) else {
             return Err(WorldFault::Memory);
@@ -46,18 +47,18 @@ impl World {
     }
 
     /// The tenants after the start.
-    fn all_reopened(&self, stops: &[Stop]) -> Result<Vec<Account>, WorldFault>
+    fn all_reopened(&self, stops: &[Stop]) -> Result<Vec<Account>, BookFault>
         ensures reopen { AllReopen self.now stops.now result }
         ensures sound { IfOk result (λ accounts. AreSound self.now.config accounts.items) }
     {
         let Ok(mut accounts) = Vec::with_capacity(self.alloc, self.accounts.len()) else {
-            return Err(WorldFault::Memory);
+            return Err(BookFault::Memory);
         };
         for (tenant, account) in self.accounts.iter().enumerate() {
             match self.stopped(tenant, account, stops) {
                 Ok(reopened) => {
                     let Ok(()) = accounts.push(reopened) else {
-                        return Err(WorldFault::Memory);
+                        return Err(BookFault::Memory);
                     };
                 }
                 Err(fault) => return Err(fault),
@@ -72,7 +73,7 @@ impl World {
         tenant: usize,
         account: &Account,
         stops: &[Stop],
-    ) -> Result<Account, WorldFault>
+    ) -> Result<Account, BookFault>
         requires { slice_get self.now.accounts.items tenant ≡ Some account.now }
         ensures sound { IfOk result (λ new. HasSound (tenant_at self.now.config tenant).words new.book) }
         ensures reopens { (state : State) → Shows self.now state
@@ -99,13 +100,13 @@ impl World {
         interrupted: Option<Interrupted>,
         torn: &[u8],
         fails_at: Option<u64>,
-    ) -> Result<Account, WorldFault>
+    ) -> Result<Account, BookFault>
         requires { slice_get self.now.accounts.items tenant ≡ Some account.now }
         ensures sound { IfOk result (λ new. HasSound (tenant_at self.now.config tenant).words new.book) }
         ensures reopens { (state : State) → Shows self.now state → Reopens self.now state tenant account.now interrupted torn.now fails_at result }
     {
         let Some(halt) = self.halt(tenant, account, interrupted) else {
-            return Err(WorldFault::NotEnabled);
+            return Err(BookFault::NotEnabled);
         };
         let (book, take) = match account.book.restart(self.alloc, halt.cut, torn, fails_at) {
             Ok(restarted) => restarted,
@@ -117,12 +118,13 @@ impl World {
             opened: fails_at.is_none(),
         };
         let Ok(closed) = account.lines.closed_with(self.alloc, mark) else {
-            return Err(WorldFault::Memory);
+            return Err(BookFault::Memory);
         };
         let mut lines = Lines::new(self.alloc);
         lines.reopen(closed);
         Ok(Account {
             book,
+            quota: account.quota,
             lines,
             asked: account.asked,
         })

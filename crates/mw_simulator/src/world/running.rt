@@ -63,10 +63,11 @@ impl World {
         self.accounts[usize::from(tenant)].lines.marks(self.alloc)
     }
 
-    /// One event. [`WorldFault::NotEnabled`]: it can't happen where the world is. [`WorldFault::Memory`]:
-    /// there is no memory for what it means. After an error the world is unchanged, but for the room that
-    /// it keeps for further marks and claims. No event but a call on a tenant's file, and a start, touches
-    /// that file.
+    /// One event. [`WorldFault::NotEnabled`]: it can't happen where the world is.
+    /// [`WorldFault::LastNumber`]: it can, but is a request whose number would be `2^64 - 1`, after which
+    /// there is none; no such request is taken. [`WorldFault::Memory`]: there is no memory for what it
+    /// means. After an error the world is unchanged, but for the room that it keeps for further marks and
+    /// claims. No event but a call on a tenant's file, and a start, touches that file.
     pub fn step(&mut self, event: Event) -> Result<(), WorldFault>
         ensures config { self.new.config ≡ self.old.config }
         ensures happens { (state : State) → Shows self.old state → Happens self.old self.new state event result }

@@ -5,23 +5,23 @@ ghost use Rattle.mw_look.specs.Steps.{place};
 ghost use Rattle.mw_actor.specs.Asks.{asks};
 ghost use Rattle.mw_actor.specs.Acting.{Acting};
 ghost use Rattle.mw_actor.specs.Ranges.{IsFormed};
-ghost use Rattle.mw_world.specs.declared.config.TheConstants.{MOST_REQUESTS};
 ghost use Rattle.mw_world.specs.Definition.Requests.{came, gave};
 ghost use Rattle.mw_world.specs.Definition.State.{State};
 ghost use Rattle.mw_world.specs.Definition.Turns as turns;
 ghost use Rattle.mw_world.specs.Definition.World as spec;
-ghost use Rattle.mw_simulator.specs.Shows.{Ends, Shows};
+ghost use Rattle.mw_simulator.specs.declared.faults.TheConstants.{MOST_REQUESTS};
+ghost use Rattle.mw_simulator.specs.Shows.{Comes, Ends, Shows};
 ghost use Rattle.mw_simulator.specs.Staying.{IsUnchanged, SameBooks, served_by};
 ghost use Rattle.mw_simulator.specs.Stepping as stepping;
 
-use crate::faults::WorldFault;
+use crate::faults::{MOST_REQUESTS, WorldFault};
 use crate::notes::note_of;
 use crate::world::World;
 use mw_actor::{Actor, Point};
 use mw_lone::Mark;
 use mw_look::{Got, News, Told};
 use mw_words::{At, Job};
-use mw_world::{MOST_REQUESTS, Note};
+use mw_world::Note;
 use std::alloc::AllocError;
 
 impl World {
@@ -29,7 +29,7 @@ impl World {
     pub(crate) fn come(&mut self, worker: u8, tenant: u8, job: &Job) -> Result<(), WorldFault>
         ensures config { self.new.config ≡ self.old.config }
         ensures ends { (state : State) → Shows self.old state
-            → Ends self.new state (spec.come self.old.config state worker tenant job.now) result }
+            → Comes self.new state tenant (spec.come self.old.config state worker tenant job.now) result }
         ensures unchanged { OnErr result (IsUnchanged self.old self.new) }
         ensures files { SameBooks self.old self.new }
     {
@@ -39,6 +39,9 @@ impl World {
         let Some(request) = self.request_for(tenant, job) else {
             return Err(WorldFault::NotEnabled);
         };
+        if request >= MOST_REQUESTS {
+            return Err(WorldFault::LastNumber);
+        }
         if self.reserve(tenant).is_err() {
             return Err(WorldFault::Memory);
         }
@@ -60,7 +63,6 @@ impl World {
     /// The number of a tenant's next request, if the tenant is there and may ask for this.
     fn request_for(&self, tenant: u8, job: &Job) -> Option<u64>
         ensures there { IfSome result (λ request. tenant < length self.now.accounts.items) }
-        ensures number { IfSome result (λ request. request < MOST_REQUESTS) }
         ensures formed { IfSome result (λ request. IsFormed job.now) }
         ensures shown { (state : State) → Shows self.now state → result ≡ stepping.request_for self.now.config state tenant job.now }
     {
@@ -68,14 +70,10 @@ impl World {
         if place >= self.accounts.len() {
             return None;
         }
-        let request = self.accounts[place].asked;
-        if request >= MOST_REQUESTS {
-            return None;
-        }
         if !job.is_well_formed(usize::from(self.config.tenants[place].words)) {
             return None;
         }
-        Some(request)
+        Some(self.accounts[place].asked)
     }
 
     /// A worker begins on a request of a tenant, which is its next. There is room for its mark.
@@ -90,9 +88,8 @@ impl World {
             → Shows self.new (came self.old.config state worker tenant job.now) }
         ensures files { SameBooks self.old self.new }
     {
-        let quota = self.config.tenants[usize::from(tenant)].quota;
-        let actor = Actor::new(worker, tenant, quota, self.config.pool, job.copy());
         let account = &mut self.accounts[usize::from(tenant)];
+        let actor = Actor::new(worker, tenant, account.quota, self.config.pool, job.copy());
         account.lines.more(Some(Mark::Ask(request, job.copy())));
         account.asked = request + 1;
         let seat = &mut self.seats[usize::from(worker)];

@@ -1,9 +1,9 @@
 -- What is to hold of every run of a world: each tenant is served as its store alone would serve it.
-use Rattle.std.specs.Prelude.{ℕ, ◌≡◌, ◌≢◌, ◌<◌, ◌≤◌, true, false, List, All, ◌++◌, replicate, Option, Some, None}
+use Rattle.std.specs.Prelude.{ℕ, ◌≡◌, ◌≢◌, ◌<◌, ◌≤◌, ◌+◌, true, false, List, All, ◌++◌, length, Option, Some, None}
 use Rattle.mw_words.specs.declared.limits.TheConstants.{WORN_NUMBER}
 use Rattle.mw_words.specs.declared.replies.Reply.TheVariants.{Worn}
 use Rattle.mw_words.specs.Change.{word_at}
-use Rattle.mw_lone.specs.Store.{Store, entries_in_doubt, replies as replies_of_marks}
+use Rattle.mw_lone.specs.Store.{Store, entries_in_doubt, replies_from}
 use Rattle.mw_actor.specs.Acting.{Acting, own_entries}
 use Rattle.mw_actor.specs.Asks.{asks}
 use Rattle.mw_actor.specs.Program.{replied}
@@ -17,7 +17,7 @@ use Rattle.mw_world.specs.Definition.Happenings.{Happening}
 use Rattle.mw_world.specs.Claim.Invariant.{Invariant}
 use Rattle.mw_world.specs.Definition.Logical.{logical}
 use Rattle.mw_world.specs.Definition.Restarts.{may_interrupt, under_way, interrupted_request, doubt_then, is_sealed_then, may_find}
-use Rattle.mw_world.specs.Definition.State.{State, IsConfig, new_world, tenant_at, tenants_of, marks_of, store_of}
+use Rattle.mw_world.specs.Definition.State.{State, IsConfig, IsStart, Opening, world_at, tenant_at, tenants_of, marks_of, store_at, store_of}
 use Rattle.mw_world.specs.Definition.Turns.{may_make}
 use Rattle.mw_world.specs.Definition.World.{run, replies_to}
 
@@ -26,19 +26,16 @@ pub record HasNumbers (config : Config) (state : State) : Type 0 where
   pub slots : (slot : ℕ) → slot < config.pool → (state.cells.gates slot).taken ≡ false → (state.cells.gates slot).seq ≢ WORN_NUMBER
   pub attempts : (worker : ℕ) → worker < config.workers → (state.seats worker).attempt ≢ WORN_NUMBER
 
--- The events of a run of a new world of a configuration, and the world after it.
-pub record IsPlayed (config : Config) (events : List Happening) (state : State) : Type 0 where
+-- The events of a run of a server of a configuration, from a start on that gave the tenants this, and the world after it.
+pub record IsPlayed (config : Config) (openings : ℕ → Opening) (events : List Happening) (state : State) : Type 0 where
   pub made : IsConfig config
-  pub runs : run config (new_world config) events ≡ Some state
+  pub starts : IsStart config openings
+  pub runs : run config (world_at config openings) events ≡ Some state
 
 -- Such a run in which there were numbers left at every moment.
-pub record IsRun (config : Config) (events : List Happening) (state : State) : Type 0 where
-  pub played : IsPlayed config events state
-  pub numbers : (first rest : List Happening) (between : State) → events ≡ first ++ rest → run config (new_world config) first ≡ Some between → HasNumbers config between
-
--- The invariant holds after every run, also where numbers are used up.
-abbrev pub EveryRunKeepsInvariant : Type 0
-EveryRunKeepsInvariant = (config : Config) (events : List Happening) (state : State) → IsPlayed config events state → Invariant config state
+pub record IsRun (config : Config) (openings : ℕ → Opening) (events : List Happening) (state : State) : Type 0 where
+  pub played : IsPlayed config openings events state
+  pub numbers : (first rest : List Happening) (between : State) → events ≡ first ++ rest → run config (world_at config openings) first ≡ Some between → HasNumbers config between
 
 -- The tenant's shared words are those of its store alone, its door counts the slots that the store uses, and tells of the store's fault.
 pub record ShowsStore (state : State) (tenant words : ℕ) (store : Store) : Type 0 where
@@ -54,18 +51,14 @@ pub record LeavesStore (config : Config) (state : State) (tenant : ℕ) (store :
   pub in_doubt : (interrupted : Option Interrupted) → may_interrupt config state tenant interrupted ≡ true
       → doubt_then (state.accounts tenant).file (under_way config state interrupted) ≡ entries_in_doubt store (interrupted_request (under_way config state interrupted))
 
--- a tenant's words at first
-abbrev pub store_words : Config → ℕ → List ℕ
-store_words config tenant = replicate (tenant_at config tenant).words 0
-
 -- A tenant's part of the world after a run.
-pub record IsServedAlone (config : Config) (events : List Happening) (state : State) (tenant : ℕ) : Type 0 where
-  -- its marks are legal, one after the other, for a store that has its words alone, zeros at first
+pub record IsServedAlone (config : Config) (openings : ℕ → Opening) (events : List Happening) (state : State) (tenant : ℕ) : Type 0 where
+  -- its marks are legal, one after the other, for a store that has its words alone, those with which the run began
   pub store : Store
-  pub legal : store_of config state tenant ≡ Some store
+  pub legal : store_of openings state tenant ≡ Some store
   -- the replies that were handed out to it are those that its marks hand out, and none says that numbers are used up
-  pub replies : replies_to config tenant (new_world config) events ≡ replies_of_marks (store_words config tenant) (tenant_at config tenant).quota (marks_of state tenant)
-  pub never_worn : All (λ numbered. numbered.1 ≢ Worn) (replies_to config tenant (new_world config) events)
+  pub replies : replies_to config tenant (world_at config openings) events ≡ replies_from (store_at (openings tenant)) (marks_of state tenant)
+  pub never_worn : All (λ numbered. numbered.1 ≢ Worn) (replies_to config tenant (world_at config openings) events)
   -- if its file opened at the last start, the shared words are the store's
   pub shown : (state.accounts tenant).is_up ≡ true → ShowsStore state tenant (tenant_at config tenant).words store
   -- its file has the store's words, and a crash leaves in doubt what the store says
@@ -97,14 +90,14 @@ pub record IsEnabled (config : Config) (state : State) : Type 0 where
       → may_make config (asks actor) ≡ true
   -- the call to which a request has come can be made
   pub calls : (worker : ℕ) (actor : Acting) (called : Called) → (state.seats worker).actor ≡ Some actor → called_at actor.point ≡ Some called
-      → CanBeMade config state actor called (state.accounts actor.tenant).file (tenant_at config actor.tenant).quota
+      → CanBeMade config state actor called (state.accounts actor.tenant).file (state.accounts actor.tenant).quota
   -- whatever call is interrupted that may be, there are words that may be found
   pub starts : (tenant : ℕ) (interrupted : Option Interrupted) → tenant < tenants_of config → may_interrupt config state tenant interrupted ≡ true
       → CanBeFound config state tenant interrupted (state.accounts tenant).file
 
--- What holds of every run.
-pub record HoldsOfRun (config : Config) (events : List Happening) (state : State) : Type 0 where
-  pub served : (tenant : ℕ) → tenant < tenants_of config → IsServedAlone config events state tenant
+-- What holds of the world after every run, also where numbers are used up.
+pub record HoldsOfRun (config : Config) (state : State) : Type 0 where
+  pub invariant : Invariant config state
   -- The slots that are taken are no more than the doors count. While the door counts a slot for a request that isn't taken, there is a slot
   -- that isn't taken: for a change that was admitted and has no slot yet, and for whoever has freed a slot, a change or a read, until the
   -- door is lowered.
@@ -113,13 +106,23 @@ pub record HoldsOfRun (config : Config) (events : List Happening) (state : State
   pub enabled : IsEnabled config state
 
 -- Every run is so.
-abbrev pub EveryRunServesAlone : Type 0
-EveryRunServesAlone = (config : Config) (events : List Happening) (state : State) → IsRun config events state → HoldsOfRun config events state
+abbrev pub EveryRunHolds : Type 0
+EveryRunHolds = (config : Config) (openings : ℕ → Opening) (events : List Happening) (state : State) → IsPlayed config openings events state → HoldsOfRun config state
 
--- Runs of two worlds, which may have nothing else in common, hand out the same replies to two tenants that have as many words, the
--- same quota and the same marks.
+-- Every run in which there are numbers left serves each tenant as its store alone would.
+abbrev pub EveryRunServesAlone : Type 0
+EveryRunServesAlone = (config : Config) (openings : ℕ → Opening) (events : List Happening) (state : State) (tenant : ℕ) → IsRun config openings events state
+    → tenant < tenants_of config → IsServedAlone config openings events state tenant
+
+-- Runs of two worlds, which may have nothing else in common, hand out the same replies to two tenants that began alike, with the same words and the same
+-- quota, and that have the same marks.
 abbrev pub EqualMarksHaveEqualReplies : Type 0
-EqualMarksHaveEqualReplies = (config other : Config) (events others : List Happening) (state there : State) (tenant its : ℕ) → IsRun config events state → IsRun other others there
-    → tenant < tenants_of config → its < tenants_of other
-    → (tenant_at config tenant).words ≡ (tenant_at other its).words → (tenant_at config tenant).quota ≡ (tenant_at other its).quota → marks_of state tenant ≡ marks_of there its
-    → replies_to config tenant (new_world config) events ≡ replies_to other its (new_world other) others
+EqualMarksHaveEqualReplies = (config other : Config) (openings starts : ℕ → Opening) (events others : List Happening) (state there : State) (tenant its : ℕ)
+    → IsRun config openings events state → IsRun other starts others there → tenant < tenants_of config → its < tenants_of other
+    → openings tenant ≡ starts its → marks_of state tenant ≡ marks_of there its
+    → replies_to config tenant (world_at config openings) events ≡ replies_to other its (world_at other starts) others
+
+-- Numbers are used up in long runs alone: while a run has fewer events than there are numbers from the first one on, there are numbers left.
+abbrev pub ShortRunsHaveNumbers : Type 0
+ShortRunsHaveNumbers = (config : Config) (openings : ℕ → Opening) (events : List Happening) (state : State) → IsPlayed config openings events state
+    → config.seq + length events < WORN_NUMBER → IsRun config openings events state

@@ -8,32 +8,49 @@ use Rattle.mw_words.specs.declared.statuses.Status.{Status}
 use Rattle.mw_words.specs.declared.statuses.Status.TheVariants.{Draft, Open, YesDirty, Yes, No, DoneYes, DoneNo}
 use Rattle.mw_words.specs.declared.words.Word.TheVariants.{Planted, Held, Dirty}
 use Rattle.mw_words.specs.Change.{word_at, is_change, is_well_formed}
+use Rattle.mw_actor.specs.declared.points.Slot.{Slot}
 use Rattle.mw_actor.specs.Acting.{Acting, entry_at}
 use Rattle.mw_world_file.specs.Files.{File, Place, Empty, Prepared, Sealed, is_empty, is_sealed, entries_at, share_a_word}
 use Rattle.mw_world.specs.declared.config.Config.{Config}
 use Rattle.mw_world.specs.declared.notes.Phase.{Phase}
 use Rattle.mw_world.specs.declared.notes.Phase.TheVariants.{Fresh, Keeping, Inked, Gone}
+use Rattle.mw_world.specs.Definition.Calls.{Called, called_at}
 use Rattle.mw_world.specs.Definition.Cells.{Cells}
 use Rattle.mw_world.specs.Definition.Counting.{pins_held, frees_at, waits_for, over_workers, slots_taken_for}
 use Rattle.mw_world.specs.Definition.History.{History, Resting, Stands, Idle, Armed, has, new, standing_at, arm_at}
 use Rattle.mw_world.specs.Definition.Logical.{logical}
 use Rattle.mw_world.specs.Claim.Owing.{IsEntryAt, IsOwed, IsOwner, IsCleaner}
-use Rattle.mw_world.specs.Definition.State.{State, Account, tenant_at, tenants_of}
+use Rattle.mw_world.specs.Definition.State.{State, Account, QuotasFit, quotas_of, tenant_at, tenants_of}
 
 -- Requests.
 
--- The request of a worker of the world is this worker's, of one of its tenants, under that one's quota, and asks for what the tenant may ask for.
+-- the gate is taken and pinned
+abbrev pub IsPinned : Gate → Type 0
+IsPinned gate = (gate.taken ≡ true) × (1 ≤ gate.pins)
+
+-- the same, under this sequence number
+abbrev pub IsPinnedAs : ℕ → Gate → Type 0
+IsPinnedAs seq gate = IsPinned gate × (gate.seq ≡ seq)
+
+-- The request of a worker of the world is this worker's, of one of its tenants, and asks for what the tenant may ask for.
 pub record IsOfWorker (config : Config) (worker : ℕ) (actor : Acting) : Type 0 where
   pub there : worker < config.workers
   pub same_worker : actor.worker ≡ worker
   pub tenant : actor.tenant < tenants_of config
-  pub quota : actor.quota ≡ (tenant_at config actor.tenant).quota
   pub pool : actor.pool ≡ config.pool
   pub job : is_well_formed (tenant_at config actor.tenant).words actor.job ≡ true
 
--- Each request is its worker's, and what its worker may do is told by where the request is; an idle worker may do nothing.
+-- The change of a call on a file is one of this tenant, and its slot is taken for it and pinned.
+pub record IsOfCaller (state : State) (tenant : ℕ) (change : Slot) : Type 0 where
+  pub pinned : IsPinnedAs change.seq (state.cells.gates change.slot)
+  pub same_tenant : state.history.tenant change.slot change.seq ≡ tenant
+
+-- Each request is its worker's, under its tenant's quota, and what its worker may do is told by where the request is; an idle worker may do nothing.
+-- A request that has come to a call on its file holds the slot of the call's change, which is one of its tenant.
 pub record RequestsAreTheirWorkers (config : Config) (state : State) : Type 0 where
   pub seats : (worker : ℕ) (actor : Acting) → (state.seats worker).actor ≡ Some actor → IsOfWorker config worker actor
+  pub quotas : (worker : ℕ) (actor : Acting) → (state.seats worker).actor ≡ Some actor → actor.quota ≡ (state.accounts actor.tenant).quota
+  pub calls : (worker : ℕ) (actor : Acting) (called : Called) → (state.seats worker).actor ≡ Some actor → called_at actor.point ≡ Some called → IsOfCaller state actor.tenant called.change
   pub standing : (worker : ℕ) (actor : Acting) → (state.seats worker).actor ≡ Some actor → state.history.standing worker ≡ standing_at actor actor.point
   pub arm : (worker : ℕ) (actor : Acting) → (state.seats worker).actor ≡ Some actor → state.history.arm worker ≡ arm_at actor actor.point
   pub idle : (worker : ℕ) → (state.seats worker).actor ≡ None → (state.history.standing worker ≡ Resting) × (state.history.arm worker ≡ Idle)
@@ -41,7 +58,7 @@ pub record RequestsAreTheirWorkers (config : Config) (state : State) : Type 0 wh
 -- Changes and their slots.
 
 -- A slot is taken for a change that claimed it, a well-formed one of its tenant; the slot's earlier changes have lower numbers. What was never
--- claimed is a draft.
+-- claimed is a draft. A slot that was claimed, or that a row names, is one of the pool.
 pub record ChangesClaimTheirSlots (config : Config) (state : State) : Type 0 where
   pub there : (slot : ℕ) → (state.cells.gates slot).taken ≡ true → slot < config.pool
   pub claimed : (slot : ℕ) → (state.cells.gates slot).taken ≡ true → state.history.is_born slot (state.cells.gates slot).seq ≡ true
@@ -50,6 +67,8 @@ pub record ChangesClaimTheirSlots (config : Config) (state : State) : Type 0 whe
   pub formed : (slot seq : ℕ) → state.history.is_born slot seq ≡ true
       → (state.history.tenant slot seq < tenants_of config) × (is_change (tenant_at config (state.history.tenant slot seq)).words (state.history.change slot seq) ≡ true)
   pub unclaimed : (slot seq : ℕ) → state.history.is_born slot seq ≡ false → state.history.fate slot seq ≡ Draft
+  pub born : (slot seq : ℕ) → state.history.is_born slot seq ≡ true → slot < config.pool
+  pub rows : (worker : ℕ) → (state.cells.rows worker).slot < config.pool
 
 -- What stands at the places of a slot's entry is this entry.
 pub record IsEntryOf (cells : Cells) (slot index : ℕ) (entry : Entry) : Type 0 where
@@ -68,14 +87,6 @@ pub record SlotsTellTheirChanges (state : State) : Type 0 where
       → IsEntryOf state.cells slot index (entry_at (state.history.change slot (state.cells.gates slot).seq) index)
 
 -- References.
-
--- the gate is taken and pinned
-abbrev pub IsPinned : Gate → Type 0
-IsPinned gate = (gate.taken ≡ true) × (1 ≤ gate.pins)
-
--- the same, under this sequence number
-abbrev pub IsPinnedAs : ℕ → Gate → Type 0
-IsPinnedAs seq gate = IsPinned gate × (gate.seq ≡ seq)
 
 -- A change of this tenant that is no draft has an entry of the word.
 pub record HasWord (past : History) (tenant address slot seq : ℕ) : Type 0 where
@@ -260,7 +271,7 @@ pub record IsPlaceOf (state : State) (tenant place : ℕ) : Type 0 where
 
 -- Each change that is in its tenant's file is in a place of its own there, prepared or sealed by its status; no other place is in use.
 pub record ChangesHavePlaces (config : Config) (state : State) : Type 0 where
-  pub within : (tenant slot : ℕ) → IsInFile state tenant slot → (state.accounts tenant).file.place_of slot < (tenant_at config tenant).quota
+  pub within : (tenant slot : ℕ) → IsInFile state tenant slot → (state.accounts tenant).file.place_of slot < (state.accounts tenant).quota
   pub there : (tenant slot : ℕ) → IsInFile state tenant slot
       → (state.accounts tenant).file.places ((state.accounts tenant).file.place_of slot)
       ≡ placed (state.history.fate slot (state.cells.gates slot).seq) (state.history.change slot (state.cells.gates slot).seq)
@@ -271,7 +282,8 @@ pub record ChangesHavePlaces (config : Config) (state : State) : Type 0 where
 -- Counts.
 
 -- A gate counts the pins that requests hold and the one that was left behind; a slot that is taken and has no pin is to be freed by just one
--- request. A door counts the slots that are taken for the tenant and those that its requests are to take or have freed, no more than the quota.
+-- request. A door counts the slots that are taken for the tenant and those that its requests are to take or have freed, no more than the quota; and
+-- the quotas fit.
 pub record CountsAreRight (config : Config) (state : State) : Type 0 where
   pub pins : (slot : ℕ) → (state.cells.gates slot).pins
       ≡ over_workers (λ actor. pins_held slot actor.point) state.seats config.workers + (if state.history.stays slot (state.cells.gates slot).seq then 1 else 0)
@@ -280,7 +292,8 @@ pub record CountsAreRight (config : Config) (state : State) : Type 0 where
       ≡ (if (state.cells.gates slot).taken && ((state.cells.gates slot).pins == 0) then 1 else 0)
   pub doors : (tenant : ℕ) → tenant < tenants_of config → (state.cells.doors tenant).used
       ≡ slots_taken_for state tenant config.pool + over_workers (waits_for tenant) state.seats config.workers
-  pub quotas : (tenant : ℕ) → tenant < tenants_of config → (state.cells.doors tenant).used ≤ (tenant_at config tenant).quota
+  pub quotas : (tenant : ℕ) → tenant < tenants_of config → (state.cells.doors tenant).used ≤ (state.accounts tenant).quota
+  pub limits : QuotasFit config (quotas_of state)
 
 -- All of this, by its subject. References, attempts, late finishers, owed words and the sealed changes of a file are what no step of a
 -- late worker may harm; the rest is what they stand on.

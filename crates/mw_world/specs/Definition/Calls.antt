@@ -20,7 +20,7 @@ use Rattle.mw_world.specs.Definition.Changes.{fetched}
 use Rattle.mw_world.specs.Definition.Extent.{has_slot}
 use Rattle.mw_world.specs.declared.notes.Note.{Note}
 use Rattle.mw_world.specs.declared.notes.Note.TheVariants.{Nothing, Decided, SealedIt, FailedToSeal, FailedFile}
-use Rattle.mw_world.specs.Definition.State.{State, tenant_at}
+use Rattle.mw_world.specs.Definition.State.{State}
 use Rattle.mw_world.specs.Definition.Turns.{Made, moved}
 -- what a call makes of the file alone
 pub use Rattle.mw_world_file.specs.Calls.{fails_on, place_for, suits, is_formed, can_be_made, device_calls, is_made, filed, doubt_of}
@@ -111,7 +111,7 @@ module _ (state : State) (actor : Acting) (change : Slot) (file : File) where
 abbrev pub calling : Config → State → Acting → Called → Outcome → Option Made
 calling config state actor called outcome =
     let file = (state.accounts actor.tenant).file in
-    let places = (tenant_at config actor.tenant).quota in
+    let places = (state.accounts actor.tenant).quota in
     let status = state.cells.statuses called.change.slot in
     let place = place_for called.call file places called.change.slot in
     ends state actor called.change file (starts_from called.call status) (fails_on called.call file) (can_be_made called.call file places place (own_entries actor))

@@ -6,13 +6,13 @@ use Rattle.mw_actor.specs.Acting.{first}
 use Rattle.mw_world_file.specs.Maps.{upd}
 use Rattle.mw_world.specs.declared.config.Config.{Config}
 use Rattle.mw_world.specs.Definition.Noting.{more}
-use Rattle.mw_world.specs.Definition.State.{State, tenant_at}
+use Rattle.mw_world.specs.Definition.State.{State}
 use Rattle.mw_world.specs.Definition.World.{asked, begun}
 
 -- the world once a worker began on a request of a tenant
 abbrev pub came : Config → State → ℕ → ℕ → Job → State
 came config state worker tenant job = record state {
-  seats = upd state.seats worker (begun (state.seats worker) (first worker tenant (tenant_at config tenant).quota config.pool job) (state.accounts tenant).asked);
+  seats = upd state.seats worker (begun (state.seats worker) (first worker tenant (state.accounts tenant).quota config.pool job) (state.accounts tenant).asked);
   accounts = upd state.accounts tenant (asked (state.accounts tenant) job);
 }
 

@@ -11,7 +11,7 @@ use Rattle.mw_world.specs.declared.config.Config.{Config}
 use Rattle.mw_world.specs.declared.events.Interrupted.{Interrupted}
 use Rattle.mw_world.specs.Definition.Extent.{has_slot}
 use Rattle.mw_world.specs.Definition.Happenings.{Found}
-use Rattle.mw_world.specs.Definition.State.{State, Account, tenant_at, tenants_of, marks_in, started}
+use Rattle.mw_world.specs.Definition.State.{State, Account, tenants_of, marks_in, started}
 use Rattle.mw_world.specs.Definition.Calls.{Called, called_at, calls_made, can_be_made, place_for}
 -- what may be found of the file alone
 pub use Rattle.mw_world_file.specs.Restarts.{doubt_if, is_whole_seal, takes, may_find, may_fail, opened_file}
@@ -29,7 +29,7 @@ pub record UnderWay : Type 0 where
 abbrev pub stopped_call : Config → State → Acting → ℕ → Called → UnderWay
 stopped_call config state actor made called =
     let file = (state.accounts actor.tenant).file in
-    let places = (tenant_at config actor.tenant).quota in
+    let places = (state.accounts actor.tenant).quota in
     let slot = called.change.slot in
     let place = place_for called.call file places slot in
     record {
@@ -105,6 +105,7 @@ may_all_be_found config state founds (suc tenant) = may_all_be_found config stat
 abbrev pub reopened : Account → Found → Option UnderWay → Account
 reopened account found call = record {
   file = opened_file found.words found.fails_at;
+  quota = account.quota;
   asked = account.asked;
   is_up = is_none found.fails_at;
   closed = account.closed ++ marks_in account.lines

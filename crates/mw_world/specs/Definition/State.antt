@@ -1,13 +1,13 @@
 -- The state of a world.
-use Rattle.std.specs.Prelude.{ℕ, ◌≤◌, ◌<◌, All, sum_by, Bool, true, false, not, if◌then◌else◌, List, [], ◌++◌, length, replicate, slice_index_or, Option, None}
+use Rattle.std.specs.Prelude.{ℕ, zero, suc, ◌+◌, ◌≡◌, ◌≤◌, ◌<◌, All, sum_by, Bool, true, false, not, if◌then◌else◌, List, [], ◌++◌, length, replicate, slice_index_or, Option, None}
 use Rattle.std.specs.Option.{option_to_list}
 use Rattle.std.specs.List.{flat_map}
 use Rattle.mw_words.specs.declared.words.Word.TheVariants.{Plain}
 use Rattle.mw_words.specs.declared.statuses.Status.TheVariants.{Draft}
-use Rattle.mw_words.specs.Change.{word_at}
+use Rattle.mw_words.specs.Change.{AreWords, word_at}
 use Rattle.mw_words.specs.declared.limits.TheConstants.{MAX_POOL, MAX_QUOTA, MAX_TENANTS, MAX_WORDS, MAX_WORKERS, WORN_NUMBER}
 use Rattle.mw_lone.specs.declared.marks.Mark.{Mark}
-use Rattle.mw_lone.specs.Store.{Store, new_store, run as run_of_store}
+use Rattle.mw_lone.specs.Store.{Store, new_store, store_after_start, run as run_of_store}
 use Rattle.mw_actor.specs.Acting.{Acting}
 use Rattle.mw_world_file.specs.Files.{File, file_of}
 use Rattle.mw_world.specs.declared.config.Config.{Config}
@@ -30,6 +30,8 @@ pub record Seat : Type 0 where
 -- A tenant, but for its shared words.
 pub record Account : Type 0 where
   pub file : File
+  -- how many slots it may use at a time, as the last start gave it; its file has as many places for changes
+  pub quota : ℕ
   -- the number of its next request; numbers go on when all stops and starts again
   pub asked : ℕ
   -- Of its history: its file opened at the last start; the marks up to and with that start; and those since, some of which are
@@ -64,10 +66,6 @@ marks_in lines = flat_map option_to_list lines
 abbrev pub marks_of : State → ℕ → List Mark
 marks_of state tenant = (state.accounts tenant).closed ++ marks_in (state.accounts tenant).lines
 
--- the tenant's store alone, after its marks so far; None where one of them is illegal
-abbrev pub store_of : Config → State → ℕ → Option Store
-store_of config state tenant = run_of_store (new_store (replicate (tenant_at config tenant).words 0) (tenant_at config tenant).quota) (marks_of state tenant)
-
 -- A world may be made of this: there is a tenant, a worker and a slot, each number is within its limits, and the pool has slots for
 -- all quotas together.
 pub record IsConfig (config : Config) : Type 0 where
@@ -98,10 +96,6 @@ first_cells config words is_up = record {
   news = λ slot entry. 0;
 }
 
--- a tenant of a new world: its file has zeros, and opened
-abbrev pub first_account : Config → ℕ → Account
-first_account config tenant = record { file = file_of (replicate (tenant_at config tenant).words 0); asked = 0; is_up = true; closed = []; lines = [] }
-
 -- the world of these tenants at a start, of which nothing else has happened since
 abbrev pub started : Config → (ℕ → Account) → State
 started config accounts = record {
@@ -111,6 +105,61 @@ started config accounts = record {
   history = no_history;
 }
 
+-- What a start gave a tenant: its quota; the words of its file; and whether the file opened. Where it didn't nobody was told the words, which a
+-- later start may find.
+pub record Opening : Type 0 where
+  pub quota : ℕ
+  pub words : List ℕ
+  pub is_up : Bool
+
+-- the tenant after that start, which asked for nothing yet: its file is at rest, or failed at the opening
+abbrev pub account_at : Opening → Account
+account_at opening = record {
+  file = record (file_of opening.words) { has_failed = not opening.is_up };
+  quota = opening.quota;
+  asked = 0;
+  is_up = opening.is_up;
+  closed = [];
+  lines = [];
+}
+
+-- the store alone that begins so
+abbrev pub store_at : Opening → Store
+store_at opening = store_after_start (new_store opening.words opening.quota) opening.words opening.is_up
+
+-- the quotas of so many tenants together
+abbrev pub quotas_together : (ℕ → ℕ) → ℕ → ℕ
+quotas_together quotas zero = 0
+quotas_together quotas (suc tenant) = quotas_together quotas tenant + quotas tenant
+
+-- Each quota is within its limits, and the pool has slots for all of them together.
+pub record QuotasFit (config : Config) (quotas : ℕ → ℕ) : Type 0 where
+  pub each : (tenant : ℕ) → tenant < tenants_of config → (1 ≤ quotas tenant) × (quotas tenant ≤ MAX_QUOTA)
+  pub together : quotas_together quotas (tenants_of config) ≤ config.pool
+
+-- the tenants' quotas now
+abbrev pub quotas_of : State → ℕ → ℕ
+quotas_of state tenant = (state.accounts tenant).quota
+
+-- A start of a server of this configuration may give this: quotas that fit, and to each tenant as many words as it has, each of which is at most
+-- the greatest value.
+pub record IsStart (config : Config) (openings : ℕ → Opening) : Type 0 where
+  pub quotas : QuotasFit config (λ tenant. (openings tenant).quota)
+  pub long : (tenant : ℕ) → tenant < tenants_of config → length (openings tenant).words ≡ (tenant_at config tenant).words
+  pub words : (tenant : ℕ) → AreWords (openings tenant).words
+
+-- the world at that start, of which nothing that was before is told
+abbrev pub world_at : Config → (ℕ → Opening) → State
+world_at config openings = started config (λ tenant. account_at (openings tenant))
+
+-- the tenant's store alone, from a start on and after its marks since; None where one of them is illegal
+abbrev pub store_of : (ℕ → Opening) → State → ℕ → Option Store
+store_of openings state tenant = run_of_store (store_at (openings tenant)) (marks_of state tenant)
+
+-- the first start of all: each tenant has the quota of the configuration, and its file has zeros, and opened
+abbrev pub first_openings : Config → ℕ → Opening
+first_openings config tenant = record { quota = (tenant_at config tenant).quota; words = replicate (tenant_at config tenant).words 0; is_up = true }
+
 -- a new world
 abbrev pub new_world : Config → State
-new_world config = started config (first_account config)
+new_world config = world_at config (first_openings config)

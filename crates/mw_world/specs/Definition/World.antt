@@ -9,7 +9,6 @@ use Rattle.mw_actor.specs.Acting.{Acting, first}
 use Rattle.mw_actor.specs.Program.{replied}
 use Rattle.mw_world_file.specs.Maps.{upd}
 use Rattle.mw_world.specs.declared.config.Config.{Config}
-use Rattle.mw_world.specs.declared.config.TheConstants.{MOST_REQUESTS}
 use Rattle.mw_world.specs.Definition.Happenings.{Happening, Come, Step, File, Hand, Restart}
 use Rattle.mw_world.specs.Definition.State.{State, Seat, Account, tenant_at, tenants_of}
 use Rattle.mw_world.specs.Definition.Noting.{more}
@@ -25,17 +24,17 @@ begun seat actor request = record seat { actor = Some actor; request = request; 
 abbrev pub asked : Account → Job → Account
 asked account job = record account { asked = account.asked + 1; lines = more account.lines (Some (Ask account.asked job)) }
 
--- The worker and the tenant are there, the worker has no request, the tenant has a number left for one, and may ask for this.
+-- The worker and the tenant are there, the worker has no request, and the tenant may ask for this. Numbers of requests have no end.
 abbrev pub may_come : Config → State → ℕ → ℕ → Job → Bool
 may_come config state worker tenant job =
-    nat_lt worker config.workers && nat_lt tenant (tenants_of config) && is_none (state.seats worker).actor && nat_lt (state.accounts tenant).asked MOST_REQUESTS && is_well_formed (tenant_at config tenant).words job
+    nat_lt worker config.workers && nat_lt tenant (tenants_of config) && is_none (state.seats worker).actor && is_well_formed (tenant_at config tenant).words job
 
 -- A request comes.
 abbrev pub come : Config → State → ℕ → ℕ → Job → Option State
 come config state worker tenant job =
     if may_come config state worker tenant job
     then Some (record state {
-      seats = upd state.seats worker (begun (state.seats worker) (first worker tenant (tenant_at config tenant).quota config.pool job) (state.accounts tenant).asked);
+      seats = upd state.seats worker (begun (state.seats worker) (first worker tenant (state.accounts tenant).quota config.pool job) (state.accounts tenant).asked);
       accounts = upd state.accounts tenant (asked (state.accounts tenant) job);
     })
     else None

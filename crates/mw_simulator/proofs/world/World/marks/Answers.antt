@@ -11,5 +11,5 @@ returns c state shows =
     let shown = c.index.result.now in
     let here = account_read world c.from.result tenant shown c.requires c.from.ensures c.index.ensures in
     let shows_it = shows.accounts tenant shown here in
-    let is = marks_shown (tenant_at world.config tenant).words (tenant_at world.config tenant).quota shown (state.accounts tenant) shows_it in
+    let is = marks_shown (tenant_at world.config tenant).words shown (state.accounts tenant) shows_it in
     subst (λ all. IfOk c.marks.result (λ marks. marks.items ≡ all)) is c.marks.ensures

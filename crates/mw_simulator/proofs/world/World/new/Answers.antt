@@ -1,7 +1,7 @@
 use Rattle.std.proofs.Common.{subst, sym, refl, ℕ}
-use Rattle.mw_world.specs.Definition.State.{first_account, new_world, tenant_at}
+use Rattle.mw_world.specs.Definition.State.{new_world, tenant_at}
 use Rattle.mw_simulator.specs.Starts.{AreFresh, AreTenants, HaveWords}
-use Rattle.mw_simulator.proofs.FirstWorlds.{AreShown, are_tenants, fresh_shown, have_words, shows_start, zeros_are_words}
+use Rattle.mw_simulator.proofs.FirstWorlds.{AreShown, are_tenants, first_accounts, fresh_shown, have_words, shows_start, zeros_are_words}
 use Rattle.mw_simulator.proofs.SoundBooks.{fresh_sound}
 use Rattle.mw_simulator.proofs.world.World.new.Goals as goal
 
@@ -10,7 +10,7 @@ first_cells-requires-clause-accounts c =
     let config = c.args.config in
     let accounts = c.in_ok-accounts.accounts.items in
     let fresh : AreFresh config.tenants.items accounts = subst (λ tenants. AreFresh tenants accounts) c.deref.ensures.0 c.in_ok-accounts.ensures in
-    subst (AreTenants config) (sym c.deref-2.ensures.value) (are_tenants config accounts (first_account config) (fresh_shown config accounts fresh) fresh.count)
+    subst (AreTenants config) (sym c.deref-2.ensures.value) (are_tenants config accounts (first_accounts config) (fresh_shown config accounts fresh) fresh.count)
 
 pub invariant_of-result-clause-books : goal.invariant_of-result-clause-books
 invariant_of-result-clause-books c =
@@ -24,13 +24,13 @@ returns-clause-stands c =
     let config = c.args.config in
     let accounts = c.in_ok-accounts.accounts.items in
     let fresh : AreFresh config.tenants.items accounts = subst (λ tenants. AreFresh tenants accounts) c.deref.ensures.0 c.in_ok-accounts.ensures in
-    let shown : AreShown config accounts (first_account config) = fresh_shown config accounts fresh in
-    let words = λ (tenant : ℕ). (first_account config tenant).file.contents in
-    let ups = λ (tenant : ℕ). (first_account config tenant).is_up in
-    let have = subst (λ held. HaveWords held words ups) (sym c.deref-2.ensures.value) (have_words config accounts (first_account config) shown (λ tenant. refl)) in
+    let shown : AreShown config accounts (first_accounts config) = fresh_shown config accounts fresh in
+    let words = λ (tenant : ℕ). (first_accounts config tenant).file.contents in
+    let ups = λ (tenant : ℕ). (first_accounts config tenant).is_up in
+    let have = subst (λ held. HaveWords held words ups) (sym c.deref-2.ensures.value) (have_words config accounts (first_accounts config) shown (λ tenant. refl)) in
     record {
       state = new_world config;
       runs = refl;
-      shows = shows_start _ (first_account config) (c.in_ok-cells.ensures.tie words ups have) c.in_ok-seats.ensures c.new.ensures shown
+      shows = shows_start _ (first_accounts config) (c.in_ok-cells.ensures.tie words ups have) c.in_ok-seats.ensures c.new.ensures shown
           (λ tenant up. zeros_are_words (tenant_at config tenant).words);
     }

@@ -22,6 +22,6 @@ returns-clause-reopens c state shows =
     let tenant = c.args.tenant in
     let shown = c.args.account.now in
     let shown_so = shows.accounts tenant shown c.requires in
-    is_reopened world.config state tenant shown c.args.interrupted c.args.torn.now c.args.fails_at c.in-Some.halt (tenant_at world.config tenant).words (tenant_at world.config tenant).quota refl shown_so
+    is_reopened world.config state tenant shown c.args.interrupted c.args.torn.now c.args.fails_at c.in-Some.halt (tenant_at world.config tenant).words shown_so
     (c.in-Some.ensures.shown state shows) c.in-Ok.restarted.1 c.is_none.result _ (c.in-Ok.ensures (state.accounts tenant).file shown_so.book)
-    (none_is c.args.fails_at c.is_none.result c.is_none.ensures) refl c.reopen.ensures.lines (ap (λ closed. closed.items) c.reopen.ensures.closed ∙ c.in-Ok-closed_with.ensures) refl
+    (none_is c.args.fails_at c.is_none.result c.is_none.ensures) refl refl c.reopen.ensures.lines (ap (λ closed. closed.items) c.reopen.ensures.closed ∙ c.in-Ok-closed_with.ensures) refl

@@ -3,15 +3,9 @@ use Rattle.std.proofs.Common.{◌∙◌, ◌<◌, ap, sym, length, arith}
 use Rattle.mw_actor.proofs.JobLaws.{well_formed_is_formed}
 use Rattle.mw_world.specs.declared.config.Tenant.{Tenant}
 use Rattle.mw_world.specs.Definition.State.{no_tenant, tenant_at, tenants_of}
-use Rattle.mw_simulator.proofs.Coming.{asked_at, formed, formed_so, too_many}
+use Rattle.mw_simulator.proofs.Coming.{asked_at, formed, formed_so}
 use Rattle.mw_simulator.proofs.Entering.{tenant_is}
 use Rattle.mw_simulator.proofs.world.World.request_for.Goals as goal
-
-pub returns-then-request-ge-MOST_REQUESTS-clause-shown : goal.returns-then-request-ge-MOST_REQUESTS-clause-shown
-returns-then-request-ge-MOST_REQUESTS-clause-shown c state shows =
-    let there : c.args.tenant < length c.args.self.now.accounts.items = omega (arith, c.from-place.ensures, c.len.ensures, c.if-place-len.false) in
-    let same = asked_at c.args.self.now state c.from-place.result c.args.tenant c.index.result.now shows c.from-place.ensures there c.index.ensures in
-    too_many c.args.self.now.config state c.args.tenant c.args.job.now (omega (arith, same, c.if-request-ge-MOST_REQUESTS.true))
 
 pub returns-clause-formed : goal.returns-clause-formed
 returns-clause-formed c =
@@ -28,6 +22,6 @@ returns-clause-shown c state shows =
     let there : c.args.tenant < tenants_of c.args.self.now.config = omega (arith, c.from-place.ensures, c.len.ensures, c.if-place-len.false, c.args.self.now.tenants) in
     let same = asked_at c.args.self.now state c.from-place.result c.args.tenant c.index.result.now shows c.from-place.ensures here c.index.ensures in
     let one = tenant_is c.args.self.now.config c.deref.result.now c.from-place.result c.args.tenant c.index-deref-place.result c.deref.ensures.0 c.from-place.ensures there c.index-deref-place.is in
-    formed c.args.self.now.config state c.args.tenant c.args.job.now c.index.result.now.asked same there c.if-request-ge-MOST_REQUESTS.false
+    formed c.args.self.now.config state c.args.tenant c.args.job.now c.index.result.now.asked same there
     (formed_so c.from.result (tenant_at c.args.self.now.config c.args.tenant).words c.args.job.now c.is_well_formed.result
     (c.from.ensures ∙ ap (λ (t : Tenant). t.words) (sym c.index-deref-place.is ∙ one)) c.is_well_formed.ensures c.if-not-is_well_formed.false)

@@ -1,5 +1,5 @@
 use Rattle.mw_world.proofs.FirstInvariant.{first_invariant}
-use Rattle.mw_world.proofs.laws.new_worlds_keep_the_invariant.Goals as goal
+use Rattle.mw_world.proofs.laws.starts_keep_the_invariant.Goals as goal
 
 pub returns : goal.returns
 returns c = first_invariant

@@ -1,0 +1,5 @@
+use Rattle.mw_law_counts.proofs.Keeping.{openings_stand}
+use Rattle.mw_law_counts.proofs.laws.starts_count_right.Goals as goal
+
+pub returns : goal.returns
+returns c = openings_stand
