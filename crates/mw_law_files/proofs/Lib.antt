@@ -1,0 +1,5 @@
+pub mod Apart
+pub mod Beginning
+pub mod Placing
+pub mod Staying
+pub mod Tenants

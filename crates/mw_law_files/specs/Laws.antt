@@ -1,0 +1,50 @@
+-- What is proved of files and of their places.
+use Rattle.std.specs.Prelude.{ℕ, ◌≡◌, List, Some}
+use Rattle.mw_words.specs.declared.jobs.Job.{Job}
+use Rattle.mw_world_file.specs.declared.outcomes.Outcome.{Outcome}
+use Rattle.mw_world.specs.declared.config.Config.{Config}
+use Rattle.mw_world.specs.Claim.Headline.{IsPlayed}
+use Rattle.mw_world.specs.Definition.Calls.{call}
+use Rattle.mw_world.specs.Definition.Happenings.{Found, Happening}
+use Rattle.mw_world.specs.Definition.Restarts.{restart}
+use Rattle.mw_world.specs.Definition.State.{State, IsConfig, new_world}
+use Rattle.mw_world.specs.Definition.Turns.{turn}
+use Rattle.mw_world.specs.Definition.World.{come, hand, step}
+use Rattle.mw_law_runs.specs.Sound.{IsSound}
+use Rattle.mw_law_files.specs.Files.{HasFiles}
+
+-- A step of a request that is no call on a file keeps what holds of the files of a sound world.
+abbrev pub TurnsKeepFiles : Type 0
+TurnsKeepFiles = (config : Config) (state next : State) (worker : ℕ) → IsSound config state → HasFiles config state → turn config state worker (state.seats worker).actor ≡ Some next
+    → HasFiles config next
+
+-- So does a call on a file, however it ends.
+abbrev pub CallsKeepFiles : Type 0
+CallsKeepFiles = (config : Config) (state next : State) (worker : ℕ) (outcome : Outcome) → IsSound config state → HasFiles config state
+    → call config state worker (state.seats worker).actor outcome ≡ Some next → HasFiles config next
+
+-- So does a request that comes.
+abbrev pub ComesKeepFiles : Type 0
+ComesKeepFiles = (config : Config) (state next : State) (worker tenant : ℕ) (job : Job) → IsSound config state → HasFiles config state → come config state worker tenant job ≡ Some next
+    → HasFiles config next
+
+-- And a reply that is handed out.
+abbrev pub HandsKeepFiles : Type 0
+HandsKeepFiles = (config : Config) (state next : State) (worker : ℕ) → IsSound config state → HasFiles config state → hand state worker (state.seats worker).actor ≡ Some next
+    → HasFiles config next
+
+-- It holds of a new world.
+abbrev pub NewWorldsHaveFiles : Type 0
+NewWorldsHaveFiles = (config : Config) → HasFiles config (new_world config)
+
+-- And of a world after a start.
+abbrev pub RestartsKeepFiles : Type 0
+RestartsKeepFiles = (config : Config) (state next : State) (founds : List Found) → HasFiles config state → restart config state founds ≡ Some next → HasFiles config next
+
+-- Every event keeps it in a sound world.
+abbrev pub EventsKeepFiles : Type 0
+EventsKeepFiles = (config : Config) (state next : State) (event : Happening) → IsSound config state → HasFiles config state → step config state event ≡ Some next → HasFiles config next
+
+-- It holds after every run.
+abbrev pub RunsHaveFiles : Type 0
+RunsHaveFiles = (config : Config) (events : List Happening) (state : State) → IsPlayed config events state → HasFiles config state

@@ -1,0 +1,18 @@
+//! What holds of files and of their places: facts for proofs to cite. The functions do nothing.
+ghost use Rattle.mw_law_files.specs.Laws.{ComesKeepFiles, HandsKeepFiles, NewWorldsHaveFiles, RestartsKeepFiles};
+
+/// A request that comes keeps what holds of the files of a sound world.
+pub fn comes_keep_files()
+    ensures { ComesKeepFiles }
+{}
+
+/// A reply that is handed out keeps it.
+pub fn hands_keep_files()
+    ensures { HandsKeepFiles }
+{}
+
+/// It holds of a new world, and of a world after a start from one of which it holds.
+pub fn starts_have_files()
+    ensures new { NewWorldsHaveFiles }
+    ensures again { RestartsKeepFiles }
+{}
