@@ -56,16 +56,16 @@ module _ (places : ℕ) (due next : ℕ → Place) (file : File) (placed : ArePl
     }
 
     -- a slot's place has another change
-    pub changes : (place : ℕ) (to : Place) → is_empty (due slot) ≡ false → is_empty to ≡ false → file.place_of slot ≡ place → ((one : ℕ) → next one ≡ upd due slot to one)
-        → ArePlaced places next (record file { places = upd file.places place to })
-    changes place to some full is sets = record {
+    pub changes : (contents : List ℕ) (place : ℕ) (to : Place) → is_empty (due slot) ≡ false → is_empty to ≡ false → file.place_of slot ≡ place → ((one : ℕ) → next one ≡ upd due slot to one)
+        → ArePlaced places next (record file { contents = contents; places = upd file.places place to })
+    changes contents place to some full is sets = record {
       within = λ one there. grind (arith, nat_tests, sets one, placed.within one, some, there, is);
       there = λ one there. grind (arith, nat_tests, sets one, placed.there one, placed.own one slot, some, there, is);
       own = λ one other there too at. grind (arith, nat_tests, sets one, sets other, placed.own one other, some, there, too, at);
       in_use = λ at used. by_test at used (at == place) refl;
     }
       where
-        by_test : (at : ℕ) → is_empty (upd file.places place to at) ≡ false → (b : Bool) → (at == place) ≡ b → HasPlace next (record file { places = upd file.places place to }) at
+        by_test : (at : ℕ) → is_empty (upd file.places place to at) ≡ false → (b : Bool) → (at == place) ≡ b → HasPlace next (record file { contents = contents; places = upd file.places place to }) at
         by_test at used true here = record { slot = slot; due_some = grind (arith, nat_tests, sets slot, full); is = grind (arith, nat_tests, here, is) }
         by_test at used false else_where =
             let had = placed.in_use at (grind (arith, nat_tests, else_where, used)) in

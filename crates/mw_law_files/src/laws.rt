@@ -1,7 +1,12 @@
 //! What holds of files and of their places: facts for proofs to cite. The functions do nothing.
-ghost use Rattle.mw_law_files.specs.Laws.{ComesKeepFiles, HandsKeepFiles, NewWorldsHaveFiles, RestartsKeepFiles};
+ghost use Rattle.mw_law_files.specs.Laws.{ComesKeepFiles, HandsKeepFiles, NewWorldsHaveFiles, RestartsKeepFiles, TurnsKeepFiles};
 
-/// A request that comes keeps what holds of the files of a sound world.
+/// A step of a request that is no call on a file keeps what holds of the files of a sound world.
+pub fn turns_keep_files()
+    ensures { TurnsKeepFiles }
+{}
+
+/// A request that comes keeps it.
 pub fn comes_keep_files()
     ensures { ComesKeepFiles }
 {}

@@ -4,4 +4,4 @@
 
 mod laws;
 
-pub use laws::{comes_keep_files, hands_keep_files, starts_have_files};
+pub use laws::{comes_keep_files, hands_keep_files, starts_have_files, turns_keep_files};
