@@ -1,7 +1,7 @@
 -- Changes that are decided to be made, and not done with, share no word.
 use Rattle.std.specs.Prelude.{ℕ, ◌≡◌, ◌≢◌, ◌⊎◌, ◌==◌, Bool, true, false, List, [], ◌∷◌, is_some}
 use Rattle.std.specs.List.{list_any}
-use Rattle.std.proofs.Common.{refl, sym, ap, subst, ◌∙◌, inl, inr, arith}
+use Rattle.std.proofs.Common.{refl, sym, subst, inl, inr, arith}
 use Rattle.std.proofs.lemmas.Bool.Decides.{nat_tests}
 use Rattle.mw_words.specs.declared.jobs.Entry.{Entry}
 use Rattle.mw_words.specs.declared.statuses.Status.{Status}
@@ -85,6 +85,6 @@ module _ (config : Config) (state : State) (memory : Memory config state) where
       → share_a_word (state.history.change slot seq) (state.history.change other number) ≡ false
   two_apart slot seq other number apart same one two =
       none_shared (state.history.change slot seq) (state.history.change other number) (λ address here there.
-        apart (same_slot (state.cells.words (state.history.tenant slot seq) address) slot seq (new state.history slot seq address) other number (new state.history other number address)
-        (named slot seq address one here)
-        (subst (λ (tenant : ℕ). Names (state.cells.words tenant address) other number (new state.history other number address)) (sym same) (named other number address two there))))
+      apart (same_slot (state.cells.words (state.history.tenant slot seq) address) slot seq (new state.history slot seq address) other number (new state.history other number address)
+      (named slot seq address one here)
+      (subst (λ (tenant : ℕ). Names (state.cells.words tenant address) other number (new state.history other number address)) (sym same) (named other number address two there))))

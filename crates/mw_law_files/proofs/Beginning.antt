@@ -7,17 +7,16 @@ use Rattle.mw_words.specs.declared.jobs.Job.{Job}
 use Rattle.mw_words.specs.declared.replies.Reply.{Reply}
 use Rattle.mw_actor.specs.Acting.{Acting}
 use Rattle.mw_actor.specs.Program.{replied}
-use Rattle.mw_world_file.specs.Files.{File, Empty, is_empty, is_sealed}
+use Rattle.mw_world_file.specs.Files.{Empty, is_empty, is_sealed}
 use Rattle.mw_words.specs.declared.jobs.Entry.{Entry}
 use Rattle.mw_words.specs.Change.{put, word_at}
 use Rattle.mw_world.specs.declared.config.Config.{Config}
-use Rattle.mw_world.specs.Claim.Invariant.{AreApart, IsInFile}
+use Rattle.mw_world.specs.Claim.Invariant.{AreApart}
 use Rattle.mw_world.proofs.FirstInvariant.{first_invariant}
 use Rattle.mw_world.specs.Definition.Happenings.{Found}
-use Rattle.mw_world.specs.Definition.Logical.{logical}
-use Rattle.mw_world.specs.Definition.Restarts.{doubt_then, found_of, is_sealed_then, may_all_be_found, may_be_found, may_fail, may_find, may_interrupt, opened_file, restart, restarted, takes, under_way}
+use Rattle.mw_world.specs.Definition.Restarts.{doubt_then, found_of, is_sealed_then, may_all_be_found, may_be_found, may_fail, may_find, may_interrupt, opened_file, restarted, takes, under_way}
 use Rattle.mw_world.specs.Definition.Requests.{came, gave}
-use Rattle.mw_world.specs.Definition.State.{State, Account, started, tenant_at, tenants_of}
+use Rattle.mw_world.specs.Definition.State.{State, tenant_at, tenants_of}
 use Rattle.mw_world.specs.Definition.World.{come, hand, handed, may_come}
 use Rattle.mw_lone.proofs.SoundStores.{length-put}
 use Rattle.mw_law_moves.proofs.Stepping.{comes_leave, hands_leave}
@@ -28,14 +27,14 @@ use Rattle.mw_law_files.specs.Files.{HasFiles}
 use Rattle.mw_law_files.specs.Laws.{ComesKeepFiles, HandsKeepFiles, NewWorldsHaveFiles, RestartsKeepFiles}
 use Rattle.mw_law_files.proofs.Staying.{SameAccount, all_filed_same, same_account}
 use Rattle.mw_law_files.proofs.Placing.{ArePlaced}
-use Rattle.mw_law_files.proofs.Tenants.{Agrees, IsFiled, are_filed, due, files_if, has_files}
+use Rattle.mw_law_files.proofs.Tenants.{Agrees, IsFiled, are_filed, files_if, has_files}
 
 module _ (config : Config) (state next : State) (sound : IsSound config state) (has : HasFiles config state) where
   pub comes_keep : (worker tenant : ℕ) (job : Job) → come config state worker tenant job ≡ Some next → HasFiles config next
   comes_keep worker tenant job is =
       guarded (λ (one : State). come config state worker tenant job ≡ Some one → HasFiles config one) (may_come config state worker tenant job) (came config state worker tenant job) next
       (λ may so. has_files config (came config state worker tenant job) (memory_is_shared config (came config state worker tenant job) state (comes_leave config state (came config state worker tenant job) worker tenant job so) sound.memory)
-          (all_filed_same config state (came config state worker tenant job) (record { dues = λ other slot. refl; faults = λ other. refl; values = λ other address. refl }) same (are_filed config state has))) is is
+      (all_filed_same config state (came config state worker tenant job) (record { dues = λ other slot. refl; faults = λ other. refl; values = λ other address. refl }) same (are_filed config state has))) is is
     where
       same : (other : ℕ) → SameAccount state (came config state worker tenant job) other
       same other = let both = same_account state.accounts tenant other _ refl refl in record { file = both.0; is_up = both.1 }
@@ -132,8 +131,8 @@ module _ (config : Config) (state : State) (founds : List Found) (has : HasFiles
       let file = (state.accounts tenant).file in
       let call = under_way config state found.interrupted in
       let words = found_long (is_sealed_then call) file.contents (doubt_then file call) found.words
-              (middle (may_interrupt config state tenant found.interrupted) (may_find (is_sealed_then call) file.contents (doubt_then file call) found.words) (may_fail found.opening_calls found.fails_at)
-              (among_all config state founds (tenants_of config) tenant may low)) in
+      (middle (may_interrupt config state tenant found.interrupted) (may_find (is_sealed_then call) file.contents (doubt_then file call) found.words) (may_fail found.opening_calls found.fails_at)
+      (among_all config state founds (tenants_of config) tenant may low)) in
       record {
         agrees = opened_agrees found.words found.fails_at (tenant_at config tenant).words (words ∙ (has.told tenant low).long);
         places = none_placed (tenant_at config tenant).quota found.words found.fails_at;

@@ -1,8 +1,11 @@
 pub mod Apart
 pub mod Beginning
+pub mod Calling
 pub mod Filed
 pub mod Moving
 pub mod Placing
+pub mod Running
 pub mod Staying
 pub mod Tenants
 pub mod Turning
+pub mod Wells

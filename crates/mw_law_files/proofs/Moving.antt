@@ -1,7 +1,7 @@
 -- Each move leaves what is told of files as it was, but for a door that gets the fault, a slot that is freed with a change in its file, and the
 -- moves of a call on a file.
-use Rattle.std.specs.Prelude.{ℕ, ◌≡◌, ◌≢◌, ◌==◌, ◌&&◌, Bool, true, false, if◌then◌else◌, List, [], ◌∷◌}
-use Rattle.std.proofs.Common.{refl, sym, ap, subst, ◌∙◌, arith}
+use Rattle.std.specs.Prelude.{ℕ, ◌≡◌, false, List, [], ◌∷◌}
+use Rattle.std.proofs.Common.{refl, sym, ap, ◌∙◌, arith}
 use Rattle.std.proofs.lemmas.Bool.Decides.{nat_tests}
 use Rattle.mw_words.specs.declared.doors.Door.{Door}
 use Rattle.mw_words.specs.declared.gates.Gate.{Gate}
@@ -10,11 +10,10 @@ use Rattle.mw_words.specs.declared.statuses.Status.{Status}
 use Rattle.mw_words.specs.declared.statuses.Status.TheVariants.{Open, YesDirty, No}
 use Rattle.mw_pool.specs.Moves.{after_unpin}
 use Rattle.mw_actor.specs.declared.points.Slot.{Slot}
-use Rattle.mw_world_file.specs.Files.{Place, Empty, is_empty}
+use Rattle.mw_world_file.specs.Files.{Empty}
 use Rattle.mw_world_file.specs.Maps.{upd, upd_two}
 use Rattle.mw_world.specs.declared.config.Config.{Config}
 use Rattle.mw_world.specs.Claim.Invariant.{placed}
-use Rattle.mw_world.specs.Definition.Logical.{logical}
 use Rattle.mw_world.specs.Definition.State.{State}
 use Rattle.mw_law_moves.specs.Guards.{Guard, Guards}
 use Rattle.mw_law_moves.specs.Memory.{Memory}
@@ -108,7 +107,7 @@ module _ (config : Config) (state : State) (by : ℕ) (memory : Memory config st
   move_due (Pose standing arm) guard leaves = refl
 
 -- a door that has the fault as another had it
-door_fault : (doors : ℕ → Door) (i tenant : ℕ) (to : Door) → to.fault ≡ (doors i).fault → (upd doors i to tenant).fault ≡ (doors tenant).fault
+pub door_fault : (doors : ℕ → Door) (i tenant : ℕ) (to : Door) → to.fault ≡ (doors i).fault → (upd doors i to tenant).fault ≡ (doors tenant).fault
 door_fault doors i tenant to same = grind (arith, nat_tests, same)
 
 move_fault : (state : State) (by tenant : ℕ) (move : Move) → LeavesFiles state move → ((made state by move).cells.doors tenant).fault ≡ (state.cells.doors tenant).fault

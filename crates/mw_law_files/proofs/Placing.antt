@@ -1,9 +1,9 @@
 -- The places of a file, by what each slot is due there.
-use Rattle.std.specs.Prelude.{ℕ, ◌≡◌, ◌≢◌, ◌<◌, ◌⊎◌, ◌==◌, Bool, true, false, if◌then◌else◌, List}
-use Rattle.std.proofs.Common.{refl, sym, ap, subst, ◌∙◌, inl, inr, arith}
+use Rattle.std.specs.Prelude.{ℕ, ◌≡◌, ◌≢◌, ◌<◌, ◌⊎◌, ◌==◌, Bool, true, false, List}
+use Rattle.std.proofs.Common.{refl, sym, ap, ◌∙◌, inl, inr, arith}
 use Rattle.std.proofs.lemmas.Bool.Decides.{nat_tests}
 use Rattle.mw_words.specs.declared.jobs.Entry.{Entry}
-use Rattle.mw_world_file.specs.Files.{File, Place, Empty, Prepared, Sealed, is_empty, entries_at, prepared, sealed, emptied, broken}
+use Rattle.mw_world_file.specs.Files.{File, Place, Empty, Prepared, is_empty, prepared, emptied}
 use Rattle.mw_world_file.specs.Maps.{upd}
 
 -- A slot's change is in this place.

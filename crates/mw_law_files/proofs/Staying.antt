@@ -1,6 +1,6 @@
 -- A step that leaves doors' faults, values and what slots are due as they were, and the tenants' files too, keeps what holds of files.
-use Rattle.std.specs.Prelude.{ℕ, ◌≡◌, ◌<◌, Bool, true, false, if◌then◌else◌}
-use Rattle.std.proofs.Common.{refl, sym, ap, subst, ◌∙◌, arith}
+use Rattle.std.specs.Prelude.{ℕ, ◌≡◌, Bool}
+use Rattle.std.proofs.Common.{sym, subst, ◌∙◌, arith}
 use Rattle.std.proofs.lemmas.Bool.Decides.{nat_tests}
 use Rattle.mw_world_file.specs.Files.{File}
 use Rattle.mw_world_file.specs.Maps.{upd}

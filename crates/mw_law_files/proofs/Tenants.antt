@@ -1,6 +1,6 @@
 -- Each tenant's file, told by what each slot is due there.
-use Rattle.std.specs.Prelude.{ℕ, ◌≡◌, ◌≢◌, ◌<◌, ◌⊎◌, ◌==◌, ◌&&◌, Bool, true, false, if◌then◌else◌, List, [], length}
-use Rattle.std.proofs.Common.{refl, sym, ap, subst, ◌∙◌, inl, inr, arith}
+use Rattle.std.specs.Prelude.{ℕ, ◌≡◌, ◌<◌, ◌==◌, ◌&&◌, Bool, true, false, if◌then◌else◌, List, [], length}
+use Rattle.std.proofs.Common.{refl, sym, ap, subst, ◌∙◌, inr, arith}
 use Rattle.std.proofs.lemmas.Bool.Decides.{nat_tests}
 use Rattle.mw_words.specs.declared.gates.Gate.{Gate}
 use Rattle.mw_words.specs.declared.jobs.Entry.{Entry}
@@ -9,13 +9,13 @@ use Rattle.mw_words.specs.declared.statuses.Status.TheVariants.{Draft, Open, Yes
 use Rattle.mw_words.specs.Change.{word_at}
 use Rattle.mw_world_file.specs.Files.{File, Place, Empty, Prepared, Sealed, is_empty, is_sealed, entries_in, entries_at, share_a_word}
 use Rattle.mw_world.specs.declared.config.Config.{Config}
-use Rattle.mw_world.specs.Claim.Invariant.{AreApart, FileIsTold, IsInFile, IsPlaceOf, placed}
+use Rattle.mw_world.specs.Claim.Invariant.{AreApart, IsInFile, placed}
 use Rattle.mw_world.specs.Definition.Logical.{logical}
 use Rattle.mw_world.specs.Definition.State.{State, tenant_at, tenants_of}
 use Rattle.mw_law_moves.specs.Memory.{Memory}
 use Rattle.mw_law_files.specs.Files.{HasFiles, places_of}
 use Rattle.mw_law_files.proofs.Apart.{two_apart}
-use Rattle.mw_law_files.proofs.Placing.{ArePlaced, HasPlace}
+use Rattle.mw_law_files.proofs.Placing.{ArePlaced}
 
 -- what a tenant's file is to have of a slot, by the slot's gate, and the tenant, the status and the entries of the slot's change
 abbrev pub due_of : Gate → ℕ → Status → List Entry → ℕ → Place
@@ -115,7 +115,7 @@ module _ (config : Config) (state : State) (memory : Memory config state) where
       let its = in_file state tenant at.slot at.due_some in
       let seq = (state.cells.gates at.slot).seq in
       let stands : file.places place ≡ placed (state.history.fate at.slot seq) (state.history.change at.slot seq) =
-              ap (λ (n : ℕ). file.places n) (sym at.is) ∙ filed.places.there at.slot at.due_some ∙ due_as state tenant at.slot its in
+      ap (λ (n : ℕ). file.places n) (sym at.is) ∙ filed.places.there at.slot at.due_some ∙ due_as state tenant at.slot its in
       let made = sealed_as (state.history.fate at.slot seq) (state.history.change at.slot seq) (ap is_sealed (sym stands) ∙ is) in
       record {
         slot = at.slot;

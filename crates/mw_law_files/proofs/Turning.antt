@@ -1,7 +1,6 @@
 -- A step of a request that is no call on a file keeps what holds of files.
-use Rattle.std.specs.Prelude.{ℕ, ◌≡◌, ◌≢◌, ◌≤◌, ◌⊎◌, ◌&&◌, ◌==◌, ◌++◌, not, Bool, true, false, cond, is_some, if◌then◌else◌, List, [], ◌∷◌, Option, Some, None}
+use Rattle.std.specs.Prelude.{ℕ, ◌≡◌, ◌≤◌, ◌⊎◌, ◌&&◌, ◌==◌, ◌++◌, not, Bool, true, false, cond, is_some, if◌then◌else◌, List, [], ◌∷◌, Option, Some, None}
 use Rattle.std.proofs.Common.{refl, sym, ap, subst, ◌∙◌, inl, inr, arith}
-use Rattle.std.proofs.lemmas.Bool.Decides.{nat_tests}
 use Rattle.mw_words.specs.declared.jobs.Entry.{Entry}
 use Rattle.mw_words.specs.declared.places.At.{At}
 use Rattle.mw_words.specs.declared.replies.Reply.TheVariants.{Fault as SaysFault}
@@ -26,36 +25,35 @@ use Rattle.mw_actor.specs.declared.points.Sweep.TheVariants.{Yes as SweepYes}
 use Rattle.mw_actor.specs.Acting.{Acting, entry_of}
 use Rattle.mw_actor.specs.Asks.{asks}
 use Rattle.mw_actor.specs.Program.{replied}
-use Rattle.mw_world_file.specs.Files.{Place, Empty}
+use Rattle.mw_world_file.specs.Files.{Empty}
 use Rattle.mw_world.specs.declared.config.Config.{Config}
 use Rattle.mw_world.specs.Claim.Invariant.{placed}
 use Rattle.mw_world.specs.Definition.Cells.{Cells, read, write}
 use Rattle.mw_world.specs.Definition.Changes.{Shape, Exchange, Store, Fetch, changed, done, shape_of, fetched}
 use Rattle.mw_world.specs.Definition.Counting.{frees_at}
-use Rattle.mw_world.specs.Definition.State.{State, Account}
+use Rattle.mw_world.specs.Definition.State.{State}
 use Rattle.mw_world.specs.Definition.Turns.{turn, turned, may_make, moved, made_of}
 use Rattle.mw_law_counts.specs.Alone.{IsAloneWith}
 use Rattle.mw_law_counts.proofs.Room.{who-frees-is-alone}
 use Rattle.mw_law_knowledge.specs.Informed.{IsInformed}
-use Rattle.mw_law_knowledge.specs.Told.{told, world_told}
+use Rattle.mw_law_knowledge.specs.Told.{world_told}
 use Rattle.mw_law_knowledge.proofs.Guards.Looking.{looks_have_guards}
 use Rattle.mw_law_knowledge.proofs.Guards.Doing.{deeds_have_guards}
 use Rattle.mw_law_moves.specs.Guards.{Guards}
-use Rattle.mw_law_moves.specs.Moves.{Move, made, made_all}
 use Rattle.mw_law_moves.specs.Stepped.{moves_at, read_moves, resolve_moves, release_moves, give_up_moves, moves_told, next_of, pose}
 use Rattle.mw_law_moves.proofs.Shared.{is_shared}
 use Rattle.mw_law_runs.specs.Owed.{IsOwnerOf, IsUnfinished}
 use Rattle.mw_law_runs.specs.Sound.{IsSound}
 use Rattle.mw_law_runs.proofs.Ending.{Ends, TurnEnds, turn_ends}
 use Rattle.mw_law_runs.proofs.Owed.Leaving.{last_pins_are_free}
-use Rattle.mw_law_runs.proofs.Owed.Pins.{counted_once, some_same, none_some}
+use Rattle.mw_law_runs.proofs.Owed.Pins.{counted_once, none_some}
 use Rattle.mw_law_runs.proofs.Seating.{are_seated}
 use Rattle.mw_law_runs.proofs.Tests.{guarded}
 use Rattle.mw_law_runs.proofs.Turning.{turns_keep_sound}
 use Rattle.mw_law_files.specs.Files.{HasFiles}
 use Rattle.mw_law_files.specs.Laws.{TurnsKeepFiles}
 use Rattle.mw_law_files.proofs.Moving.{IsOutOfFile, LeaveFiles, moves_tell}
-use Rattle.mw_law_files.proofs.Staying.{SameAccount, TellsSame, all_filed_same, same_account}
+use Rattle.mw_law_files.proofs.Staying.{TellsSame, all_filed_same, same_account}
 use Rattle.mw_law_files.proofs.Tenants.{are_filed, has_files}
 
 -- What a step of a request asks for, by its point and what it is told, to leave files alone.
@@ -230,8 +228,8 @@ module _ (config : Config) (state next : State) (actor : Acting) (sound : IsSoun
   up_next tenant =
       guarded (λ (one : State). (one.accounts tenant).is_up ≡ (state.accounts tenant).is_up) (not (is_some (replied actor)) && may_make config (asks actor)) (turned state actor.worker actor) next
       (λ may. follows (λ (one : State). (one.accounts tenant).is_up ≡ (state.accounts tenant).is_up)
-          (λ (cells : Cells) (news : News). moved state actor.worker actor (made_of state actor.worker actor cells news))
-          (λ cells news. (same_account state.accounts actor.tenant tenant _ refl refl).1) (asks actor) state.cells) is
+      (λ (cells : Cells) (news : News). moved state actor.worker actor (made_of state actor.worker actor cells news))
+      (λ cells news. (same_account state.accounts actor.tenant tenant _ refl refl).1) (asks actor) state.cells) is
 
   pub turn_keeps : IsSound config next → HasFiles config next
   turn_keeps later =

@@ -4,12 +4,14 @@ use Rattle.mw_words.specs.declared.jobs.Job.{Job}
 use Rattle.mw_world_file.specs.declared.outcomes.Outcome.{Outcome}
 use Rattle.mw_world.specs.declared.config.Config.{Config}
 use Rattle.mw_world.specs.Claim.Headline.{IsPlayed}
+use Rattle.mw_world.specs.Claim.Invariant.{Invariant}
 use Rattle.mw_world.specs.Definition.Calls.{call}
 use Rattle.mw_world.specs.Definition.Happenings.{Found, Happening}
 use Rattle.mw_world.specs.Definition.Restarts.{restart}
 use Rattle.mw_world.specs.Definition.State.{State, IsConfig, new_world}
 use Rattle.mw_world.specs.Definition.Turns.{turn}
-use Rattle.mw_world.specs.Definition.World.{come, hand, step}
+use Rattle.mw_world.specs.Definition.World.{come, hand, run, step}
+use Rattle.mw_law_runs.specs.Files.{FilesFit}
 use Rattle.mw_law_runs.specs.Sound.{IsSound}
 use Rattle.mw_law_files.specs.Files.{HasFiles}
 
@@ -45,6 +47,15 @@ RestartsKeepFiles = (config : Config) (state next : State) (founds : List Found)
 abbrev pub EventsKeepFiles : Type 0
 EventsKeepFiles = (config : Config) (state next : State) (event : Happening) → IsSound config state → HasFiles config state → step config state event ≡ Some next → HasFiles config next
 
+-- So it holds at the end of each list of events that begins where it holds, in a sound world whose files have words that fit.
+abbrev pub RunsGoOn : Type 0
+RunsGoOn = (config : Config) (events : List Happening) (state last : State) → IsConfig config → IsSound config state → FilesFit state → HasFiles config state
+    → run config state events ≡ Some last → HasFiles config last
+
 -- It holds after every run.
 abbrev pub RunsHaveFiles : Type 0
 RunsHaveFiles = (config : Config) (events : List Happening) (state : State) → IsPlayed config events state → HasFiles config state
+
+-- A sound world in which it holds has all that is to hold of worlds.
+abbrev pub SoundWorldsWithFilesAreRight : Type 0
+SoundWorldsWithFilesAreRight = (config : Config) (state : State) → IsSound config state → HasFiles config state → Invariant config state

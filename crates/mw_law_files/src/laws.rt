@@ -1,9 +1,15 @@
 //! What holds of files and of their places: facts for proofs to cite. The functions do nothing.
-ghost use Rattle.mw_law_files.specs.Laws.{ComesKeepFiles, HandsKeepFiles, NewWorldsHaveFiles, RestartsKeepFiles, TurnsKeepFiles};
+ghost use Rattle.mw_world.specs.Claim.Headline.{EveryRunKeepsInvariant};
+ghost use Rattle.mw_law_files.specs.Laws.{CallsKeepFiles, ComesKeepFiles, EventsKeepFiles, HandsKeepFiles, NewWorldsHaveFiles, RestartsKeepFiles, RunsGoOn, RunsHaveFiles, SoundWorldsWithFilesAreRight, TurnsKeepFiles};
 
 /// A step of a request that is no call on a file keeps what holds of the files of a sound world.
 pub fn turns_keep_files()
     ensures { TurnsKeepFiles }
+{}
+
+/// So does a call on a file, however it ends.
+pub fn calls_keep_files()
+    ensures { CallsKeepFiles }
 {}
 
 /// A request that comes keeps it.
@@ -20,4 +26,19 @@ pub fn hands_keep_files()
 pub fn starts_have_files()
     ensures new { NewWorldsHaveFiles }
     ensures again { RestartsKeepFiles }
+{}
+
+/// Every event keeps it in a sound world.
+pub fn events_keep_files()
+    ensures { EventsKeepFiles }
+{}
+
+/// It holds after every run, and at the end of each list of events that begins in a sound world in which
+/// it holds and whose files have words that fit. A sound world in which it holds has the whole invariant,
+/// which so holds after every run.
+pub fn runs_keep_the_invariant()
+    ensures goes_on { RunsGoOn }
+    ensures files { RunsHaveFiles }
+    ensures right { SoundWorldsWithFilesAreRight }
+    ensures invariant { EveryRunKeepsInvariant }
 {}

@@ -4,4 +4,7 @@
 
 mod laws;
 
-pub use laws::{comes_keep_files, hands_keep_files, starts_have_files, turns_keep_files};
+pub use laws::{
+    calls_keep_files, comes_keep_files, events_keep_files, hands_keep_files,
+    runs_keep_the_invariant, starts_have_files, turns_keep_files,
+};
