@@ -4,6 +4,7 @@ pub mod Calling
 pub mod Filed
 pub mod Moving
 pub mod Placing
+pub mod Room
 pub mod Running
 pub mod Staying
 pub mod Tenants

@@ -1,6 +1,7 @@
 //! What holds of files and of their places: facts for proofs to cite. The functions do nothing.
 ghost use Rattle.mw_world.specs.Claim.Headline.{EveryRunKeepsInvariant};
 ghost use Rattle.mw_law_files.specs.Laws.{CallsKeepFiles, ComesKeepFiles, EventsKeepFiles, HandsKeepFiles, NewWorldsHaveFiles, RestartsKeepFiles, RunsGoOn, RunsHaveFiles, SoundWorldsWithFilesAreRight, TurnsKeepFiles};
+ghost use Rattle.mw_law_files.specs.Room.{OutsideLeavesRoom};
 
 /// A step of a request that is no call on a file keeps what holds of the files of a sound world.
 pub fn turns_keep_files()
@@ -41,4 +42,10 @@ pub fn runs_keep_the_invariant()
     ensures files { RunsHaveFiles }
     ensures right { SoundWorldsWithFilesAreRight }
     ensures invariant { EveryRunKeepsInvariant }
+{}
+
+/// While a slot is taken for a tenant whose file hasn't the slot's change, one of as many places of the file
+/// is empty as the tenant may use slots, and the lowest such place is the lowest empty one of the whole file.
+pub fn outside_leaves_room()
+    ensures { OutsideLeavesRoom }
 {}
