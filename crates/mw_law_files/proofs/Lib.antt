@@ -2,6 +2,7 @@ pub mod Apart
 pub mod Beginning
 pub mod Calling
 pub mod Filed
+pub mod Making
 pub mod Moving
 pub mod Placing
 pub mod Room

@@ -101,14 +101,14 @@ sealed_some (Sealed entries) is = refl
 
 module _ (config : Config) (state : State) (memory : Memory config state) where
   -- a sealed place is that of a change which is made
-  record IsMadeAt (tenant place : ℕ) : Type 0 where
+  pub record IsMadeAt (tenant place : ℕ) : Type 0 where
     pub slot : ℕ
     pub at : (state.accounts tenant).file.place_of slot ≡ place
     pub same_tenant : state.history.tenant slot (state.cells.gates slot).seq ≡ tenant
     pub is_made : state.history.fate slot (state.cells.gates slot).seq ≡ Yes
     pub entries : entries_at (state.accounts tenant).file place ≡ state.history.change slot (state.cells.gates slot).seq
 
-  made_at : (tenant place : ℕ) → IsFiled config state tenant → is_sealed ((state.accounts tenant).file.places place) ≡ true → IsMadeAt tenant place
+  pub made_at : (tenant place : ℕ) → IsFiled config state tenant → is_sealed ((state.accounts tenant).file.places place) ≡ true → IsMadeAt tenant place
   made_at tenant place filed is =
       let file = (state.accounts tenant).file in
       let at = filed.places.in_use place (sealed_some (file.places place) is) in

@@ -1,3 +1,4 @@
+pub mod Enabled
 pub mod Files
 pub mod Laws
 pub mod Room

@@ -1,5 +1,6 @@
 //! What holds of files and of their places: facts for proofs to cite. The functions do nothing.
 ghost use Rattle.mw_world.specs.Claim.Headline.{EveryRunKeepsInvariant};
+ghost use Rattle.mw_law_files.specs.Enabled.{CallsCanBeMade, StartsFindWords};
 ghost use Rattle.mw_law_files.specs.Laws.{CallsKeepFiles, ComesKeepFiles, EventsKeepFiles, HandsKeepFiles, NewWorldsHaveFiles, RestartsKeepFiles, RunsGoOn, RunsHaveFiles, SoundWorldsWithFilesAreRight, TurnsKeepFiles};
 ghost use Rattle.mw_law_files.specs.Room.{OutsideLeavesRoom};
 
@@ -48,4 +49,14 @@ pub fn runs_keep_the_invariant()
 /// is empty as the tenant may use slots, and the lowest such place is the lowest empty one of the whole file.
 pub fn outside_leaves_room()
     ensures { OutsideLeavesRoom }
+{}
+
+/// The call to which a request has come can be made, in a sound world where what is to hold of files does.
+pub fn calls_can_be_made()
+    ensures { CallsCanBeMade }
+{}
+
+/// Whatever call is interrupted, there are words that a start may find.
+pub fn starts_find_words()
+    ensures { StartsFindWords }
 {}
