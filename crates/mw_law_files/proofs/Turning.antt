@@ -189,7 +189,7 @@ module _ {A : Type 0} (P : A → Type 0) (gives : Cells → News → A) (all : (
   follows_change Store kind at from to cells = all (write cells at to) Won
   follows_change Fetch kind at from to cells = all (write cells at (fetched kind at (read cells at))) (seen at (read cells at))
 
-  follows : (step : Step) (cells : Cells) → P (done step cells gives)
+  pub follows : (step : Step) (cells : Cells) → P (done step cells gives)
   follows (Load at) cells = all cells (seen at (read cells at))
   follows (Change kind at from to) cells = follows_change (shape_of kind) kind at from to cells
   follows (FileStep call slot) cells = all cells Won

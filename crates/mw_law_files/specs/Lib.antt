@@ -2,3 +2,4 @@ pub mod Enabled
 pub mod Files
 pub mod Laws
 pub mod Room
+pub mod There
