@@ -20,7 +20,7 @@ use Rattle.mw_world.specs.declared.notes.Note.TheVariants.{Nothing}
 use Rattle.mw_world.specs.Definition.Calls.{Called, breaks, call, call_if, called_at, calling, calls_made, can_be_made, doubt_of, ends, fails_on, faults, goes_well, is_formed, is_made, moved_if, place_for, skips, starts_from}
 use Rattle.mw_world.specs.Definition.Extent.{has_slot}
 use Rattle.mw_world.specs.Definition.Logical.{logical}
-use Rattle.mw_world.specs.Definition.State.{State, Account, tenant_at, tenants_of}
+use Rattle.mw_world.specs.Definition.State.{State, tenant_at, tenants_of}
 use Rattle.mw_world.specs.Definition.Turns.{moved}
 use Rattle.mw_law_knowledge.specs.Informed.{IsInformed}
 use Rattle.mw_law_knowledge.proofs.Calls.Guarding.{cancels, prepare_guards, seal_guards, settle_guards}
@@ -35,7 +35,7 @@ use Rattle.mw_law_files.specs.Laws.{CallsKeepFiles}
 use Rattle.mw_law_files.proofs.Filed.{broken_agrees, broken_placed, empty_there}
 use Rattle.mw_law_files.proofs.Moving.{door_fault}
 use Rattle.mw_law_files.proofs.Placing.{same_due}
-use Rattle.mw_law_files.proofs.Staying.{agrees_same, all_filed_same, filed_same, same_account}
+use Rattle.mw_law_files.proofs.Staying.{account_as, agrees_same, all_filed_same, filed_same, same_account}
 use Rattle.mw_law_files.proofs.Tenants.{AreFiled, are_filed, due, has_files}
 use Rattle.mw_law_files.proofs.Wells.{cancel_filed, either_tenant, filed_at, prepare_filed, seal_filed, settle_filed}
 
@@ -79,7 +79,7 @@ module _ (config : Config) (state : State) (actor : Acting) (filed : AreFiled co
   pub skipped_filed : AreFiled config (moved state actor.worker actor (skips state actor change file))
   skipped_filed =
       all_filed_same config state (moved state actor.worker actor (skips state actor change file)) (record { dues = λ tenant slot. refl; faults = λ tenant. refl; values = λ tenant address. refl })
-      (λ tenant. let both = same_account state.accounts actor.tenant tenant _ refl refl in record { file = both.0; is_up = both.1 }) filed
+      (λ tenant. same_account config state.accounts actor.tenant tenant _ (record { file = refl; is_up = refl; places = refl })) filed
 
   -- one on a file that had failed finds the fault at the door, as it was
   pub faulted_filed : file.has_failed ≡ true → AreFiled config (moved state actor.worker actor (faults state actor change file file Nothing))
@@ -90,7 +90,7 @@ module _ (config : Config) (state : State) (actor : Acting) (filed : AreFiled co
         faults = λ tenant. door_fault state.cells.doors actor.tenant tenant _ (sym failed ∙ (filed actor.tenant low).agrees.failed);
         values = λ tenant address. refl;
       })
-      (λ tenant. let both = same_account state.accounts actor.tenant tenant _ refl refl in record { file = both.0; is_up = both.1 }) filed
+      (λ tenant. same_account config state.accounts actor.tenant tenant _ (record { file = refl; is_up = refl; places = refl })) filed
 
   -- one in which the device fails leaves the places, and the words
   broken_due : (call : Call) (place tenant slot : ℕ) → due (moved state actor.worker actor (breaks state actor change file call place)) tenant slot ≡ due state tenant slot
@@ -112,10 +112,7 @@ module _ (config : Config) (state : State) (actor : Acting) (filed : AreFiled co
       (same_due (places_of config state actor.tenant) (due state actor.tenant) (due next actor.tenant) (broken file doubt)
       (broken_placed (places_of config state actor.tenant) (due state actor.tenant) file doubt mine.places) (broken_due call place actor.tenant)))
       (λ other apart there. filed_same config state next other (broken_due call place other) (ap (λ (door : Door). door.fault) (upd_else state.cells.doors actor.tenant other _ apart)) (λ address. refl)
-      (record {
-        file = ap (λ (one : Account). one.file) (upd_else state.accounts actor.tenant other _ apart);
-        is_up = ap (λ (one : Account). one.is_up) (upd_else state.accounts actor.tenant other _ apart);
-      }) (filed other there))
+      (account_as config other (next.accounts other) (state.accounts other) (upd_else state.accounts actor.tenant other _ apart)) (filed other there))
 
 module _ (config : Config) (state next : State) (actor : Acting) (sound : IsSound config state) (has : HasFiles config state) where
   filed : AreFiled config state
@@ -124,15 +121,15 @@ module _ (config : Config) (state next : State) (actor : Acting) (sound : IsSoun
   -- a call of a request, by what it comes to where it goes well
   by_good : (point : Point) (called : Called) (outcome : Outcome) → let me = record actor { point = point } in IsInformed config state me
       → (starts_from called.call (state.cells.statuses called.change.slot) ≡ true
-      → can_be_made called.call (state.accounts actor.tenant).file (tenant_at config actor.tenant).quota (place_for called.call (state.accounts actor.tenant).file (tenant_at config actor.tenant).quota called.change.slot)
+      → can_be_made called.call (state.accounts actor.tenant).file (places_of config state actor.tenant) (place_for called.call (state.accounts actor.tenant).file (places_of config state actor.tenant) called.change.slot)
       (own_entries actor) ≡ true
       → AreFiled config (moved state actor.worker me (goes_well state me called.change (state.accounts actor.tenant).file called.call (state.cells.statuses called.change.slot)
-      (place_for called.call (state.accounts actor.tenant).file (tenant_at config actor.tenant).quota called.change.slot))))
+      (place_for called.call (state.accounts actor.tenant).file (places_of config state actor.tenant) called.change.slot))))
       → call_if config state actor.worker me (Some called) outcome ≡ Some next → AreFiled config next
   by_good point called outcome informed good is =
       let me = record actor { point = point } in
       let file = (state.accounts actor.tenant).file in
-      let places = (tenant_at config actor.tenant).quota in
+      let places = places_of config state actor.tenant in
       let status = state.cells.statuses called.change.slot in
       let place = place_for called.call file places called.change.slot in
       ended (AreFiled config) state actor.worker me called.change file called.call status place (starts_from called.call status) (fails_on called.call file)
@@ -160,7 +157,7 @@ module _ (config : Config) (state next : State) (actor : Acting) (sound : IsSoun
   at_point (Prepare own) outcome informed is =
       let me = record actor { point = Prepare own } in
       let file = (state.accounts actor.tenant).file in
-      let places = (tenant_at config actor.tenant).quota in
+      let places = places_of config state actor.tenant in
       by_good (Prepare own) (record { call = PrepareCall; change = own }) outcome informed
       (λ starts can.
       let within = low_place (is_formed PrepareCall file (own_entries actor)) (place_for PrepareCall file places own.slot) places can in

@@ -1,30 +1,27 @@
 -- A step for which a request asks is at a place that is there, so that the world's own tests refuse nothing.
-use Rattle.std.specs.Prelude.{ℕ, ◌≡◌, ◌<◌, ◌≤◌, ◌⊎◌, ◌&&◌, Bool, true, false, nat_lt, nat_le, List, [], ◌∷◌, length, Some, None}
+use Rattle.std.specs.Prelude.{ℕ, ◌≡◌, ◌<◌, ◌≤◌, ◌&&◌, Bool, true, false, nat_lt, List, [], length, None}
 use Rattle.std.specs.List.{list_all}
-use Rattle.std.proofs.Common.{refl, sym, ap, subst, ◌∙◌, inl, inr, arith}
+use Rattle.std.proofs.Common.{refl, sym, subst, ◌∙◌, arith}
 use Rattle.std.proofs.lemmas.Bool.Decides.{nat_tests}
 use Rattle.std.proofs.lemmas.List.Folds.{list_all_at}
 use Rattle.mw_words.specs.declared.jobs.Entry.{Entry}
 use Rattle.mw_words.specs.declared.jobs.Job.{Job}
 use Rattle.mw_words.specs.declared.jobs.Job.TheVariants.{Get, Cas}
 use Rattle.mw_words.specs.declared.limits.TheConstants.{MAX_ENTRIES}
-use Rattle.mw_words.specs.declared.replies.Reply.{Reply}
 use Rattle.mw_words.specs.Change.{is_change, is_in_range, is_well_formed}
 use Rattle.mw_look.specs.declared.points.Point.{Point as ReadPoint}
 use Rattle.mw_look.specs.declared.points.Point.TheVariants as look
 use Rattle.mw_look.specs.Program.{Reading, asks_at as read_asks_at, slot_of}
-use Rattle.mw_actor.specs.declared.points.Attempt.{Attempt}
 use Rattle.mw_actor.specs.declared.points.Point.{Point}
 use Rattle.mw_actor.specs.declared.points.Point.TheVariants.{Read, ReadDoor, Admit, ScanGate, Claim, FillStatus, FillCount, FillAddr, FillExpected, FillNew, Prepare, ReadTargetStatus, Inspect, AnnounceRow, Plant, ReadOtherRow, ConfirmAttempt, ReadDirtyGate, ConfirmDirty, DecideYes, DecideNo, CheckThenResolve, Resolve, ReadOtherGate, PinOther, ReadCount, ReadAddr, ReadExpected, ReadNew, Seal, SweepWord, Release, Clean, SweepRow, SweepConfirm, SweepResolve, Settle, Cancel, Unpin, FreeSlot, LowerDoor, GiveUp, Replied}
 use Rattle.mw_actor.specs.declared.points.Slot.{Slot}
 use Rattle.mw_actor.specs.declared.points.Task.{Task}
 use Rattle.mw_actor.specs.Acting.{Acting, entries_of, entry_at, entry_of, own_entries}
 use Rattle.mw_actor.specs.Asks.{asks_at}
-use Rattle.mw_actor.specs.Program.{reply_at}
 use Rattle.mw_world.specs.declared.config.Config.{Config}
 use Rattle.mw_world.specs.Definition.Calls.{called_at}
 use Rattle.mw_world.specs.Definition.Extent.{has_entry, has_slot}
-use Rattle.mw_world.specs.Definition.State.{State, new_world, tenant_at, tenants_of}
+use Rattle.mw_world.specs.Definition.State.{State, first_account, new_world, tenant_at, tenants_of}
 use Rattle.mw_world.specs.Definition.Turns.{may_make}
 use Rattle.mw_law_knowledge.specs.Facts.{AtEntry, HasRead, IsAtWork}
 use Rattle.mw_law_knowledge.specs.Informed.{IsInformed, IsPointFor}
@@ -32,14 +29,12 @@ use Rattle.mw_law_knowledge.specs.Live.{AreLiveInRead}
 use Rattle.mw_law_knowledge.specs.Points.{ReadKnows, without_point}
 use Rattle.mw_law_moves.specs.Guards.{IsLive}
 use Rattle.mw_law_moves.specs.Memory.{Memory}
-use Rattle.mw_law_runs.specs.Sound.{IsSound}
 use Rattle.mw_law_runs.proofs.Owed.Pins.{none_some}
 use Rattle.mw_law_runs.proofs.Running.{runs_are_sound}
 use Rattle.mw_law_runs.proofs.Seating.{are_seated}
-use Rattle.mw_law_files.specs.Files.{HasFiles}
-use Rattle.mw_law_files.specs.There.{ArePointsThere, IsReadThere, IsThere, RunsAreEnabled, SoundWorldsAreEnabled, StepsAreThere}
+use Rattle.mw_law_files.specs.There.{IsReadThere, IsThere, RunsAreEnabled, SoundWorldsAreEnabled, StepsAreThere}
 use Rattle.mw_law_files.proofs.Making.{calls_can_be_made, starts_find_words}
-use Rattle.mw_law_files.proofs.Pointing.{new_worlds_are_there, runs_stay_there}
+use Rattle.mw_law_files.proofs.Pointing.{runs_stay_there, starts_are_there}
 use Rattle.mw_law_files.proofs.Running.{runs_have_files}
 
 below : (n limit : ℕ) → n < limit → nat_lt n limit ≡ true
@@ -197,4 +192,4 @@ pub runs_are_enabled : RunsAreEnabled
 runs_are_enabled config events state played =
     let first = runs_are_sound config [] (new_world config) played.made refl in
     worlds_are_enabled config state (runs_are_sound config events state played.made played.runs).0 (runs_have_files config events state played)
-    (runs_stay_there config events (new_world config) state played.made first.0 first.1 (new_worlds_are_there config) played.runs)
+    (runs_stay_there config events (new_world config) state played.made first.0 first.1 (starts_are_there config (first_account config)) played.runs)

@@ -1,13 +1,13 @@
 -- What a request keeps at its point is in the world, from each point to the next.
-use Rattle.std.specs.Prelude.{ℕ, ◌≡◌, ◌≢◌, ◌<◌, ◌≤◌, ◌+◌, ◌-◌, ◌⊎◌, ◌==◌, ◌&&◌, ◌||◌, Bool, true, false, cond, nat_lt, nat_le, List, length, Option, Some, None}
-use Rattle.std.proofs.Common.{refl, sym, ap, subst, ◌∙◌, inl, inr, arith}
+use Rattle.std.specs.Prelude.{ℕ, ◌≡◌, ◌<◌, ◌≤◌, ◌+◌, ◌-◌, ◌==◌, ◌&&◌, ◌||◌, Bool, true, false, cond, nat_lt, nat_le, List, length, Option, Some, None}
+use Rattle.std.proofs.Common.{ap, subst, ◌∙◌, inl, inr, arith}
 use Rattle.std.proofs.lemmas.Bool.Decides.{nat_tests}
 use Rattle.mw_words.specs.declared.doors.Door.{Door}
 use Rattle.mw_words.specs.declared.gates.Gate.{Gate}
 use Rattle.mw_words.specs.declared.jobs.Entry.{Entry}
 use Rattle.mw_words.specs.declared.limits.TheConstants.{MAX_ENTRIES, MAX_VALUE, MAX_WORDS, WORN_NUMBER}
 use Rattle.mw_words.specs.declared.replies.Reply.{Reply}
-use Rattle.mw_words.specs.declared.replies.Reply.TheVariants.{Val as ValueIs, Yes as SaysYes, Fault as SaysFault, Worn as SaysWorn}
+use Rattle.mw_words.specs.declared.replies.Reply.TheVariants.{Yes as SaysYes, Fault as SaysFault, Worn as SaysWorn}
 use Rattle.mw_words.specs.declared.statuses.Status.{Status}
 use Rattle.mw_words.specs.declared.statuses.Status.TheVariants.{Draft, Open, YesDirty, Yes, No, DoneYes, DoneNo}
 use Rattle.mw_words.specs.declared.words.Word.{Word}
@@ -28,7 +28,6 @@ use Rattle.mw_look.specs.Program.{asks_at as read_asks_at, first_entry, goes as 
 use Rattle.mw_look.proofs.RangeLaws.{either_way}
 use Rattle.mw_actor.specs.declared.points.After.{After}
 use Rattle.mw_actor.specs.declared.points.After.TheVariants.{Work, GiveUp as ThenGiveUp, Reply as ThenReply}
-use Rattle.mw_actor.specs.declared.points.Attempt.{Attempt}
 use Rattle.mw_actor.specs.declared.points.Point.{Point}
 use Rattle.mw_actor.specs.declared.points.Point.TheVariants.{Read, ReadDoor, Admit, ScanGate, Claim, FillStatus, FillCount, FillAddr, FillExpected, FillNew, Prepare, ReadTargetStatus, Inspect, AnnounceRow, Plant, ReadOtherRow, ConfirmAttempt, ReadDirtyGate, ConfirmDirty, DecideYes, DecideNo, CheckThenResolve, Resolve, ReadOtherGate, PinOther, ReadCount, ReadAddr, ReadExpected, ReadNew, Seal, SweepWord, Release, Clean, SweepRow, SweepConfirm, SweepResolve, Settle, Cancel, Unpin, FreeSlot, LowerDoor, GiveUp, Replied}
 use Rattle.mw_actor.specs.declared.points.Slot.{Slot}
@@ -36,13 +35,13 @@ use Rattle.mw_actor.specs.declared.points.Sweep.{Sweep}
 use Rattle.mw_actor.specs.declared.points.Sweep.TheVariants.{Yes as SweepYes, DoneYes as SweepDoneYes, No as SweepNo, DoneNo as SweepDoneNo}
 use Rattle.mw_actor.specs.declared.points.Task.{Task}
 use Rattle.mw_actor.specs.Acting.{Acting, alone, entries_of, entry_of, is_alone, own_entries, planted, same_slot}
-use Rattle.mw_actor.specs.Admitting.{admitted, claiming, is_worn, next_fill, next_gate, prepared, round_over}
+use Rattle.mw_actor.specs.Admitting.{admitted, claiming, is_worn, next_gate, prepared, round_over}
 use Rattle.mw_actor.specs.Asks.{asks_at}
-use Rattle.mw_actor.specs.Finishing.{finishes, gives_up, refusal, resumed, unpinned, works}
-use Rattle.mw_actor.specs.Helping.{addr_read, count_read, expected_read, helps, new_read, next_read, other_gate_read, pinned, turns_to}
-use Rattle.mw_actor.specs.Inspecting.{attempt_confirmed, attempt_met, attempts, dirty_confirmed, dirty_gate_read, dirty_seen, inspected, next_word, status_read}
+use Rattle.mw_actor.specs.Finishing.{finishes, gives_up, refusal, resumed, works}
+use Rattle.mw_actor.specs.Helping.{helps, next_read, pinned, turns_to}
+use Rattle.mw_actor.specs.Inspecting.{attempt_met, attempts, dirty_seen, inspected, next_word, status_read}
 use Rattle.mw_actor.specs.Program.{goes}
-use Rattle.mw_actor.specs.Sweeping.{filed, next_sweep, sweep_confirmed, sweep_over, swept}
+use Rattle.mw_actor.specs.Sweeping.{filed, next_sweep, sweep_over, swept}
 use Rattle.mw_world.specs.declared.config.Config.{Config}
 use Rattle.mw_world.specs.Definition.Calls.{Called, called_at}
 use Rattle.mw_world.specs.Definition.State.{State, tenant_at}
@@ -124,7 +123,7 @@ module _ (config : Config) (state : State) (memory : Memory config state) (tenan
   read_there (look.FindEntry trail status entry) (SawNumber number) knows ends there =
       either_way (IsReadThere config) (number == address) (look.ReadExpected trail status entry) _ (λ found. there)
       (λ other. either_way (IsReadThere config) (nat_lt entry (MAX_ENTRIES - 1)) (look.FindEntry trail status (entry + 1)) (look.Unpin (slot_of trail) (seq_of trail) Again)
-          (λ low. (there.0, entry_next entry low)) (λ last. tt))
+      (λ low. (there.0, entry_next entry low)) (λ last. tt))
   read_there (look.ReadExpected trail status entry) (SawNumber number) knows ends there = there
   read_there (look.ReadNew trail status entry expected) (SawNumber number) knows ends there = tt
   read_there (look.RecheckWord trail status expected new) (SawWord word) knows ends there = tt
@@ -282,7 +281,7 @@ module _ (config : Config) (state : State) (memory : Memory config state) (actor
   goes_there next (ConfirmAttempt task entry attempt other) (SawWord word) informed ends there =
       either_way (IsThere config) (same_word word (planted attempt)) (attempt_met task entry attempt other) (ReadTargetStatus task)
       (λ same. either_way (IsThere config) (same_slot other task.target) (CheckThenResolve task entry attempt) (helps task other) (λ is. tt)
-          (λ is. helps_there config task other (met (saw actor.tenant (entry_of actor task entry).addr word ends ∙ planted_same word attempt.worker attempt.number same))))
+      (λ is. helps_there config task other (met (saw actor.tenant (entry_of actor task entry).addr word ends ∙ planted_same word attempt.worker attempt.number same))))
       (λ apart. tt)
     where
       met : state.cells.words actor.tenant (entry_of actor task entry).addr ≡ Planted attempt.worker attempt.number → other.slot < config.pool

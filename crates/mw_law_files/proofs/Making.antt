@@ -1,11 +1,11 @@
 -- A call to which a request has come can be made, and a start finds words.
-use Rattle.std.specs.Prelude.{ℕ, zero, suc, ◌≡◌, ◌≢◌, ◌<◌, ◌⊎◌, ◌&&◌, ◌||◌, not, Bool, true, false, if◌then◌else◌, nat_lt, List, length, bytes_eq, Option, Some, None}
+use Rattle.std.specs.Prelude.{ℕ, zero, suc, ◌≡◌, ◌<◌, ◌&&◌, not, Bool, true, false, if◌then◌else◌, nat_lt, List, length, bytes_eq, Some}
 use Rattle.std.proofs.Common.{refl, sym, ap, subst, ◌∙◌, inl, inr, arith}
 use Rattle.std.proofs.lemmas.Bool.Decides.{nat_tests}
 use Rattle.std.proofs.lemmas.Slice.Eq.{bytes_eq-Decides}
 use Rattle.mw_words.specs.declared.jobs.Entry.{Entry}
 use Rattle.mw_words.specs.declared.statuses.Status.{Status}
-use Rattle.mw_words.specs.declared.statuses.Status.TheVariants.{Draft, YesDirty, Yes, No}
+use Rattle.mw_words.specs.declared.statuses.Status.TheVariants.{YesDirty, Yes, No}
 use Rattle.mw_words.specs.Change.{is_change, put}
 use Rattle.mw_look.specs.declared.steps.Call.TheVariants.{Prepare as PrepareCall, Seal as SealCall, Settle as SettleCall, Cancel as CancelCall}
 use Rattle.mw_actor.specs.declared.points.Point.{Point}
@@ -14,17 +14,16 @@ use Rattle.mw_actor.specs.declared.points.Slot.{Slot}
 use Rattle.mw_actor.specs.declared.points.Task.{Task}
 use Rattle.mw_actor.specs.Acting.{Acting, own_entries}
 use Rattle.mw_world_file.specs.declared.outcomes.Outcome.TheVariants.{Good}
-use Rattle.mw_world_file.specs.Files.{File, Place, Prepared, Sealed, entries_at, entries_in, is_apart, is_empty, is_prepared, is_sealed, share_a_word}
+use Rattle.mw_world_file.specs.Files.{File, entries_at, entries_in, is_apart, is_empty, is_prepared, is_sealed, share_a_word}
 use Rattle.mw_world.specs.declared.config.Config.{Config}
-use Rattle.mw_world.specs.declared.events.Interrupted.{Interrupted}
-use Rattle.mw_world.specs.Claim.Headline.{CanBeFound, CanBeMade}
+use Rattle.mw_world.specs.Claim.Headline.{CanBeMade}
 use Rattle.mw_world.specs.Claim.Invariant.{placed}
-use Rattle.mw_world.specs.Definition.Calls.{Called, called_at, can_be_made, fails_on, place_for, starts_from}
+use Rattle.mw_world.specs.Definition.Calls.{Called, called_at, can_be_made, place_for, starts_from}
 use Rattle.mw_world.specs.Definition.Extent.{has_slot}
 use Rattle.mw_world.specs.Definition.Restarts.{doubt_then, is_sealed_then, may_find, under_way}
-use Rattle.mw_world.specs.Definition.State.{State, tenant_at, tenants_of}
+use Rattle.mw_world.specs.Definition.State.{State, tenant_at}
 use Rattle.mw_law_knowledge.specs.Informed.{IsInformed}
-use Rattle.mw_law_knowledge.proofs.Calls.Guarding.{cancels, prepare_guards, seal_guards, settle_guards}
+use Rattle.mw_law_knowledge.proofs.Calls.Guarding.{cancels, seal_guards, settle_guards}
 use Rattle.mw_law_moves.specs.Guards.{IsLive, MayCancel, MaySeal, MaySettle}
 use Rattle.mw_law_moves.specs.Memory.{Memory}
 use Rattle.mw_law_runs.specs.Sound.{IsSound}
@@ -34,8 +33,7 @@ use Rattle.mw_law_files.specs.Enabled.{CallsCanBeMade, StartsFindWords}
 use Rattle.mw_law_files.specs.Files.{HasFiles, places_of}
 use Rattle.mw_law_files.proofs.Apart.{two_apart}
 use Rattle.mw_law_files.proofs.Room.{outside_leaves_room}
-use Rattle.mw_law_files.proofs.Tenants.{AreFiled, IsFiled, IsMadeAt, are_filed, due, made_at}
-use Rattle.mw_law_files.proofs.Wells.{due_live}
+use Rattle.mw_law_files.proofs.Tenants.{IsFiled, are_filed, due, made_at}
 
 -- a start
 
@@ -156,9 +154,9 @@ module _ (config : Config) (state : State) (actor : Acting) (sound : IsSound con
       let own_change = drafted.own.same_entries in
       let its = informed.knows.drafted.own.same_tenant in
       let formed : is_change (tenant_at config tenant).words (own_entries actor) ≡ true =
-              subst (λ (one : ℕ). is_change (tenant_at config one).words (own_entries actor) ≡ true) its
-              (subst (λ (those : List Entry). is_change (tenant_at config (state.history.tenant own.slot own.seq)).words those ≡ true) own_change
-              (sound.memory.claims.formed own.slot own.seq drafted.own.is_born).1) in
+      subst (λ (one : ℕ). is_change (tenant_at config one).words (own_entries actor) ≡ true) its
+      (subst (λ (those : List Entry). is_change (tenant_at config (state.history.tenant own.slot own.seq)).words those ≡ true) own_change
+      (sound.memory.claims.formed own.slot own.seq drafted.own.is_born).1) in
       both (is_change (length file.contents) (own_entries actor)) (nat_lt (place_for PrepareCall file places own.slot) places)
       (subst (λ (many : ℕ). is_change many (own_entries actor) ≡ true) (sym (has.told tenant informed.seat.tenant).long) formed)
       (below (place_for PrepareCall file places own.slot) places

@@ -1,5 +1,5 @@
 -- Every event keeps it that what requests keep at their points is in the world.
-use Rattle.std.specs.Prelude.{ℕ, ◌≡◌, ◌≢◌, ◌<◌, ◌≤◌, ◌⊎◌, ◌==◌, ◌&&◌, not, Bool, true, false, if◌then◌else◌, is_some, List, [], ◌∷◌, length, Option, Some, None}
+use Rattle.std.specs.Prelude.{ℕ, ◌≡◌, ◌≢◌, ◌<◌, ◌≤◌, ◌⊎◌, ◌==◌, ◌&&◌, not, true, false, is_some, List, [], ◌∷◌, length, Option, Some, None}
 use Rattle.std.specs.Option.{option_and_then}
 use Rattle.std.proofs.Common.{refl, sym, ap, subst, ◌∙◌, inl, inr, arith}
 use Rattle.std.proofs.lemmas.Bool.Decides.{nat_tests}
@@ -7,22 +7,20 @@ use Rattle.mw_words.specs.declared.jobs.Job.{Job}
 use Rattle.mw_words.specs.declared.jobs.Job.TheVariants.{Get, Cas}
 use Rattle.mw_words.specs.declared.replies.Reply.{Reply}
 use Rattle.mw_look.specs.declared.news.News.{News}
-use Rattle.mw_look.specs.declared.news.News.TheVariants.{Filed}
 use Rattle.mw_actor.specs.Acting.{Acting, first, own_entries}
 use Rattle.mw_actor.specs.Asks.{asks}
 use Rattle.mw_actor.specs.Program.{replied}
 use Rattle.mw_world_file.specs.declared.outcomes.Outcome.{Outcome}
-use Rattle.mw_world_file.specs.Files.{entries_at}
 use Rattle.mw_world_file.specs.Maps.{upd}
 use Rattle.mw_world.specs.declared.config.Config.{Config}
 use Rattle.mw_world.specs.declared.notes.Note.TheVariants.{Nothing}
 use Rattle.mw_world.specs.Definition.Calls.{Called, breaks, call, call_if, called_at, calling, calls_made, can_be_made, fails_on, faults, goes_well, moved_if, place_for, skips, starts_from}
 use Rattle.mw_world.specs.Definition.Cells.{Cells}
 use Rattle.mw_world.specs.Definition.Extent.{has_slot}
-use Rattle.mw_world.specs.Definition.Happenings.{Found, Happening, Come, Step, File, Hand, Restart}
+use Rattle.mw_world.specs.Definition.Happenings.{Found, Come, Step, File, Hand, Restart}
 use Rattle.mw_world.specs.Definition.Requests.{came, gave}
 use Rattle.mw_world.specs.Definition.Restarts.{may_all_be_found, restart, restarted}
-use Rattle.mw_world.specs.Definition.State.{State, Seat, IsConfig, new_world, tenant_at, tenants_of}
+use Rattle.mw_world.specs.Definition.State.{State, Seat, tenant_at, tenants_of}
 use Rattle.mw_world.specs.Definition.Turns.{Made, made_of, may_make, moved, next_attempt, turn, turned}
 use Rattle.mw_world.specs.Definition.World.{come, hand, handed, may_come, run, step}
 use Rattle.mw_law_moves.specs.Stepped.{next_of}
@@ -37,7 +35,8 @@ use Rattle.mw_law_runs.proofs.Owed.Pins.{some_same, none_some}
 use Rattle.mw_law_runs.proofs.Running.{events_keep_sound}
 use Rattle.mw_law_runs.proofs.Seating.{are_seated}
 use Rattle.mw_law_runs.proofs.Tests.{guarded, if_slot}
-use Rattle.mw_law_files.specs.There.{ArePointsThere, EventsKeepThere, IsThere, NewWorldsAreThere, RunsStayThere}
+use Rattle.mw_law_files.specs.Files.{places_of}
+use Rattle.mw_law_files.specs.There.{ArePointsThere, EventsKeepThere, IsThere, RunsStayThere, StartsAreThere}
 use Rattle.mw_law_files.proofs.Calling.{ended}
 use Rattle.mw_law_files.proofs.Going.{call_there, goes_there}
 use Rattle.mw_law_files.proofs.Turning.{follows}
@@ -75,13 +74,13 @@ module _ (config : Config) (state next : State) (sound : IsSound config state) (
   turn_keeps actor informed mine is = record {
     points = points_then config state next actor.worker there (Some (told state actor ends.news)) ends.stepped.goes_on
         (λ one its. subst (λ (other : Acting). IsThere config other.point) (some_same (told state actor ends.news) one its)
-            (goes_there config state sound.memory actor (next_attempt actor.point (state.seats actor.worker).attempt) actor.point ends.news informed ends.ends mine))
+        (goes_there config state sound.memory actor (next_attempt actor.point (state.seats actor.worker).attempt) actor.point ends.news informed ends.ends mine))
         ends.stepped.others;
     attempts = λ other high.
         guarded (λ (one : State). (one.seats other).attempt ≡ 0) (not (is_some (replied actor)) && may_make config (asks actor)) (turned state actor.worker actor) next
         (λ may. follows (λ (one : State). (one.seats other).attempt ≡ 0) (λ (cells : Cells) (news : News). moved state actor.worker actor (made_of state actor.worker actor cells news))
-            (λ cells news. ap (λ (seat : Seat). seat.attempt) (upd_else state.seats actor.worker other _ (not_there config actor.worker other informed.seat.there high)) ∙ there.attempts other high)
-            (asks actor) state.cells) is;
+        (λ cells news. ap (λ (seat : Seat). seat.attempt) (upd_else state.seats actor.worker other _ (not_there config actor.worker other informed.seat.there high)) ∙ there.attempts other high)
+        (asks actor) state.cells) is;
   }
     where
       ends : TurnEnds state next actor.worker actor
@@ -91,7 +90,7 @@ module _ (config : Config) (state next : State) (sound : IsSound config state) (
       → call_if config state actor.worker actor (Some called) outcome ≡ Some next → ArePointsThere config next
   call_keeps actor called outcome informed at is =
       let file = (state.accounts actor.tenant).file in
-      let places = (tenant_at config actor.tenant).quota in
+      let places = places_of config state actor.tenant in
       let status = state.cells.statuses called.change.slot in
       let place = place_for called.call file places called.change.slot in
       let number = next_attempt actor.point (state.seats actor.worker).attempt in
@@ -159,8 +158,8 @@ module _ (config : Config) (state next : State) (sound : IsSound config state) (
       guarded (ArePointsThere config) ((length founds == tenants_of config) && may_all_be_found config state founds (tenants_of config)) (restarted config state founds) next
       (λ may. record { points = λ worker actor sits. absurd (none_some actor sits); attempts = λ worker high. refl }) is
 
-pub new_worlds_are_there : NewWorldsAreThere
-new_worlds_are_there config = record { points = λ worker actor sits. absurd (none_some actor sits); attempts = λ worker high. refl }
+pub starts_are_there : StartsAreThere
+starts_are_there config accounts = record { points = λ worker actor sits. absurd (none_some actor sits); attempts = λ worker high. refl }
 
 pub events_keep_there : EventsKeepThere
 events_keep_there config state next (Come worker tenant job) sound there is = comes config state next sound there worker tenant job is

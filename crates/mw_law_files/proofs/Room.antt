@@ -1,18 +1,18 @@
 -- Where a slot is taken for a tenant whose file hasn't its change, a place of the file is empty.
-use Rattle.std.specs.Prelude.{ℕ, zero, suc, ◌≡◌, ◌≢◌, ◌<◌, ◌≤◌, ◌+◌, ◌⊎◌, ◌==◌, ◌&&◌, Bool, true, false, if◌then◌else◌}
-use Rattle.std.proofs.Common.{refl, sym, ap, subst, ◌∙◌, inl, inr, arith}
+use Rattle.std.specs.Prelude.{ℕ, zero, suc, ◌≡◌, ◌<◌, ◌≤◌, ◌+◌, ◌⊎◌, ◌==◌, ◌&&◌, Bool, true, false, if◌then◌else◌}
+use Rattle.std.proofs.Common.{refl, ap, subst, inl, inr, arith}
 use Rattle.std.proofs.lemmas.Bool.Decides.{nat_tests}
 use Rattle.mw_world_file.specs.Files.{File, is_empty, empty_from}
 use Rattle.mw_world_file.specs.Maps.{upd}
 use Rattle.mw_world.specs.declared.config.Config.{Config}
 use Rattle.mw_world.specs.Claim.Invariant.{placed}
-use Rattle.mw_world.specs.Definition.Counting.{over_workers, slots_taken_for, waits_for}
+use Rattle.mw_world.specs.Definition.Counting.{slots_taken_for}
 use Rattle.mw_world.specs.Definition.State.{State, tenants_of}
 use Rattle.mw_law_runs.specs.Sound.{IsSound}
-use Rattle.mw_law_files.specs.Files.{HasFiles, places_of}
+use Rattle.mw_law_files.specs.Files.{places_of}
 use Rattle.mw_law_files.specs.Room.{HasEmptyPlace, IsOutside, OutsideLeavesRoom}
 use Rattle.mw_law_files.proofs.Filed.{empty_there}
-use Rattle.mw_law_files.proofs.Tenants.{IsFiled, are_filed, due, in_file}
+use Rattle.mw_law_files.proofs.Tenants.{IsFiled, are_filed, in_file}
 
 -- how many of the first so many numbers pass a test
 abbrev count : (ℕ → Bool) → ℕ → ℕ

@@ -53,7 +53,7 @@ use Rattle.mw_law_runs.proofs.Turning.{turns_keep_sound}
 use Rattle.mw_law_files.specs.Files.{HasFiles}
 use Rattle.mw_law_files.specs.Laws.{TurnsKeepFiles}
 use Rattle.mw_law_files.proofs.Moving.{IsOutOfFile, LeaveFiles, moves_tell}
-use Rattle.mw_law_files.proofs.Staying.{TellsSame, all_filed_same, same_account}
+use Rattle.mw_law_files.proofs.Staying.{SameAccount, TellsSame, all_filed_same, same_account}
 use Rattle.mw_law_files.proofs.Tenants.{are_filed, has_files}
 
 -- What a step of a request asks for, by its point and what it is told, to leave files alone.
@@ -224,17 +224,17 @@ module _ (config : Config) (state next : State) (actor : Acting) (sound : IsSoun
   tells_next : TellsSame state next
   tells_next = is_shared next after ended.same (λ (one : State). TellsSame state one) (record { dues = tells_after.dues; faults = tells_after.faults; values = tells_after.values })
 
-  up_next : (tenant : ℕ) → (next.accounts tenant).is_up ≡ (state.accounts tenant).is_up
-  up_next tenant =
-      guarded (λ (one : State). (one.accounts tenant).is_up ≡ (state.accounts tenant).is_up) (not (is_some (replied actor)) && may_make config (asks actor)) (turned state actor.worker actor) next
-      (λ may. follows (λ (one : State). (one.accounts tenant).is_up ≡ (state.accounts tenant).is_up)
+  account_next : (tenant : ℕ) → SameAccount config tenant (next.accounts tenant) (state.accounts tenant)
+  account_next tenant =
+      guarded (λ (one : State). SameAccount config tenant (one.accounts tenant) (state.accounts tenant)) (not (is_some (replied actor)) && may_make config (asks actor)) (turned state actor.worker actor) next
+      (λ may. follows (λ (one : State). SameAccount config tenant (one.accounts tenant) (state.accounts tenant))
       (λ (cells : Cells) (news : News). moved state actor.worker actor (made_of state actor.worker actor cells news))
-      (λ cells news. (same_account state.accounts actor.tenant tenant _ refl refl).1) (asks actor) state.cells) is
+      (λ cells news. same_account config state.accounts actor.tenant tenant _ (record { file = refl; is_up = refl; places = refl })) (asks actor) state.cells) is
 
   pub turn_keeps : IsSound config next → HasFiles config next
   turn_keeps later =
       has_files config next later.memory
-      (all_filed_same config state next tells_next (λ tenant. record { file = ended.files tenant; is_up = up_next tenant }) (are_filed config state has))
+      (all_filed_same config state next tells_next account_next (are_filed config state has))
 
 by_seat : (config : Config) (state next : State) (worker : ℕ) (found : Option Acting) → IsSound config state → HasFiles config state → (state.seats worker).actor ≡ found
     → turn config state worker found ≡ Some next → IsSound config next → HasFiles config next

@@ -25,19 +25,19 @@ use Rattle.mw_law_moves.specs.Moves.{Prepare, Settle, Cancel}
 use Rattle.mw_law_moves.proofs.Revalued.{moves_keep_values, seals_put_values}
 use Rattle.mw_law_knowledge.proofs.Deeds.Keeping.{upd_here, upd_else}
 use Rattle.mw_law_runs.proofs.Numbers.{same_or_other}
-use Rattle.mw_law_files.specs.Files.{places_of}
+use Rattle.mw_law_files.specs.Files.{places_in, places_of}
 use Rattle.mw_law_files.proofs.Filed.{due_kept, due_set, emptied_agrees, prepared_agrees, put_at, sealed_agrees}
 use Rattle.mw_law_files.proofs.Placing.{ArePlaced, changes, empties, prepares}
-use Rattle.mw_law_files.proofs.Staying.{agrees_same, filed_same}
+use Rattle.mw_law_files.proofs.Staying.{account_as, agrees_same, filed_same}
 use Rattle.mw_law_files.proofs.Tenants.{Agrees, AreFiled, IsFiled, due, due_of}
 
 -- a file is in a world as it is among the world's accounts
 pub filed_at : (config : Config) (next : State) (tenant : ℕ) (account : Account) → next.accounts tenant ≡ account
     → Agrees (tenant_at config tenant).words (next.cells.doors tenant).fault account.is_up (logical next.cells tenant) account.file
-    → ArePlaced (places_of config next tenant) (due next tenant) account.file → IsFiled config next tenant
+    → ArePlaced (places_in config tenant account) (due next tenant) account.file → IsFiled config next tenant
 filed_at config next tenant account is agrees places = record {
   agrees = subst (λ (one : Account). Agrees (tenant_at config tenant).words (next.cells.doors tenant).fault one.is_up (logical next.cells tenant) one.file) (sym is) agrees;
-  places = subst (λ (one : Account). ArePlaced (places_of config next tenant) (due next tenant) one.file) (sym is) places;
+  places = subst (λ (one : Account). ArePlaced (places_in config tenant one) (due next tenant) one.file) (sym is) places;
 }
 
 pub either_tenant : (config : Config) (next : State) (tenant : ℕ) → IsFiled config next tenant → ((other : ℕ) → other ≢ tenant → other < tenants_of config → IsFiled config next other) → AreFiled config next
@@ -68,17 +68,14 @@ module _ (config : Config) (state : State) (actor : Acting) (filed : AreFiled co
 
     pub good_filed : account.is_up ≡ (state.accounts actor.tenant).is_up
         → Agrees (tenant_at config actor.tenant).words (state.cells.doors actor.tenant).fault (state.accounts actor.tenant).is_up (logical next.cells actor.tenant) account.file
-        → ArePlaced (places_of config next actor.tenant) (due next actor.tenant) account.file → AreFiled config next
+        → ArePlaced (places_in config actor.tenant account) (due next actor.tenant) account.file → AreFiled config next
     good_filed up agrees places =
         either_tenant config next actor.tenant
         (filed_at config next actor.tenant account (accounts actor.tenant ∙ upd_here state.accounts actor.tenant account)
         (agrees_same (tenant_at config actor.tenant).words (state.cells.doors actor.tenant).fault (next.cells.doors actor.tenant).fault (state.accounts actor.tenant).is_up account.is_up
         (logical next.cells actor.tenant) (logical next.cells actor.tenant) account.file (faults actor.tenant) up (λ address. refl) agrees) places)
         (λ other apart low. filed_same config state next other (λ slot. dues other slot ∙ kept other slot apart) (faults other) (λ address. values other address apart)
-        (record {
-          file = ap (λ (one : Account). one.file) (accounts other ∙ upd_else state.accounts actor.tenant other account apart);
-          is_up = ap (λ (one : Account). one.is_up) (accounts other ∙ upd_else state.accounts actor.tenant other account apart);
-        }) (filed other low))
+        (account_as config other (next.accounts other) (state.accounts other) (accounts other ∙ upd_else state.accounts actor.tenant other account apart)) (filed other low))
       where
         kept : (other slot : ℕ) → other ≢ actor.tenant
             → due_of (state.cells.gates slot) (state.history.tenant slot (state.cells.gates slot).seq) (upd_two state.history.fate change.slot change.seq to slot (state.cells.gates slot).seq)

@@ -1,5 +1,5 @@
 -- What a request, or a start, asks for is there, and can be made.
-use Rattle.std.specs.Prelude.{ℕ, ◌≡◌, Option, Some, None, true}
+use Rattle.std.specs.Prelude.{ℕ, ◌≡◌, Option, Some}
 use Rattle.mw_actor.specs.Acting.{Acting}
 use Rattle.mw_world.specs.declared.config.Config.{Config}
 use Rattle.mw_world.specs.declared.events.Interrupted.{Interrupted}

@@ -1,5 +1,5 @@
 -- What is proved of files and of their places.
-use Rattle.std.specs.Prelude.{ℕ, ◌≡◌, List, Some}
+use Rattle.std.specs.Prelude.{ℕ, ◌≡◌, ◌<◌, List, Some}
 use Rattle.mw_words.specs.declared.jobs.Job.{Job}
 use Rattle.mw_world_file.specs.declared.outcomes.Outcome.{Outcome}
 use Rattle.mw_world.specs.declared.config.Config.{Config}
@@ -8,12 +8,12 @@ use Rattle.mw_world.specs.Claim.Invariant.{Invariant}
 use Rattle.mw_world.specs.Definition.Calls.{call}
 use Rattle.mw_world.specs.Definition.Happenings.{Found, Happening}
 use Rattle.mw_world.specs.Definition.Restarts.{restart}
-use Rattle.mw_world.specs.Definition.State.{State, IsConfig, new_world}
+use Rattle.mw_world.specs.Definition.State.{State, Account, IsConfig, new_world, started, tenants_of}
 use Rattle.mw_world.specs.Definition.Turns.{turn}
 use Rattle.mw_world.specs.Definition.World.{come, hand, run, step}
 use Rattle.mw_law_runs.specs.Files.{FilesFit}
 use Rattle.mw_law_runs.specs.Sound.{IsSound}
-use Rattle.mw_law_files.specs.Files.{HasFiles}
+use Rattle.mw_law_files.specs.Files.{HasFiles, IsOpened}
 
 -- A step of a request that is no call on a file keeps what holds of the files of a sound world.
 abbrev pub TurnsKeepFiles : Type 0
@@ -35,11 +35,15 @@ abbrev pub HandsKeepFiles : Type 0
 HandsKeepFiles = (config : Config) (state next : State) (worker : ℕ) → IsSound config state → HasFiles config state → hand state worker (state.seats worker).actor ≡ Some next
     → HasFiles config next
 
--- It holds of a new world.
+-- It holds at each start at which each tenant's file was just opened.
+abbrev pub StartsHaveFiles : Type 0
+StartsHaveFiles = (config : Config) (accounts : ℕ → Account) → ((tenant : ℕ) → tenant < tenants_of config → IsOpened config tenant (accounts tenant)) → HasFiles config (started config accounts)
+
+-- So it holds of a new world.
 abbrev pub NewWorldsHaveFiles : Type 0
 NewWorldsHaveFiles = (config : Config) → HasFiles config (new_world config)
 
--- And of a world after a start.
+-- And of a world after a start, where it held before.
 abbrev pub RestartsKeepFiles : Type 0
 RestartsKeepFiles = (config : Config) (state next : State) (founds : List Found) → HasFiles config state → restart config state founds ≡ Some next → HasFiles config next
 

@@ -13,7 +13,7 @@ use Rattle.mw_world.specs.declared.config.Config.{Config}
 use Rattle.mw_world.specs.Claim.Headline.{IsEnabled, IsPlayed}
 use Rattle.mw_world.specs.Definition.Calls.{called_at}
 use Rattle.mw_world.specs.Definition.Happenings.{Happening}
-use Rattle.mw_world.specs.Definition.State.{State, IsConfig, new_world}
+use Rattle.mw_world.specs.Definition.State.{State, Account, IsConfig, started}
 use Rattle.mw_world.specs.Definition.Turns.{may_make}
 use Rattle.mw_world.specs.Definition.World.{run, step}
 use Rattle.mw_law_runs.specs.Files.{FilesFit}
@@ -46,9 +46,9 @@ pub record ArePointsThere (config : Config) (state : State) : Type 0 where
   pub points : (worker : ℕ) (actor : Acting) → (state.seats worker).actor ≡ Some actor → IsThere config actor.point
   pub attempts : (worker : ℕ) → config.workers ≤ worker → (state.seats worker).attempt ≡ 0
 
--- It is so in a new world.
-abbrev pub NewWorldsAreThere : Type 0
-NewWorldsAreThere = (config : Config) → ArePointsThere config (new_world config)
+-- It is so at each start.
+abbrev pub StartsAreThere : Type 0
+StartsAreThere = (config : Config) (accounts : ℕ → Account) → ArePointsThere config (started config accounts)
 
 -- Every event keeps it in a sound world.
 abbrev pub EventsKeepThere : Type 0

@@ -1,9 +1,9 @@
 //! What holds of files and of their places: facts for proofs to cite. The functions do nothing.
 ghost use Rattle.mw_world.specs.Claim.Headline.{EveryRunKeepsInvariant};
 ghost use Rattle.mw_law_files.specs.Enabled.{CallsCanBeMade, StartsFindWords};
-ghost use Rattle.mw_law_files.specs.Laws.{CallsKeepFiles, ComesKeepFiles, EventsKeepFiles, HandsKeepFiles, NewWorldsHaveFiles, RestartsKeepFiles, RunsGoOn, RunsHaveFiles, SoundWorldsWithFilesAreRight, TurnsKeepFiles};
+ghost use Rattle.mw_law_files.specs.Laws.{CallsKeepFiles, ComesKeepFiles, EventsKeepFiles, HandsKeepFiles, NewWorldsHaveFiles, RestartsKeepFiles, RunsGoOn, RunsHaveFiles, SoundWorldsWithFilesAreRight, StartsHaveFiles, TurnsKeepFiles};
 ghost use Rattle.mw_law_files.specs.Room.{OutsideLeavesRoom};
-ghost use Rattle.mw_law_files.specs.There.{EventsKeepThere, NewWorldsAreThere, RunsAreEnabled, RunsStayThere, SoundWorldsAreEnabled, StepsAreThere};
+ghost use Rattle.mw_law_files.specs.There.{EventsKeepThere, RunsAreEnabled, RunsStayThere, SoundWorldsAreEnabled, StartsAreThere, StepsAreThere};
 
 /// A step of a request that is no call on a file keeps what holds of the files of a sound world.
 pub fn turns_keep_files()
@@ -25,8 +25,10 @@ pub fn hands_keep_files()
     ensures { HandsKeepFiles }
 {}
 
-/// It holds of a new world, and of a world after a start from one of which it holds.
+/// It holds at each start at which each tenant's file was just opened: so of a new world, and of a world after
+/// a start from one of which it holds.
 pub fn starts_have_files()
+    ensures start { StartsHaveFiles }
     ensures new { NewWorldsHaveFiles }
     ensures again { RestartsKeepFiles }
 {}
@@ -64,9 +66,9 @@ pub fn starts_find_words()
 
 /// What a request keeps at its point for its next steps is in the world: the slots of which it holds no pin
 /// are the pool's, an entry that it looks at is one that a slot may have, and no attempt is given out for a
-/// worker that isn't there. So it is in a new world, and every event keeps it in a sound world.
+/// worker that isn't there. So it is at each start, and every event keeps it in a sound world.
 pub fn points_stay_there()
-    ensures new { NewWorldsAreThere }
+    ensures start { StartsAreThere }
     ensures events { EventsKeepThere }
     ensures runs { RunsStayThere }
 {}
