@@ -1,0 +1,5 @@
+pub mod Enabled
+pub mod Files
+pub mod Laws
+pub mod Room
+pub mod There

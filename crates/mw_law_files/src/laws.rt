@@ -1,0 +1,87 @@
+//! What holds of files and of their places: facts for proofs to cite. The functions do nothing.
+ghost use Rattle.mw_world.specs.Claim.Headline.{EveryRunKeepsInvariant};
+ghost use Rattle.mw_law_files.specs.Enabled.{CallsCanBeMade, StartsFindWords};
+ghost use Rattle.mw_law_files.specs.Laws.{CallsKeepFiles, ComesKeepFiles, EventsKeepFiles, HandsKeepFiles, NewWorldsHaveFiles, RestartsKeepFiles, RunsGoOn, RunsHaveFiles, SoundWorldsWithFilesAreRight, StartsHaveFiles, TurnsKeepFiles};
+ghost use Rattle.mw_law_files.specs.Room.{OutsideLeavesRoom};
+ghost use Rattle.mw_law_files.specs.There.{EventsKeepThere, RunsAreEnabled, RunsStayThere, SoundWorldsAreEnabled, StartsAreThere, StepsAreThere};
+
+/// A step of a request that is no call on a file keeps what holds of the files of a sound world.
+pub fn turns_keep_files()
+    ensures { TurnsKeepFiles }
+{}
+
+/// So does a call on a file, however it ends.
+pub fn calls_keep_files()
+    ensures { CallsKeepFiles }
+{}
+
+/// A request that comes keeps it.
+pub fn comes_keep_files()
+    ensures { ComesKeepFiles }
+{}
+
+/// A reply that is handed out keeps it.
+pub fn hands_keep_files()
+    ensures { HandsKeepFiles }
+{}
+
+/// It holds at each start at which each tenant's file was just opened: so of a new world, and of a world after
+/// a start from one of which it holds.
+pub fn starts_have_files()
+    ensures start { StartsHaveFiles }
+    ensures new { NewWorldsHaveFiles }
+    ensures again { RestartsKeepFiles }
+{}
+
+/// Every event keeps it in a sound world.
+pub fn events_keep_files()
+    ensures { EventsKeepFiles }
+{}
+
+/// It holds after every run, and at the end of each list of events that begins in a sound world in which
+/// it holds and whose files have words that fit. A sound world in which it holds has the whole invariant,
+/// which so holds after every run.
+pub fn runs_keep_the_invariant()
+    ensures goes_on { RunsGoOn }
+    ensures files { RunsHaveFiles }
+    ensures right { SoundWorldsWithFilesAreRight }
+    ensures invariant { EveryRunKeepsInvariant }
+{}
+
+/// While a slot is taken for a tenant whose file hasn't the slot's change, one of as many places of the file
+/// is empty as the tenant may use slots, and the lowest such place is the lowest empty one of the whole file.
+pub fn outside_leaves_room()
+    ensures { OutsideLeavesRoom }
+{}
+
+/// The call to which a request has come can be made, in a sound world where what is to hold of files does.
+pub fn calls_can_be_made()
+    ensures { CallsCanBeMade }
+{}
+
+/// Whatever call is interrupted, there are words that a start may find.
+pub fn starts_find_words()
+    ensures { StartsFindWords }
+{}
+
+/// What a request keeps at its point for its next steps is in the world: the slots of which it holds no pin
+/// are the pool's, an entry that it looks at is one that a slot may have, and no attempt is given out for a
+/// worker that isn't there. So it is at each start, and every event keeps it in a sound world.
+pub fn points_stay_there()
+    ensures start { StartsAreThere }
+    ensures events { EventsKeepThere }
+    ensures runs { RunsStayThere }
+{}
+
+/// A step for which a request asks, and which is no call on a file, is at a place that is there, in such a
+/// world.
+pub fn steps_are_there()
+    ensures { StepsAreThere }
+{}
+
+/// The world's own tests refuse nothing for which a request asks, nor a start, in such a world in which what
+/// is to hold of files does; so they refuse nothing after any run.
+pub fn runs_are_enabled()
+    ensures worlds { SoundWorldsAreEnabled }
+    ensures runs { RunsAreEnabled }
+{}
