@@ -1,8 +1,7 @@
 -- A request that comes, a reply that is handed out, and a start keep what holds of files.
-use Rattle.std.specs.Prelude.{ℕ, zero, suc, ◌≡◌, ◌<◌, ◌==◌, ◌&&◌, ◌||◌, not, Bool, true, false, if◌then◌else◌, is_none, List, [], ◌∷◌, length, replicate, bytes_eq, Option, Some, None}
+use Rattle.std.specs.Prelude.{ℕ, zero, suc, ◌≡◌, ◌<◌, ◌==◌, ◌&&◌, ◌||◌, not, Bool, true, false, if◌then◌else◌, is_none, List, [], ◌∷◌, length, bytes_eq, Option, Some, None}
 use Rattle.std.proofs.Common.{refl, sym, ap, subst, ◌∙◌, arith}
 use Rattle.std.proofs.lemmas.Bool.Decides.{nat_tests}
-use Rattle.std.proofs.lemmas.List.{length-replicate}
 use Rattle.std.proofs.lemmas.Slice.Eq.{bytes_eq-Decides}
 use Rattle.mw_words.specs.declared.jobs.Job.{Job}
 use Rattle.mw_words.specs.declared.replies.Reply.{Reply}
@@ -16,7 +15,7 @@ use Rattle.mw_world.specs.Claim.Invariant.{AreApart}
 use Rattle.mw_world.specs.Definition.Happenings.{Found}
 use Rattle.mw_world.specs.Definition.Restarts.{doubt_then, found_of, is_sealed_then, may_all_be_found, may_be_found, may_fail, may_find, may_interrupt, opened_file, restarted, takes, under_way}
 use Rattle.mw_world.specs.Definition.Requests.{came, gave}
-use Rattle.mw_world.specs.Definition.State.{State, Account, first_account, started, tenant_at, tenants_of}
+use Rattle.mw_world.specs.Definition.State.{State, Account, account_at, started, tenant_at, tenants_of}
 use Rattle.mw_world.specs.Definition.World.{come, hand, handed, may_come}
 use Rattle.mw_lone.proofs.SoundStores.{length-put}
 use Rattle.mw_law_moves.proofs.Stepping.{comes_leave, hands_leave}
@@ -24,7 +23,7 @@ use Rattle.mw_law_moves.proofs.Shared.{memory_is_shared}
 use Rattle.mw_law_runs.proofs.Tests.{first_holds, guarded, second_holds}
 use Rattle.mw_law_runs.specs.Sound.{IsSound}
 use Rattle.mw_law_files.specs.Files.{HasFiles, IsOpened, places_of}
-use Rattle.mw_law_files.specs.Laws.{ComesKeepFiles, HandsKeepFiles, NewWorldsHaveFiles, RestartsKeepFiles, StartsHaveFiles}
+use Rattle.mw_law_files.specs.Laws.{ComesKeepFiles, HandsKeepFiles, FirstStartsHaveFiles, RestartsKeepFiles, StartsHaveFiles}
 use Rattle.mw_law_files.proofs.Staying.{SameAccount, all_filed_same, same_account}
 use Rattle.mw_law_files.proofs.Placing.{ArePlaced}
 use Rattle.mw_law_files.proofs.Tenants.{Agrees, IsFiled, are_filed, files_if, has_files}
@@ -180,7 +179,14 @@ restarts_keep_files config state next founds has is =
     guarded (HasFiles config) ((length founds == tenants_of config) && all) (restarted config state founds) next
     (λ may. starts_again config state founds has (second_holds (length founds == tenants_of config) all may)) is
 
-pub new_worlds_have_files : NewWorldsHaveFiles
-new_worlds_have_files config =
-    started_has config (first_account config) (λ tenant low.
-    record { found = replicate (tenant_at config tenant).words 0; fails_at = None; file = refl; is_up = refl; long = length-replicate (tenant_at config tenant).words 0 })
+-- what a start gave a tenant was just opened
+opened_so : (config : Config) (tenant quota : ℕ) (words : List ℕ) (is_up : Bool) → length words ≡ (tenant_at config tenant).words
+    → IsOpened config tenant (account_at (record { quota = quota; words = words; is_up = is_up }))
+opened_so config tenant quota words true long = record { found = words; fails_at = None; file = refl; is_up = refl; long = long }
+opened_so config tenant quota words false long = record { found = words; fails_at = Some 0; file = refl; is_up = refl; long = long }
+
+pub first_starts_have_files : FirstStartsHaveFiles
+first_starts_have_files config openings start =
+    started_has config _ (λ tenant low.
+    let opening = openings tenant in
+    opened_so config tenant opening.quota opening.words opening.is_up (start.long tenant low))

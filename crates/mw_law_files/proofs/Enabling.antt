@@ -21,7 +21,8 @@ use Rattle.mw_actor.specs.Asks.{asks_at}
 use Rattle.mw_world.specs.declared.config.Config.{Config}
 use Rattle.mw_world.specs.Definition.Calls.{called_at}
 use Rattle.mw_world.specs.Definition.Extent.{has_entry, has_slot}
-use Rattle.mw_world.specs.Definition.State.{State, first_account, new_world, tenant_at, tenants_of}
+use Rattle.mw_world.specs.Claim.Headline.{EveryRunHolds}
+use Rattle.mw_world.specs.Definition.State.{State, tenant_at, tenants_of, world_at}
 use Rattle.mw_world.specs.Definition.Turns.{may_make}
 use Rattle.mw_law_knowledge.specs.Facts.{AtEntry, HasRead, IsAtWork}
 use Rattle.mw_law_knowledge.specs.Informed.{IsInformed, IsPointFor}
@@ -30,12 +31,12 @@ use Rattle.mw_law_knowledge.specs.Points.{ReadKnows, without_point}
 use Rattle.mw_law_moves.specs.Guards.{IsLive}
 use Rattle.mw_law_moves.specs.Memory.{Memory}
 use Rattle.mw_law_runs.proofs.Owed.Pins.{none_some}
-use Rattle.mw_law_runs.proofs.Running.{runs_are_sound}
+use Rattle.mw_law_runs.proofs.Running.{room_is_left, runs_are_sound}
 use Rattle.mw_law_runs.proofs.Seating.{are_seated}
 use Rattle.mw_law_files.specs.There.{IsReadThere, IsThere, RunsAreEnabled, SoundWorldsAreEnabled, StepsAreThere}
 use Rattle.mw_law_files.proofs.Making.{calls_can_be_made, starts_find_words}
 use Rattle.mw_law_files.proofs.Pointing.{runs_stay_there, starts_are_there}
-use Rattle.mw_law_files.proofs.Running.{runs_have_files}
+use Rattle.mw_law_files.proofs.Running.{runs_have_files, worlds_are_right}
 
 below : (n limit : ℕ) → n < limit → nat_lt n limit ≡ true
 below n limit low = grind (arith, nat_tests, low)
@@ -189,7 +190,18 @@ worlds_are_enabled config state sound has there = record {
 }
 
 pub runs_are_enabled : RunsAreEnabled
-runs_are_enabled config events state played =
-    let first = runs_are_sound config [] (new_world config) played.made refl in
-    worlds_are_enabled config state (runs_are_sound config events state played.made played.runs).0 (runs_have_files config events state played)
-    (runs_stay_there config events (new_world config) state played.made first.0 first.1 (starts_are_there config (first_account config)) played.runs)
+runs_are_enabled config openings events state played =
+    let start = world_at config openings in
+    let first = runs_are_sound config openings [] start (record { made = played.made; starts = played.starts; runs = refl }) in
+    worlds_are_enabled config state (runs_are_sound config openings events state played).0 (runs_have_files config openings events state played)
+    (runs_stay_there config events start state played.made first.0 first.1 (starts_are_there config _) played.runs)
+
+pub every_run_holds : EveryRunHolds
+every_run_holds config openings events state played =
+    let room = room_is_left config openings events state played in
+    record {
+      invariant = worlds_are_right config state (runs_are_sound config openings events state played).0 (runs_have_files config openings events state played);
+      room = room.room;
+      free = room.free;
+      enabled = runs_are_enabled config openings events state played;
+    }

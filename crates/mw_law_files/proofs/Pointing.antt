@@ -143,7 +143,7 @@ module _ (config : Config) (state next : State) (sound : IsSound config state) (
 
   comes : (worker tenant : ℕ) (job : Job) → come config state worker tenant job ≡ Some next → ArePointsThere config next
   comes worker tenant job is =
-      let quota = (tenant_at config tenant).quota in
+      let quota = (state.accounts tenant).quota in
       guarded (ArePointsThere config) (may_come config state worker tenant job) (came config state worker tenant job) next
       (λ may. record {
         points = points_then config state (came config state worker tenant job) worker there (Some (first worker tenant quota config.pool job))

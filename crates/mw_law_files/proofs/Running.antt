@@ -2,9 +2,8 @@
 use Rattle.std.specs.Prelude.{◌≡◌, [], ◌∷◌, Option, Some, None}
 use Rattle.std.specs.Option.{option_and_then}
 use Rattle.std.proofs.Common.{refl, subst}
-use Rattle.mw_world.specs.Claim.Headline.{EveryRunKeepsInvariant}
 use Rattle.mw_world.specs.Definition.Happenings.{Come, Step, File, Hand, Restart}
-use Rattle.mw_world.specs.Definition.State.{State, new_world}
+use Rattle.mw_world.specs.Definition.State.{State, world_at}
 use Rattle.mw_world.specs.Definition.World.{run, step}
 use Rattle.mw_law_runs.specs.Files.{FilesFit}
 use Rattle.mw_law_runs.specs.Sound.{IsSound}
@@ -12,7 +11,7 @@ use Rattle.mw_law_runs.proofs.Owed.Pins.{some_same, none_some}
 use Rattle.mw_law_runs.proofs.Running.{events_keep_sound, runs_are_sound, sound_worlds_are_right}
 use Rattle.mw_law_files.specs.Files.{HasFiles}
 use Rattle.mw_law_files.specs.Laws.{EventsKeepFiles, RunsHaveFiles, RunsGoOn, SoundWorldsWithFilesAreRight}
-use Rattle.mw_law_files.proofs.Beginning.{comes_keep_files, hands_keep_files, new_worlds_have_files, restarts_keep_files}
+use Rattle.mw_law_files.proofs.Beginning.{comes_keep_files, hands_keep_files, first_starts_have_files, restarts_keep_files}
 use Rattle.mw_law_files.proofs.Calling.{calls_keep_files}
 use Rattle.mw_law_files.proofs.Turning.{turns_keep_files}
 
@@ -35,9 +34,10 @@ runs_go_on config (event ∷ events) state last is_config sound fit has is = by_
         goes_on next both.0 both.1 (events_keep_files config state next event sound has stepped) came
 
 pub runs_have_files : RunsHaveFiles
-runs_have_files config events state played =
-    let first = runs_are_sound config [] (new_world config) played.made refl in
-    runs_go_on config events (new_world config) state played.made first.0 first.1 (new_worlds_have_files config) played.runs
+runs_have_files config openings events state played =
+    let start = world_at config openings in
+    let first = runs_are_sound config openings [] start (record { made = played.made; starts = played.starts; runs = refl }) in
+    runs_go_on config events start state played.made first.0 first.1 (first_starts_have_files config openings played.starts) played.runs
 
 pub worlds_are_right : SoundWorldsWithFilesAreRight
 worlds_are_right config state sound has =
@@ -55,7 +55,3 @@ worlds_are_right config state sound has =
       places = has.places;
       counts = right.counts;
     }
-
-pub every_run_keeps_invariant : EveryRunKeepsInvariant
-every_run_keeps_invariant config events state played =
-    worlds_are_right config state (runs_are_sound config events state played.made played.runs).0 (runs_have_files config events state played)

@@ -131,31 +131,32 @@ module _ (config : Config) (state : State) (actor : Acting) (filed : AreFiled co
         (state.history.change slot (state.cells.gates slot).seq) tenant)
         → ((tenant : ℕ) → (next.cells.doors tenant).fault ≡ (state.cells.doors tenant).fault) → ((tenant : ℕ) → next.accounts tenant ≡ upd state.accounts actor.tenant account tenant)
         → ((tenant address : ℕ) → logical next.cells tenant address ≡ logical state.cells tenant address) → account.is_up ≡ (state.accounts actor.tenant).is_up
-        → account.file ≡ emptied file (file.place_of change.slot) → AreFiled config next
-    out_filed next account dues faults accounts values up after =
+        → places_in config actor.tenant account ≡ places_of config state actor.tenant → account.file ≡ emptied file (file.place_of change.slot) → AreFiled config next
+    out_filed next account dues faults accounts values up as_many after =
         good_filed config state actor filed change live its to next account dues faults accounts (λ tenant address apart. values tenant address) up
         (subst (λ (one : File). Agrees (tenant_at config actor.tenant).words (state.cells.doors actor.tenant).fault (state.accounts actor.tenant).is_up (logical next.cells actor.tenant) one) (sym after)
         (agrees_same (tenant_at config actor.tenant).words (state.cells.doors actor.tenant).fault (state.cells.doors actor.tenant).fault (state.accounts actor.tenant).is_up (state.accounts actor.tenant).is_up
         (logical state.cells actor.tenant) (logical next.cells actor.tenant) (emptied file (file.place_of change.slot)) refl refl (values actor.tenant)
         (emptied_agrees (tenant_at config actor.tenant).words (state.cells.doors actor.tenant).fault (state.accounts actor.tenant).is_up (logical state.cells actor.tenant) file (filed actor.tenant low).agrees (file.place_of change.slot))))
+        (subst (λ (places : ℕ). ArePlaced places (due next actor.tenant) account.file) (sym as_many)
         (subst (λ (one : File). ArePlaced (places_of config state actor.tenant) (due next actor.tenant) one) (sym after)
         (empties (places_of config state actor.tenant) (due state actor.tenant) (due next actor.tenant) file (filed actor.tenant low).places change.slot (file.place_of change.slot) in_use refl
         (λ slot. subst (λ (place : Place). due next actor.tenant slot ≡ upd (due state actor.tenant) change.slot place slot) out
-        (sets config state actor filed change live its to next account dues faults accounts (λ tenant address apart. values tenant address) slot))))
+        (sets config state actor filed change live its to next account dues faults accounts (λ tenant address apart. values tenant address) slot)))))
 
   pub settle_filed : (status : Status) → MaySettle state change
       → AreFiled config (moved state actor.worker actor (goes_well state actor change file SettleCall status (file.place_of change.slot)))
   settle_filed status may =
       let next = moved state actor.worker actor (goes_well state actor change file SettleCall status (file.place_of change.slot)) in
       out_filed Yes DoneYes may.is_made refl refl next _ (λ tenant slot. refl) (λ tenant. refl) (λ tenant. refl)
-      (λ tenant address. moves_keep_values config state actor.worker (Settle change) tenant address refl may memory) refl refl
+      (λ tenant address. moves_keep_values config state actor.worker (Settle change) tenant address refl may memory) refl refl refl
 
   pub cancel_filed : (entry value : ℕ) → MayCancel state change entry value
       → AreFiled config (moved state actor.worker actor (goes_well state actor change file CancelCall (No entry value) (file.place_of change.slot)))
   cancel_filed entry value may =
       let next = moved state actor.worker actor (goes_well state actor change file CancelCall (No entry value) (file.place_of change.slot)) in
       out_filed (No entry value) (DoneNo entry value) may.refused refl refl next _ (λ tenant slot. refl) (λ tenant. refl) (λ tenant. refl)
-      (λ tenant address. moves_keep_values config state actor.worker (Cancel change entry value) tenant address refl may memory) refl refl
+      (λ tenant address. moves_keep_values config state actor.worker (Cancel change entry value) tenant address refl may memory) refl refl refl
 
   -- a change is sealed
   module _ (status : Status) (may : MaySeal state change) where

@@ -7,7 +7,7 @@ use Rattle.mw_world.specs.Definition.State.{State, Account, tenant_at}
 
 -- how many places for changes the file of this account of a tenant has; and a tenant's file in a world
 abbrev pub places_in : Config → ℕ → Account → ℕ
-places_in config tenant account = (tenant_at config tenant).quota
+places_in config tenant account = account.quota
 
 abbrev pub places_of : Config → State → ℕ → ℕ
 places_of config state tenant = places_in config tenant (state.accounts tenant)

@@ -8,7 +8,7 @@ use Rattle.mw_world.specs.Claim.Invariant.{Invariant}
 use Rattle.mw_world.specs.Definition.Calls.{call}
 use Rattle.mw_world.specs.Definition.Happenings.{Found, Happening}
 use Rattle.mw_world.specs.Definition.Restarts.{restart}
-use Rattle.mw_world.specs.Definition.State.{State, Account, IsConfig, new_world, started, tenants_of}
+use Rattle.mw_world.specs.Definition.State.{State, Account, IsConfig, IsStart, Opening, started, tenants_of, world_at}
 use Rattle.mw_world.specs.Definition.Turns.{turn}
 use Rattle.mw_world.specs.Definition.World.{come, hand, run, step}
 use Rattle.mw_law_runs.specs.Files.{FilesFit}
@@ -39,9 +39,9 @@ HandsKeepFiles = (config : Config) (state next : State) (worker : ℕ) → IsSou
 abbrev pub StartsHaveFiles : Type 0
 StartsHaveFiles = (config : Config) (accounts : ℕ → Account) → ((tenant : ℕ) → tenant < tenants_of config → IsOpened config tenant (accounts tenant)) → HasFiles config (started config accounts)
 
--- So it holds of a new world.
-abbrev pub NewWorldsHaveFiles : Type 0
-NewWorldsHaveFiles = (config : Config) → HasFiles config (new_world config)
+-- So it holds at every start with which a run may begin.
+abbrev pub FirstStartsHaveFiles : Type 0
+FirstStartsHaveFiles = (config : Config) (openings : ℕ → Opening) → IsStart config openings → HasFiles config (world_at config openings)
 
 -- And of a world after a start, where it held before.
 abbrev pub RestartsKeepFiles : Type 0
@@ -58,7 +58,7 @@ RunsGoOn = (config : Config) (events : List Happening) (state last : State) → 
 
 -- It holds after every run.
 abbrev pub RunsHaveFiles : Type 0
-RunsHaveFiles = (config : Config) (events : List Happening) (state : State) → IsPlayed config events state → HasFiles config state
+RunsHaveFiles = (config : Config) (openings : ℕ → Opening) (events : List Happening) (state : State) → IsPlayed config openings events state → HasFiles config state
 
 -- A sound world in which it holds has all that is to hold of worlds.
 abbrev pub SoundWorldsWithFilesAreRight : Type 0

@@ -13,7 +13,7 @@ use Rattle.mw_world.specs.declared.config.Config.{Config}
 use Rattle.mw_world.specs.Claim.Headline.{IsEnabled, IsPlayed}
 use Rattle.mw_world.specs.Definition.Calls.{called_at}
 use Rattle.mw_world.specs.Definition.Happenings.{Happening}
-use Rattle.mw_world.specs.Definition.State.{State, Account, IsConfig, started}
+use Rattle.mw_world.specs.Definition.State.{State, Account, IsConfig, Opening, started}
 use Rattle.mw_world.specs.Definition.Turns.{may_make}
 use Rattle.mw_world.specs.Definition.World.{run, step}
 use Rattle.mw_law_runs.specs.Files.{FilesFit}
@@ -30,7 +30,8 @@ IsReadThere config (ReadExpectedOfRead trail status entry) = (slot_of trail < co
 IsReadThere config (ReadNewOfRead trail status entry expected) = (slot_of trail < config.pool) × (entry < MAX_ENTRIES)
 IsReadThere config point = Unit {0}
 
--- A slot whose gate a request is to load, claim or pin is one of the pool. Of all other slots a request holds a pin.
+-- A slot whose gate a request is to load, claim or pin is one of the pool. Of each other slot that its next steps are about it holds a pin, or is to
+-- free it.
 abbrev pub IsThere : Config → Point → Type 0
 IsThere config (Read look) = IsReadThere config look.point
 IsThere config (ScanGate slot saw_worn) = slot < config.pool
@@ -54,7 +55,12 @@ StartsAreThere = (config : Config) (accounts : ℕ → Account) → ArePointsThe
 abbrev pub EventsKeepThere : Type 0
 EventsKeepThere = (config : Config) (state next : State) (event : Happening) → IsSound config state → ArePointsThere config state → step config state event ≡ Some next → ArePointsThere config next
 
--- Then a step for which a request asks is at a place that is there, unless it is a call on a file or the request has its reply.
+-- So it stays over each list of events that begins in a sound world whose files have words that fit.
+abbrev pub RunsStayThere : Type 0
+RunsStayThere = (config : Config) (events : List Happening) (state last : State) → IsConfig config → IsSound config state → FilesFit state → ArePointsThere config state
+    → run config state events ≡ Some last → ArePointsThere config last
+
+-- Where it is so, a step for which a request asks is at a place that is there, unless it is a call on a file or the request has its reply.
 abbrev pub StepsAreThere : Type 0
 StepsAreThere = (config : Config) (state : State) (worker : ℕ) (actor : Acting) → IsSound config state → ArePointsThere config state → (state.seats worker).actor ≡ Some actor
     → replied actor ≡ None → called_at actor.point ≡ None → may_make config (asks actor) ≡ true
@@ -63,11 +69,6 @@ StepsAreThere = (config : Config) (state : State) (worker : ℕ) (actor : Acting
 abbrev pub SoundWorldsAreEnabled : Type 0
 SoundWorldsAreEnabled = (config : Config) (state : State) → IsSound config state → HasFiles config state → ArePointsThere config state → IsEnabled config state
 
--- It stays so over each list of events that begins in a sound world whose files have words that fit.
-abbrev pub RunsStayThere : Type 0
-RunsStayThere = (config : Config) (events : List Happening) (state last : State) → IsConfig config → IsSound config state → FilesFit state → ArePointsThere config state
-    → run config state events ≡ Some last → ArePointsThere config last
-
 -- The tests refuse nothing after any run.
 abbrev pub RunsAreEnabled : Type 0
-RunsAreEnabled = (config : Config) (events : List Happening) (state : State) → IsPlayed config events state → IsEnabled config state
+RunsAreEnabled = (config : Config) (openings : ℕ → Opening) (events : List Happening) (state : State) → IsPlayed config openings events state → IsEnabled config state

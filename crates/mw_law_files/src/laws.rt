@@ -1,7 +1,7 @@
 //! What holds of files and of their places: facts for proofs to cite. The functions do nothing.
-ghost use Rattle.mw_world.specs.Claim.Headline.{EveryRunKeepsInvariant};
+ghost use Rattle.mw_world.specs.Claim.Headline.{EveryRunHolds};
 ghost use Rattle.mw_law_files.specs.Enabled.{CallsCanBeMade, StartsFindWords};
-ghost use Rattle.mw_law_files.specs.Laws.{CallsKeepFiles, ComesKeepFiles, EventsKeepFiles, HandsKeepFiles, NewWorldsHaveFiles, RestartsKeepFiles, RunsGoOn, RunsHaveFiles, SoundWorldsWithFilesAreRight, StartsHaveFiles, TurnsKeepFiles};
+ghost use Rattle.mw_law_files.specs.Laws.{CallsKeepFiles, ComesKeepFiles, EventsKeepFiles, FirstStartsHaveFiles, HandsKeepFiles, RestartsKeepFiles, RunsGoOn, RunsHaveFiles, SoundWorldsWithFilesAreRight, StartsHaveFiles, TurnsKeepFiles};
 ghost use Rattle.mw_law_files.specs.Room.{OutsideLeavesRoom};
 ghost use Rattle.mw_law_files.specs.There.{EventsKeepThere, RunsAreEnabled, RunsStayThere, SoundWorldsAreEnabled, StartsAreThere, StepsAreThere};
 
@@ -25,11 +25,11 @@ pub fn hands_keep_files()
     ensures { HandsKeepFiles }
 {}
 
-/// It holds at each start at which each tenant's file was just opened: so of a new world, and of a world after
-/// a start from one of which it holds.
+/// It holds at each start at which each tenant's file was just opened: so at every start with which a run may
+/// begin, and after a start of a world in which it holds.
 pub fn starts_have_files()
     ensures start { StartsHaveFiles }
-    ensures new { NewWorldsHaveFiles }
+    ensures first { FirstStartsHaveFiles }
     ensures again { RestartsKeepFiles }
 {}
 
@@ -39,13 +39,18 @@ pub fn events_keep_files()
 {}
 
 /// It holds after every run, and at the end of each list of events that begins in a sound world in which
-/// it holds and whose files have words that fit. A sound world in which it holds has the whole invariant,
-/// which so holds after every run.
-pub fn runs_keep_the_invariant()
+/// it holds and whose files have words that fit. A sound world in which it holds has the whole invariant.
+pub fn runs_have_files()
     ensures goes_on { RunsGoOn }
     ensures files { RunsHaveFiles }
     ensures right { SoundWorldsWithFilesAreRight }
-    ensures invariant { EveryRunKeepsInvariant }
+{}
+
+/// After every run of a server of a configuration of which a world can be made, from any start of its files
+/// on, and also where numbers are used up: the whole invariant holds, there is room in the pool, and the
+/// world's own tests refuse nothing for which a request asks, nor a start.
+pub fn every_run_holds()
+    ensures { EveryRunHolds }
 {}
 
 /// While a slot is taken for a tenant whose file hasn't the slot's change, one of as many places of the file
