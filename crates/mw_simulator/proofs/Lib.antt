@@ -6,6 +6,7 @@ pub mod FirstWorlds
 pub mod Frames
 pub mod GoingOn
 pub mod Halting
+pub mod Holding
 pub mod Images
 pub mod MadeSteps
 pub mod Reopened

@@ -3,6 +3,7 @@ pub mod Bits
 pub mod Claims
 pub mod Ending
 pub mod Faults
+pub mod Holding
 pub mod Images
 pub mod Lines
 pub mod Making

@@ -3,6 +3,7 @@ ghost use Rattle.std.specs.Prelude.{◌≡◌, ℕ, ◌≤◌, [], All, Bool, If
 ghost use Rattle.mw_world.specs.Definition.State as spec;
 ghost use Rattle.mw_world.specs.Definition.State.{IsConfig};
 ghost use Rattle.mw_simulator.specs.BitPlaces.{HasPlacesOf};
+ghost use Rattle.mw_simulator.specs.Holding.{Holds};
 ghost use Rattle.mw_simulator.specs.Running.{Stands};
 ghost use Rattle.mw_simulator.specs.Starts.{AreFresh, AreGiven, AreIdle, AreTenants, HaveWords, IsFresh};
 ghost use Rattle.mw_simulator.specs.Ties.{Tie};
@@ -25,6 +26,7 @@ impl World {
         requires { IsConfig config }
         ensures config { IfOk result (λ world. world.config ≡ config) }
         ensures stands { IfOk result (λ world. Stands world []) }
+        ensures holds { IfOk result Holds }
     {
         let accounts = fresh_accounts(alloc, &config.tenants)?;
         let cells = first_cells(alloc, &config, &accounts)?;

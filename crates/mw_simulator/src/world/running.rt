@@ -7,6 +7,7 @@ ghost use Rattle.mw_world.specs.Definition.State.{State, marks_of};
 ghost use Rattle.mw_look.specs.Places.{pack};
 ghost use Rattle.mw_world.specs.Definition.Cells.{read};
 ghost use Rattle.mw_simulator.specs.Bits.{bits_at};
+ghost use Rattle.mw_simulator.specs.Holding.{Holds};
 ghost use Rattle.mw_simulator.specs.Running.{Happens, Runs, RunsBySteps, Stands, StandsAfter};
 ghost use Rattle.mw_simulator.specs.Shows.{Shows};
 ghost use Rattle.mw_simulator.specs.Staying.{IsUnchanged, LeavesFiles};
@@ -67,24 +68,27 @@ impl World {
     /// [`WorldFault::LastNumber`]: it can, but is a request whose number would be `2^64 - 1`, after which
     /// there is none; no such request is taken. [`WorldFault::Memory`]: there is no memory for what it
     /// means. After an error the world is unchanged, but for the room that it keeps for further marks and
-    /// claims. No event but a call on a tenant's file, and a start, touches that file.
+    /// claims. No event but a call on a tenant's file, and a start, touches that file. Wherever a run from a
+    /// new world has led it, the whole invariant holds.
     pub fn step(&mut self, event: Event) -> Result<(), WorldFault>
         ensures config { self.new.config ≡ self.old.config }
         ensures happens { (state : State) → Shows self.old state → Happens self.old self.new state event result }
         ensures stands { (happened : List Happening) → Stands self.old happened → StandsAfter self.new happened event result }
         ensures unchanged { OnErr result (IsUnchanged self.old self.new) }
         ensures files { LeavesFiles self.old self.new event }
+        ensures holds { Holds self.new }
     {
         self.apply(&event)
     }
 
     /// One event after the other. At an error this stops, with the index of the event that was refused;
     /// the events before it have happened, and the world is as they left it, but for the room that it keeps
-    /// for further marks and claims.
+    /// for further marks and claims. Wherever a run from a new world has led it, the whole invariant holds.
     pub fn run(&mut self, events: &[Event]) -> Result<(), (usize, WorldFault)>
         ensures config { self.new.config ≡ self.old.config }
         ensures steps { RunsBySteps self.old self.new events.now result }
         ensures runs { (happened : List Happening) → Stands self.old happened → Runs self.new happened events.now result }
+        ensures holds { Holds self.new }
     {
         for (index, event) in events.iter().enumerate() {
             if let Err(fault) = self.apply(event) {

@@ -3,6 +3,7 @@ use Rattle.mw_world.specs.Definition.State.{new_world, tenant_at}
 use Rattle.mw_simulator.specs.Starts.{AreFresh, AreTenants, HaveWords}
 use Rattle.mw_simulator.proofs.FirstWorlds.{AreShown, are_tenants, first_accounts, fresh_shown, have_words, shows_start, zeros_are_words}
 use Rattle.mw_simulator.proofs.SoundBooks.{fresh_sound}
+use Rattle.mw_simulator.proofs.Holding.{holds}
 use Rattle.mw_simulator.proofs.world.World.new.Goals as goal
 
 pub first_cells-requires-clause-accounts : goal.first_cells-requires-clause-accounts
@@ -34,3 +35,6 @@ returns-clause-stands c =
       shows = shows_start _ (first_accounts config) (c.in_ok-cells.ensures.tie words ups have) c.in_ok-seats.ensures c.new.ensures shown
           (λ tenant up. zeros_are_words (tenant_at config tenant).words);
     }
+
+pub returns-clause-holds : goal.returns-clause-holds
+returns-clause-holds c = holds _

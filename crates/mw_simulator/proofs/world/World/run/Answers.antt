@@ -2,6 +2,7 @@ use Rattle.std.proofs.Common.{refl, subst, ◌∙◌, take}
 use Rattle.std.proofs.lemmas.List.{take_all}
 use Rattle.mw_simulator.specs.Running.{AllStep, GoesOn}
 use Rattle.mw_simulator.proofs.GoingOn.{goes_nowhere, goes_on_more, one_event_more, one_step_more, event_read, stops_at}
+use Rattle.mw_simulator.proofs.Holding.{holds}
 use Rattle.mw_simulator.proofs.world.World.run.Goals as goal
 
 pub loop-index-init : goal.loop-index-init
@@ -57,3 +58,9 @@ pub returns-clause-runs : goal.returns-clause-runs
 returns-clause-runs c happened stands =
     let events = c.args.events.now in
     subst (λ all. GoesOn c.loop-index.self happened all) (take_all c.loop-index.index events c.loop-index-test.false) (c.loop-index.invariant.goes happened stands)
+
+pub returns-clause-holds : goal.returns-clause-holds
+returns-clause-holds c = holds _
+
+pub returns-in-Err-clause-holds : goal.returns-in-Err-clause-holds
+returns-in-Err-clause-holds c = holds _

@@ -1,7 +1,11 @@
 -- What had happened, and this event, have happened.
 use Rattle.mw_simulator.proofs.GoingOn.{stands_after}
+use Rattle.mw_simulator.proofs.Holding.{holds}
 use Rattle.mw_simulator.proofs.world.World.step.Goals as goal
 
 pub returns-clause-stands : goal.returns-clause-stands
 returns-clause-stands c happened stands =
     stands_after c.args.self.now c.apply.new.self happened c.args.event c.apply.result c.apply.ensures.config c.apply.ensures.happens stands
+
+pub returns-clause-holds : goal.returns-clause-holds
+returns-clause-holds c = holds _
