@@ -8,6 +8,7 @@ pub mod Fitting
 pub mod Numbers
 pub mod Others
 pub mod Owed
+pub mod Places
 pub mod Ranging
 pub mod Running
 pub mod Seating
