@@ -133,7 +133,7 @@ module _ (config : Config) (state next : State) (actor : Acting) (called : Calle
   same : SameMemory next after
   same = calls_are_moves config state next actor.worker actor called outcome at is
 
-  stepped : OneStepped state next actor.worker later_actor
+  pub stepped : OneStepped state next actor.worker later_actor
   stepped =
       let file = (state.accounts actor.tenant).file in
       let places = (state.accounts actor.tenant).quota in
@@ -147,7 +147,7 @@ module _ (config : Config) (state next : State) (actor : Acting) (called : Calle
   memory_after : Memory config after
   memory_after = moves_keep config state actor.worker (moves_of_call state actor.worker actor called outcome) guards sound.memory
 
-  later : Later actor.worker state next
+  pub later : Later actor.worker state next
   later = reliance_is_shared actor.worker state next after same (others_rely_on_all config state actor.worker (moves_of_call state actor.worker actor called outcome) guards sound.memory)
 
   itself : IsSoundRequest next later_actor

@@ -36,24 +36,24 @@ no_fetch : Fetch ≡ Exchange → ⊥
 no_fetch e = cc
 
 -- an entry of entries in range
-entry_in_range : (entries : List Entry) (index : ℕ) → All IsEntryInRange entries → index < length entries → IsEntryInRange (entry_at entries index)
+pub entry_in_range : (entries : List Entry) (index : ℕ) → All IsEntryInRange entries → index < length entries → IsEntryInRange (entry_at entries index)
 entry_in_range entries index all within = all index _ within
 
-of_either : (P : List Entry → Type 0) (b : Bool) (one two : List Entry) → P one → P two → P (cond b one two)
+pub of_either : (P : List Entry → Type 0) (b : Bool) (one two : List Entry) → P one → P two → P (cond b one two)
 of_either P true one two first second = first
 of_either P false one two first second = second
 
 module _ (config : Config) (state : State) (actor : Acting) where
   -- the entries of the change that is worked on
-  expected_fits : (point : Point) (task : Task) (entry : ℕ) → IsInformed config state (record actor { point = point }) → AtEntry state (without_point actor) task entry → (entry_of actor task entry).expected ≤ MAX_VALUE
+  pub expected_fits : (point : Point) (task : Task) (entry : ℕ) → IsInformed config state (record actor { point = point }) → AtEntry state (without_point actor) task entry → (entry_of actor task entry).expected ≤ MAX_VALUE
   expected_fits point task entry informed at =
       (entry_in_range (entries_of actor task) entry (of_either (All IsEntryInRange) (is_alone task) (own_entries actor) actor.others informed.in_range.job.1 informed.in_range.others.1) at.within).1
 
   -- a slot that is live is one of the pool
-  slot_fits : (point : Point) (slot : Slot) → IsInformed config state (record actor { point = point }) → IsLive state slot → slot.slot < MAX_POOL
+  pub slot_fits : (point : Point) (slot : Slot) → IsInformed config state (record actor { point = point }) → IsLive state slot → slot.slot < MAX_POOL
   slot_fits point slot informed live = omega (arith, informed.memory.claims.there slot.slot live.taken, informed.seat.pool, informed.in_range.pool.1)
 
-  held_fits : (point : Point) (task : Task) → IsInformed config state (record actor { point = point }) → IsLive state task.target → task.target.seq < WORN_NUMBER → IsWordInRange (held task.target)
+  pub held_fits : (point : Point) (task : Task) → IsInformed config state (record actor { point = point }) → IsLive state task.target → task.target.seq < WORN_NUMBER → IsWordInRange (held task.target)
   held_fits point task informed live low = (slot_fits point task.target informed live, omega (arith, low))
 
   of_read : (tenant address : ℕ) (point : ReadPoint) → IsReadPointInRange point → ExpectsInRange (read_asks_at tenant address point)

@@ -5,9 +5,11 @@ pub mod Ending
 pub mod Files
 pub mod Filing
 pub mod Fitting
+pub mod Lawful
 pub mod Numbers
 pub mod Others
 pub mod Owed
+pub mod Places
 pub mod Ranging
 pub mod Running
 pub mod Seating

@@ -50,7 +50,7 @@ module _ (config : Config) (state next : State) (actor : Acting) (sound : IsSoun
   informed : IsInformed config state actor
   informed = (are_seated config state sound actor.worker actor sits).informed
 
-  ended : TurnEnds state next actor.worker actor
+  pub ended : TurnEnds state next actor.worker actor
   ended = turn_ends config state actor informed next is
 
   guards : Guards config state actor.worker (moves_told state actor.worker actor ended.news)
@@ -72,7 +72,7 @@ module _ (config : Config) (state next : State) (actor : Acting) (sound : IsSoun
   later_after : Later actor.worker state after
   later_after = others_rely_on_all config state actor.worker (moves_told state actor.worker actor ended.news) guards sound.memory
 
-  later : Later actor.worker state next
+  pub later : Later actor.worker state next
   later = reliance_is_shared actor.worker state next after ended.same later_after
 
   -- the request itself

@@ -2,4 +2,5 @@ pub mod Files
 pub mod Laws
 pub mod Owed
 pub mod Owing
+pub mod Places
 pub mod Sound

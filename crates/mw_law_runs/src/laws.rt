@@ -1,6 +1,8 @@
 //! What holds of sound worlds: facts for proofs to cite. The functions do nothing.
 ghost use Rattle.mw_world.specs.Claim.Headline.{ShortRunsHaveNumbers};
+ghost use Rattle.mw_world.specs.Claim.Lawful.{EveryRunIsLawful};
 ghost use Rattle.mw_law_runs.specs.Laws.{CallsKeepSound, ComesKeepSound, CountsHaveRest, EventsKeepSound, HandsKeepSound, RestartsKeepSound, RoomIsLeft, RunsAreSound, SoundWorldsAreRight, StartsAreSound, TurnsKeepSound};
+ghost use Rattle.mw_law_runs.specs.Places.{PlacesAreThere};
 ghost use Rattle.mw_law_runs.specs.Owing.{CallsKeepOwed, LastPinsAreFree, OwedWordsAreOwed, StepsKeepOwed};
 
 /// Where words are owed as `WordsAreOwed` says, a word that is held for a refused change, or that has the
@@ -65,6 +67,18 @@ pub fn starts_are_sound()
 /// an event raises the number of a slot, or of a worker's next attempt, by one at the most.
 pub fn short_runs_have_numbers()
     ensures { ShortRunsHaveNumbers }
+{}
+
+/// After every run the next step of each request is at a place that is there, unless it is a call on a file:
+/// no request asks for a step that the definition refuses for its place.
+pub fn places_are_there()
+    ensures { PlacesAreThere }
+{}
+
+/// Every run is lawful: what stands at each place is in range; and each request's next step that is no call on
+/// a file is at a place that is there, is in range, and leaves in bits of 64 what it is to leave.
+pub fn runs_are_lawful()
+    ensures { EveryRunIsLawful }
 {}
 
 /// Every event leaves a sound world sound, and its files with words that fit, if they had such before it and
