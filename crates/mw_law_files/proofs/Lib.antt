@@ -3,11 +3,9 @@ pub mod Beginning
 pub mod Calling
 pub mod Enabling
 pub mod Filed
-pub mod Going
 pub mod Making
 pub mod Moving
 pub mod Placing
-pub mod Pointing
 pub mod Room
 pub mod Running
 pub mod Staying

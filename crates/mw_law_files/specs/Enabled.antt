@@ -1,11 +1,12 @@
 -- What a request, or a start, asks for is there, and can be made.
-use Rattle.std.specs.Prelude.{ℕ, ◌≡◌, Option, Some}
+use Rattle.std.specs.Prelude.{ℕ, ◌≡◌, List, Option, Some}
 use Rattle.mw_actor.specs.Acting.{Acting}
 use Rattle.mw_world.specs.declared.config.Config.{Config}
 use Rattle.mw_world.specs.declared.events.Interrupted.{Interrupted}
-use Rattle.mw_world.specs.Claim.Headline.{CanBeFound, CanBeMade}
+use Rattle.mw_world.specs.Claim.Headline.{CanBeFound, CanBeMade, IsEnabled, IsPlayed}
 use Rattle.mw_world.specs.Definition.Calls.{Called, called_at}
-use Rattle.mw_world.specs.Definition.State.{State}
+use Rattle.mw_world.specs.Definition.Happenings.{Happening}
+use Rattle.mw_world.specs.Definition.State.{State, Opening}
 use Rattle.mw_law_runs.specs.Sound.{IsSound}
 use Rattle.mw_law_files.specs.Files.{HasFiles, places_of}
 
@@ -17,3 +18,7 @@ CallsCanBeMade = (config : Config) (state : State) (worker : ℕ) (actor : Actin
 -- In every world, whatever call is interrupted, there are words that may be found of a tenant's file.
 abbrev pub StartsFindWords : Type 0
 StartsFindWords = (config : Config) (state : State) (tenant : ℕ) (interrupted : Option Interrupted) → CanBeFound config state tenant interrupted (state.accounts tenant).file
+
+-- The world's own tests refuse nothing after any run.
+abbrev pub RunsAreEnabled : Type 0
+RunsAreEnabled = (config : Config) (openings : ℕ → Opening) (events : List Happening) (state : State) → IsPlayed config openings events state → IsEnabled config state

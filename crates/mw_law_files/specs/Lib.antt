@@ -2,4 +2,3 @@ pub mod Enabled
 pub mod Files
 pub mod Laws
 pub mod Room
-pub mod There

@@ -1,9 +1,8 @@
 //! What holds of files and of their places: facts for proofs to cite. The functions do nothing.
 ghost use Rattle.mw_world.specs.Claim.Headline.{EveryRunHolds};
-ghost use Rattle.mw_law_files.specs.Enabled.{CallsCanBeMade, StartsFindWords};
+ghost use Rattle.mw_law_files.specs.Enabled.{CallsCanBeMade, RunsAreEnabled, StartsFindWords};
 ghost use Rattle.mw_law_files.specs.Laws.{CallsKeepFiles, ComesKeepFiles, EventsKeepFiles, FirstStartsHaveFiles, HandsKeepFiles, RestartsKeepFiles, RunsGoOn, RunsHaveFiles, SoundWorldsWithFilesAreRight, StartsHaveFiles, TurnsKeepFiles};
 ghost use Rattle.mw_law_files.specs.Room.{OutsideLeavesRoom};
-ghost use Rattle.mw_law_files.specs.There.{EventsKeepThere, RunsAreEnabled, RunsStayThere, SoundWorldsAreEnabled, StartsAreThere, StepsAreThere};
 
 /// A step of a request that is no call on a file keeps what holds of the files of a sound world.
 pub fn turns_keep_files()
@@ -69,24 +68,7 @@ pub fn starts_find_words()
     ensures { StartsFindWords }
 {}
 
-/// What a request keeps at its point for its next steps is in the world: the slots of which it holds no pin
-/// are the pool's, an entry that it looks at is one that a slot may have, and no attempt is given out for a
-/// worker that isn't there. So it is at each start, and every event keeps it in a sound world.
-pub fn points_stay_there()
-    ensures start { StartsAreThere }
-    ensures events { EventsKeepThere }
-    ensures runs { RunsStayThere }
-{}
-
-/// A step for which a request asks, and which is no call on a file, is at a place that is there, in such a
-/// world.
-pub fn steps_are_there()
-    ensures { StepsAreThere }
-{}
-
-/// The world's own tests refuse nothing for which a request asks, nor a start, in such a world in which what
-/// is to hold of files does; so they refuse nothing after any run.
+/// The world's own tests refuse nothing for which a request asks, nor a start, after any run.
 pub fn runs_are_enabled()
-    ensures worlds { SoundWorldsAreEnabled }
-    ensures runs { RunsAreEnabled }
+    ensures { RunsAreEnabled }
 {}
