@@ -33,10 +33,18 @@ anything is sent. All other failures are kinds of `Error`:
 A constructor that raises leaves nothing open.
 
 *Undecided*: it was made, or it wasn't, wholly or not at all. After Unknown the server may also make it later, as long as
-it still works on the line that it got. So a word that has its old value doesn't yet show that the change won't come. Who
-has to know lets each change write a word that never takes an old value again, such as a count. Then call `reconnect`, and
-send the same change until it is answered: it is made once at most. After a refusal look at that word: it says whether an
-earlier sending was made. The examples beside this file do so.
+it still works on the line that it got: words with their old values don't show yet that the change won't come. Who has to
+know gives each change an entry for a word that this process alone writes, a count of its changes: from `count` to
+`count + 2`. After Unknown this function then says whether the change was made; where it wasn't, it never will be:
+
+    def was_made(client, address, count):                     # the count's address, and its value before the change
+        while True:
+            client.reconnect(30)                              # Lost, after 30 seconds without a server: still undecided
+            try:
+                outcome = client.cas([(address, count, count + 1)])
+                return outcome.value == count + 2             # None or count + 1: it wasn't, and the count is count + 1
+            except (mondlexi.Unknown, mondlexi.Busy):
+                pass
 
 Of a closed client each further call raises Lost and sends nothing, until `reconnect` connects it anew. An exception from
 outside that interrupts a call, such as KeyboardInterrupt, closes the client too, and a change under way is undecided.
@@ -96,7 +104,8 @@ class Error(Exception):
 class Lost(Error):
     """There is no connection, or it broke or timed out before a reply. This call changed nothing. The client is closed.
 
-    From a constructor: nobody listens there, or all workers of the server were taken for as long as `timeout`."""
+    From a constructor or `reconnect`: nobody listens there, the host has no such name, or there was no reply within
+    `timeout`, as where all workers of the server are taken. From `cas`: the client was closed before."""
 
 
 class Unknown(Error):
@@ -126,7 +135,7 @@ class Worn(Error):
 class Refused(Error):
     """The server refuses the line and has done nothing: `number` is its `ERR` number, `meaning` what that stands for.
 
-    What this client checks before it sends is not refused. So the usual one is 5, where no tenant has the name."""
+    This client checks all else before it sends, so the usual number is 5: no tenant has the name."""
 
     def __init__(self, line: str, number: int) -> None:
         self.number: int = number
@@ -145,6 +154,7 @@ class Outcome:
     value: Optional[int] = None
 
     def __bool__(self) -> bool:
+        """Whether the change was made."""
         return self.made
 
 
@@ -233,6 +243,7 @@ class _Session:
 
     def __exit__(self, kind: Optional[Type[BaseException]], raised: Optional[BaseException],
                  trace: Optional[TracebackType]) -> None:
+        """Closes the client, as `close` does. What was raised within `with` goes on."""
         self.close()
 
     def close(self) -> None:
@@ -259,7 +270,8 @@ class _Session:
         """Connects anew, as the constructor did, after Lost or Unknown. A connection that still stands is closed first.
 
         `within`: for how many seconds to try again, with growing pauses, where that fails; 0, for a single try, up to
-        1,000,000. A try that has begun is waited for.
+        1,000,000. A try that has begun is waited for, up to `timeout`. Use it also when a server that answered Fault or
+        Worn has been started again.
 
         Raises ValueError; Lost where no try went well, Refused; the client is closed then."""
         end = time.monotonic() + _seconds("within", within, True)
@@ -385,7 +397,7 @@ class Client(_Session):
 
     @property
     def words(self) -> int:
-        """How many words the tenant has, 1 to 4096. Their addresses are from 0 to one less."""
+        """How many words the tenant has, 1 to 4096, as the server said when it was connected. It asks nobody."""
         return self._words
 
     def get(self, address: int) -> int:
@@ -423,7 +435,8 @@ class Client(_Session):
         An entry is `(address, expected, new)`: an address from 0 to `words` - 1, and two values from 0 to 2^48 - 1, which
         may be equal, to compare only. One to eight entries in any order, each of another word.
 
-        Returns an `Outcome`: made, durably; or a word that had another value. While the server is busy it asks again.
+        Returns an `Outcome`: made, durably; or a word that had another value. While the server is busy it asks again,
+        for `patience` seconds. The server syncs its file four times for a change that is made, once for one that isn't.
 
         Raises ValueError or TypeError, with nothing sent; Lost, Busy, Refused: not made. Unknown, Fault, Worn: made or not,
         wholly or not at all. The module's text says how to go on after Unknown."""
