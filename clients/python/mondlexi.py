@@ -1,0 +1,541 @@
+"""A client of Mondlexi, a server of durable words: one file, for Python 3.8 or later, with the standard library alone.
+
+A *tenant* owns words at the addresses 0, 1, 2 and so on, at most 4,096 of them. Each word has a value from 0 to 2^48 - 1,
+and is 0 at first. A *change* compares up to eight words with the values that are expected of them, and, where all are
+equal, writes a new value to each: durably, and wholly or not at all.
+
+    import mondlexi
+
+    with mondlexi.Client("127.0.0.1", 7000, "t") as client:
+        counted = client.get(0)
+        outcome = client.cas([(0, counted, counted + 1)])    # word 0: from the value read to one more
+        if not outcome.made:
+            ...                                              # word outcome.address has outcome.value
+
+`Client` speaks for one tenant, `Administrator` asks how all tenants are. Each has one connection, and holds one of the
+server's workers until it is closed: a server serves as many clients at once as it has workers, and lets others wait.
+
+Each call is made by one thread at a time, behind a lock of the client, so threads may share one. Processes may not: a
+process that was forked makes a client of its own.
+
+**What goes wrong.** An argument out of its range is a ValueError and one that is no number a TypeError, both before
+anything is sent. All other failures are kinds of `Error`:
+
+| raised  | why                                                        | after `cas` the change is  | the client is |
+|---------|------------------------------------------------------------|----------------------------|---------------|
+| Lost    | no connection, or it broke or timed out before the reply   | not made                   | closed        |
+| Unknown | it broke or timed out after a change was sent; `cas` alone | undecided                  | closed        |
+| Busy    | the server was busy for as long as the caller has patience | not made                   | as before     |
+| Fault   | the tenant's file failed; down until the server restarts   | undecided                  | as before     |
+| Worn    | a number of the server is used up; it has to be restarted  | undecided                  | as before     |
+| Refused | the server refuses the line, by a number                   | not made                   | as before     |
+
+A constructor that raises leaves nothing open.
+
+*Undecided*: it was made, or it wasn't, wholly or not at all. After Unknown the server may also make it later, as long as
+it still works on the line that it got: words with their old values don't show yet that the change won't come. Who has to
+know gives each change an entry for a word that this process alone writes, a count of its changes: from `count` to
+`count + 2`. After Unknown this function then says whether the change was made; where it wasn't, it never will be:
+
+    def was_made(client, address, count):                     # the count's address, and its value before the change
+        while True:
+            client.reconnect(30)                              # Lost, after 30 seconds without a server: still undecided
+            try:
+                outcome = client.cas([(address, count, count + 1)])
+                return outcome.value == count + 2             # None or count + 1: it wasn't, and the count is count + 1
+            except (mondlexi.Unknown, mondlexi.Busy):
+                pass
+
+Of a closed client each further call raises Lost and sends nothing, until `reconnect` connects it anew. An exception from
+outside that interrupts a call, such as KeyboardInterrupt, closes the client too, and a change under way is undecided.
+"""
+import operator
+import random
+import re
+import socket
+import threading
+import time
+from dataclasses import dataclass
+from types import TracebackType
+from typing import Callable, Dict, Iterable, List, Optional, Tuple, Type, TypeVar
+
+__all__ = [
+    "Administrator", "Busy", "Client", "Entry", "Error", "Fault", "Lost", "MAX_ENTRIES", "MAX_VALUE", "MAX_WORDS",
+    "Outcome", "Refused", "Report", "TenantReport", "Unknown", "Worn",
+]
+
+MAX_VALUE: int = 2 ** 48 - 1
+"""The greatest value of a word."""
+MAX_WORDS: int = 4096
+"""The most words that a tenant can have; the greatest address is one less."""
+MAX_ENTRIES: int = 8
+"""The most words of one change, or of one `read`."""
+
+Entry = Tuple[int, int, int]
+"""A part of a change: the address of a word, the value expected there, and the new one."""
+
+_MAX_LINE = 320
+_MAX_REPLY = 32
+_MAX_SECONDS = 1_000_000.0
+_REPORT_LINES = 17
+_FIRST_PAUSE = 0.001
+_LONGEST_PAUSE = 0.25
+_NUMBER = "(0|[1-9][0-9]{0,14})"
+_MEANINGS = {
+    1: "the line is too long",
+    2: "the line is no command",
+    3: "the session has no tenant yet",
+    4: "the session is bound already",
+    5: "no tenant has this name",
+    6: "the tenant has no such address",
+    7: "the addresses don't rise",
+    8: "the change has too many entries",
+    9: "a value is too great",
+    10: "the command isn't for this kind of session",
+}
+_Reply = TypeVar("_Reply")
+_Own = TypeVar("_Own", bound="_Session")
+
+
+class Error(Exception):
+    """Any failure but a wrong argument. Its text says what was asked and what happened."""
+
+
+class Lost(Error):
+    """There is no connection, or it broke or timed out before a reply. This call changed nothing. The client is closed.
+
+    From a constructor or `reconnect`: nobody listens there, the host has no such name, or there was no reply within
+    `timeout`, as where all workers of the server are taken. From `cas`: the client was closed before."""
+
+
+class Unknown(Error):
+    """The connection broke or timed out after a change was sent and before its reply. The client is closed.
+
+    The change was made, or it wasn't, or the server is still about to make it: wholly or not at all."""
+
+
+class Busy(Error):
+    """The call asked again for `patience` seconds, and gave up. It changed nothing, and the client can go on.
+
+    The tenant had as many changes under way as its quota allows; or, of a `read`, its words changed all the while."""
+
+
+class Fault(Error):
+    """The tenant's file has failed or did not open: all calls are answered so until the server is started again.
+
+    A `cas` that raised this was made or not, wholly or not at all; other calls changed nothing."""
+
+
+class Worn(Error):
+    """A number of the server has come to its end: the server is to be started again.
+
+    A `cas` that raised this was made or not, wholly or not at all; other calls changed nothing."""
+
+
+class Refused(Error):
+    """The server refuses the line and has done nothing: `number` is its `ERR` number, `meaning` what that stands for.
+
+    This client checks all else before it sends, so the usual number is 5: no tenant has the name."""
+
+    def __init__(self, line: str, number: int) -> None:
+        self.number: int = number
+        self.meaning: str = _MEANINGS.get(number, "an unknown number")
+        super().__init__(f"{line}: refused, {number}: {self.meaning}")
+
+
+@dataclass(frozen=True)
+class Outcome:
+    """How a change ended. An outcome counts as true just where the change was made.
+
+    `made`: all words had their expected values; the new ones are written, durably. Then `address` and `value` are None.
+    Otherwise nothing was changed: the word at `address`, one of those asked for, had `value`, not the one expected."""
+    made: bool
+    address: Optional[int] = None
+    value: Optional[int] = None
+
+    def __bool__(self) -> bool:
+        """Whether the change was made."""
+        return self.made
+
+
+@dataclass(frozen=True)
+class TenantReport:
+    """How one tenant is: its `name`; its `words`, 1 to 4096; its `quota`, how many changes it may have under way at a
+    time, 1 to 32; how many are `under_way`; and whether it is `up`. Where it isn't, its calls raise Fault."""
+    name: str
+    words: int
+    quota: int
+    under_way: int
+    up: bool
+
+
+@dataclass(frozen=True)
+class Report:
+    """How all tenants are, in the order of the server's tenants file, and how many more changes the server has room for.
+
+    Each number is what it was when it was looked at: the report as a whole is of no single moment."""
+    tenants: Tuple[TenantReport, ...]
+    free: int
+
+
+def _seconds(name: str, seconds: float, least_allowed: bool) -> float:
+    if not (0 < seconds <= _MAX_SECONDS or least_allowed and seconds == 0):
+        raise ValueError(f"{name} has to be from 0 to {_MAX_SECONDS:.0f} seconds{'' if least_allowed else ', above 0'}")
+    return float(seconds)
+
+
+def _connected(host: str, port: int, timeout: float) -> socket.socket:
+    try:
+        connection = socket.create_connection((host, port), timeout)
+    except OSError as error:
+        raise Lost(f"connecting to {host}, port {port}: {error}") from error
+    try:
+        # Where nobody listens at a port of this machine, the system may connect a socket to itself.
+        if connection.getsockname() == connection.getpeername():
+            raise ConnectionRefusedError("nobody listens")
+        connection.setsockopt(socket.IPPROTO_TCP, socket.TCP_NODELAY, 1)
+    except OSError as error:
+        connection.close()
+        raise Lost(f"connecting to {host}, port {port}: {error}") from error
+    return connection
+
+
+def _paused(pause: float, deadline: float, error: Error) -> float:
+    """Waits for about this many seconds, and tells the next pause. Past the deadline it raises the error."""
+    left = deadline - time.monotonic()
+    if left <= 0:
+        raise error
+    time.sleep(min(left, pause * random.uniform(0.5, 1.0)))
+    return min(2 * pause, _LONGEST_PAUSE)
+
+
+def _strange(reply: str) -> ConnectionError:
+    return ConnectionError(f"not a reply of the protocol: {reply!r}")
+
+
+def _is_single(line: str) -> bool:
+    return True
+
+
+def _ends_report(line: str) -> bool:
+    """A tenant's line is longer than this, and all others end the answer."""
+    return len(line) <= 8
+
+
+class _Session:
+    """One connection, over which one line at a time is asked. All that is read or written stands behind the lock."""
+
+    def __init__(self, host: str, port: int, timeout: float, greeting: str) -> None:
+        self._host, self._port = host, operator.index(port)
+        if not 1 <= self._port <= 65535:
+            raise ValueError("a port is from 1 to 65535")
+        self._timeout = _seconds("timeout", timeout, False)
+        self._greeting = greeting
+        self._lock = threading.Lock()
+        self._rest = b""
+        self._socket: Optional[socket.socket] = None
+        with self._lock:
+            self._begin()
+
+    def __enter__(self: _Own) -> _Own:
+        """The client itself. `with` closes it at the end, however that comes."""
+        return self
+
+    def __exit__(self, kind: Optional[Type[BaseException]], raised: Optional[BaseException],
+                 trace: Optional[TracebackType]) -> None:
+        """Closes the client, as `close` does. What was raised within `with` goes on."""
+        self.close()
+
+    def close(self) -> None:
+        """Ends the session and closes the connection, so that the server's worker is free. Never raises an `Error`.
+
+        It waits for a call of another thread to end, and then for the server's goodbye, a second at most. A client that
+        is closed already stays so. Changes that were made stay made."""
+        with self._lock:
+            if self._socket is None:
+                return
+            try:
+                deadline = time.monotonic() + min(self._timeout, 1.0)
+                self._socket.settimeout(min(self._timeout, 1.0))
+                self._socket.sendall(b"QUIT\n")
+                self._socket.shutdown(socket.SHUT_WR)
+                while self._received(deadline):
+                    pass
+            except OSError:
+                pass
+            finally:
+                self._drop()
+
+    def reconnect(self, within: float = 0.0) -> None:
+        """Connects anew, as the constructor did, after Lost or Unknown. A connection that still stands is closed first.
+
+        `within`: for how many seconds to try again, with growing pauses, where that fails; 0, for a single try, up to
+        1,000,000. A try that has begun is waited for, up to `timeout`. Use it also when a server that answered Fault or
+        Worn has been started again.
+
+        Raises ValueError; Lost where no try went well, Refused; the client is closed then."""
+        end = time.monotonic() + _seconds("within", within, True)
+        self.close()
+        pause = _FIRST_PAUSE
+        while True:
+            try:
+                with self._lock:
+                    return self._begin()
+            except Lost as error:
+                pause = _paused(pause, end, error)
+
+    def _begin(self) -> None:
+        self._drop()
+        self._socket = _connected(self._host, self._port, self._timeout)
+        try:
+            self._answered(self._greeting, Lost, self._greeted, _is_single)
+        except BaseException:
+            self._drop()
+            raise
+
+    def _greeted(self, replies: List[str]) -> None:
+        """Judges the reply to the greeting, the first line of a session."""
+        raise NotImplementedError
+
+    def _drop(self) -> None:
+        if self._socket is not None:
+            self._socket.close()
+            self._socket = None
+        self._rest = b""
+
+    def _received(self, deadline: float) -> bytes:
+        """Some of what the server has sent; nothing where it has closed the connection."""
+        left = deadline - time.monotonic()
+        if self._socket is None or left <= 0:
+            raise socket.timeout("timed out")
+        self._socket.settimeout(left)
+        return self._socket.recv(4096)
+
+    def _line(self, deadline: float) -> str:
+        while b"\n" not in self._rest[:_MAX_REPLY + 1]:
+            if len(self._rest) > _MAX_REPLY:
+                raise _strange(self._rest[:_MAX_REPLY].decode("latin-1"))
+            piece = self._received(deadline)
+            if not piece:
+                raise ConnectionError("the server closed the connection")
+            self._rest += piece
+        line, self._rest = self._rest.split(b"\n", 1)
+        return line.decode("latin-1")
+
+    def _lines(self, line: str, ends: Callable[[str], bool]) -> List[str]:
+        """Sends a line, and reads up to the reply that ends the answer."""
+        assert self._socket is not None
+        deadline = time.monotonic() + self._timeout
+        self._socket.settimeout(self._timeout)
+        self._socket.sendall(line.encode("ascii") + b"\n")
+        replies = [self._line(deadline)]
+        while not ends(replies[-1]):
+            if len(replies) == _REPORT_LINES:
+                raise _strange(replies[-1])
+            replies.append(self._line(deadline))
+        if self._rest:
+            raise _strange(self._rest.decode("latin-1"))
+        return replies
+
+    def _ask(self, line: str, gone: Type[Error], read: Callable[[List[str]], _Reply],
+             ends: Callable[[str], bool] = _is_single) -> _Reply:
+        """What `read` makes of the answer to a line. Where there is none, the session is over: `gone`."""
+        if len(line) > _MAX_LINE:
+            raise ValueError(f"a line has at most {_MAX_LINE} bytes")
+        with self._lock:
+            if self._socket is None:
+                raise Lost(f"{line}: not sent, the client is closed")
+            return self._answered(line, gone, read, ends)
+
+    def _answered(self, line: str, gone: Type[Error], read: Callable[[List[str]], _Reply],
+                  ends: Callable[[str], bool]) -> _Reply:
+        try:
+            replies = self._lines(line, ends)
+            self._look_for_failure(line, replies[-1])
+            return read(replies)
+        except Error:
+            raise
+        except OSError as error:
+            self._drop()
+            raise gone(f"{line}: {error}") from error
+        except BaseException:
+            self._drop()
+            raise
+
+    def _look_for_failure(self, line: str, reply: str) -> None:
+        if reply == "BUSY":
+            raise Busy(f"{line}: the tenant has too many changes under way")
+        if reply == "FAULT":
+            raise Fault(f"{line}: the tenant's file has failed")
+        if reply == "WORN":
+            raise Worn(f"{line}: a number of the server has come to its end")
+        refusal = re.fullmatch("ERR ([1-9][0-9]?)", reply)
+        if refusal:
+            raise Refused(line, int(refusal.group(1)))
+
+
+class Client(_Session):
+    """A session for one tenant, whose words it reads and changes."""
+
+    def __init__(self, host: str, port: int, tenant: str, *, timeout: float = 10.0, patience: float = 5.0) -> None:
+        """Connects to `host` (a name or an address) and `port`, 1 to 65535, and speaks for `tenant` from then on.
+
+        `tenant`: a letter a to z, then up to 15 of a to z, 0 to 9 and "-".
+        `timeout`: for how many seconds to wait for a connection, and then for each reply; above 0, up to 1,000,000.
+        `patience`: for how many seconds a `cas` or a `read` asks again, with growing pauses, where the server is busy;
+        0, for not at all, up to 1,000,000.
+
+        Raises ValueError or TypeError, with nothing sent; Lost; Refused with number 5 where no tenant has the name."""
+        if not re.fullmatch("[a-z][a-z0-9-]{0,15}", tenant):
+            raise ValueError('a tenant has a name of a to z, then up to 15 of a to z, 0 to 9 and "-"')
+        self._patience = _seconds("patience", patience, True)
+        self._words = 0
+        super().__init__(host, port, timeout, f"TENANT {tenant}")
+
+    def _greeted(self, replies: List[str]) -> None:
+        self._words = _words_of(replies)
+
+    @property
+    def words(self) -> int:
+        """How many words the tenant has, 1 to 4096, as the server said when it was connected. It asks nobody."""
+        return self._words
+
+    def get(self, address: int) -> int:
+        """The value of the word at `address`, 0 to `words` - 1: from 0 to 2^48 - 1, and durable. It costs no disk access.
+
+        Raises ValueError for an address that the tenant doesn't have, TypeError for what is no integer; Lost; Fault."""
+        return self._ask(f"GET {self._address(address)}", Lost, _value_of)
+
+    def read(self, addresses: Iterable[int]) -> List[int]:
+        """The values of several words, all as they were at one moment, in the order in which `addresses` names them.
+
+        One to eight different addresses, in any order; one may come again. A single word is read by `get`. Several
+        are guessed one by one, then confirmed by a change that writes to each the value that it has. So it costs the
+        disk as much as a change of them, and as a change can be busy. Guesses that have gone stale are mended.
+
+        Raises ValueError or TypeError, with nothing sent; Lost; Fault; Worn; Busy where the server was busy, or the words
+        kept changing, for `patience` seconds. No exception leaves a word changed."""
+        asked = [self._address(address) for address in addresses]
+        if not 1 <= len(set(asked)) <= MAX_ENTRIES:
+            raise ValueError(f"one to {MAX_ENTRIES} different words are read at a time")
+        deadline = time.monotonic() + self._patience
+        guess: Dict[int, int] = {address: self.get(address) for address in sorted(set(asked))}
+        while len(guess) > 1:
+            miss = self._change([(address, value, value) for address, value in guess.items()], Lost, deadline)
+            if miss is None:
+                break
+            if time.monotonic() >= deadline:
+                raise Busy(f"the words {sorted(guess)} changed for {self._patience} seconds")
+            guess[miss[0]] = miss[1]
+        return [guess[address] for address in asked]
+
+    def cas(self, entries: Iterable[Entry]) -> Outcome:
+        """Compares and swaps: writes each entry's new value if all the words have the values expected, else nothing.
+
+        An entry is `(address, expected, new)`: an address from 0 to `words` - 1, and two values from 0 to 2^48 - 1, which
+        may be equal, to compare only. One to eight entries in any order, each of another word.
+
+        Returns an `Outcome`: made, durably; or a word that had another value. While the server is busy it asks again,
+        for `patience` seconds. The server syncs its file four times for a change that is made, once for one that isn't.
+
+        Raises ValueError or TypeError, with nothing sent; Lost, Busy, Refused: not made. Unknown, Fault, Worn: made or not,
+        wholly or not at all. The module's text says how to go on after Unknown."""
+        checked = sorted((self._address(address), _value(expected), _value(new)) for address, expected, new in entries)
+        if not 1 <= len(checked) <= MAX_ENTRIES:
+            raise ValueError(f"a change has one to {MAX_ENTRIES} entries")
+        if len({address for address, _, _ in checked}) < len(checked):
+            raise ValueError("two entries have the same address")
+        miss = self._change(checked, Unknown, time.monotonic() + self._patience)
+        return Outcome(True) if miss is None else Outcome(False, miss[0], miss[1])
+
+    def _address(self, address: int) -> int:
+        address = operator.index(address)
+        if not 0 <= address < self._words:
+            raise ValueError(f"the tenant has the addresses 0 to {self._words - 1}, not {address}")
+        return address
+
+    def _change(self, entries: List[Entry], gone: Type[Error], deadline: float) -> Optional[Tuple[int, int]]:
+        """None where the change was made, else a word and its value. Asks again while it is busy, up to the deadline."""
+        line = "CAS" + "".join(f" {address}:{expected}:{new}" for address, expected, new in entries)
+        expected_of = {address: expected for address, expected, _ in entries}
+
+        def read(replies: List[str]) -> Optional[Tuple[int, int]]:
+            return _miss_of(replies, expected_of)
+
+        pause = _FIRST_PAUSE
+        while True:
+            try:
+                return self._ask(line, gone, read)
+            except Busy as error:
+                pause = _paused(pause, deadline, error)
+
+
+class Administrator(_Session):
+    """A session of the administrator, who asks how the tenants are and sees no words."""
+
+    def __init__(self, host: str, port: int, *, timeout: float = 10.0) -> None:
+        """Connects to `host` (a name or an address) and `port`, 1 to 65535.
+
+        `timeout`: for how many seconds to wait for a connection, and then for each answer; above 0, up to 1,000,000.
+
+        Raises ValueError or TypeError, with nothing sent; Lost."""
+        super().__init__(host, port, timeout, "ADMIN")
+
+    def _greeted(self, replies: List[str]) -> None:
+        if replies[0] != "OK ADMIN":
+            raise _strange(replies[0])
+
+    def report(self) -> Report:
+        """How each tenant is, and the room of the server. Raises Lost; no exception changes anything."""
+        return self._ask("REPORT", Lost, _report_of, _ends_report)
+
+
+def _value(value: int) -> int:
+    value = operator.index(value)
+    if not 0 <= value <= MAX_VALUE:
+        raise ValueError(f"a value is from 0 to {MAX_VALUE}, not {value}")
+    return value
+
+
+def _words_of(replies: List[str]) -> int:
+    found = re.fullmatch(f"OK {_NUMBER}", replies[0])
+    if not found or not 1 <= int(found.group(1)) <= MAX_WORDS:
+        raise _strange(replies[0])
+    return int(found.group(1))
+
+
+def _value_of(replies: List[str]) -> int:
+    found = re.fullmatch(f"VAL {_NUMBER}", replies[0])
+    if not found or int(found.group(1)) > MAX_VALUE:
+        raise _strange(replies[0])
+    return int(found.group(1))
+
+
+def _miss_of(replies: List[str], expected_of: Dict[int, int]) -> Optional[Tuple[int, int]]:
+    if replies[0] == "YES":
+        return None
+    found = re.fullmatch(f"NO {_NUMBER} {_NUMBER}", replies[0])
+    if not found:
+        raise _strange(replies[0])
+    address, value = int(found.group(1)), int(found.group(2))
+    if value > MAX_VALUE or expected_of.get(address, value) == value:
+        raise _strange(replies[0])
+    return address, value
+
+
+def _report_of(replies: List[str]) -> Report:
+    free = re.fullmatch("free " + _NUMBER, replies[-1])
+    if not free or len(replies) < 2:
+        raise _strange(replies[-1])
+    return Report(tuple(_tenant_of(line) for line in replies[:-1]), int(free.group(1)))
+
+
+def _tenant_of(line: str) -> TenantReport:
+    found = re.fullmatch("([a-z][a-z0-9-]{0,15}) +([0-9]+) +([0-9]+) +([0-9]+) (up|down)", line)
+    if not found:
+        raise _strange(line)
+    name, state = found.group(1), found.group(5)
+    words, quota, under_way = (int(found.group(k)) for k in (2, 3, 4))
+    if line != f"{name:16} {words:4} {quota:2} {under_way:2} {state}":
+        raise _strange(line)
+    return TenantReport(name, words, quota, under_way, state == "up")
