@@ -15,5 +15,6 @@ pub mod Running
 pub mod Seating
 pub mod Sharing
 pub mod ShortRuns
+pub mod Statuses
 pub mod Tests
 pub mod Turning

@@ -1,6 +1,6 @@
 //! What holds of sound worlds: facts for proofs to cite. The functions do nothing.
 ghost use Rattle.mw_world.specs.Claim.Headline.{ShortRunsHaveNumbers};
-ghost use Rattle.mw_world.specs.Claim.Lawful.{EveryRunIsLawful};
+ghost use Rattle.mw_world.specs.Claim.Lawful.{CallersStatusStays, EveryRunIsLawful};
 ghost use Rattle.mw_law_runs.specs.Laws.{CallsKeepSound, ComesKeepSound, CountsHaveRest, EventsKeepSound, HandsKeepSound, RestartsKeepSound, RoomIsLeft, RunsAreSound, SoundWorldsAreRight, StartsAreSound, TurnsKeepSound};
 ghost use Rattle.mw_law_runs.specs.Places.{PlacesAreThere};
 ghost use Rattle.mw_law_runs.specs.Owing.{CallsKeepOwed, LastPinsAreFree, OwedWordsAreOwed, StepsKeepOwed};
@@ -79,6 +79,12 @@ pub fn places_are_there()
 /// a file is at a place that is there, is in range, and leaves in bits of 64 what it is to leave.
 pub fn runs_are_lawful()
     ensures { EveryRunIsLawful }
+{}
+
+/// In every run, while a request is at a call on its file and its change has the status that the call starts
+/// from, other workers leave that status, unless by a call on the same tenant's file.
+pub fn callers_status_stays()
+    ensures { CallersStatusStays }
 {}
 
 /// Every event leaves a sound world sound, and its files with words that fit, if they had such before it and

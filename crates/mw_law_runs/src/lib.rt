@@ -9,7 +9,8 @@
 mod laws;
 
 pub use laws::{
-    calls_keep_owed, calls_keep_sound, comes_keep_sound, counts_have_rest, events_keep_sound,
-    hands_keep_sound, last_pins_are_free, owed_words_are_owed, places_are_there, runs_are_lawful,
-    runs_are_sound, short_runs_have_numbers, starts_are_sound, steps_keep_owed, turns_keep_sound,
+    callers_status_stays, calls_keep_owed, calls_keep_sound, comes_keep_sound, counts_have_rest,
+    events_keep_sound, hands_keep_sound, last_pins_are_free, owed_words_are_owed, places_are_there,
+    runs_are_lawful, runs_are_sound, short_runs_have_numbers, starts_are_sound, steps_keep_owed,
+    turns_keep_sound,
 };
