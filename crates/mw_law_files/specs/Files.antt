@@ -5,7 +5,7 @@ use Rattle.mw_world.specs.declared.config.Config.{Config}
 use Rattle.mw_world.specs.Claim.Invariant.{FilesAreTold, ChangesHavePlaces}
 use Rattle.mw_world.specs.Definition.State.{State, Account, tenant_at}
 
--- how many places for changes the file of this account of a tenant has; and a tenant's file in a world
+-- how many places of the file of this account of a tenant may be used; and of a tenant's file in a world
 abbrev pub places_in : Config → ℕ → Account → ℕ
 places_in config tenant account = account.quota
 

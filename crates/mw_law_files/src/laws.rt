@@ -47,7 +47,7 @@ pub fn runs_have_files()
 
 /// After every run of a server of a configuration of which a world can be made, from any start of its files
 /// on, and also where numbers are used up: the whole invariant holds, there is room in the pool, and the
-/// world's own tests refuse nothing for which a request asks, nor a start.
+/// world's own tests refuse nothing for which a request asks.
 pub fn every_run_holds()
     ensures { EveryRunHolds }
 {}
@@ -63,12 +63,13 @@ pub fn calls_can_be_made()
     ensures { CallsCanBeMade }
 {}
 
-/// Whatever call is interrupted, there are words that a start may find.
+/// Whatever call is interrupted, in any world, there are words that pass the test for what a start finds.
 pub fn starts_find_words()
     ensures { StartsFindWords }
 {}
 
-/// The world's own tests refuse nothing for which a request asks, nor a start, after any run.
+/// The world's own tests refuse nothing for which a request asks, after any run. Of starts this says only that
+/// some words pass the test for them.
 pub fn runs_are_enabled()
     ensures { RunsAreEnabled }
 {}

@@ -62,6 +62,7 @@ abbrev pub RunsAreSound : Type 0
 RunsAreSound = (config : Config) (openings : ℕ → Opening) (events : List Happening) (state : State) → IsPlayed config openings events state
     → IsSound config state × FilesFit state
 
--- There is room in the pool after every run: while a tenant's door counts a slot that a request hasn't taken yet, some slot isn't taken.
+-- There is room in the pool after every run: no more slots are taken than the doors count, and while a door counts one that a request hasn't taken yet,
+-- or has freed already, some slot isn't taken.
 abbrev pub RoomIsLeft : Type 0
 RoomIsLeft = (config : Config) (openings : ℕ → Opening) (events : List Happening) (state : State) → IsPlayed config openings events state → HasRoom config state

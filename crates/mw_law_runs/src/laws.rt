@@ -69,14 +69,15 @@ pub fn short_runs_have_numbers()
     ensures { ShortRunsHaveNumbers }
 {}
 
-/// After every run the next step of each request is at a place that is there, unless it is a call on a file:
-/// no request asks for a step that the definition refuses for its place.
+/// After every run the next step of each request without a reply is at a place that is there, unless it is a
+/// call on a file: no request asks for a step that the definition refuses for its place.
 pub fn places_are_there()
     ensures { PlacesAreThere }
 {}
 
-/// Every run is lawful: what stands at each place is in range; and each request's next step that is no call on
-/// a file is at a place that is there, is in range, and leaves in bits of 64 what it is to leave.
+/// Every run is lawful: what stands at each place is in range; and the next step of each request
+/// without a reply, if it is no call on a file, is at a place that is there, is in range, and leaves in bits
+/// what it is to leave.
 pub fn runs_are_lawful()
     ensures { EveryRunIsLawful }
 {}

@@ -14,7 +14,8 @@ pub struct Tenant {
     pub quota: u8,
 }
 
-/// What a world is made of. The sum of the quotas is at most `pool`.
+/// What a world is made of. In a new world each tenant has the quota that is told here; the sum of the quotas
+/// is at most `pool`.
 #[derive(Debug, Drop)]
 pub struct Config {
     /// How many slots there are, 1 to `MAX_POOL`.

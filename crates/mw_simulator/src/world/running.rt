@@ -69,7 +69,7 @@ impl World {
     /// there is none; no such request is taken. [`WorldFault::Memory`]: there is no memory for what it
     /// means. After an error the world is unchanged, but for the room that it keeps for further marks and
     /// claims. No event but a call on a tenant's file, and a start, touches that file. Wherever a run from a
-    /// new world has led it, the whole invariant holds.
+    /// new world has led it, all holds that is to hold of every run.
     pub fn step(&mut self, event: Event) -> Result<(), WorldFault>
         ensures config { self.new.config ≡ self.old.config }
         ensures happens { (state : State) → Shows self.old state → Happens self.old self.new state event result }
@@ -83,7 +83,8 @@ impl World {
 
     /// One event after the other. At an error this stops, with the index of the event that was refused;
     /// the events before it have happened, and the world is as they left it, but for the room that it keeps
-    /// for further marks and claims. Wherever a run from a new world has led it, the whole invariant holds.
+    /// for further marks and claims. Wherever a run from a new world has led it, all
+    /// holds that is to hold of every run.
     pub fn run(&mut self, events: &[Event]) -> Result<(), (usize, WorldFault)>
         ensures config { self.new.config ≡ self.old.config }
         ensures steps { RunsBySteps self.old self.new events.now result }

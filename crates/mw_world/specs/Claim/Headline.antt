@@ -21,7 +21,7 @@ use Rattle.mw_world.specs.Definition.State.{State, IsConfig, IsStart, Opening, w
 use Rattle.mw_world.specs.Definition.Turns.{may_make}
 use Rattle.mw_world.specs.Definition.World.{run, replies_to}
 
--- There are numbers left: no slot that may be claimed has the last one, and no worker's next attempt does.
+-- There are numbers left: no slot that isn't taken has the number at which numbers are used up, and no worker's next attempt has it.
 pub record HasNumbers (config : Config) (state : State) : Type 0 where
   pub slots : (slot : ℕ) → slot < config.pool → (state.cells.gates slot).taken ≡ false → (state.cells.gates slot).seq ≢ WORN_NUMBER
   pub attempts : (worker : ℕ) → worker < config.workers → (state.seats worker).attempt ≢ WORN_NUMBER
@@ -37,7 +37,7 @@ pub record IsRun (config : Config) (openings : ℕ → Opening) (events : List H
   pub played : IsPlayed config openings events state
   pub numbers : (first rest : List Happening) (between : State) → events ≡ first ++ rest → run config (world_at config openings) first ≡ Some between → HasNumbers config between
 
--- The tenant's shared words are those of its store alone, its door counts the slots that the store uses, and tells of the store's fault.
+-- The tenant's shared words stand for those of its store alone, its door counts the slots that the store uses, and tells of the store's fault.
 pub record ShowsStore (state : State) (tenant words : ℕ) (store : Store) : Type 0 where
   pub values : (address : ℕ) → address < words → logical state.cells tenant address ≡ word_at store.words address
   pub used : (state.cells.doors tenant).used ≡ store.used
@@ -83,7 +83,8 @@ pub record CanBeFound (config : Config) (state : State) (tenant : ℕ) (interrup
   pub found : may_find (is_sealed_then (under_way config state interrupted)) file.contents (doubt_then file (under_way config state interrupted)) words ≡ true
 
 -- `step` tests more than which event comes when: whether the place of a step is there, whether a call can be made, whether words may be found.
--- Where this holds none of these tests is false where a request asks for the event, so they refuse nothing.
+-- Where this holds none of these tests is false where a request asks for the event. Of a start it says only that some words pass the test, as they do
+-- in any world; that those of each image that a crash may leave pass it is for whoever knows the disks to say.
 pub record IsEnabled (config : Config) (state : State) : Type 0 where
   -- a request without a reply that has come to no call on its file asks for a step at a place that is there
   pub steps : (worker : ℕ) (actor : Acting) → (state.seats worker).actor ≡ Some actor → replied actor ≡ None → called_at actor.point ≡ None

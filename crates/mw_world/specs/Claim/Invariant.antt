@@ -46,7 +46,7 @@ pub record IsOfCaller (state : State) (tenant : ℕ) (change : Slot) : Type 0 wh
   pub same_tenant : state.history.tenant change.slot change.seq ≡ tenant
 
 -- Each request is its worker's, under its tenant's quota, and what its worker may do is told by where the request is; an idle worker may do nothing.
--- A request that has come to a call on its file holds the slot of the call's change, which is one of its tenant.
+-- Where a request has come to a call on its file, the slot of the call's change is taken under its number and pinned, and the change is one of its tenant.
 pub record RequestsAreTheirWorkers (config : Config) (state : State) : Type 0 where
   pub seats : (worker : ℕ) (actor : Acting) → (state.seats worker).actor ≡ Some actor → IsOfWorker config worker actor
   pub quotas : (worker : ℕ) (actor : Acting) → (state.seats worker).actor ≡ Some actor → actor.quota ≡ (state.accounts actor.tenant).quota
@@ -213,7 +213,7 @@ IsUndone status = (status ≡ Draft) ⊎ (status ≡ Open) ⊎ (status ≡ YesDi
 
 -- A word that is held for a refused change is owed: a request works on that change which will let go of the word. While a change is neither
 -- refused nor done with, its own worker is there, or has left its pin behind. So it is too while a word that the change has written names the
--- slot: that worker will clean the word.
+-- slot: that worker will clean the word, unless it gives up.
 pub record HeldWordsAreOwed (state : State) : Type 0 where
   pub refused : (tenant address slot seq : ℕ) → state.cells.words tenant address ≡ Held slot seq → IsRefused (state.history.fate slot seq)
       → IsOwed state tenant address slot seq
@@ -256,8 +256,7 @@ placed (No entry value) entries = Prepared entries
 placed Yes entries = Sealed entries
 placed status entries = Empty
 
--- A slot is taken for a change of this tenant that is in the tenant's file: the change is in the slot's place there, which is one of the
--- tenant's.
+-- A slot is taken for a change of this tenant which is to be in the tenant's file, by its status.
 pub record IsInFile (state : State) (tenant slot : ℕ) : Type 0 where
   pub taken : (state.cells.gates slot).taken ≡ true
   pub same_tenant : state.history.tenant slot (state.cells.gates slot).seq ≡ tenant

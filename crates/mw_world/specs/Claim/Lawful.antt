@@ -43,7 +43,7 @@ pub record StepIsLawful (config : Config) (state : State) (actor : Acting) : Typ
   pub fits : StepFits (asks actor)
   pub right : IsRightInBits (asks actor) state.cells
 
--- What stands at each place is in range, and so is the next step of each request without a reply that has come to no call on its file.
+-- What stands at each place is in range, and the next step of each request without a reply that has come to no call on its file is lawful.
 pub record Lawful (config : Config) (state : State) : Type 0 where
   pub fit : AllFit state.cells
   pub steps : (worker : ℕ) (actor : Acting) → (state.seats worker).actor ≡ Some actor → replied actor ≡ None → called_at actor.point ≡ None → StepIsLawful config state actor

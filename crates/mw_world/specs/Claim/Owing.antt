@@ -77,12 +77,12 @@ abbrev pub CleansFrom : Sweep → List Entry → ℕ → ℕ → Type 0
 CleansFrom SweepDoneYes entries first address = IsFrom entries first address
 CleansFrom sweep entries first address = Unit {0}
 
--- the request doesn't end with this
+-- no reply follows at once
 abbrev pub GoesOn : After → Type 0
 GoesOn (ThenReply reply) = ⊥
 GoesOn onward = Unit {0}
 
--- At this point a change's own request will clean this word, if the change has written it: it isn't past the word in the last round over its
+-- At this point a change's own request will clean this word, if the change has written it and the request doesn't give up: it isn't past the word in the last round over its
 -- own words, nor past that round. It may be at work on another change.
 abbrev pub CleansAt : Acting → ℕ → Point → Type 0
 CleansAt actor address (SweepWord task sweep entry) = task.target ≡ task.own → CleansFrom sweep (entries_of actor task) entry address
@@ -95,7 +95,7 @@ CleansAt actor address (FreeSlot slot onward) = GoesOn onward
 CleansAt actor address (LowerDoor onward) = GoesOn onward
 CleansAt actor address point = Unit {0}
 
--- The change's own worker is there, and will clean this word.
+-- The change's own worker is there, and will clean this word unless it gives up.
 pub record IsCleaner (state : State) (address slot seq : ℕ) : Type 0 where
   pub actor : Acting
   pub is : (state.seats (state.history.owner slot seq)).actor ≡ Some actor

@@ -5,8 +5,8 @@ use Rattle.mw_world_file.specs.declared.outcomes.Outcome.{Outcome}
 use Rattle.mw_world.specs.declared.events.Interrupted.{Interrupted}
 
 -- What is found of a tenant's file when all has stopped: the call on it that was under way, if one was; the words for which the bytes
--- on the disk stand, how many device calls an opening of these bytes makes, and the one of those that fails, if one does. The words and
--- the number are told by one image that a crash may leave of the disk.
+-- on the disk stand, how many device calls an opening of these bytes makes, and the one of those that fails, if one does. Whoever
+-- plays a world has to tell the words and the number by one image that a crash may leave of the disk; nothing ties them here.
 pub record Found : Type 0 where
   pub interrupted : Option Interrupted
   pub words : List ℕ

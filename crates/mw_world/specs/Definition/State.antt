@@ -30,7 +30,8 @@ pub record Seat : Type 0 where
 -- A tenant, but for its shared words.
 pub record Account : Type 0 where
   pub file : File
-  -- how many slots it may use at a time, as the last start gave it; its file has as many places for changes
+  -- how many slots it may use at a time, as the start gave it with which the run began; its file has at least as many places for changes, and only so
+  -- many are ever used
   pub quota : ℕ
   -- the number of its next request; numbers go on when all stops and starts again
   pub asked : ℕ
@@ -105,8 +106,8 @@ started config accounts = record {
   history = no_history;
 }
 
--- What a start gave a tenant: its quota; the words of its file; and whether the file opened. Where it didn't nobody was told the words, which a
--- later start may find.
+-- What a start gave a tenant: its quota; the words of its file; and whether the file opened. Where it didn't, any words, as many as the tenant has:
+-- nobody was told them, and a later start may find them.
 pub record Opening : Type 0 where
   pub quota : ℕ
   pub words : List ℕ
