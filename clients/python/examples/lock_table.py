@@ -44,7 +44,7 @@ class LockTable:
                                       (3 * lock + 2, token, lease.token)]) else None
 
     def renew(self, lease: Lease, seconds: float) -> Optional[Lease]:
-        """The lease with at least so many seconds from now; None where another has taken the lock, or it was released."""
+        """The latest lease of a lock, for at least so many seconds from now; None where it was released or taken since."""
         longer = lease._replace(until=max(lease.until, int((time.time() + seconds) * 1000)))
         kept = [(3 * lease.lock, self._holder, self._holder), (3 * lease.lock + 2, lease.token, lease.token)]
         return longer if self._change(kept + [(3 * lease.lock + 1, lease.until, longer.until)]) else None
