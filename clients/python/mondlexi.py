@@ -144,6 +144,7 @@ class Refused(Error):
         self.meaning: str = _MEANINGS.get(number, "an unknown number")
 
     def __str__(self) -> str:
+        """The line, the number and its meaning."""
         return f"{self.line}: refused, {self.number}: {self.meaning}"
 
 
@@ -406,6 +407,7 @@ class Client(_Session):
         super().__init__(host, port, timeout, f"TENANT {tenant}")
 
     def _greeted(self, replies: List[str]) -> None:
+        """Takes the number of the tenant's words."""
         self._words = _words_of(replies)
 
     @property
@@ -496,6 +498,7 @@ class Administrator(_Session):
         super().__init__(host, port, timeout, "ADMIN")
 
     def _greeted(self, replies: List[str]) -> None:
+        """Looks that the session is the administrator's."""
         if replies[0] != "OK ADMIN":
             raise _strange(replies[0])
 
@@ -515,6 +518,7 @@ def _value(value: int) -> int:
 # What the answers to the commands say. Each raises what `_strange` gives where an answer is none of its command.
 
 def _words_of(replies: List[str]) -> int:
+    """Of `TENANT`: the number of its words."""
     found = re.fullmatch(f"OK {_NUMBER}", replies[0])
     if not found or not 1 <= int(found.group(1)) <= MAX_WORDS:
         raise _strange(replies[0])
@@ -522,6 +526,7 @@ def _words_of(replies: List[str]) -> int:
 
 
 def _value_of(replies: List[str]) -> int:
+    """Of `GET`: the value."""
     found = re.fullmatch(f"VAL {_NUMBER}", replies[0])
     if not found or int(found.group(1)) > MAX_VALUE:
         raise _strange(replies[0])
@@ -529,6 +534,7 @@ def _value_of(replies: List[str]) -> int:
 
 
 def _miss_of(replies: List[str], expected_of: Dict[int, int]) -> Optional[Tuple[int, int]]:
+    """Of `CAS`: None where it was made, else a word of its own and the value there, which isn't the one expected."""
     if replies[0] == "YES":
         return None
     found = re.fullmatch(f"NO {_NUMBER} {_NUMBER}", replies[0])
@@ -541,6 +547,7 @@ def _miss_of(replies: List[str], expected_of: Dict[int, int]) -> Optional[Tuple[
 
 
 def _report_of(replies: List[str]) -> Report:
+    """Of `REPORT`: a line for each tenant, then one for the pool."""
     free = re.fullmatch("free " + _NUMBER, replies[-1])
     if not free or len(replies) < 2:
         raise _strange(replies[-1])
@@ -548,6 +555,7 @@ def _report_of(replies: List[str]) -> Report:
 
 
 def _tenant_of(line: str) -> TenantReport:
+    """A tenant's line of a report, in its columns."""
     found = re.fullmatch("([a-z][a-z0-9-]{0,15}) +([0-9]+) +([0-9]+) +([0-9]+) (up|down)", line)
     if not found:
         raise _strange(line)
