@@ -18,7 +18,7 @@ server's workers until it is closed: a server serves as many clients at once as 
 Each call is made by one thread at a time, behind a lock of the client, so threads may share one. Processes may not: a
 process that was forked makes a client of its own.
 
-**What goes wrong.** An argument out of its range is a ValueError and one that is no number a TypeError, both before
+**What goes wrong.** An argument out of its range is a ValueError and one of a wrong type a TypeError, both before
 anything is sent. All other failures are kinds of `Error`:
 
 | raised  | why                                                        | after `cas` the change is  | the client is |
@@ -133,14 +133,19 @@ class Worn(Error):
 
 
 class Refused(Error):
-    """The server refuses the line and has done nothing: `number` is its `ERR` number, `meaning` what that stands for.
+    """The server refuses the `line` and has done nothing: `number` is that of its `ERR`, `meaning` what it stands for.
 
     This client checks all else before it sends, so the usual number is 5: no tenant has the name."""
 
     def __init__(self, line: str, number: int) -> None:
+        super().__init__(line, number)
+        self.line: str = line
         self.number: int = number
         self.meaning: str = _MEANINGS.get(number, "an unknown number")
-        super().__init__(f"{line}: refused, {number}: {self.meaning}")
+
+    def __str__(self) -> str:
+        """The line, the number and its meaning."""
+        return f"{self.line}: refused, {self.number}: {self.meaning}"
 
 
 @dataclass(frozen=True)
@@ -178,13 +183,15 @@ class Report:
     free: int
 
 
-def _seconds(name: str, seconds: float, least_allowed: bool) -> float:
-    if not (0 < seconds <= _MAX_SECONDS or least_allowed and seconds == 0):
-        raise ValueError(f"{name} has to be from 0 to {_MAX_SECONDS:.0f} seconds{'' if least_allowed else ', above 0'}")
+def _seconds(name: str, seconds: float, zero_allowed: bool) -> float:
+    """These seconds, if they are in range. Else ValueError, which says of what they are."""
+    if not (0 < seconds <= _MAX_SECONDS or zero_allowed and seconds == 0):
+        raise ValueError(f"{name} has to be from 0 to {_MAX_SECONDS:.0f} seconds{'' if zero_allowed else ', above 0'}")
     return float(seconds)
 
 
 def _connected(host: str, port: int, timeout: float) -> socket.socket:
+    """A connection; Lost where there is none within so many seconds, with nothing left open."""
     try:
         connection = socket.create_connection((host, port), timeout)
     except OSError as error:
@@ -210,10 +217,12 @@ def _paused(pause: float, deadline: float, error: Error) -> float:
 
 
 def _strange(reply: str) -> ConnectionError:
+    """What a reply raises that no server of this protocol gives; it ends the session."""
     return ConnectionError(f"not a reply of the protocol: {reply!r}")
 
 
 def _is_single(line: str) -> bool:
+    """Each first line is also the last one, but for a report."""
     return True
 
 
@@ -285,6 +294,7 @@ class _Session:
                 pause = _paused(pause, end, error)
 
     def _begin(self) -> None:
+        """A new connection and its greeting, in place of what there was. Behind the lock."""
         self._drop()
         self._socket = _connected(self._host, self._port, self._timeout)
         try:
@@ -298,6 +308,7 @@ class _Session:
         raise NotImplementedError
 
     def _drop(self) -> None:
+        """Closes the connection without a word. Behind the lock."""
         if self._socket is not None:
             self._socket.close()
             self._socket = None
@@ -312,6 +323,7 @@ class _Session:
         return self._socket.recv(4096)
 
     def _line(self, deadline: float) -> str:
+        """The next line of the server, without its line feed. OSError where none comes, or one that is too long."""
         while b"\n" not in self._rest[:_MAX_REPLY + 1]:
             if len(self._rest) > _MAX_REPLY:
                 raise _strange(self._rest[:_MAX_REPLY].decode("latin-1"))
@@ -349,6 +361,7 @@ class _Session:
 
     def _answered(self, line: str, gone: Type[Error], read: Callable[[List[str]], _Reply],
                   ends: Callable[[str], bool]) -> _Reply:
+        """As `_ask`, behind the lock. Whatever leaves the connection within an answer closes it."""
         try:
             replies = self._lines(line, ends)
             self._look_for_failure(line, replies[-1])
@@ -363,6 +376,7 @@ class _Session:
             raise
 
     def _look_for_failure(self, line: str, reply: str) -> None:
+        """Raises what the replies mean that may be given to any line."""
         if reply == "BUSY":
             raise Busy(f"{line}: the tenant has too many changes under way")
         if reply == "FAULT":
@@ -393,6 +407,7 @@ class Client(_Session):
         super().__init__(host, port, timeout, f"TENANT {tenant}")
 
     def _greeted(self, replies: List[str]) -> None:
+        """Takes the number of the tenant's words."""
         self._words = _words_of(replies)
 
     @property
@@ -449,6 +464,7 @@ class Client(_Session):
         return Outcome(True) if miss is None else Outcome(False, miss[0], miss[1])
 
     def _address(self, address: int) -> int:
+        """This address, if the tenant has it."""
         address = operator.index(address)
         if not 0 <= address < self._words:
             raise ValueError(f"the tenant has the addresses 0 to {self._words - 1}, not {address}")
@@ -482,6 +498,7 @@ class Administrator(_Session):
         super().__init__(host, port, timeout, "ADMIN")
 
     def _greeted(self, replies: List[str]) -> None:
+        """Looks that the session is the administrator's."""
         if replies[0] != "OK ADMIN":
             raise _strange(replies[0])
 
@@ -491,13 +508,17 @@ class Administrator(_Session):
 
 
 def _value(value: int) -> int:
+    """This value, if a word can have it."""
     value = operator.index(value)
     if not 0 <= value <= MAX_VALUE:
         raise ValueError(f"a value is from 0 to {MAX_VALUE}, not {value}")
     return value
 
 
+# What the answers to the commands say. Each raises what `_strange` gives where an answer is none of its command.
+
 def _words_of(replies: List[str]) -> int:
+    """Of `TENANT`: the number of its words."""
     found = re.fullmatch(f"OK {_NUMBER}", replies[0])
     if not found or not 1 <= int(found.group(1)) <= MAX_WORDS:
         raise _strange(replies[0])
@@ -505,6 +526,7 @@ def _words_of(replies: List[str]) -> int:
 
 
 def _value_of(replies: List[str]) -> int:
+    """Of `GET`: the value."""
     found = re.fullmatch(f"VAL {_NUMBER}", replies[0])
     if not found or int(found.group(1)) > MAX_VALUE:
         raise _strange(replies[0])
@@ -512,6 +534,7 @@ def _value_of(replies: List[str]) -> int:
 
 
 def _miss_of(replies: List[str], expected_of: Dict[int, int]) -> Optional[Tuple[int, int]]:
+    """Of `CAS`: None where it was made, else a word of its own and the value there, which isn't the one expected."""
     if replies[0] == "YES":
         return None
     found = re.fullmatch(f"NO {_NUMBER} {_NUMBER}", replies[0])
@@ -524,6 +547,7 @@ def _miss_of(replies: List[str], expected_of: Dict[int, int]) -> Optional[Tuple[
 
 
 def _report_of(replies: List[str]) -> Report:
+    """Of `REPORT`: a line for each tenant, then one for the pool."""
     free = re.fullmatch("free " + _NUMBER, replies[-1])
     if not free or len(replies) < 2:
         raise _strange(replies[-1])
@@ -531,6 +555,7 @@ def _report_of(replies: List[str]) -> Report:
 
 
 def _tenant_of(line: str) -> TenantReport:
+    """A tenant's line of a report, in its columns."""
     found = re.fullmatch("([a-z][a-z0-9-]{0,15}) +([0-9]+) +([0-9]+) +([0-9]+) (up|down)", line)
     if not found:
         raise _strange(line)

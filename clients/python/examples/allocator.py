@@ -20,10 +20,10 @@ USED = 1 << 40
 class Allocator:
     """For one thread of one process at a time of this owner. After an exception a new one's `mine` tells what it has."""
 
-    def __init__(self, host: str, port: int, tenant: str, blocks: int, owner: int, wait: float = 30.0) -> None:
-        """`wait`: for how many seconds to try to connect anew, each time, before mondlexi.Lost is raised."""
-        self._client = mondlexi.Client(host, port, tenant)
-        self._blocks, self._used, self._own, self._wait = blocks, USED + owner, 2 + blocks + owner, wait
+    def __init__(self, client: mondlexi.Client, blocks: int, owner: int, wait: float = 30.0) -> None:
+        """`client`: its owner closes it; `wait`: for how many seconds to connect it anew before mondlexi.Lost is raised."""
+        self._client, self._wait = client, wait
+        self._blocks, self._used, self._own = blocks, USED + owner, 2 + blocks + owner
         self._count = self._get(self._own)
         self._fence()
 

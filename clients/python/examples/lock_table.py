@@ -27,10 +27,9 @@ class Lease(NamedTuple):
 class LockTable:
     """The locks as one process, the holder of this number, takes them; for one thread at a time."""
 
-    def __init__(self, host: str, port: int, tenant: str, holder: int, wait: float = 30.0) -> None:
-        """`wait`: for how many seconds to try to connect anew, each time, before mondlexi.Lost is raised."""
-        self._client = mondlexi.Client(host, port, tenant)
-        self._holder, self._wait = holder, wait
+    def __init__(self, client: mondlexi.Client, holder: int, wait: float = 30.0) -> None:
+        """`client`: its owner closes it; `wait`: for how many seconds to connect it anew before mondlexi.Lost is raised."""
+        self._client, self._holder, self._wait = client, holder, wait
 
     def acquire(self, lock: int, seconds: float) -> Optional[Lease]:
         """A lease for so many seconds from now; None while anybody has one. The time until its return is part of it."""
@@ -44,7 +43,7 @@ class LockTable:
                                       (3 * lock + 2, token, lease.token)]) else None
 
     def renew(self, lease: Lease, seconds: float) -> Optional[Lease]:
-        """The lease with at least so many seconds from now; None where another has taken the lock, or it was released."""
+        """The latest lease of a lock, for at least so many seconds from now; None where it was released or taken since."""
         longer = lease._replace(until=max(lease.until, int((time.time() + seconds) * 1000)))
         kept = [(3 * lease.lock, self._holder, self._holder), (3 * lease.lock + 2, lease.token, lease.token)]
         return longer if self._change(kept + [(3 * lease.lock + 1, lease.until, longer.until)]) else None
