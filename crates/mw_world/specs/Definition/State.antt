@@ -141,8 +141,8 @@ pub record QuotasFit (config : Config) (quotas : ℕ → ℕ) : Type 0 where
 abbrev pub quotas_of : State → ℕ → ℕ
 quotas_of state tenant = (state.accounts tenant).quota
 
--- A start of a server of this configuration may give this: quotas that fit, and to each tenant as many words as it has, each of which is at most
--- the greatest value.
+-- A start of a server of this configuration may give this: quotas that fit, and to each tenant as many words as it has. Each word is at most the
+-- greatest value, also where there is no tenant.
 pub record IsStart (config : Config) (openings : ℕ → Opening) : Type 0 where
   pub quotas : QuotasFit config (λ tenant. (openings tenant).quota)
   pub long : (tenant : ℕ) → tenant < tenants_of config → length (openings tenant).words ≡ (tenant_at config tenant).words
