@@ -1,5 +1,6 @@
 pub mod Calling
 pub mod Coming
+pub mod Crashes
 pub mod Entering
 pub mod FirstBits
 pub mod FirstWorlds

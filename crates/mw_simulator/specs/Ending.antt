@@ -1,5 +1,5 @@
 -- How a call on a tenant's file ends in memory.
-use Rattle.std.specs.Prelude.{ℕ, ◌≡◌, Bool, true, false, length, Option, Some, None, Result, Ok, Err}
+use Rattle.std.specs.Prelude.{ℕ, ◌≡◌, ◌⊎◌, Bool, true, false, length, Option, Some, None, Result, Ok, Err}
 use Rattle.mw_words.specs.declared.places.At.TheVariants.{Door as AtDoor, Status as AtStatus}
 use Rattle.mw_words.specs.declared.statuses.Status.{Status}
 use Rattle.mw_look.specs.declared.steps.Call.{Call}
@@ -12,11 +12,12 @@ use Rattle.mw_world_file.specs.declared.faults.BookFault.{BookFault}
 use Rattle.mw_world_file.specs.declared.faults.BookFault.TheVariants.{NotEnabled, Memory}
 use Rattle.mw_world_file.specs.declared.kept.Book.{Book}
 use Rattle.mw_world_file.specs.Books.{Shows as ShowsFile, quota_of}
+use Rattle.mw_world_file.specs.Crashes.{IsCrashSafe as IsCallSafe}
 use Rattle.mw_world_file.specs.Files.{File}
 use Rattle.mw_world.specs.declared.notes.Note.{Note}
 use Rattle.mw_world.specs.declared.notes.Note.TheVariants.{Nothing}
 use Rattle.mw_world.specs.declared.config.Config.{Config}
-use Rattle.mw_world.specs.Definition.Calls.{Called, good_note, fault_note, status_after}
+use Rattle.mw_world.specs.Definition.Calls.{Called, fails_on, good_note, fault_note, starts_from, status_after}
 use Rattle.mw_world.specs.Definition.Cells.{Cells, write}
 use Rattle.mw_world.specs.Definition.Changes.{fetched}
 use Rattle.mw_world.specs.Definition.State.{State, tenant_at}
@@ -25,6 +26,7 @@ use Rattle.mw_simulator.specs.declared.world.World.{World}
 use Rattle.mw_simulator.specs.declared.world.calls.Called.{Called as CalledInMemory}
 use Rattle.mw_simulator.specs.declared.world.calls.Ended.{Ended}
 use Rattle.mw_simulator.specs.Shows.{Shows}
+use Rattle.mw_simulator.specs.Staying.{SameBooks, book_at}
 use Rattle.mw_simulator.specs.Stepping.{HasRoom, with_cells, with_file}
 
 -- the call on a file that this is
@@ -97,3 +99,21 @@ abbrev pub Closes : World → State → ℕ → Option Made → Result Ended Boo
 Closes new before tenant found (Ok end) = Closed new before tenant found end
 Closes new before tenant found (Err NotEnabled) = (found ≡ None) × Shows new before
 Closes new before tenant found (Err Memory) = Shows new before
+
+-- A call was made on a tenant's file, for the change of a slot.
+pub record IsWorked (old new : World) (tenant : ℕ) (call : Call) (slot : ℕ) : Type 0 where
+  pub was : Book
+  pub now : Book
+  pub is_old : book_at old tenant ≡ Some was
+  pub is_new : book_at new tenant ≡ Some now
+  pub safe : IsCallSafe was call slot now
+
+-- the same, where the call starts from this status, and on a file that hasn't failed unless the call can't fail
+pub record IsStarted (old new : World) (tenant : ℕ) (called : Called) (status : Status) : Type 0 where
+  pub starts : starts_from called.call status ≡ true
+  pub sound : (state : State) → Shows old state → fails_on called.call (state.accounts tenant).file ≡ false
+  pub worked : IsWorked old new tenant called.call called.change.slot
+
+-- A call on a tenant's file leaves all files as they are, or was made on it.
+abbrev pub TouchesFile : World → World → ℕ → Called → Status → Type 0
+TouchesFile old new tenant called status = SameBooks old new ⊎ IsStarted old new tenant called status

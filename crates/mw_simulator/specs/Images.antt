@@ -1,23 +1,24 @@
 -- What a crash leaves of a tenant's disk, if every run serves each tenant as its store alone would.
-use Rattle.std.specs.Prelude.{ℕ, ◌≡◌, ◌⊎◌, List, slice_get, Some}
-use Rattle.mw_words.specs.declared.jobs.Entry.{Entry}
-use Rattle.mw_words.specs.Change.{put}
-use Rattle.mw_disk.specs.Facts.{MayLeave}
+use Rattle.std.specs.Prelude.{ℕ, ◌≡◌, true, List, slice_get, Some}
+use Rattle.mw_disk.specs.Facts.{MayHaveLeft, MayLeave}
 use Rattle.mw_disk.specs.Memory.{memory_facts}
-use Rattle.mw_record.specs.Damages.{file_words}
-use Rattle.mw_lone.specs.Store.{Store}
+use Rattle.mw_lone.specs.Store.{Store, entries_in_doubt}
+use Rattle.mw_world_file.specs.declared.kept.Book.{Book}
+use Rattle.mw_world_file.specs.declared.outcomes.Outcome.{Outcome}
+use Rattle.mw_world_file.specs.Crashes.{IsFileOfEither}
 use Rattle.mw_world_file.specs.Devices.{disk_under}
 use Rattle.mw_world.specs.declared.config.Config.{Config}
+use Rattle.mw_world.specs.declared.events.Event.TheVariants.{File as IsFile}
 use Rattle.mw_world.specs.Definition.Happenings.{Happening}
+use Rattle.mw_world.specs.Definition.Restarts.{interrupted_request, may_interrupt, under_way}
 use Rattle.mw_world.specs.Definition.State.{Opening, State, store_of}
 use Rattle.mw_world.specs.Claim.Headline.{IsRun}
 use Rattle.mw_simulator.specs.declared.accounts.Account.{Account as AccountInMemory}
 use Rattle.mw_simulator.specs.declared.world.World.{World}
+use Rattle.mw_simulator.specs.Crashes.{stop_in_call}
+use Rattle.mw_simulator.specs.Running.{Steps}
 use Rattle.mw_simulator.specs.Shows.{Shows}
-
--- These bytes are a file of these words, or of these with this change put over them.
-abbrev pub IsFileOfEither : List ℕ → List Entry → List ℕ → Type 0
-IsFileOfEither words change image = (file_words image ≡ Some words) ⊎ (file_words image ≡ Some (put words change))
+use Rattle.mw_simulator.specs.Staying.{book_at, served_by}
 
 -- In a world in memory that shows the world after a run, no call is under way. Whatever a crash may leave then of a tenant's disk is a file of
 -- the store's words, or of these with the change in doubt put over them; where none is in doubt, as after a start, it is one of the store's words.
@@ -25,3 +26,20 @@ abbrev pub EveryImageIsOfStore : Type 0
 EveryImageIsOfStore = (config : Config) (openings : ℕ → Opening) (events : List Happening) (state : State) (world : World) (tenant : ℕ) (shown : AccountInMemory) (store : Store) (image : List ℕ)
     → IsRun config openings events state → world.config ≡ config → Shows world state → slice_get world.accounts.items tenant ≡ Some shown → store_of openings state tenant ≡ Some store
     → MayLeave (memory_facts (disk_under shown.book.device)) image → IsFileOfEither store.words store.in_doubt image
+
+-- These bytes are left of a tenant's file in the midst of a call on it, to which a worker's request has come: a file of the store's words, or of these
+-- with one change put over them. That is the change of the request that a stop in the midst of the call interrupts; where it interrupts none, since
+-- no device call for a seal is made, it is the one in doubt.
+pub record IsLeftOfStore (config : Config) (state : State) (worker tenant : ℕ) (store : Store) (image : List ℕ) : Type 0 where
+  pub made : ℕ
+  pub may : may_interrupt config state tenant (stop_in_call worker made) ≡ true
+  pub is : IsFileOfEither store.words (entries_in_doubt store (interrupted_request (under_way config state (stop_in_call worker made)))) image
+
+-- A call on a tenant's file follows on a run, and goes well, or a device call of it fails. Whatever a crash may have left of the tenant's disk at any
+-- moment since the call began, up to its end, is so. `store` is the store as the call began.
+abbrev pub EveryImageInACallIsOfStore : Type 0
+EveryImageInACallIsOfStore = (config : Config) (openings : ℕ → Opening) (events : List Happening) (state : State) (old new : World) (worker : ℕ) (outcome : Outcome) (tenant : ℕ) (was now : Book)
+    (store : Store) (image : List ℕ)
+    → IsRun config openings events state → old.config ≡ config → Shows old state → Steps old (IsFile worker outcome) new → served_by old worker ≡ Some tenant
+    → book_at old tenant ≡ Some was → book_at new tenant ≡ Some now → store_of openings state tenant ≡ Some store
+    → MayHaveLeft (memory_facts (disk_under now.device)) (memory_facts (disk_under was.device)).moment image → IsLeftOfStore config state worker tenant store image

@@ -1,6 +1,7 @@
 pub mod BitPlaces
 pub mod Bits
 pub mod Claims
+pub mod Crashes
 pub mod Ending
 pub mod Faults
 pub mod Holding

@@ -20,6 +20,7 @@ use Rattle.mw_simulator.specs.declared.accounts.Account.{Account as AccountInMem
 use Rattle.mw_simulator.specs.declared.faults.WorldFault.{WorldFault}
 use Rattle.mw_simulator.specs.declared.faults.WorldFault.TheVariants.{NotEnabled, LastNumber, Memory}
 use Rattle.mw_simulator.specs.declared.world.World.{World}
+use Rattle.mw_simulator.specs.Crashes.{CrashesDoNoHarm}
 use Rattle.mw_simulator.specs.Shows.{Shows, Comes, Ends, IsLast, Leads}
 use Rattle.mw_simulator.specs.Staying.{IsUnchanged, LeavesFiles}
 
@@ -180,6 +181,7 @@ pub record Steps (old : World) (event : Event) (new : World) : Type 0 where
   pub config : new.config ≡ old.config
   pub happens : (state : State) → Shows old state → Happens old new state event (Ok tt)
   pub files : LeavesFiles old new event
+  pub moments : (state : State) → Shows old state → CrashesDoNoHarm old new state event (Ok tt)
 
 -- the same, after these events, one by one
 abbrev pub AllStep : World → List Event → World → Type 0

@@ -1,5 +1,6 @@
 pub mod ApartPlaces
 pub mod CalledDisks
+pub mod CrashedFiles
 pub mod KeptPlaces
 pub mod NewFiles
 pub mod OpenedFiles

@@ -48,6 +48,7 @@ restarted old file shows cut torn fails_at left new took stopped reopens taken =
   count = reopened.count;
   long = ap length are ∙ as_long (is_sealed_left file (quota_of old) cut) file.contents (doubt_left file (quota_of old) cut) stopped.words stopped.is_left.found ∙ ap length shows.same_contents;
   shows = reopened.shows;
+  came = reopened.came;
   taken = taken ∙ ap (λ ws. takes ws left.doubt.items new.contents.items) (sym shows.same_contents) ∙ ap (λ doubt. takes file.contents doubt new.contents.items) stopped.in_doubt
       ∙ ap (takes file.contents (doubt_left file (quota_of old) cut)) are;
 } where

@@ -1,25 +1,28 @@
 -- The opening of a tenant's file one device call of which is told to fail.
-use Rattle.std.proofs.Common.{◌≡◌, ℕ, zero, suc, ◌+◌, ◌<◌, ◌==◌, ◌&&◌, ◌||◌, ◌^◌, nat_le, nat_lt, min, Bool, true, false, if◌then◌else◌, List, [], ◌∷◌, length, take, replicate, Option, Some, None, is_none, Result, Ok, Err, IsSome, IsSomeAnd, MatchResult, refl, sym, ap, subst, ◌∙◌, inl, inr, arith}
+use Rattle.std.proofs.Common.{◌≡◌, ℕ, zero, suc, ◌+◌, ◌<◌, ◌≤◌, ◌==◌, ◌&&◌, ◌||◌, ◌^◌, nat_le, nat_lt, min, Bool, true, false, if◌then◌else◌, List, [], ◌∷◌, length, take, replicate, Option, Some, None, is_none, Result, Ok, Err, IsSome, IsSomeAnd, MatchResult, refl, sym, ap, subst, ◌∙◌, inl, inr, arith}
 use Rattle.std.proofs.lemmas.Bool.{cases_lt, cond-true, cond-false, and_from, and_right, and_parts, eq-eqb, eqb-true, lt-ltb, le-leb, lt-leb}
 use Rattle.mw_disk.specs.Facts.{MayLeave, IsAtRest, most_counted}
 use Rattle.mw_disk.specs.Memory.{Memory, memory_facts, scripted}
-use Rattle.mw_disk.proofs.RunLaws.{leaves_now}
+use Rattle.mw_disk.specs.Runs.{LeavesOnly, Bad as OneFailed}
+use Rattle.mw_disk.proofs.RunLaws.{leaves_now, leaves_wider}
 use Rattle.mw_record.specs.declared.layout.TheConstants.{MAX_FILE}
 use Rattle.mw_record.specs.Damages.{damage_of, places_of, words_in, file_words}
 use Rattle.mw_file.specs.declared.tenant_file.TenantFile.{TenantFile}
-use Rattle.mw_file.specs.File.{states_of}
+use Rattle.mw_file.specs.File.{disk_of, states_of}
 use Rattle.mw_file.specs.Keeps.{IsFile}
 use Rattle.mw_file.specs.declared.opening.OpenFault.{OpenFault}
 use Rattle.mw_file.specs.declared.opening.OpenFault.TheVariants.{Disk}
-use Rattle.mw_file.specs.Opening.{IsOpened, DiskFailed, Fails, open_calls}
-use Rattle.mw_world_file.specs.declared.device.Device.TheVariants.{Shut}
+use Rattle.mw_file.specs.Opening.{IsOpened, DiskFailed, Fails, SameFile, open_calls}
+use Rattle.mw_world_file.specs.declared.device.Device.TheVariants.{Open, Shut}
 use Rattle.mw_world_file.specs.declared.kept.Book.{Book}
 use Rattle.mw_world_file.specs.declared.places.Place.TheVariants.{Empty as KeptEmpty}
 use Rattle.mw_world_file.specs.declared.faults.BookFault.{BookFault}
 use Rattle.mw_world_file.specs.declared.faults.BookFault.TheVariants.{NotEnabled, Memory as NoMemory}
 use Rattle.mw_world_file.specs.Books.{Shows, HasParts, quota_of}
 use Rattle.mw_world_file.specs.Calls.{is_made}
+use Rattle.mw_world_file.specs.Devices.{disk_under}
 use Rattle.mw_world_file.specs.Files.{broken, file_of}
+use Rattle.mw_world_file.specs.Openings.{CameOfBytes, OpeningRan}
 use Rattle.mw_world_file.specs.Restarts.{may_fail, opened_file}
 use Rattle.mw_world_file.specs.Stopping.{named, IsReopened, ReopenEnds}
 use Rattle.mw_world_file.proofs.OpenedFiles.{none_there, zero_there, same_calls, opened_words, opened_places}
@@ -77,6 +80,14 @@ module _ (disk : Memory) (bytes words : List ℕ) (places : ℕ) (fails_at : Opt
     by None at some_so = absurd some_so
     by (Some number) at fits = ap (may_fail (open_calls bytes)) at ∙ well_made number at fits file contents opened
 
+  -- the call that failed is the one that is named, where none was refused memory
+  failed_there : (number : ℕ) → fails_at ≡ Some number → (after : Memory) (failed : DiskFailed memory_facts disk after) → disk.refused ≡ 0 → after.refused ≡ 0 → number ≡ failed.made.well + 1
+  failed_there number at after failed none_before none =
+      let well = failed.made.well in
+      fails_named number well _ refl (λ goes.
+      let e : after.refused ≡ min (disk.refused + 1) most_counted = failed.made.spared refl (plan_named number well at ∙ goes) in
+      omega (arith, e, none_before, none))
+
   -- an opening that failed, and was refused no memory, made that call
   badly_made : (number : ℕ) → fails_at ≡ Some number → (after : Memory) → DiskFailed memory_facts disk after → disk.refused ≡ 0 → after.refused ≡ 0 → is_made (open_calls bytes) number ≡ true
   badly_made number at after failed none_before none =
@@ -84,9 +95,7 @@ module _ (disk : Memory) (bytes words : List ℕ) (places : ℕ) (fails_at : Opt
       let fewer = failed.made.fewer in
       let within = failed.within refl in
       let same = calls_as (take MAX_FILE (memory_facts disk).reads) refl in
-      let is_next : number ≡ well + 1 = fails_named number well _ refl (λ goes.
-      let e : after.refused ≡ min (disk.refused + 1) most_counted = failed.made.spared refl (plan_named number well at ∙ goes) in
-      omega (arith, e, none_before, none)) in
+      let is_next : number ≡ well + 1 = failed_there number at after failed none_before none in
       and_from (nat_le 1 number) (nat_le number (open_calls bytes)) (le-leb 1 number (omega (arith, is_next))) (le-leb number (open_calls bytes) (omega (arith, is_next, fewer, within, same)))
 
   -- whatever a crash leaves then is still a file of the words
@@ -96,6 +105,51 @@ module _ (disk : Memory) (bytes words : List ℕ) (places : ℕ) (fails_at : Opt
       record {
         words_are = as_before.words ∙ ap file_words reads ∙ is.words_are;
         places_are = as_before.places ∙ ap places_of reads ∙ is.places_are;
+      }
+
+  -- at any moment since the opening began a crash left a file of the words
+  same_words : (after : Memory) → LeavesOnly (memory_facts disk) (memory_facts after) (SameFile (memory_facts disk).reads)
+      → LeavesOnly (memory_facts disk) (memory_facts after) (λ image. file_words image ≡ Some words)
+  same_words after left = leaves_wider (memory_facts disk) (memory_facts after) (λ image as_before. as_before.words ∙ ap file_words reads ∙ is.words_are) left
+
+  came_well : (file : TenantFile Memory) (contents : List ℕ) → IsOpened memory_facts disk file contents → fails_at ≡ None → CameOfBytes bytes words fails_at (disk_of file)
+  came_well file contents opened none = record {
+    first = disk;
+    reads = reads;
+    rest = rest;
+    ran = subst (λ f. OpeningRan (open_calls bytes) f disk (disk_of file)) (sym none)
+        (subst (λ n. OpeningRan n None disk (disk_of file)) (calls_as opened.image (opened.seen refl)) opened.made);
+    moments = same_words (disk_of file) (opened.unchanged refl rest).left;
+  }
+
+  -- fewer calls are fewer than more
+  of_more : (fewer more : ℕ) (after : Memory) → fewer ≤ more → (one : OneFailed fewer (memory_facts disk) (memory_facts after))
+      → (other : OneFailed more (memory_facts disk) (memory_facts after)) × (other.well ≡ one.well)
+  of_more fewer more after le one = (
+    record {
+      well = one.well;
+      fewer = let lt = one.fewer in omega (arith, lt, le);
+      honest = one.honest;
+      outcomes = λ honest fits. one.outcomes honest (omega (arith, fits, le));
+      faults = one.faults;
+      spared = one.spared;
+      none_doomed = one.none_doomed;
+      plan = one.plan;
+    },
+    refl,
+  )
+
+  came_badly : (number : ℕ) → fails_at ≡ Some number → (after : Memory) → DiskFailed memory_facts disk after → disk.refused ≡ 0 → after.refused ≡ 0 → CameOfBytes bytes words fails_at after
+  came_badly number at after failed none_before none =
+      let same = calls_as (take MAX_FILE (memory_facts disk).reads) refl in
+      let within = failed.within refl in
+      let all = of_more failed.calls (open_calls bytes) after (omega (arith, within, same)) failed.made in
+      record {
+        first = disk;
+        reads = reads;
+        rest = rest;
+        ran = subst (λ f. OpeningRan (open_calls bytes) f disk after) (sym at) (all.0, ap (λ n. n + 1) all.1 ∙ sym (failed_there number at after failed none_before none));
+        moments = same_words after (failed.unchanged refl rest).left;
       }
 
   pub failed_so : (after : Memory) → DiskFailed memory_facts disk after → disk.refused ≡ 0 → (new : Book) (found : List ℕ) (quota slots : ℕ) → found ≡ words → quota ≡ places → IsSome fails_at → after.refused ≡ 0
@@ -119,11 +173,12 @@ module _ (disk : Memory) (bytes words : List ℕ) (places : ℕ) (fails_at : Opt
             same_doubt = refl;
             stands = (refl, λ image may. subst (λ n. IsFile n found image) (sym (length_empty quota ∙ as_many)) (subst (λ ws. IsFile places ws image) (sym are) (left_file after failed image may)));
           }));
+      came = subst (λ d. CameOfBytes bytes words fails_at (disk_under d)) (sym parts.is_device) (came_badly number at after failed none_before none);
     }
 
   -- how an opening ends that went well, and one that failed
   pub opened_ends : (file : TenantFile Memory) (contents : List ℕ) → IsOpened memory_facts disk file contents → (r : Result Book BookFault)
-      → MatchResult r (λ book. (fails_at ≡ None) × Shows book (file_of contents) × (quota_of book ≡ length (states_of file))) (λ fault. fault ≡ NotEnabled → IsSomeAnd fails_at (λ number. number < 2 ^ 64))
+      → MatchResult r (λ book. (fails_at ≡ None) × Shows book (file_of contents) × (quota_of book ≡ length (states_of file)) × (book.device ≡ Open file)) (λ fault. fault ≡ NotEnabled → IsSomeAnd fails_at (λ number. number < 2 ^ 64))
       → ReopenEnds bytes places words fails_at r
   opened_ends file contents opened (Ok new) ends =
       let is_read : IsFile places words (memory_facts disk).reads = subst (λ image. IsFile places words image) (sym reads) is in
@@ -131,6 +186,7 @@ module _ (disk : Memory) (bytes words : List ℕ) (places : ℕ) (fails_at : Opt
         fails = ap (may_fail (open_calls bytes)) ends.0;
         count = ends.2 ∙ opened_places disk file contents places words opened is_read;
         shows = subst (λ f. Shows new (opened_file words f)) (sym ends.0) (subst (λ ws. Shows new (file_of ws)) (opened_words disk file contents places words opened is_read) ends.1);
+        came = subst (λ d. CameOfBytes bytes words fails_at (disk_under d)) (sym ends.3) (came_well file contents opened ends.0);
       }
   opened_ends file contents opened (Err NotEnabled) ends = not_failed file contents opened (ends refl)
   opened_ends file contents opened (Err NoMemory) ends = tt

@@ -1,9 +1,11 @@
 pub mod Books
 pub mod Calls
+pub mod Crashes
 pub mod Devices
 pub mod Files
 pub mod Giving
 pub mod Maps
+pub mod Openings
 pub mod Reopening
 pub mod Restarts
 pub mod SoundBooks

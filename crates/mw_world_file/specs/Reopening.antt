@@ -16,6 +16,7 @@ use Rattle.mw_world_file.specs.declared.faults.BookFault.{BookFault}
 use Rattle.mw_world_file.specs.declared.faults.BookFault.TheVariants.{NotEnabled, Memory}
 use Rattle.mw_world_file.specs.Devices.{disk_under}
 use Rattle.mw_world_file.specs.Files.{File, entries_at}
+use Rattle.mw_world_file.specs.Openings.{CameOfBytes}
 use Rattle.mw_world_file.specs.Calls.{place_for, suits, fails_on, device_calls}
 use Rattle.mw_world_file.specs.Restarts.{takes, may_find, may_fail, opened_file, doubt_if, is_whole_seal}
 use Rattle.mw_world_file.specs.Books.{Shows, quota_of}
@@ -86,7 +87,7 @@ pub record IsLeft (old : Book) (file : File) (cut : Option Cut) (torn words imag
   pub left : IsLeftOf (disk_under old.device) (made_of cut) torn image
 
 -- The file after a start: bytes that may be found were found and opened, one of the opening's device calls may fail so, the new book is that
--- of the file after it, and it is told whether the change in doubt was found.
+-- of the file after it, on the disk that the opening made of these bytes, and it is told whether the change in doubt was found.
 pub record IsRestarted (old : Book) (file : File) (cut : Option Cut) (torn : List ℕ) (fails_at : Option ℕ) (new : Book) (took : Bool) : Type 0 where
   pub image : List ℕ
   pub words : List ℕ
@@ -95,6 +96,7 @@ pub record IsRestarted (old : Book) (file : File) (cut : Option Cut) (torn : Lis
   pub count : quota_of new ≡ quota_of old
   pub long : length new.contents.items ≡ length old.contents.items
   pub shows : Shows new (opened_file words fails_at)
+  pub came : CameOfBytes image words fails_at (disk_under new.device)
   pub taken : took ≡ takes file.contents (doubt_left file (quota_of old) cut) words
 
 -- The opening of bytes that may be found makes no device call with the number of the one that is to fail.

@@ -7,7 +7,9 @@ use Rattle.mw_world_file.specs.declared.cut.Left.{Left}
 use Rattle.mw_world_file.specs.declared.kept.Book.{Book}
 use Rattle.mw_world_file.specs.declared.faults.BookFault.{BookFault}
 use Rattle.mw_world_file.specs.declared.faults.BookFault.TheVariants.{NotEnabled, Memory}
+use Rattle.mw_world_file.specs.Devices.{disk_under}
 use Rattle.mw_world_file.specs.Files.{File}
+use Rattle.mw_world_file.specs.Openings.{CameOfBytes}
 use Rattle.mw_world_file.specs.Restarts.{may_fail, opened_file}
 use Rattle.mw_world_file.specs.Books.{Shows, quota_of}
 use Rattle.mw_world_file.specs.Reopening.{IsLeft, doubt_left, may_be_made}
@@ -30,11 +32,12 @@ abbrev pub named : Option ℕ → List ℕ
 named None = []
 named (Some number) = number ∷ []
 
--- The book of a file of these words and so many places, after an opening of its bytes that may fail so.
+-- The book of a file of these words and so many places, after an opening of its bytes that may fail so, on the disk that the opening made of them.
 pub record IsReopened (image : List ℕ) (places : ℕ) (words : List ℕ) (fails_at : Option ℕ) (new : Book) : Type 0 where
   pub fails : may_fail (open_calls image) fails_at ≡ true
   pub count : quota_of new ≡ places
   pub shows : Shows new (opened_file words fails_at)
+  pub came : CameOfBytes image words fails_at (disk_under new.device)
 
 -- how an opening ends, of bytes that are a file of these words and so many places
 abbrev pub ReopenEnds : List ℕ → ℕ → List ℕ → Option ℕ → Result Book BookFault → Type 0

@@ -7,6 +7,7 @@ ghost use Rattle.mw_file.specs.PlaceStates.{all_free};
 ghost use Rattle.mw_world_file.specs.Books.{Shows, quota_of};
 ghost use Rattle.mw_world_file.specs.Devices.{IsReady};
 ghost use Rattle.mw_world_file.specs.Files.{file_of};
+ghost use Rattle.mw_world_file.specs.declared.device.Device.TheVariants.{Open};
 ghost use Rattle.mw_world_file.specs.declared.places.Place.TheVariants.{Empty};
 
 use crate::device::Device;
@@ -30,6 +31,7 @@ pub(crate) fn open_book(
     requires ready { IsReady (disk_of file) }
     ensures shows { IfOk result (λ book. Shows book (file_of contents.items)) }
     ensures places { IfOk result (λ book. quota_of book ≡ length (states_of file)) }
+    ensures device { IfOk result (λ book. book.device ≡ Open file) }
 {
     let places = empty_places(alloc, usize::from(file.places()))?;
     Ok(Book {

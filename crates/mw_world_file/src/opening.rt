@@ -9,7 +9,7 @@ ghost use Rattle.mw_world_file.specs.Books.{HasParts, Shows, quota_of};
 ghost use Rattle.mw_world_file.specs.Devices.{IsReady};
 ghost use Rattle.mw_world_file.specs.Files.{file_of};
 ghost use Rattle.mw_world_file.specs.Stopping.{named};
-ghost use Rattle.mw_world_file.specs.declared.device.Device.TheVariants.{Shut};
+ghost use Rattle.mw_world_file.specs.declared.device.Device.TheVariants.{Open, Shut};
 
 use crate::device::Device;
 use crate::faults::BookFault;
@@ -59,7 +59,7 @@ impl Book {
         requires keeps { Keeps memory_facts file words.items [] }
         requires ready { fails_at ≡ None → IsReady (disk_of file) }
         ensures { MatchResult result
-            (λ book. (fails_at ≡ None) × Shows book (file_of words.items) × (quota_of book ≡ length (states_of file)))
+            (λ book. (fails_at ≡ None) × Shows book (file_of words.items) × (quota_of book ≡ length (states_of file)) × (book.device ≡ Open file))
             (λ fault. fault ≡ BookFault.NotEnabled → IsSomeAnd fails_at (λ number. number < 2 ^ 64)) }
     {
         if fails_at.is_some() {

@@ -95,6 +95,7 @@ fn is_clear(place: &Place, entries: &[Entry]) -> bool
 
 impl Book {
     ghost use Rattle.mw_words.specs.declared.jobs.Entry.{Entry};
+    ghost use Rattle.mw_world_file.specs.Crashes.{CrashesDoNoHarm};
     ghost use Rattle.mw_world_file.specs.Working.{Works, CameOf};
 
     /// A new book, of the file after a call on it for the change of a slot, the entries of which are these.
@@ -118,6 +119,7 @@ impl Book {
         requires formed { call ≡ Call.Prepare → IsTrue (is_change (length self.now.contents.items) entries.now.items) }
         ensures works { Works self.now call slot entries.now.items outcome result }
         ensures disk { CameOf self.now call slot outcome result }
+        ensures moments { CrashesDoNoHarm self.now call slot result }
     {
         match call {
             Call::Prepare => self.prepare(alloc, slot, entries, outcome),
@@ -139,6 +141,7 @@ impl Book {
         requires formed { IsTrue (is_change (length self.now.contents.items) entries.now.items) }
         ensures works { Works self.now Call.Prepare slot entries.now.items outcome result }
         ensures disk { CameOf self.now Call.Prepare slot outcome result }
+        ensures moments { CrashesDoNoHarm self.now Call.Prepare slot result }
     {
         let Device::Open(held) = &self.device else {
             unreachable!()
@@ -204,6 +207,7 @@ impl Book {
         requires { self.now.has_failed ≡ false }
         ensures works { (entries : List Entry) → Works self.now Call.Seal slot entries outcome result }
         ensures disk { CameOf self.now Call.Seal slot outcome result }
+        ensures moments { CrashesDoNoHarm self.now Call.Seal slot result }
     {
         let place = self.place_of[slot as usize];
         let Some(Place::Prepared(entries)) = self.places.get(place as usize) else {
@@ -243,6 +247,7 @@ impl Book {
         requires { self.now.has_failed ≡ false }
         ensures works { (entries : List Entry) → Works self.now Call.Settle slot entries outcome result }
         ensures disk { CameOf self.now Call.Settle slot outcome result }
+        ensures moments { CrashesDoNoHarm self.now Call.Settle slot result }
     {
         let place = self.place_of[slot as usize];
         let Some(Place::Sealed(entries)) = self.places.get(place as usize) else {
@@ -276,6 +281,7 @@ impl Book {
     fn cancel(&self, alloc: Global, slot: u8, outcome: Outcome) -> Result<Book, BookFault>
         ensures works { (entries : List Entry) → Works self.now Call.Cancel slot entries outcome result }
         ensures disk { CameOf self.now Call.Cancel slot outcome result }
+        ensures moments { CrashesDoNoHarm self.now Call.Cancel slot result }
     {
         let place = self.place_of[slot as usize];
         let Some(Place::Prepared(entries)) = self.places.get(place as usize) else {

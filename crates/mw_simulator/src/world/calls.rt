@@ -1,6 +1,6 @@
 //! Calls on a tenant's file.
 ghost use Rattle.std.specs.Option.{option_map};
-ghost use Rattle.std.specs.Prelude.{◌≡◌, ◌≢◌, ◌<◌, ℕ, true, false, if◌then◌else◌, IfSome, IsTrue, OnErr, Option, Some, None, length, slice_get};
+ghost use Rattle.std.specs.Prelude.{◌≡◌, ◌≢◌, ◌<◌, ℕ, true, false, if◌then◌else◌, IfSome, IsTrue, OnErr, OnOk, Option, Some, None, length, slice_get};
 ghost use Rattle.mw_words.specs.Change.{is_change};
 ghost use Rattle.mw_words.specs.Patterns.{IsStatusInRange};
 ghost use Rattle.mw_look.specs.declared.news.News.TheVariants.{Filed};
@@ -11,6 +11,7 @@ ghost use Rattle.mw_world.specs.Definition.Calls as calls;
 ghost use Rattle.mw_world.specs.Definition.Extent.{has_slot};
 ghost use Rattle.mw_world.specs.Definition.State.{State, tenant_at};
 ghost use Rattle.mw_simulator.specs.declared.accounts.Account.{Account};
+ghost use Rattle.mw_simulator.specs.Crashes.{CrashesDoNoHarm};
 ghost use Rattle.mw_simulator.specs.Ending as ending;
 ghost use Rattle.mw_simulator.specs.Shows.{Ends, Shows};
 ghost use Rattle.mw_simulator.specs.Staying.{IsUnchanged, SameBooks, SameBooksBut, book_at, served_by};
@@ -51,6 +52,7 @@ impl World {
             → Ends self.new state (calls.call self.old.config state worker (state.seats worker).actor outcome) result }
         ensures unchanged { OnErr result (IsUnchanged self.old self.new) }
         ensures files { (tenant : ℕ) → served_by self.old worker ≢ Some tenant → book_at self.new tenant ≡ book_at self.old tenant }
+        ensures moments { (state : State) → Shows self.old state → CrashesDoNoHarm self.old self.new state (Event.File worker outcome) result }
     {
         let Some(actor) = self.actor_of(worker) else {
             return Err(WorldFault::NotEnabled);
@@ -118,6 +120,7 @@ impl World {
         ensures rest { ending.SameButFiles self.old self.new }
         ensures unchanged { OnErr result (self.new ≡ self.old) }
         ensures files { SameBooksBut actor.now.tenant self.old self.new }
+        ensures moments { OnOk result (ending.TouchesFile self.old self.new actor.now.tenant (ending.called_of called) status) }
         ensures ends { (state : State) → Shows self.old state → state.cells.statuses called.change.slot ≡ status
             → ending.Closes self.new state actor.now.tenant (calls.calling self.old.config state actor.now (ending.called_of called) outcome) result }
     {
@@ -170,6 +173,7 @@ impl World {
         ensures rest { ending.SameButFiles self.old self.new }
         ensures unchanged { OnErr result (self.new ≡ self.old) }
         ensures files { SameBooksBut actor.now.tenant self.old self.new }
+        ensures moments { OnOk result (ending.IsWorked self.old self.new actor.now.tenant called.call called.change.slot) }
         ensures ends { (state : State) → Shows self.old state → state.cells.statuses called.change.slot ≡ status
             → calls.starts_from called.call status ≡ true → calls.fails_on called.call (state.accounts actor.now.tenant).file ≡ false
             → ending.Closes self.new state actor.now.tenant (calls.calling self.old.config state actor.now (ending.called_of called) outcome) result }
@@ -199,6 +203,7 @@ impl World {
         requires sound { HasSound (tenant_at self.old.config tenant).words book }
         ensures rest { ending.SameButFiles self.old self.new }
         ensures others { SameBooksBut tenant self.old self.new }
+        ensures is { book_at self.new tenant ≡ Some book }
         ensures shows { (state : State) (file : File) → Shows self.old state → ending.IsBookOf self.old.config state tenant book file
             → Shows self.new (stepping.with_file state tenant file) }
     {

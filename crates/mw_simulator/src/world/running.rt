@@ -7,6 +7,7 @@ ghost use Rattle.mw_world.specs.Definition.State.{State, marks_of};
 ghost use Rattle.mw_look.specs.Places.{pack};
 ghost use Rattle.mw_world.specs.Definition.Cells.{read};
 ghost use Rattle.mw_simulator.specs.Bits.{bits_at};
+ghost use Rattle.mw_simulator.specs.Crashes.{CrashesDoNoHarm};
 ghost use Rattle.mw_simulator.specs.Holding.{Holds};
 ghost use Rattle.mw_simulator.specs.Running.{Happens, Runs, RunsBySteps, Stands, StandsAfter};
 ghost use Rattle.mw_simulator.specs.Shows.{Shows};
@@ -76,6 +77,7 @@ impl World {
         ensures stands { (happened : List Happening) → Stands self.old happened → StandsAfter self.new happened event result }
         ensures unchanged { OnErr result (IsUnchanged self.old self.new) }
         ensures files { LeavesFiles self.old self.new event }
+        ensures moments { (state : State) → Shows self.old state → CrashesDoNoHarm self.old self.new state event result }
         ensures holds { Holds self.new }
     {
         self.apply(&event)
@@ -104,6 +106,7 @@ impl World {
         ensures happens { (state : State) → Shows self.old state → Happens self.old self.new state event.now result }
         ensures unchanged { OnErr result (IsUnchanged self.old self.new) }
         ensures files { LeavesFiles self.old self.new event.now }
+        ensures moments { (state : State) → Shows self.old state → CrashesDoNoHarm self.old self.new state event.now result }
     {
         match event {
             Event::Come(worker, tenant, job) => self.come(*worker, *tenant, job),

@@ -7,7 +7,9 @@ use Rattle.mw_world_file.specs.declared.places.Place.TheVariants.{Prepared as Ke
 use Rattle.mw_world_file.specs.Working.{may_end}
 use Rattle.mw_world_file.proofs.WorkedFiles.{is_at, IsAt}
 use Rattle.mw_world_file.proofs.SealedFiles.{ends_well, none_shut, is_prepared_in, emptied_kept, cancel_done}
+use Rattle.mw_world_file.specs.declared.outcomes.Outcome.TheVariants.{Good, Fail}
 use Rattle.mw_world_file.proofs.CalledDisks.{came_well}
+use Rattle.mw_world_file.proofs.CrashedFiles.{stays_safe}
 use Rattle.mw_world_file.proofs.kept.Book.cancel.Goals as goal
 
 pub cancel-requires : goal.cancel-requires
@@ -50,3 +52,8 @@ returns-clause-disk c =
     let now = memory_facts (disk_of c.cancel.new.self) in
     came_well c.args.self.now c.in_ok-emptied.field-0 c.in-Open.held c.cancel.new.self c.cancel.new.self Cancel c.args.slot 0 c.args.outcome c.in-Open.is c.in_ok-emptied.ensures.is_device (ends_well c.args.outcome may)
     (ap disk_of c.cancel.ensures.rest ∙ c.in_ok-file.ensures.same.disk) refl (good_none now) (later_refl now)
+
+pub returns-clause-moments : goal.returns-clause-moments
+returns-clause-moments c =
+    stays_safe c.args.self.now c.in_ok-emptied.field-0 c.in-Open.held c.in_ok-file.file c.cancel.new.self c.args.slot Good c.in-Open.is c.in_ok-emptied.ensures.is_device
+    (λ well. c.in_ok-file.ensures.same.disk) (λ number bad. absurd (let e : Good ≡ Fail number = bad in cc)) c.in_ok-file.ensures.keeps Cancel (λ file. refl) c.cancel.ensures.safe

@@ -7,6 +7,7 @@ use Rattle.mw_world_file.specs.declared.places.Place.TheVariants.{Prepared as Ke
 use Rattle.mw_world_file.specs.Working.{may_end}
 use Rattle.mw_world_file.proofs.WorkedFiles.{none_empty, place_within, kept_after, prepare_done, prepare_broken, refused}
 use Rattle.mw_world_file.proofs.CalledDisks.{came_to_fault}
+use Rattle.mw_world_file.proofs.CrashedFiles.{stays_safe}
 use Rattle.mw_world_file.proofs.kept.Book.prepare.Goals as goal
 
 pub returns-then-not-has_place-clause-works : goal.returns-then-not-has_place-clause-works
@@ -51,3 +52,13 @@ returns-in_ok-broken-in-Fail-clause-disk c =
     came_to_fault c.args.self.now c.in_ok-broken-in-Fail.field-0 c.in-Open.held c.in_ok-file.file c.prepare-made.new.self Prepare c.args.slot 2 c.in-Fail.field-0 c.args.outcome c.prepare-made.result c.in-Open.is
     c.in_ok-broken-in-Fail.ensures.is_device c.requires.sound c.in-Fail.is (c.in_ok-file.ensures.failing c.in-Fail.field-0 c.in-Fail.is) (λ j. c.in_ok-file.ensures.plan c.in-Fail.field-0 j c.in-Fail.is)
     c.in_ok-file.ensures.failed refl (sym c.is_ok.ensures.value ∙ c.if-is_ok.false) c.prepare-made.ensures.ends (omega (arith, c.refused.ensures, c.refused-else-is_ok.ensures, c.if-refused.false)) c.prepare-made.ensures.later
+
+pub returns-in_ok-prepared-in-Ok-clause-moments : goal.returns-in_ok-prepared-in-Ok-clause-moments
+returns-in_ok-prepared-in-Ok-clause-moments c =
+    stays_safe c.args.self.now c.in_ok-prepared-in-Ok.field-0 c.in-Open.held c.in_ok-file.file c.prepare-made.new.self c.args.slot c.args.outcome c.in-Open.is c.in_ok-prepared-in-Ok.ensures.is_device
+    c.in_ok-file.ensures.disk c.in_ok-file.ensures.failing c.in_ok-file.ensures.keeps Prepare (λ file. refl) c.prepare-made.ensures.safe
+
+pub returns-in_ok-broken-in-Fail-clause-moments : goal.returns-in_ok-broken-in-Fail-clause-moments
+returns-in_ok-broken-in-Fail-clause-moments c =
+    stays_safe c.args.self.now c.in_ok-broken-in-Fail.field-0 c.in-Open.held c.in_ok-file.file c.prepare-made.new.self c.args.slot c.args.outcome c.in-Open.is c.in_ok-broken-in-Fail.ensures.is_device
+    c.in_ok-file.ensures.disk c.in_ok-file.ensures.failing c.in_ok-file.ensures.keeps Prepare (λ file. refl) c.prepare-made.ensures.safe

@@ -6,6 +6,7 @@ use Rattle.mw_world_file.proofs.WorkedFiles.{is_at, IsAt, unfailed_open}
 use Rattle.mw_world_file.proofs.SealedFiles.{all_clear, not_apart, may_seal_it, sealed_kept, sealed_sized, seal_done, seal_broken}
 use Rattle.mw_look.specs.declared.steps.Call.TheVariants.{Seal}
 use Rattle.mw_world_file.proofs.CalledDisks.{came_to_fault}
+use Rattle.mw_world_file.proofs.CrashedFiles.{seal_safe}
 use Rattle.mw_file.specs.File.{has_failed, ended_well, went_well}
 use Rattle.mw_disk.specs.Memory.{memory_facts}
 use Rattle.mw_world_file.proofs.kept.Book.seal.Goals as goal
@@ -81,3 +82,25 @@ returns-in_ok-broken-in-Fail-clause-disk c =
     came_to_fault c.args.self.now c.in_ok-broken-in-Fail.field-0 c.in-Open.held c.in_ok-file.file c.seal-made.new.self Seal c.args.slot 2 c.in-Fail.field-0 c.args.outcome c.seal-made.result c.in-Open.is
     c.in_ok-broken-in-Fail.ensures.is_device c.requires c.in-Fail.is (c.in_ok-file.ensures.failing c.in-Fail.field-0 c.in-Fail.is) (λ j. c.in_ok-file.ensures.plan c.in-Fail.field-0 j c.in-Fail.is)
     c.in_ok-file.ensures.failed refl (sym c.is_ok.ensures.value ∙ c.if-is_ok.false) c.seal-made.ensures.ends (omega (arith, c.refused.ensures, c.refused-else-is_ok.ensures, c.if-refused.false)) c.seal-made.ensures.later
+
+pub returns-in_ok-with_place-in-Good-clause-moments : goal.returns-in_ok-with_place-in-Good-clause-moments
+returns-in_ok-with_place-in-Good-clause-moments c =
+    let old = c.args.self.now in let es = c.in-Some-Prepared.entries in
+    let at : IsAt old c.args.slot (get_or old.place_of c.args.slot 0) (KeptPrepared es) =
+    is_at old c.args.slot (KeptPrepared es) c.in-Some-Prepared.field-0.now c.deref.result.now c.in-Some-Prepared.field-0-is c.in-Some-Prepared.ensures.lookup.0 c.in-Some-Prepared.ensures.lookup.1
+    c.deref.ensures.value (omega (arith, c.ranges.slot.fits)) in
+    let unfailed : has_failed c.in_ok-file.file ≡ false = c.in_ok-file.ensures.failed ∙ unfailed_open old c.in-Open.held c.in-Open.is c.requires in
+    seal_safe old c.in_ok-with_place-in-Good.field-0 c.in-Open.held c.in_ok-file.file c.seal-made.new.self c.args.slot c.args.outcome c.in-Open.is c.in_ok-with_place-in-Good.ensures.is_device
+    c.in_ok-file.ensures.disk c.in_ok-file.ensures.failing c.in_ok-file.ensures.keeps (get_or old.place_of c.args.slot 0) es at c.in_ok-file.ensures.states c.seal-made.result unfailed 2
+    c.seal-made.ensures.ends c.seal-made.ensures.safe
+
+pub returns-in_ok-broken-in-Fail-clause-moments : goal.returns-in_ok-broken-in-Fail-clause-moments
+returns-in_ok-broken-in-Fail-clause-moments c =
+    let old = c.args.self.now in let es = c.in-Some-Prepared.entries in
+    let at : IsAt old c.args.slot (get_or old.place_of c.args.slot 0) (KeptPrepared es) =
+    is_at old c.args.slot (KeptPrepared es) c.in-Some-Prepared.field-0.now c.deref.result.now c.in-Some-Prepared.field-0-is c.in-Some-Prepared.ensures.lookup.0 c.in-Some-Prepared.ensures.lookup.1
+    c.deref.ensures.value (omega (arith, c.ranges.slot.fits)) in
+    let unfailed : has_failed c.in_ok-file.file ≡ false = c.in_ok-file.ensures.failed ∙ unfailed_open old c.in-Open.held c.in-Open.is c.requires in
+    seal_safe old c.in_ok-broken-in-Fail.field-0 c.in-Open.held c.in_ok-file.file c.seal-made.new.self c.args.slot c.args.outcome c.in-Open.is c.in_ok-broken-in-Fail.ensures.is_device
+    c.in_ok-file.ensures.disk c.in_ok-file.ensures.failing c.in_ok-file.ensures.keeps (get_or old.place_of c.args.slot 0) es at c.in_ok-file.ensures.states c.seal-made.result unfailed 2
+    c.seal-made.ensures.ends c.seal-made.ensures.safe

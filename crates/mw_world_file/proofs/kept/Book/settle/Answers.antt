@@ -9,6 +9,7 @@ use Rattle.mw_world_file.specs.Calls.{device_calls}
 use Rattle.mw_world_file.specs.Working.{may_end}
 use Rattle.mw_world_file.proofs.WorkedFiles.{is_at, IsAt}
 use Rattle.mw_world_file.proofs.CalledDisks.{came_well, came_to_fault}
+use Rattle.mw_world_file.proofs.CrashedFiles.{stays_safe}
 use Rattle.mw_world_file.proofs.SealedFiles.{is_sealed_in, sealed_writes, emptied_kept, settle_done, settle_broken}
 use Rattle.mw_world_file.proofs.kept.Book.settle.Goals as goal
 
@@ -74,3 +75,13 @@ returns-in_ok-broken-in-Fail-clause-disk c =
     came_to_fault old c.in_ok-broken-in-Fail.field-0 c.in-Open.held c.in_ok-file.file c.settle-made.new.self Settle c.args.slot _ c.in-Fail.field-0 c.args.outcome c.settle-made.result c.in-Open.is
     c.in_ok-broken-in-Fail.ensures.is_device c.requires c.in-Fail.is (c.in_ok-file.ensures.failing c.in-Fail.field-0 c.in-Fail.is) (λ j. c.in_ok-file.ensures.plan c.in-Fail.field-0 j c.in-Fail.is)
     c.in_ok-file.ensures.failed calls (sym c.is_ok.ensures.value ∙ c.if-is_ok.false) c.settle-made.ensures.ends (omega (arith, c.refused.ensures, c.refused-else-is_ok.ensures, c.if-refused.false)) c.settle-made.ensures.later
+
+pub returns-in_ok-emptied-in-Good-clause-moments : goal.returns-in_ok-emptied-in-Good-clause-moments
+returns-in_ok-emptied-in-Good-clause-moments c =
+    stays_safe c.args.self.now c.in_ok-emptied-in-Good.field-0 c.in-Open.held c.in_ok-file.file c.settle-made.new.self c.args.slot c.args.outcome c.in-Open.is c.in_ok-emptied-in-Good.ensures.is_device
+    c.in_ok-file.ensures.disk c.in_ok-file.ensures.failing c.in_ok-file.ensures.keeps Settle (λ file. refl) c.settle-made.ensures.safe
+
+pub returns-in_ok-broken-in-Fail-clause-moments : goal.returns-in_ok-broken-in-Fail-clause-moments
+returns-in_ok-broken-in-Fail-clause-moments c =
+    stays_safe c.args.self.now c.in_ok-broken-in-Fail.field-0 c.in-Open.held c.in_ok-file.file c.settle-made.new.self c.args.slot c.args.outcome c.in-Open.is c.in_ok-broken-in-Fail.ensures.is_device
+    c.in_ok-file.ensures.disk c.in_ok-file.ensures.failing c.in_ok-file.ensures.keeps Settle (λ file. refl) c.settle-made.ensures.safe

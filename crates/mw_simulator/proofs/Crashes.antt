@@ -1,0 +1,152 @@
+-- What a crash in the midst of a call on a tenant's file leaves of the file.
+use Rattle.std.specs.Prelude.{ℕ, ◌≡◌, ◌==◌, ◌&&◌, not, nat_le, Bool, true, false, if◌then◌else◌, List, length, slice_get, Option, Some, None, OnOk, Result, Ok, Err}
+use Rattle.std.specs.Option.{option_map}
+use Rattle.std.proofs.Common.{refl, sym, ap, subst, ◌∙◌, inl, inr, arith}
+use Rattle.std.proofs.lemmas.Bool.{and_from, eq-eqb, le-leb}
+use Rattle.mw_disk.specs.Memory.{memory_facts}
+use Rattle.mw_disk.specs.Runs.{LeavesOnly}
+use Rattle.mw_disk.proofs.RunLaws.{leaves_same}
+use Rattle.mw_words.specs.declared.jobs.Entry.{Entry}
+use Rattle.mw_words.specs.declared.statuses.Status.{Status}
+use Rattle.mw_look.specs.declared.steps.Call.{Call}
+use Rattle.mw_look.specs.declared.steps.Call.TheVariants.{Prepare as PrepareCall, Seal as SealCall, Settle as SettleCall, Cancel as CancelCall}
+use Rattle.mw_actor.specs.Acting.{Acting, own_entries}
+use Rattle.mw_world_file.specs.declared.kept.Book.{Book}
+use Rattle.mw_world_file.specs.declared.outcomes.Outcome.{Outcome}
+use Rattle.mw_world_file.specs.Books.{quota_of}
+use Rattle.mw_world_file.specs.Crashes.{IsFileOfEither, at_stake}
+use Rattle.mw_world_file.specs.Devices.{disk_under}
+use Rattle.mw_world_file.specs.Files.{File, entries_at}
+use Rattle.mw_world.specs.declared.config.Config.{Config}
+use Rattle.mw_world.specs.Definition.Calls.{Called, called_at, calling, calls_made, can_be_made, device_calls, ends, fails_on, place_for, starts_from}
+use Rattle.mw_world.specs.Definition.Extent.{has_slot}
+use Rattle.mw_world.specs.Definition.Restarts.{UnderWay, doubt_if, doubt_then, may_be_cut, may_interrupt, stopped_at, stopped_call, under_way}
+use Rattle.mw_world.specs.Definition.State.{State, tenant_at}
+use Rattle.mw_world.specs.Definition.Turns.{Made}
+use Rattle.mw_simulator.specs.declared.accounts.Account.{Account as AccountInMemory}
+use Rattle.mw_simulator.specs.declared.world.World.{World}
+use Rattle.mw_simulator.specs.Crashes.{IsCrashSafe, stop_in_call}
+use Rattle.mw_simulator.specs.Ending.{IsStarted, TouchesFile}
+use Rattle.mw_simulator.specs.Shows.{Shows, ShowsAccount}
+use Rattle.mw_simulator.specs.Staying.{SameBooks, book_at, served_by}
+use Rattle.mw_simulator.proofs.Images.{image_of_device}
+
+pub on_any : {T E : Type 0} {P : Type 0} (r : Result T E) → P → OnOk r P
+on_any (Ok x) is = is
+on_any (Err e) is = tt
+
+pub on_ok : {T E : Type 0} {P Q : Type 0} (r : Result T E) → (P → Q) → OnOk r P → OnOk r Q
+on_ok (Ok x) goes is = goes is
+on_ok (Err e) goes is = tt
+
+-- two that are found at one place
+pub same_some : {A : Type 0} (o : Option A) (x y : A) → o ≡ Some x → o ≡ Some y → x ≡ y
+same_some {A = A} o x y is so = same x y (sym is ∙ so)
+  where
+    same : (x y : A) → Some x ≡ Some y → x ≡ y
+    same x y e = cc
+
+-- a file in memory that is there is that of a tenant
+pub record Found (world : World) (tenant : ℕ) (book : Book) : Type 0 where
+  pub shown : AccountInMemory
+  pub is : slice_get world.accounts.items tenant ≡ Some shown
+  pub same : shown.book ≡ book
+
+pub tenant_found : (world : World) (tenant : ℕ) (book : Book) → book_at world tenant ≡ Some book → Found world tenant book
+tenant_found world tenant book at = by (slice_get world.accounts.items tenant) refl
+  where
+    by : (o : Option AccountInMemory) → slice_get world.accounts.items tenant ≡ o → Found world tenant book
+    by None none = absurd (let e : None ≡ Some book = sym (ap (λ o. option_map (λ account. account.book) o) none) ∙ at in cc)
+    by (Some shown) is = record { shown = shown; is = is; same = same_some (Some shown.book) shown.book book refl (sym (ap (λ o. option_map (λ account. account.book) o) is) ∙ at) }
+
+-- of which the world says this
+pub account_of : (world : World) (state : State) (tenant : ℕ) (book : Book) → Shows world state → (found : Found world tenant book)
+    → ShowsAccount (tenant_at world.config tenant).words found.shown (state.accounts tenant)
+account_of world state tenant book shows found = shows.accounts tenant found.shown found.is
+
+-- so many device calls are made of a call for its change to be in doubt
+abbrev made_for : Call → ℕ
+made_for SealCall = 1
+made_for call = 0
+
+stake_is : (call : Call) (file : File) (place : ℕ) → at_stake call file place ≡ doubt_if call file.doubt (made_for call) (entries_at file place)
+stake_is PrepareCall file place = refl
+stake_is SealCall file place = refl
+stake_is SettleCall file place = refl
+stake_is CancelCall file place = refl
+
+none_made : (call : Call) (doubt entries : List Entry) → doubt_if call doubt 0 entries ≡ doubt
+none_made PrepareCall doubt entries = refl
+none_made SealCall doubt entries = refl
+none_made SettleCall doubt entries = refl
+none_made CancelCall doubt entries = refl
+
+enough_made : (call : Call) (calls : ℕ) (entries : List Entry) → calls ≡ device_calls call entries → nat_le (made_for call) calls ≡ true
+enough_made PrepareCall calls entries is = le-leb 0 calls (omega arith)
+enough_made SealCall calls entries is = ap (λ n. nat_le 1 n) is
+enough_made SettleCall calls entries is = le-leb 0 calls (omega arith)
+enough_made CancelCall calls entries is = le-leb 0 calls (omega arith)
+
+-- A call that was made makes its device calls.
+module _ (config : Config) (state : State) (actor : Acting) (called : Called) (outcome : Outcome) (made : Made) (slot : has_slot config called.change.slot ≡ true)
+    (starts : starts_from called.call (state.cells.statuses called.change.slot) ≡ true) (sound : fails_on called.call (state.accounts actor.tenant).file ≡ false)
+    (is : calling config state actor called outcome ≡ Some made) where
+  abbrev file_then : File
+  file_then = (state.accounts actor.tenant).file
+
+  abbrev place_then : ℕ
+  place_then = place_for called.call file_then (state.accounts actor.tenant).quota called.change.slot
+
+  abbrev status_then : Status
+  status_then = state.cells.statuses called.change.slot
+
+  abbrev can_be : Bool
+  can_be = can_be_made called.call file_then (state.accounts actor.tenant).quota place_then (own_entries actor)
+
+  abbrev by_tests : Bool → Bool → Bool → Option Made
+  by_tests a b d = ends state actor called.change file_then a b d called.call status_then place_then (calls_made called.call status_then file_then place_then) outcome
+
+  calling_so : calling config state actor called outcome ≡ by_tests true false can_be
+  calling_so = ap (λ a. by_tests a (fails_on called.call file_then) can_be) starts ∙ ap (λ b. by_tests true b can_be) sound
+
+  could_be : (b : Bool) → can_be ≡ b → can_be ≡ true
+  could_be true e = e
+  could_be false e = absurd (let none : None ≡ Some made = sym (calling_so ∙ ap (λ d. by_tests true false d) e) ∙ is in cc)
+
+  calls_are : (many : ℕ) → (stopped_call config state actor many called).calls ≡ device_calls called.call (entries_at file_then place_then)
+  calls_are many =
+      ap (λ (b : Bool). if b && can_be then calls_made called.call status_then file_then place_then else 0) slot
+      ∙ ap (λ (b : Bool). if b then calls_made called.call status_then file_then place_then else 0) (could_be can_be refl)
+      ∙ ap (λ (b : Bool). if b && not (fails_on called.call file_then) then device_calls called.call (entries_at file_then place_then) else 0) starts
+      ∙ ap (λ (b : Bool). if not b then device_calls called.call (entries_at file_then place_then) else 0) sound
+
+-- The call to which a worker's request has come.
+module _ (config : Config) (state : State) (worker : ℕ) (actor : Acting) (called : Called) (is : Some actor ≡ (state.seats worker).actor) (at : called_at actor.point ≡ Some called) where
+  under_is : (made : ℕ) → under_way config state (stop_in_call worker made) ≡ Some (stopped_call config state actor made called)
+  under_is made = ap (λ o. stopped_at config state made o) (sym is) ∙ ap (λ o. option_map (stopped_call config state actor made) o) at
+
+  may_stop : (made : ℕ) → nat_le made (stopped_call config state actor made called).calls ≡ true → may_interrupt config state actor.tenant (stop_in_call worker made) ≡ true
+  may_stop made many =
+      ap (λ o. may_be_cut actor.tenant o) (under_is made)
+      ∙ and_from (actor.tenant == actor.tenant) (nat_le made (stopped_call config state actor made called).calls) (eq-eqb actor.tenant actor.tenant refl) many
+
+  -- whoever leaves a file of the words before, or of these with what is then in doubt
+  in_midst : (made : ℕ) (change : List Entry) (old new : Book) → nat_le made (stopped_call config state actor made called).calls ≡ true
+      → change ≡ doubt_then (state.accounts actor.tenant).file (Some (stopped_call config state actor made called))
+      → LeavesOnly (memory_facts (disk_under old.device)) (memory_facts (disk_under new.device)) (IsFileOfEither (state.accounts actor.tenant).file.contents change)
+      → IsCrashSafe config state worker actor.tenant old new
+  in_midst made change old new many same leaves = record {
+    made = made;
+    may = may_stop made many;
+    moments = subst (λ es. LeavesOnly (memory_facts (disk_under old.device)) (memory_facts (disk_under new.device)) (IsFileOfEither (state.accounts actor.tenant).file.contents es))
+        (same ∙ ap (λ o. doubt_then (state.accounts actor.tenant).file o) (sym (under_is made))) leaves;
+  }
+
+  -- the file is as it was
+  untouched_safe : (world : World) (book : Book) → Shows world state → Found world actor.tenant book → IsCrashSafe config state worker actor.tenant book book
+  untouched_safe world book shows found =
+      let one = account_of world state actor.tenant book shows found in
+      in_midst 0 (state.accounts actor.tenant).file.doubt book book (le-leb 0 (stopped_call config state actor 0 called).calls (omega arith))
+      (sym (none_made called.call (state.accounts actor.tenant).file.doubt _))
+      (leaves_same (memory_facts (disk_under book.device)) (λ image may.
+      let both : (b : Book) → b ≡ book → length found.shown.book.places.items ≡ length found.shown.book.places.items → IsFileOfEither (state.accounts actor.tenant).file.contents (state.accounts actor.tenant).file.doubt image = ? in ?))
