@@ -334,7 +334,7 @@ called_moved state worker actor made = ap at_account here ∙ ap with_accounts (
     here : upd state.accounts actor.tenant refiled_one actor.tenant ≡ refiled_one
     here = upd_here state.accounts actor.tenant actor.tenant refiled_one refl
 
-has_status : (b : Bool) (x y : Status) → Some y ≡ (if b then Some x else None) → b ≡ true
+pub has_status : (b : Bool) (x y : Status) → Some y ≡ (if b then Some x else None) → b ≡ true
 has_status true x y is = refl
 has_status false x y is = absurd (cc)
 

@@ -13,7 +13,7 @@ use Rattle.mw_look.specs.declared.steps.Call.TheVariants.{Prepare as PrepareCall
 use Rattle.mw_actor.specs.Acting.{Acting, own_entries}
 use Rattle.mw_world_file.specs.declared.kept.Book.{Book}
 use Rattle.mw_world_file.specs.declared.outcomes.Outcome.{Outcome}
-use Rattle.mw_world_file.specs.Books.{quota_of}
+use Rattle.mw_world_file.specs.Books.{Shows as ShowsFile, quota_of}
 use Rattle.mw_world_file.specs.Crashes.{IsFileOfEither, at_stake}
 use Rattle.mw_world_file.specs.Devices.{disk_under}
 use Rattle.mw_world_file.specs.Files.{File, entries_at}
@@ -144,9 +144,62 @@ module _ (config : Config) (state : State) (worker : ℕ) (actor : Acting) (call
 
   -- the file is as it was
   untouched_safe : (world : World) (book : Book) → Shows world state → Found world actor.tenant book → IsCrashSafe config state worker actor.tenant book book
-  untouched_safe world book shows found =
-      let one = account_of world state actor.tenant book shows found in
-      in_midst 0 (state.accounts actor.tenant).file.doubt book book (le-leb 0 (stopped_call config state actor 0 called).calls (omega arith))
-      (sym (none_made called.call (state.accounts actor.tenant).file.doubt _))
-      (leaves_same (memory_facts (disk_under book.device)) (λ image may.
-      let both : (b : Book) → b ≡ book → length found.shown.book.places.items ≡ length found.shown.book.places.items → IsFileOfEither (state.accounts actor.tenant).file.contents (state.accounts actor.tenant).file.doubt image = ? in ?))
+  untouched_safe world book shows found = subst (λ b. IsCrashSafe config state worker actor.tenant b b) found.same
+      (in_midst 0 file.doubt kept kept (le-leb 0 (stopped_call config state actor 0 called).calls (omega arith)) (sym (none_made called.call file.doubt _))
+      (leaves_same (memory_facts (disk_under kept.device)) (λ image may.
+      subst (λ ws. IsFileOfEither ws file.doubt image) (sym one.book.same_contents)
+      (subst (λ es. IsFileOfEither kept.contents.items es image) (sym one.book.same_doubt)
+      (image_of_device kept.device (length kept.places.items) kept.contents.items kept.doubt.items image one.book.stands may)))))
+    where
+      file : File
+      file = (state.accounts actor.tenant).file
+
+      kept : Book
+      kept = found.shown.book
+
+      one : ShowsAccount (tenant_at world.config actor.tenant).words found.shown (state.accounts actor.tenant)
+      one = account_of world state actor.tenant book shows found
+
+  -- the call was made on it
+  worked_safe : (world ended : World) (status : Status) (outcome : Outcome) (made : Made) → Shows world state → (one : IsStarted world ended actor.tenant called status)
+      → has_slot config called.change.slot ≡ true → state.cells.statuses called.change.slot ≡ status → calling config state actor called outcome ≡ Some made
+      → IsCrashSafe config state worker actor.tenant one.worked.was one.worked.now
+  worked_safe world ended status outcome made shows one slot same is_made =
+      in_midst (made_for called.call) (at_stake called.call file place) one.worked.was one.worked.now
+      (enough_made called.call _ (entries_at file place)
+      (calls_are config state actor called outcome made slot (ap (λ s. starts_from called.call s) same ∙ one.starts) (one.sound state shows) is_made (made_for called.call)))
+      (stake_is called.call file place) leaves
+    where
+      file : File
+      file = (state.accounts actor.tenant).file
+
+      place : ℕ
+      place = place_for called.call file (state.accounts actor.tenant).quota called.change.slot
+
+      found : Found world actor.tenant one.worked.was
+      found = tenant_found world actor.tenant one.worked.was one.worked.is_old
+
+      account : ShowsAccount (tenant_at world.config actor.tenant).words found.shown (state.accounts actor.tenant)
+      account = account_of world state actor.tenant one.worked.was shows found
+
+      leaves : LeavesOnly (memory_facts (disk_under one.worked.was.device)) (memory_facts (disk_under one.worked.now.device)) (IsFileOfEither file.contents (at_stake called.call file place))
+      leaves = subst (λ places. LeavesOnly (memory_facts (disk_under one.worked.was.device)) (memory_facts (disk_under one.worked.now.device))
+          (IsFileOfEither file.contents (at_stake called.call file (place_for called.call file places called.change.slot)))) (sym (ap quota_of found.same) ∙ account.places)
+          (one.worked.safe file (subst (λ b. ShowsFile b file) found.same account.book))
+
+  pub call_safe : (old world ended new : World) (status : Status) (outcome : Outcome) (made : Made) → SameBooks old world → SameBooks ended new → Shows world state
+      → TouchesFile world ended actor.tenant called status → has_slot config called.change.slot ≡ true → state.cells.statuses called.change.slot ≡ status
+      → calling config state actor called outcome ≡ Some made → served_by old worker ≡ Some actor.tenant
+      → (tenant : ℕ) (was now : Book) → served_by old worker ≡ Some tenant → book_at old tenant ≡ Some was → book_at new tenant ≡ Some now → IsCrashSafe config state worker tenant was now
+  call_safe old world ended new status outcome made first last shows touches slot same is_made serves tenant was now of_tenant =
+      subst (λ t. book_at old t ≡ Some was → book_at new t ≡ Some now → IsCrashSafe config state worker t was now) (same_some (served_by old worker) actor.tenant tenant serves of_tenant)
+      (λ is_was is_now. by touches (first actor.tenant ∙ is_was) (sym (last actor.tenant) ∙ is_now))
+    where
+      by : TouchesFile world ended actor.tenant called status → book_at world actor.tenant ≡ Some was → book_at ended actor.tenant ≡ Some now → IsCrashSafe config state worker actor.tenant was now
+      by (inl stays) is_was is_now =
+          subst (λ b. IsCrashSafe config state worker actor.tenant was b) (same_some (book_at world actor.tenant) was now is_was (sym (stays actor.tenant) ∙ is_now))
+          (untouched_safe world was shows (tenant_found world actor.tenant was is_was))
+      by (inr one) is_was is_now =
+          subst (λ b. IsCrashSafe config state worker actor.tenant b now) (same_some (book_at world actor.tenant) one.worked.was was one.worked.is_old is_was)
+          (subst (λ b. IsCrashSafe config state worker actor.tenant one.worked.was b) (same_some (book_at ended actor.tenant) one.worked.now now one.worked.is_new is_now)
+          (worked_safe world ended status outcome made shows one slot same is_made))

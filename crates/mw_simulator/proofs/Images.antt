@@ -1,26 +1,27 @@
 -- What a crash leaves of a tenant's disk, if every run serves each tenant as its store alone would.
-use Rattle.std.proofs.Common.{◌≡◌, ◌∙◌, ◌<◌, ℕ, zero, suc, List, [], ◌∷◌, length, slice_get, Some, None, refl, sym, ap, subst, inl, inr, arith}
+use Rattle.std.specs.Option.{option_map}
+use Rattle.std.proofs.Common.{◌≡◌, ◌∙◌, ◌<◌, ℕ, zero, suc, List, [], ◌∷◌, length, slice_get, Option, Some, None, refl, sym, ap, subst, inl, inr, arith}
 use Rattle.mw_words.specs.declared.jobs.Entry.{Entry}
 use Rattle.mw_disk.specs.Facts.{MayLeave}
 use Rattle.mw_disk.specs.Memory.{memory_facts}
-use Rattle.mw_record.specs.Layout.{pairs_of}
-use Rattle.mw_record.proofs.ReadAgain.{put-put_pairs}
-use Rattle.mw_file.specs.Keeps.{IsEither}
 use Rattle.mw_world_file.specs.declared.device.Device.{Device}
 use Rattle.mw_world_file.specs.declared.device.Device.TheVariants.{Open, Shut}
+use Rattle.mw_world_file.specs.Crashes.{IsFileOfEither}
 use Rattle.mw_world_file.specs.Devices.{disk_under, StandsFor}
+use Rattle.mw_world_file.proofs.CrashedFiles.{of_either}
+use Rattle.mw_world_file.specs.declared.kept.Book.{Book}
+use Rattle.mw_lone.specs.Store.{Store, entries_in_doubt}
 use Rattle.mw_world.specs.Claim.Headline.{EveryRunServesAlone}
+use Rattle.mw_world.specs.Definition.Restarts.{interrupted_request, under_way}
 use Rattle.mw_world.specs.Definition.State.{tenants_of}
 use Rattle.mw_simulator.specs.declared.accounts.Account.{Account as AccountInMemory}
-use Rattle.mw_simulator.specs.Images.{EveryImageIsOfStore, IsFileOfEither}
+use Rattle.mw_simulator.specs.Crashes.{IsCrashSafe, stop_in_call}
+use Rattle.mw_simulator.specs.Images.{EveryImageAtRestIsOfStore, EveryImageInACallIsOfStore, EveryImageIsOfStore}
 
 -- what an image of a device is, of a file of these words with this change in doubt
-image_of_device : (device : Device) (places : ℕ) (words : List ℕ) (doubt : List Entry) (image : List ℕ) → StandsFor device places words doubt → MayLeave (memory_facts (disk_under device)) image
+pub image_of_device : (device : Device) (places : ℕ) (words : List ℕ) (doubt : List Entry) (image : List ℕ) → StandsFor device places words doubt → MayLeave (memory_facts (disk_under device)) image
     → IsFileOfEither words doubt image
-image_of_device (Open file) places words doubt image stands may = of_either (stands.left image may) where
-  of_either : {n : ℕ} → IsEither n words (pairs_of doubt) image → IsFileOfEither words doubt image
-  of_either (inl is) = inl is.words_are
-  of_either (inr is) = inr (is.words_are ∙ ap Some (sym (put-put_pairs doubt words)))
+image_of_device (Open file) places words doubt image stands may = of_either _ words doubt image (stands.left image may)
 image_of_device (Shut disk) places words doubt image stands may = inl (stands.1 image may).words_are
 
 -- which tenants there are in memory
@@ -30,8 +31,8 @@ there (account ∷ accounts) zero shown is = omega arith
 there (account ∷ accounts) (suc tenant) shown is = let lt = there accounts tenant shown is in omega (arith, lt)
 
 -- the disk of a tenant in memory leaves the store's words
-pub images_of_store : EveryRunServesAlone → EveryImageIsOfStore
-images_of_store serves config openings events state world tenant shown store image is same_config shows is_shown legal may =
+images_at_rest : EveryRunServesAlone → EveryImageAtRestIsOfStore
+images_at_rest serves config openings events state world tenant shown store image is same_config shows is_shown legal may =
     let lt = there world.accounts.items tenant shown is_shown in
     let low : tenant < tenants_of config = subst (λ n. tenant < n) (world.tenants ∙ ap tenants_of same_config) lt in
     let served = serves config openings events state tenant is low in
@@ -42,3 +43,30 @@ images_of_store serves config openings events state world tenant shown store ima
     subst (λ ws. IsFileOfEither ws store.in_doubt image) words
     (subst (λ es. IsFileOfEither shown.book.contents.items es image) doubt
     (image_of_device shown.book.device (length shown.book.places.items) shown.book.contents.items shown.book.doubt.items image book.stands may))
+
+-- the same of a book
+there_at : (accounts : List AccountInMemory) (tenant : ℕ) (book : Book) → option_map (λ account. account.book) (slice_get accounts tenant) ≡ Some book → tenant < length accounts
+there_at accounts tenant book at = by (slice_get accounts tenant) refl
+  where
+    by : (o : Option AccountInMemory) → slice_get accounts tenant ≡ o → tenant < length accounts
+    by None none = absurd (let e : None ≡ Some book = sym (ap (λ o. option_map (λ account. account.book) o) none) ∙ at in cc)
+    by (Some shown) is = there accounts tenant shown is
+
+-- and so it does in the midst of a call
+images_in_a_call : EveryRunServesAlone → EveryImageInACallIsOfStore
+images_in_a_call serves config openings events state old new worker outcome tenant was now store image is same_config shows steps of_tenant is_was is_now legal left =
+    let low : tenant < tenants_of config = subst (λ n. tenant < n) (old.tenants ∙ ap tenants_of same_config) (there_at old.accounts.items tenant was is_was) in
+    let served = serves config openings events state tenant is low in
+    let same_store : served.store ≡ store = (let e : Some served.store ≡ Some store = sym served.legal ∙ legal in cc) in
+    let safe = subst (λ c. IsCrashSafe c state worker tenant was now) same_config (steps.moments state shows tenant was now of_tenant is_was is_now) in
+    let interrupted = stop_in_call worker safe.made in
+    record {
+      made = safe.made;
+      may = safe.may;
+      is = subst (λ s. IsFileOfEither s.words (entries_in_doubt s (interrupted_request (under_way config state interrupted))) image) same_store
+          (subst (λ ws. IsFileOfEither ws (entries_in_doubt served.store (interrupted_request (under_way config state interrupted))) image) served.left.words
+          (subst (λ es. IsFileOfEither (state.accounts tenant).file.contents es image) (served.left.in_doubt interrupted safe.may) (safe.moments.each image left)));
+    }
+
+pub images_of_store : EveryRunServesAlone → EveryImageIsOfStore
+images_of_store serves = record { at_rest = images_at_rest serves; in_a_call = images_in_a_call serves }

@@ -53,6 +53,13 @@ books_stay_but old new place tenant after same accounts k apart =
     ap (λ all. option_map (λ account. account.book) (slice_get all k)) accounts
     ∙ ap (λ o. option_map (λ account. account.book) o) (set_else old.accounts.items place k after (λ e. apart (e ∙ same)))
 
+-- and that is the file that it has
+pub book_here : (accounts : List AccountInMemory) (place tenant : ℕ) (after : AccountInMemory) → place ≡ tenant → tenant < length accounts
+    → option_map (λ account. account.book) (slice_get (slice_set accounts place after) tenant) ≡ Some after.book
+book_here accounts place tenant after same there =
+    ap (λ i. option_map (λ account. account.book) (slice_get (slice_set accounts i after) tenant)) same
+    ∙ ap (λ o. option_map (λ account. account.book) o) (set_here accounts tenant after there)
+
 -- no tenant was changed
 pub accounts_stay : (old new : World) → new.accounts ≡ old.accounts → SameBooks old new
 accounts_stay old new same k = ap (λ accounts. option_map (λ account. account.book) (slice_get accounts.items k)) same

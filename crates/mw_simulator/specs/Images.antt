@@ -22,8 +22,8 @@ use Rattle.mw_simulator.specs.Staying.{book_at, served_by}
 
 -- In a world in memory that shows the world after a run, no call is under way. Whatever a crash may leave then of a tenant's disk is a file of
 -- the store's words, or of these with the change in doubt put over them; where none is in doubt, as after a start, it is one of the store's words.
-abbrev pub EveryImageIsOfStore : Type 0
-EveryImageIsOfStore = (config : Config) (openings : ℕ → Opening) (events : List Happening) (state : State) (world : World) (tenant : ℕ) (shown : AccountInMemory) (store : Store) (image : List ℕ)
+abbrev pub EveryImageAtRestIsOfStore : Type 0
+EveryImageAtRestIsOfStore = (config : Config) (openings : ℕ → Opening) (events : List Happening) (state : State) (world : World) (tenant : ℕ) (shown : AccountInMemory) (store : Store) (image : List ℕ)
     → IsRun config openings events state → world.config ≡ config → Shows world state → slice_get world.accounts.items tenant ≡ Some shown → store_of openings state tenant ≡ Some store
     → MayLeave (memory_facts (disk_under shown.book.device)) image → IsFileOfEither store.words store.in_doubt image
 
@@ -43,3 +43,9 @@ EveryImageInACallIsOfStore = (config : Config) (openings : ℕ → Opening) (eve
     → IsRun config openings events state → old.config ≡ config → Shows old state → Steps old (IsFile worker outcome) new → served_by old worker ≡ Some tenant
     → book_at old tenant ≡ Some was → book_at new tenant ≡ Some now → store_of openings state tenant ≡ Some store
     → MayHaveLeft (memory_facts (disk_under now.device)) (memory_facts (disk_under was.device)).moment image → IsLeftOfStore config state worker tenant store image
+
+-- What a crash leaves of a tenant's disk is of the tenant's store alone: between events, and at each moment of a call on the file. Of the moments of a
+-- start, when files are opened, mw_world_file says it of each file (`CameOfBytes`).
+pub record EveryImageIsOfStore : Type 0 where
+  pub at_rest : EveryImageAtRestIsOfStore
+  pub in_a_call : EveryImageInACallIsOfStore

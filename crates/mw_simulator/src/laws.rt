@@ -4,7 +4,8 @@ ghost use Rattle.mw_world.specs.Claim.Headline.{EveryRunServesAlone};
 ghost use Rattle.mw_simulator.specs.Images.{EveryImageIsOfStore};
 
 /// If every run serves each tenant as its store alone would, each image that a crash may leave has the
-/// store's words, with the change in doubt or without.
+/// store's words, with the change in doubt or without; also in the midst of a call on a tenant's file, where
+/// the change in doubt is the interrupted request's or the one that was before.
 pub fn what_serving_alone_leaves()
     ensures images { EveryRunServesAlone → EveryImageIsOfStore }
 {}

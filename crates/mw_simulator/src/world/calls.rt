@@ -7,6 +7,7 @@ ghost use Rattle.mw_look.specs.declared.news.News.TheVariants.{Filed};
 ghost use Rattle.mw_actor.specs.Acting.{entries_of_job};
 ghost use Rattle.mw_world_file.specs.Files.{File};
 ghost use Rattle.mw_world_file.specs.SoundBooks.{HasSound};
+ghost use Rattle.mw_world.specs.declared.events.Event.TheVariants.{File as FileEvent};
 ghost use Rattle.mw_world.specs.Definition.Calls as calls;
 ghost use Rattle.mw_world.specs.Definition.Extent.{has_slot};
 ghost use Rattle.mw_world.specs.Definition.State.{State, tenant_at};
@@ -52,7 +53,7 @@ impl World {
             → Ends self.new state (calls.call self.old.config state worker (state.seats worker).actor outcome) result }
         ensures unchanged { OnErr result (IsUnchanged self.old self.new) }
         ensures files { (tenant : ℕ) → served_by self.old worker ≢ Some tenant → book_at self.new tenant ≡ book_at self.old tenant }
-        ensures moments { (state : State) → Shows self.old state → CrashesDoNoHarm self.old self.new state (Event.File worker outcome) result }
+        ensures moments { (state : State) → Shows self.old state → CrashesDoNoHarm self.old self.new state (FileEvent worker outcome) result }
     {
         let Some(actor) = self.actor_of(worker) else {
             return Err(WorldFault::NotEnabled);

@@ -4,7 +4,9 @@ use Rattle.mw_world.specs.Definition.Calls.{called_at, calling}
 use Rattle.mw_world.specs.Definition.Extent.{has_slot}
 use Rattle.mw_simulator.specs.Ending.{Closed, called_of}
 use Rattle.mw_simulator.specs.Stepping.{HasRoom}
-use Rattle.mw_simulator.proofs.Calling.{call_ends_well, room_if, status_is_so}
+use Rattle.mw_simulator.proofs.Calling.{call_ends_well, has_status, room_if, status_is_so}
+use Rattle.mw_simulator.proofs.Crashes.{call_safe}
+use Rattle.mw_simulator.proofs.Unchanged.{unchanged_books}
 use Rattle.mw_simulator.proofs.world.World.call.Goals as goal
 
 pub tell_file-requires-clause-room : goal.tell_file-requires-clause-room
@@ -26,3 +28,19 @@ returns-in-Ok-clause-ends c state shows =
     (c.in-Ok.ensures.ends state (c.reserve.ensures.shows state shows) same) in
     call_ends_well config state c.args.worker actor (state.seats c.args.worker).actor called status c.args.outcome (c.in-Some.ensures.shown state shows) at slot
     c.end.new.self c.tell_file.new.self c.in-Ok.ended closed (λ s shown. c.tell_file.ensures.shows s shown)
+
+pub returns-in-Ok-clause-moments : goal.returns-in-Ok-clause-moments
+returns-in-Ok-clause-moments c state shows =
+    let config = c.args.self.now.config in
+    let actor = c.in-Some.actor in
+    let called = called_of c.in-Some-called_at.called in
+    let status = c.in-Some-status.status in
+    let at = sym (c.in-Some-called_at.ensures ∙ ap (λ point. called_at point) c.point.ensures.is) in
+    let slot = c.in-Some-status.ensures.shown state shows in
+    let same = status_is_so (has_slot config called.change.slot) (state.cells.statuses called.change.slot) status slot in
+    let has = has_status (has_slot config called.change.slot) (state.cells.statuses called.change.slot) status slot in
+    let shown = c.reserve.ensures.shows state shows in
+    let closed = subst (λ config. Closed c.end.new.self state actor.tenant (calling config state actor called c.args.outcome) c.in-Ok.ended) c.reserve.ensures.config
+    (c.in-Ok.ensures.ends state shown same) in
+    call_safe config state c.args.worker actor called (c.in-Some.ensures.shown state shows) at c.args.self.now c.reserve.new.self c.end.new.self c.tell_file.new.self status c.args.outcome closed.made
+    (unchanged_books c.args.self.now c.reserve.new.self c.reserve.ensures.unchanged) c.tell_file.ensures.files shown c.in-Ok.ensures.moments has same closed.is c.in-Some.ensures.served

@@ -1,8 +1,9 @@
 -- A call does nothing, or fails on a file that failed before, or is made.
-use Rattle.std.proofs.Common.{ap, sym, subst, ◌∙◌}
+use Rattle.std.proofs.Common.{ap, inl, inr, refl, sym, subst, ◌∙◌}
 use Rattle.mw_simulator.specs.Ending.{called_of, faulted}
 use Rattle.mw_simulator.specs.Shows.{Shows}
 use Rattle.mw_simulator.specs.Stepping.{with_cells}
+use Rattle.mw_simulator.proofs.Crashes.{on_any, on_ok}
 use Rattle.mw_simulator.proofs.Calling.{call_refuses, call_skips, found_at, same_found, shown_at}
 use Rattle.mw_simulator.proofs.world.World.end.Goals as goal
 
@@ -33,3 +34,21 @@ returns-clause-ends c state shows same =
     let one = shown_at c.args.self.now state c.from.result actor.tenant c.index.result.now shows (c.from.ensures ∙ c.tenant.ensures) c.requires.tenant c.index.ensures in
     c.work.ensures.ends state shows same (sym c.starts_from.ensures ∙ c.if-not-starts_from.false)
     (sym (c.fails_on.ensures.is (state.accounts actor.tenant).file (one.book.same_failed ∙ sym c.has_failed.ensures)) ∙ c.if-fails_on.false)
+
+pub returns-then-not-starts_from-clause-moments : goal.returns-then-not-starts_from-clause-moments
+returns-then-not-starts_from-clause-moments c = on_any c.skipped.result (inl (λ tenant. refl))
+
+pub returns-then-fails_on-clause-moments : goal.returns-then-fails_on-clause-moments
+returns-then-fails_on-clause-moments c = on_any c.refuse.result (inl c.refuse.ensures.files)
+
+pub returns-clause-moments : goal.returns-clause-moments
+returns-clause-moments c =
+    let actor = c.args.actor.now in
+    on_ok c.work.result
+    (λ worked. inr (record {
+      starts = sym c.starts_from.ensures ∙ c.if-not-starts_from.false;
+      sound = λ state shows.
+          let one = shown_at c.args.self.now state c.from.result actor.tenant c.index.result.now shows (c.from.ensures ∙ c.tenant.ensures) c.requires.tenant c.index.ensures in
+          sym (c.fails_on.ensures.is (state.accounts actor.tenant).file (one.book.same_failed ∙ sym c.has_failed.ensures)) ∙ c.if-fails_on.false;
+      worked = worked;
+    })) c.work.ensures.moments

@@ -1,4 +1,6 @@
 -- A call that can be made leaves its tenant the file after it, and ends by what the device did.
+use Rattle.std.specs.Prelude.{◌≡◌, Some}
+use Rattle.std.specs.Option.{option_map}
 use Rattle.std.proofs.Common.{refl, ap, subst, sym, ◌∙◌, true, false, Ok, Err}
 use Rattle.mw_actor.specs.Acting.{entries_of_job, own_entries}
 use Rattle.mw_world_file.specs.Files.{File}
@@ -8,6 +10,7 @@ use Rattle.mw_world_file.specs.SoundBooks.{sound_after}
 use Rattle.mw_world.specs.Definition.State.{tenant_at}
 use Rattle.mw_simulator.specs.Ending.{IsBookOf, called_of, cells_closed}
 use Rattle.mw_simulator.specs.Shows.{Shows}
+use Rattle.mw_simulator.specs.Staying.{book_at}
 use Rattle.mw_simulator.specs.Stepping.{with_cells, with_file}
 use Rattle.mw_simulator.proofs.Calling.{both_same, call_fails, call_unformed, call_works, formed_is, found_at, shown_at, why_failed}
 use Rattle.mw_simulator.proofs.world.World.work.Goals as goal
@@ -67,3 +70,16 @@ returns-clause-ends c state shows same starts fails =
 
 pub returns-clause-rest : goal.returns-clause-rest
 returns-clause-rest c = both_same c.args.self.now c.file.new.self c.close.new.self c.file.ensures.rest c.close.ensures.rest
+
+pub returns-clause-moments : goal.returns-clause-moments
+returns-clause-moments c =
+    let tenant = c.args.actor.now.tenant in
+    let shown = c.index-2.result.now in
+    let here = found_at c.args.self.now.accounts.items c.from-tenant.result tenant shown (c.from-tenant.ensures ∙ c.tenant.ensures) c.requires.tenant c.index-2.ensures in
+    record {
+      was = shown.book;
+      now = c.in-Ok.book;
+      is_old = ap (λ o. option_map (λ account. account.book) o) here;
+      is_new = c.close.ensures.files tenant ∙ subst (λ t. book_at c.file.new.self t ≡ Some c.in-Ok.book) c.tenant-2.ensures c.file.ensures.is;
+      safe = c.in-Ok.ensures.moments;
+    }
