@@ -20,7 +20,7 @@ use Rattle.mw_world_file.specs.Files.{File, entries_at}
 use Rattle.mw_world.specs.declared.config.Config.{Config}
 use Rattle.mw_world.specs.Definition.Calls.{Called, called_at, calling, calls_made, can_be_made, device_calls, ends, fails_on, place_for, starts_from}
 use Rattle.mw_world.specs.Definition.Extent.{has_slot}
-use Rattle.mw_world.specs.Definition.Restarts.{UnderWay, doubt_if, doubt_then, may_be_cut, may_interrupt, stopped_at, stopped_call, under_way}
+use Rattle.mw_world.specs.Definition.Restarts.{doubt_if, doubt_then, may_be_cut, may_interrupt, stopped_at, stopped_call, under_way}
 use Rattle.mw_world.specs.Definition.State.{State, tenant_at}
 use Rattle.mw_world.specs.Definition.Turns.{Made}
 use Rattle.mw_simulator.specs.declared.accounts.Account.{Account as AccountInMemory}

@@ -1,6 +1,6 @@
 -- What a crash leaves of a tenant's disk, if every run serves each tenant as its store alone would.
 use Rattle.std.specs.Option.{option_map}
-use Rattle.std.proofs.Common.{◌≡◌, ◌∙◌, ◌<◌, ℕ, zero, suc, List, [], ◌∷◌, length, slice_get, Option, Some, None, refl, sym, ap, subst, inl, inr, arith}
+use Rattle.std.proofs.Common.{◌≡◌, ◌∙◌, ◌<◌, ℕ, zero, suc, List, [], ◌∷◌, length, slice_get, Option, Some, None, refl, sym, ap, subst, inl, arith}
 use Rattle.mw_words.specs.declared.jobs.Entry.{Entry}
 use Rattle.mw_disk.specs.Facts.{MayLeave}
 use Rattle.mw_disk.specs.Memory.{memory_facts}
@@ -10,7 +10,7 @@ use Rattle.mw_world_file.specs.Crashes.{IsFileOfEither}
 use Rattle.mw_world_file.specs.Devices.{disk_under, StandsFor}
 use Rattle.mw_world_file.proofs.CrashedFiles.{of_either}
 use Rattle.mw_world_file.specs.declared.kept.Book.{Book}
-use Rattle.mw_lone.specs.Store.{Store, entries_in_doubt}
+use Rattle.mw_lone.specs.Store.{entries_in_doubt}
 use Rattle.mw_world.specs.Claim.Headline.{EveryRunServesAlone}
 use Rattle.mw_world.specs.Definition.Restarts.{interrupted_request, under_way}
 use Rattle.mw_world.specs.Definition.State.{tenants_of}
