@@ -5,11 +5,5 @@
 mod player;
 mod replaying;
 
+pub use player::{Halt, Player};
 pub use replaying::{replay, replay_args};
-
-#[cfg(test)]
-mod line_tests;
-#[cfg(test)]
-mod replay_tests;
-#[cfg(test)]
-mod schedule_tests;

@@ -110,8 +110,9 @@ impl<'a, W: Write> Player<'a, W> {
         Ok(())
     }
 
-    // The worker makes steps, at most so many, until its next one is of this kind.
-    pub(crate) fn go_before(&mut self, worker: u8, kind: StepKind, most: u32) -> Result<(), Halt> {
+    /// The worker makes steps, at most so many, until its next one is of this kind. Where it halts, the
+    /// steps before stay made.
+    pub fn go_before(&mut self, worker: u8, kind: StepKind, most: u32) -> Result<(), Halt> {
         for _ in 0..most {
             if self.next_kind(worker)? == kind {
                 return Ok(());
@@ -210,8 +211,10 @@ impl<'a, W: Write> Player<'a, W> {
     }
 
     fn happen(&mut self, event: Event) -> Result<(), Halt> {
-        self.world.step(event)?;
-        Ok(())
+        match self.world.step(event) {
+            Ok(()) => Ok(()),
+            Err(fault) => Err(Halt::from(fault)),
+        }
     }
 
     // The request of a worker. None of a worker that isn't there, or has no request, can go on.

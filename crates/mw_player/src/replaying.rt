@@ -162,18 +162,24 @@ fn play_file<R: Files + AllocGlobal, O: Write>(
 }
 
 fn command<'a>(alloc: Global) -> Result<Command<'a>, clap::Error> {
-    let trace = Arg::new(alloc, "trace")
+    let command = Command::new(alloc, "mwreplay").about(
+        "Plays a schedule, and prints the replies.",
+    );
+    let command = command.arg(trace_option(alloc))?;
+    Ok(command.arg(schedule_path(alloc))?)
+}
+
+fn trace_option<'a>(alloc: Global) -> Arg<'a> {
+    Arg::new(alloc, "trace")
         .long("trace")
         .action(ArgAction::SetTrue)
-        .help("also prints each claim of a slot that is won");
-    let path = Arg::new(alloc, "FILE")
+        .help("also prints each claim of a slot that is won")
+}
+
+fn schedule_path<'a>(alloc: Global) -> Arg<'a> {
+    Arg::new(alloc, "FILE")
         .required(true)
-        .help("the schedule to play");
-    let command = Command::new(alloc, "mwreplay")
-        .about("Plays a schedule, and prints the replies.")
-        .arg(trace)?
-        .arg(path)?;
-    Ok(command)
+        .help("the schedule to play")
 }
 
 fn play<I: Read, O: Write>(

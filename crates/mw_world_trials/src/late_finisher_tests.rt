@@ -149,19 +149,31 @@ fn late_plant(alloc: Global) -> Result<Vec<Event>, TrialFault> {
         world: World::new(alloc, world_of_three())?,
         events: Vec::new(alloc),
     };
+    come_to_a_plant(&mut plan)?;
+    finish_for_another(&mut plan)?;
+    plant_late(&mut plan)?;
+    Ok(plan.events)
+}
+
+fn come_to_a_plant(plan: &mut Plan) -> Result<(), TrialFault> {
     plan.come(0, change_both())?;
     plan.to(0, Kind::Resolve)?;
     plan.come(2, change(0, 0, 9))?;
-    plan.before(2, Kind::Plant)?;
+    plan.before(2, Kind::Plant)
+}
+
+fn finish_for_another(plan: &mut Plan) -> Result<(), TrialFault> {
     plan.before(0, Kind::Resolve)?;
     plan.come(1, change(1, 1, 0))?;
-    plan.end(1)?;
+    plan.end(1)
+}
+
+fn plant_late(plan: &mut Plan) -> Result<(), TrialFault> {
     plan.to(2, Kind::Plant)?;
     plan.end(0)?;
     plan.end(2)?;
     plan.come(1, Job::Get(1))?;
-    plan.end(1)?;
-    Ok(plan.events)
+    plan.end(1)
 }
 
 /// The replies that a store alone hands out for a tenant's marks.

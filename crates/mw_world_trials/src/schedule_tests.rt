@@ -37,201 +37,237 @@ fn line_fault(alloc: Global, line: &[u8]) -> Result<Option<ScheduleFault>, Alloc
     fault_behind(alloc, HEAD, &whole)
 }
 
+/// Lines that are right behind [`HEAD`].
+const RIGHT_LINES: &str = "\
+come 0 t GET 0
+come 63 t GET 1
+come 1 u-1 GET 4095
+come 1 t CAS 0:0:1
+come 1 t CAS 0:0:281474976710655 1:281474976710655:0
+come 1 u-1 CAS 0:0:1 1:0:1 2:0:1 3:0:1 4:0:1 5:0:1 6:0:1 4095:0:1
+step 0
+step 63
+file 0 good
+file 0 0
+file 1 5
+file 1 18446744073709551616
+before 0 load
+to 63 cancel
+end 0
+end 63
+restart
+restart t=-,-,
+restart t=-,-,00
+restart t=0,1,a5
+restart t=63,0,0123456789abcdef
+restart t=0,2,ffff,4
+restart t=0,2,,0
+restart t=-,-,,99999999999999999999999999
+restart t=0,99999999999999999999999999,
+restart u-1=-,-,
+restart t=-,-, u-1=1,3,ff,2";
+
 #[test]
 fn lines_that_are_right(rt: HostRuntime) -> Result<(), Fail> {
-    let lines: [&[u8]; 27] = [
-        b"come 0 t GET 0",
-        b"come 63 t GET 1",
-        b"come 1 u-1 GET 4095",
-        b"come 1 t CAS 0:0:1",
-        b"come 1 t CAS 0:0:281474976710655 1:281474976710655:0",
-        b"come 1 u-1 CAS 0:0:1 1:0:1 2:0:1 3:0:1 4:0:1 5:0:1 6:0:1 4095:0:1",
-        b"step 0",
-        b"step 63",
-        b"file 0 good",
-        b"file 0 0",
-        b"file 1 5",
-        b"file 1 18446744073709551616",
-        b"before 0 load",
-        b"to 63 cancel",
-        b"end 0",
-        b"end 63",
-        b"restart",
-        b"restart t=-,-,",
-        b"restart t=-,-,00",
-        b"restart t=0,1,a5",
-        b"restart t=63,0,0123456789abcdef",
-        b"restart t=0,2,ffff,4",
-        b"restart t=0,2,,0",
-        b"restart t=-,-,,99999999999999999999999999",
-        b"restart t=0,99999999999999999999999999,",
-        b"restart u-1=-,-,",
-        b"restart t=-,-, u-1=1,3,ff,2",
-    ];
-    for line in lines {
-        assert_eq!(rt; line_fault(rt.alloc(), line)?, None, "{line:?}");
+    for line in RIGHT_LINES.split('\n') {
+        let fault = line_fault(rt.alloc(), line.as_bytes())?;
+        assert_eq!(rt; fault, None, "{line}");
     }
     Ok(())
 }
+
+/// Lines that are wrong behind [`HEAD`].
+const WRONG_LINES: &str = "\
+step 0\r
+
+ step 0
+Step 0
+steps 0
+step
+step\t0
+step  0
+step 00
+step 01
+step -1
+step +1
+step t
+step 64
+step 18446744073709551616
+step 0 0
+step 0\x20
+end
+end 64
+end 0 t
+go 0
+come 0
+come 0 t
+come 0 t\x20
+come 64 t GET 0
+come 0 v GET 0
+come 0 T GET 0
+come 0  GET 0
+come 0 t get 0
+come 0 t GET
+come 0 t GET 2
+come 0 t GET 00
+come 0 t GET 0\x20
+come 0 u-1 GET 4096
+come 0 t CAS
+come 0 t CAS 0:0
+come 0 t CAS 2:0:1
+come 0 t CAS 1:0:1 0:0:1
+come 0 t CAS 0:0:1 0:0:1
+come 0 t CAS 0:0:281474976710656
+come 0 t CAS 0:281474976710656:0
+come 0 u-1 CAS 0:0:1 1:0:1 2:0:1 3:0:1 4:0:1 5:0:1 6:0:1 7:0:1 8:0:1
+come 0 t REPORT
+come 0 t QUIT
+come 0 t TENANT t
+file 0
+file 64 good
+file 0 bad
+file 0 Good
+file 0 good\x20
+file 0 01
+file 0 -1
+before 0
+before 64 load
+before 0 loads
+before 0 ready
+before 0 fault
+before 0 decide
+before 0 Seal
+to 0
+to 0 plant\x20
+to t plant
+restart\x20
+restart t
+restart t=
+restart t=-
+restart t=-,-
+restart t=-,0,
+restart t=0,-,
+restart t=64,0,
+restart t=0,01,
+restart t=0,0,0
+restart t=0,0,0g
+restart t=0,0,A5
+restart t=0,0,a5,
+restart t=0,0,a5,01
+restart t=0,0,a5,1,1
+restart t=0,0,a5,-
+restart v=-,-,
+restart =-,-,
+restart t=-,-,  u-1=-,-,
+restart t=-,-,\x20
+restart t=-,-, t=-,-,
+restart t=-,-,,1 u-1=-,-, t=-,-,
+restartt=-,-,
+pool 33
+workers 2
+seq 7
+tenant v 1 1";
 
 #[test]
 fn lines_that_are_wrong(rt: HostRuntime) -> Result<(), Fail> {
-    let lines: [&[u8]; 89] = [
-        b"",
-        b" step 0",
-        b"step 0\r",
-        b"Step 0",
-        b"steps 0",
-        b"step",
-        b"step\t0",
-        b"step  0",
-        b"step 00",
-        b"step 01",
-        b"step -1",
-        b"step +1",
-        b"step t",
-        b"step 64",
-        b"step 18446744073709551616",
-        b"step 0 0",
-        b"step 0 ",
-        b"end",
-        b"end 64",
-        b"end 0 t",
-        b"go 0",
-        b"come 0",
-        b"come 0 t",
-        b"come 0 t ",
-        b"come 64 t GET 0",
-        b"come 0 v GET 0",
-        b"come 0 T GET 0",
-        b"come 0  GET 0",
-        b"come 0 t get 0",
-        b"come 0 t GET",
-        b"come 0 t GET 2",
-        b"come 0 t GET 00",
-        b"come 0 t GET 0 ",
-        b"come 0 u-1 GET 4096",
-        b"come 0 t CAS",
-        b"come 0 t CAS 0:0",
-        b"come 0 t CAS 2:0:1",
-        b"come 0 t CAS 1:0:1 0:0:1",
-        b"come 0 t CAS 0:0:1 0:0:1",
-        b"come 0 t CAS 0:0:281474976710656",
-        b"come 0 t CAS 0:281474976710656:0",
-        b"come 0 u-1 CAS 0:0:1 1:0:1 2:0:1 3:0:1 4:0:1 5:0:1 6:0:1 7:0:1 8:0:1",
-        b"come 0 t REPORT",
-        b"come 0 t QUIT",
-        b"come 0 t TENANT t",
-        b"file 0",
-        b"file 64 good",
-        b"file 0 bad",
-        b"file 0 Good",
-        b"file 0 good ",
-        b"file 0 01",
-        b"file 0 -1",
-        b"before 0",
-        b"before 64 load",
-        b"before 0 loads",
-        b"before 0 ready",
-        b"before 0 fault",
-        b"before 0 decide",
-        b"before 0 Seal",
-        b"to 0",
-        b"to 0 plant ",
-        b"to t plant",
-        b"restart ",
-        b"restart t",
-        b"restart t=",
-        b"restart t=-",
-        b"restart t=-,-",
-        b"restart t=-,0,",
-        b"restart t=0,-,",
-        b"restart t=64,0,",
-        b"restart t=0,01,",
-        b"restart t=0,0,0",
-        b"restart t=0,0,0g",
-        b"restart t=0,0,A5",
-        b"restart t=0,0,a5,",
-        b"restart t=0,0,a5,01",
-        b"restart t=0,0,a5,1,1",
-        b"restart t=0,0,a5,-",
-        b"restart v=-,-,",
-        b"restart =-,-,",
-        b"restart t=-,-,  u-1=-,-,",
-        b"restart t=-,-, ",
-        b"restart t=-,-, t=-,-,",
-        b"restart t=-,-,,1 u-1=-,-, t=-,-,",
-        b"restartt=-,-,",
-        b"pool 33",
-        b"workers 2",
-        b"seq 7",
-        b"tenant v 1 1",
-    ];
     let wrong = Some(ScheduleFault::Wrong(6));
-    for line in lines {
-        assert_eq!(rt; line_fault(rt.alloc(), line)?, wrong, "{line:?}");
+    for line in WRONG_LINES.split('\n') {
+        let fault = line_fault(rt.alloc(), line.as_bytes())?;
+        assert_eq!(rt; fault, wrong, "{line}");
     }
     Ok(())
 }
 
-#[test]
-fn first_lines_that_are_wrong(rt: HostRuntime) {
-    let cases: [(&[u8], u64); 44] = [
-        (b"", 1),
-        (b"\n", 1),
-        (b"pool 1", 1),
-        (b"pool 0\n", 1),
-        (b"pool 257\n", 1),
-        (b"pool 01\n", 1),
-        (b"pool\n", 1),
-        (b"pool 1 \n", 1),
-        (b"pool 1\r\n", 1),
-        (b"workers 1\npool 1\n", 1),
-        (b"# pool\npool 1\n", 1),
-        (b"pool 1\n", 2),
-        (b"pool 1\npool 1\n", 2),
-        (b"pool 1\nworkers 0\n", 2),
-        (b"pool 1\nworkers 65\n", 2),
-        (b"pool 1\ntenant t 1 1\n", 2),
-        (b"pool 1\nworkers 1", 2),
-        (b"pool 1\nworkers 1\n", 3),
-        (b"pool 1\nworkers 1\nstep 0\n", 3),
-        (b"pool 1\nworkers 1\nseq 281474976710655\ntenant t 1 1\n", 3),
-        (b"pool 1\nworkers 1\nseq 0\n", 4),
-        (b"pool 1\nworkers 1\nseq 0\nseq 0\ntenant t 1 1\n", 4),
-        (b"pool 1\nworkers 1\nseq 0\nend 0\n", 4),
-        (b"pool 1\nworkers 1\ntenant t 1 1", 3),
-        (b"pool 1\nworkers 1\ntenant t 0 1\n", 3),
-        (b"pool 1\nworkers 1\ntenant t 4097 1\n", 3),
-        (b"pool 1\nworkers 1\ntenant t 65537 1\n", 3),
-        (b"pool 1\nworkers 1\ntenant t 1 0\n", 3),
-        (b"pool 1\nworkers 1\ntenant t 1 2\n", 3),
-        (b"pool 256\nworkers 1\ntenant t 1 33\n", 3),
-        (b"pool 256\nworkers 1\ntenant t 1 257\n", 3),
-        (b"pool 1\nworkers 1\ntenant T 1 1\n", 3),
-        (b"pool 1\nworkers 1\ntenant abcdefghijklmnopq 1 1\n", 3),
-        (b"pool 1\nworkers 1\ntenant t 1\n", 3),
-        (b"pool 1\nworkers 1\ntenant t 1 1 t.mw\n", 3),
-        (b"pool 1\nworkers 1\ntenant t 01 1\n", 3),
-        (b"pool 1\nworkers 1\ntenant  1 1\n", 3),
-        (b"pool 2\nworkers 1\ntenant t 1 1\ntenant t 1 1\n", 4),
-        (b"pool 2\nworkers 1\ntenant t 1 1\ntenant u 1 2\n", 4),
-        (
-            b"pool 2\nworkers 1\ntenant t 1 1\nstep 0\ntenant u 1 1\n",
-            5,
-        ),
-        (b"pool 1\nworkers 1\ntenant t 1 1\nseq 0\n", 4),
-        (b"pool 1\nworkers 1\ntenant t 1 1\nstep 0", 4),
-        (b"pool 1\nworkers 1\ntenant t 1 1\n\n", 4),
-        (
-            b"pool 1\nworkers 1\ntenant t 1 1\nstep 0\nstep 64\nstep\n",
-            5,
-        ),
-    ];
-    for (text, number) in cases {
-        let wrong = Some(ScheduleFault::Wrong(number));
-        assert_eq!(rt; fault_of(rt.alloc(), text), wrong, "{text:?}");
+/// The number of a line, and texts of which this is the first wrong line. A text stands in a line; `/` is
+/// where one of its own lines ends.
+const WRONG_TEXTS: [(u64, &str); 5] = [
+    (
+        1,
+        "\
+/
+pool 1
+
+pool 0/
+pool 257/
+pool 01/
+pool/
+pool 1 /
+pool 1\r/
+workers 1/pool 1/
+# pool/pool 1/",
+    ),
+    (
+        2,
+        "\
+pool 1/
+pool 1/pool 1/
+pool 1/workers 0/
+pool 1/workers 65/
+pool 1/tenant t 1 1/
+pool 1/workers 1",
+    ),
+    (
+        3,
+        "\
+pool 1/workers 1/
+pool 1/workers 1/step 0/
+pool 1/workers 1/seq 281474976710655/tenant t 1 1/
+pool 1/workers 1/tenant t 1 1
+pool 1/workers 1/tenant t 0 1/
+pool 1/workers 1/tenant t 4097 1/
+pool 1/workers 1/tenant t 65537 1/
+pool 1/workers 1/tenant t 1 0/
+pool 1/workers 1/tenant t 1 2/
+pool 256/workers 1/tenant t 1 33/
+pool 256/workers 1/tenant t 1 257/
+pool 1/workers 1/tenant T 1 1/
+pool 1/workers 1/tenant abcdefghijklmnopq 1 1/
+pool 1/workers 1/tenant t 1/
+pool 1/workers 1/tenant t 1 1 t.mw/
+pool 1/workers 1/tenant t 01 1/
+pool 1/workers 1/tenant  1 1/",
+    ),
+    (
+        4,
+        "\
+pool 1/workers 1/seq 0/
+pool 1/workers 1/seq 0/seq 0/tenant t 1 1/
+pool 1/workers 1/seq 0/end 0/
+pool 2/workers 1/tenant t 1 1/tenant t 1 1/
+pool 2/workers 1/tenant t 1 1/tenant u 1 2/
+pool 1/workers 1/tenant t 1 1/seq 0/
+pool 1/workers 1/tenant t 1 1/step 0
+pool 1/workers 1/tenant t 1 1//",
+    ),
+    (
+        5,
+        "\
+pool 2/workers 1/tenant t 1 1/step 0/tenant u 1 1/
+pool 1/workers 1/tenant t 1 1/step 0/step 64/step/",
+    ),
+];
+
+/// A text whose lines end where `/` stands.
+fn with_line_ends(alloc: Global, text: &str) -> Result<Vec<u8>, AllocError> {
+    let mut bytes = text.as_bytes().to_vec(alloc)?;
+    for byte in bytes.iter_mut() {
+        if *byte == b'/' {
+            *byte = b'\n';
+        }
     }
+    Ok(bytes)
+}
+
+#[test]
+fn first_lines_that_are_wrong(rt: HostRuntime) -> Result<(), Fail> {
+    for (number, texts) in WRONG_TEXTS {
+        let wrong = Some(ScheduleFault::Wrong(number));
+        for text in texts.split('\n') {
+            let whole = with_line_ends(rt.alloc(), text)?;
+            assert_eq!(rt; fault_of(rt.alloc(), &whole), wrong, "{text}");
+        }
+    }
+    Ok(())
 }
 
 #[test]

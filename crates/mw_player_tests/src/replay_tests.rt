@@ -3,13 +3,12 @@ use crate::line_tests::{
     HEAD, lines_without_arrival, steps_not_enabled, stops_not_enabled, workers_not_enabled,
     wrong_lines,
 };
-use crate::player::{Halt, Player};
-use crate::replaying::{replay, replay_args};
 use crate::schedule_tests::{CLAIM_LOST, SLOT_RECYCLED, of_files, of_late_workers, of_requests};
 use mw_look::Kind;
+use mw_player::{Halt, Player, replay, replay_args};
 use mw_schedule::{Command, StepKind, read_schedule};
 use std::alloc::{AllocError, Global};
-use std::io::{self, ErrorKind, Read};
+use std::io::{self, ErrorKind, Read, Write};
 use std::process::Abort;
 use std::rt::Files;
 use std::test::Fail;
@@ -196,15 +195,25 @@ fn replies_before_a_halt_stay(rt: HostRuntime) -> Result<(), Fail> {
     Ok(())
 }
 
-#[test]
-fn steps_are_counted(rt: HostRuntime) -> Result<(), Fail> {
-    let text = b"pool 1\nworkers 1\ntenant t 1 1\ncome 0 t CAS 0:0:1\n";
-    let schedule = read_schedule(rt.alloc(), text).expect(&rt, "a schedule");
-    let mut out = Vec::new(rt.alloc());
-    let mut player = Player::new(rt.alloc(), schedule.config, false, &mut out)?;
+/// A player that has played the schedule of this text.
+fn player_of<'a, R: Abort + AllocGlobal, W: Write>(
+    rt: &R,
+    text: &[u8],
+    out: &'a mut W,
+) -> Result<Player<'a, W>, Fail> {
+    let schedule = read_schedule(rt.alloc(), text).expect(rt, "a schedule");
+    let mut player = Player::new(rt.alloc(), schedule.config, false, out)?;
     for line in schedule.lines {
         assert_eq!(rt; player.obey(line.command), Ok(()));
     }
+    Ok(player)
+}
+
+#[test]
+fn steps_are_counted(rt: HostRuntime) -> Result<(), Fail> {
+    let text = b"pool 1\nworkers 1\ntenant t 1 1\ncome 0 t CAS 0:0:1\n";
+    let mut out = Vec::new(rt.alloc());
+    let mut player = player_of(&rt, text, &mut out)?;
     let admits = StepKind::Change(Kind::Admit);
     assert_eq!(rt; player.go_before(0, admits, 0), Err(Halt::DidNotArrive));
     assert_eq!(rt; player.go_before(0, admits, 1), Ok(()));

@@ -1,0 +1,9 @@
+//! Tests of the player of schedules. They stand apart from it, so that it is proved once.
+#![tactic(auto)]
+
+#[cfg(test)]
+mod line_tests;
+#[cfg(test)]
+mod replay_tests;
+#[cfg(test)]
+mod schedule_tests;
