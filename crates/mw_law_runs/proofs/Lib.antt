@@ -9,6 +9,7 @@ pub mod Lawful
 pub mod Numbers
 pub mod Others
 pub mod Owed
+pub mod Pinned
 pub mod Places
 pub mod Ranging
 pub mod Running

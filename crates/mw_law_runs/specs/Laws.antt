@@ -1,12 +1,14 @@
 -- What is proved of sound worlds.
-use Rattle.std.specs.Prelude.{ℕ, ◌≡◌, ◌≤◌, List, Some}
+use Rattle.std.specs.Prelude.{ℕ, ◌≡◌, ◌≤◌, ◌⊎◌, true, List, Some}
+use Rattle.mw_actor.specs.Acting.{Acting}
 use Rattle.mw_words.specs.declared.jobs.Job.{Job}
 use Rattle.mw_words.specs.declared.limits.TheConstants.{MAX_VALUE}
 use Rattle.mw_words.specs.Change.{word_at}
 use Rattle.mw_world_file.specs.declared.outcomes.Outcome.{Outcome}
 use Rattle.mw_world.specs.declared.config.Config.{Config}
 use Rattle.mw_world.specs.Definition.Calls.{call}
-use Rattle.mw_world.specs.Definition.Happenings.{Found, Happening}
+use Rattle.mw_world.specs.Definition.Counting.{pins_held}
+use Rattle.mw_world.specs.Definition.Happenings.{Found, Happening, Restart}
 use Rattle.mw_world.specs.Definition.Restarts.{restart, found_of}
 use Rattle.mw_world.specs.Definition.State.{State, IsConfig, IsStart, Opening, world_at}
 use Rattle.mw_world.specs.Definition.Turns.{turn}
@@ -66,3 +68,27 @@ RunsAreSound = (config : Config) (openings : ℕ → Opening) (events : List Hap
 -- or has freed already, some slot isn't taken.
 abbrev pub RoomIsLeft : Type 0
 RoomIsLeft = (config : Config) (openings : ℕ → Opening) (events : List Happening) (state : State) → IsPlayed config openings events state → HasRoom config state
+
+-- A worker's request holds a pin of a slot.
+pub record IsPinHolder (state : State) (slot worker : ℕ) : Type 0 where
+  pub actor : Acting
+  pub is : (state.seats worker).actor ≡ Some actor
+  pub pin : 1 ≤ pins_held slot actor.point
+
+-- The gate of a slot has the number that it had, and is taken before and after.
+pub record KeepsItsNumber (state next : State) (slot : ℕ) : Type 0 where
+  pub number : (next.cells.gates slot).seq ≡ (state.cells.gates slot).seq
+  pub was_taken : (state.cells.gates slot).taken ≡ true
+  pub is_taken : (next.cells.gates slot).taken ≡ true
+
+-- The event is no start.
+abbrev pub IsNoStart : Happening → Type 0
+IsNoStart (Restart founds) = ⊥
+IsNoStart event = Unit {0}
+
+-- While somebody holds a pin of a slot, a worker's request or a change that was given up and left its pin behind, the slot keeps its number: after every
+-- run no event but a start changes the number of its gate.
+abbrev pub PinnedGatesKeepTheirNumbers : Type 0
+PinnedGatesKeepTheirNumbers = (config : Config) (openings : ℕ → Opening) (events : List Happening) (state next : State) (event : Happening) (slot worker : ℕ)
+    → IsPlayed config openings events state → IsPinHolder state slot worker ⊎ (state.history.stays slot (state.cells.gates slot).seq ≡ true) → IsNoStart event
+    → step config state event ≡ Some next → KeepsItsNumber state next slot

@@ -1,7 +1,7 @@
 //! What holds of sound worlds: facts for proofs to cite. The functions do nothing.
 ghost use Rattle.mw_world.specs.Claim.Headline.{ShortRunsHaveNumbers};
 ghost use Rattle.mw_world.specs.Claim.Lawful.{CallersStatusStays, EveryRunIsLawful};
-ghost use Rattle.mw_law_runs.specs.Laws.{CallsKeepSound, ComesKeepSound, CountsHaveRest, EventsKeepSound, HandsKeepSound, RestartsKeepSound, RoomIsLeft, RunsAreSound, SoundWorldsAreRight, StartsAreSound, TurnsKeepSound};
+ghost use Rattle.mw_law_runs.specs.Laws.{CallsKeepSound, ComesKeepSound, CountsHaveRest, EventsKeepSound, HandsKeepSound, PinnedGatesKeepTheirNumbers, RestartsKeepSound, RoomIsLeft, RunsAreSound, SoundWorldsAreRight, StartsAreSound, TurnsKeepSound};
 ghost use Rattle.mw_law_runs.specs.Places.{PlacesAreThere};
 ghost use Rattle.mw_law_runs.specs.Owing.{CallsKeepOwed, LastPinsAreFree, OwedWordsAreOwed, StepsKeepOwed};
 
@@ -100,4 +100,9 @@ pub fn runs_are_sound()
     ensures runs { RunsAreSound }
     ensures right { SoundWorldsAreRight }
     ensures room { RoomIsLeft }
+{}
+
+/// After every run a gate of which somebody holds a pin keeps its number over each event but a start.
+pub fn pinned_gates_keep_their_numbers()
+    ensures { PinnedGatesKeepTheirNumbers }
 {}
