@@ -1,0 +1,5 @@
+pub mod Doors
+pub mod Gates
+pub mod Moves
+pub mod Points
+pub mod Tenants

@@ -1,0 +1,16 @@
+pub mod Called
+pub mod Changing
+pub mod Come
+pub mod EndsOfCalls
+pub mod Given
+pub mod Giving
+pub mod Handed
+pub mod Leading
+pub mod Met
+pub mod Placing
+pub mod Reading
+pub mod ReadyToSeal
+pub mod Settling
+pub mod Started
+pub mod Turned
+pub mod Turns

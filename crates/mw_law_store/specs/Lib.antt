@@ -1,0 +1,13 @@
+pub mod Acknowledged
+pub mod Due
+pub mod Followed
+pub mod Going
+pub mod Grounds
+pub mod HeldInRuns
+pub mod History
+pub mod Kept
+pub mod Laws
+pub mod Moments
+pub mod Recalled
+pub mod Tied
+pub mod Worn

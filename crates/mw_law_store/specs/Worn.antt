@@ -1,0 +1,48 @@
+-- Where numbers are left no request comes to say WORN.
+use Rattle.std.specs.Prelude.{ℕ, ◌≡◌, ◌≤◌, Bool, true, false, List, Some}
+use Rattle.mw_words.specs.declared.limits.TheConstants.{WORN_NUMBER}
+use Rattle.mw_words.specs.declared.replies.Reply.{Reply}
+use Rattle.mw_words.specs.declared.replies.Reply.TheVariants.{Worn as SaysWorn}
+use Rattle.mw_look.specs.declared.points.Point.{Point as ReadPoint}
+use Rattle.mw_look.specs.declared.points.Point.TheVariants.{Replied as RepliedOfRead}
+use Rattle.mw_actor.specs.declared.points.After.{After}
+use Rattle.mw_actor.specs.declared.points.After.TheVariants.{GiveUp as ThenGiveUp, Reply as ThenReply}
+use Rattle.mw_actor.specs.declared.points.Point.{Point}
+use Rattle.mw_actor.specs.declared.points.Point.TheVariants.{Read, ScanGate, Claim, Unpin, FreeSlot, LowerDoor, GiveUp, Replied}
+use Rattle.mw_actor.specs.Acting.{Acting}
+use Rattle.mw_world.specs.declared.config.Config.{Config}
+use Rattle.mw_world.specs.Claim.Headline.{IsRun}
+use Rattle.mw_world.specs.Definition.Happenings.{Happening}
+use Rattle.mw_world.specs.Definition.State.{State, Opening}
+
+abbrev pub is_worn_reply : Reply → Bool
+is_worn_reply SaysWorn = true
+is_worn_reply reply = false
+
+abbrev pub is_worn_after : After → Bool
+is_worn_after (ThenGiveUp own reply) = is_worn_reply reply
+is_worn_after (ThenReply reply) = is_worn_reply reply
+is_worn_after onward = false
+
+abbrev pub is_worn_read : ReadPoint → Bool
+is_worn_read (RepliedOfRead reply) = is_worn_reply reply
+is_worn_read point = false
+
+-- at this point a request is on the way to WORN
+abbrev pub is_worn_at : Point → Bool
+is_worn_at (Read look) = is_worn_read look.point
+is_worn_at (ScanGate slot saw_worn) = saw_worn
+is_worn_at (Claim slot saw_worn from to) = saw_worn
+is_worn_at (Unpin slot onward) = is_worn_after onward
+is_worn_at (FreeSlot slot onward) = is_worn_after onward
+is_worn_at (LowerDoor onward) = is_worn_after onward
+is_worn_at (GiveUp own reply) = is_worn_reply reply
+is_worn_at (Replied reply) = is_worn_reply reply
+is_worn_at point = false
+
+pub record NoneIsWorn (state : State) : Type 0 where
+  pub points : (worker : ℕ) (actor : Acting) → (state.seats worker).actor ≡ Some actor → is_worn_at actor.point ≡ false
+  pub attempts : (worker : ℕ) → (state.seats worker).attempt ≤ WORN_NUMBER
+
+abbrev pub RunsAreNotWorn : Type 0
+RunsAreNotWorn = (config : Config) (openings : ℕ → Opening) (events : List Happening) (state : State) → IsRun config openings events state → NoneIsWorn state
