@@ -20,7 +20,7 @@ use Rattle.mw_law_late.proofs.Naming.{requests_of}
 use Rattle.mw_law_store.specs.Acknowledged.{change_of, changes_of, put_all, is_start, no_start, IsHeld, begun, SealsAreHeld}
 use Rattle.mw_law_store.specs.Moments.{Moment, first_moment, doubt_at, after_mark, after_marks}
 use Rattle.mw_law_store.proofs.Replies.{replies_step}
-use Rattle.mw_law_store.proofs.Telling.{Tells, which_request, does_goes, goes_tells, run_tells, first_tells}
+use Rattle.mw_law_store.proofs.Telling.{Tells, which_request, does_goes, goes_tells, run_tells, begun_tells}
 
 -- Changes and words.
 
@@ -289,9 +289,6 @@ held words marks n it =
           ap (changes_of start) in_two ∙ changes_append start front (Seal n ∷ back)
           ∙ ap (λ change. changes_of start front ++ change ∷ changes_of (after_mark (after_marks start front) (Seal n)) back) was.its_change;
     }
-
-pub begun_tells : (words : List ℕ) (quota : ℕ) (opened : Bool) → Tells (first_moment words) (begun words quota opened)
-begun_tells words quota opened = let first = first_tells words quota in record { words = first.words; doubt = first.doubt; entries = first.entries }
 
 pub seals_are_held : SealsAreHeld
 seals_are_held words quota opened marks t e =

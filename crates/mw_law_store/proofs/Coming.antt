@@ -176,7 +176,7 @@ gave_found state worker actor reply store sits stands tied his = (with_request s
     hands_out : is_worn_reply reply ≡ false → HandsOut store (state.seats worker).request (with_request store n (record his.found { handed = true }))
     hands_out not_worn =
         let has = has_reply (request store) (state.seats worker).request actor.job reply not_worn
-            (subst (IsDue (request store) (state.seats worker).request actor.job) (replied_due actor.point reply stands) row.is_due) in
+        (subst (IsDue (request store) (state.seats worker).request actor.job) (replied_due actor.point reply stands) row.is_due) in
         record {
           found = his.found;
           is_asked = his.is_asked;
@@ -204,8 +204,8 @@ gave_found state worker actor reply store sits stands tied his = (with_request s
           (puts store (with_request store n (record his.found { handed = true })) n (record his.found { handed = true }) refl)
           (spared_handed (request store) n his.found his.is_asked)
           (λ other differs one sits_there of_it same.
-              (two_of (is_live state.cells) (born_of state.history actor.tenant) (told_of state.history) state.seats actor.tenant (request store) tied.asks worker other actor one (λ e. differs (sym e)) sits sits_there refl of_it).numbers
-              (sym same))
+          (two_of (is_live state.cells) (born_of state.history actor.tenant) (told_of state.history) state.seats actor.tenant (request store) tied.asks worker other actor one (λ e. differs (sym e)) sits sits_there refl of_it).numbers
+          (sym same))
           tt
           (λ other differs. nobody_apart actor.tenant (record (state.seats worker) { actor = None }) (state.seats other) (state.seats other).actor);
     }

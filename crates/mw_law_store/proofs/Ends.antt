@@ -1,10 +1,10 @@
 -- The end of a step for its request's row of the tie, by the program point before and the one after.
-use Rattle.std.specs.Prelude.{◌≡◌, ◌≢◌, ◌⊎◌, true, false, Option, Some, None}
+use Rattle.std.specs.Prelude.{◌≡◌, ◌≢◌, ◌⊎◌, true, false, Some, None}
 use Rattle.mw_words.specs.declared.replies.Reply.{Reply}
 use Rattle.mw_actor.specs.declared.points.Point.{Point}
 use Rattle.mw_actor.specs.declared.points.Slot.{Slot}
 use Rattle.mw_law_runs.specs.Owed.{own_of}
-use Rattle.mw_law_store.specs.Due.{Due, Waits, Works, Answers, Quits, due, Retiring, Dropping, lowers}
+use Rattle.mw_law_store.specs.Due.{Waits, Works, Answers, Quits, due, Retiring, Dropping, lowers}
 
 pub data End : Type 0 where
   -- what is due and the own change are as before, and no door is to be lowered

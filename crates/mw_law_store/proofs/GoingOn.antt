@@ -1,6 +1,6 @@
 -- How a store goes on with a step of the world: from what the step says, to all that holds of the store after it.
 use Rattle.std.specs.Prelude.{ℕ, ◌≡◌, List, Option}
-use Rattle.std.proofs.Common.{refl, sym, ap, subst, ◌∙◌}
+use Rattle.std.proofs.Common.{sym, ap, subst}
 use Rattle.mw_lone.specs.declared.marks.Mark.{Mark}
 use Rattle.mw_lone.specs.Store.{Store}
 use Rattle.mw_world.specs.Definition.Happenings.{Happening}

@@ -1,5 +1,5 @@
 -- The places that workers keep are kept while others go on.
-use Rattle.std.specs.Prelude.{ℕ, ◌≡◌, ◌≢◌, ◌<◌, ◌≤◌, ◌⊎◌, Bool, true, false, List, length, slice_get, slice_set, Option, Some, None}
+use Rattle.std.specs.Prelude.{ℕ, ◌≡◌, ◌≢◌, ◌≤◌, ◌⊎◌, true, List, length, slice_get, slice_set, Option, Some, None}
 use Rattle.std.proofs.Common.{refl, sym, ap, subst, ◌∙◌, inl, inr, arith}
 use Rattle.std.specs.Option.{option_map_or}
 use Rattle.std.proofs.lemmas.Bool.{cases_eq}
@@ -10,7 +10,6 @@ use Rattle.mw_words.specs.declared.replies.Reply.{Reply}
 use Rattle.mw_words.specs.declared.statuses.Status.{Status}
 use Rattle.mw_lone.specs.declared.marks.Mark.{Mark}
 use Rattle.mw_lone.specs.Store.{Store}
-use Rattle.mw_law_late.specs.Late.{more}
 use Rattle.mw_look.specs.declared.points.Point.{Point as ReadPoint}
 use Rattle.mw_look.specs.declared.points.Point.TheVariants.{FindEntry, ReadExpected as ReadExpectedOfRead, ReadNew as ReadNewOfRead, RecheckWord}
 use Rattle.mw_look.specs.declared.points.Trail.{Trail}
@@ -18,7 +17,6 @@ use Rattle.mw_look.specs.declared.points.Trail.TheVariants.{Held as ByHeld, Plan
 use Rattle.mw_actor.specs.declared.points.Point.{Point}
 use Rattle.mw_actor.specs.declared.points.Point.TheVariants.{Read, DecideNo}
 use Rattle.mw_actor.specs.Acting.{Acting, entry_of}
-use Rattle.mw_world.specs.declared.notes.Phase.TheVariants.{Keeping}
 use Rattle.mw_world.specs.Definition.History.{History, entry_for}
 use Rattle.mw_world.specs.Definition.Logical.{held_value}
 use Rattle.mw_world.specs.Definition.State.{State, Seat}
@@ -26,7 +24,7 @@ use Rattle.mw_law_moves.specs.Relying.{Later}
 use Rattle.mw_law_knowledge.specs.Facts.{CameBy}
 use Rattle.mw_law_knowledge.specs.Points.{Knows, ReadKnows}
 use Rattle.mw_law_store.specs.Going.{Saying, Silent, Says, KeepsPlace, SaysLate, lines_after, StoreGoes}
-use Rattle.mw_law_store.specs.Kept.{keeps, keeps_by, keeps_in_read, PlacedBy, PlacedInRead, PlacedAt, Refusals, KeptAt, IsKeeping, Kept}
+use Rattle.mw_law_store.specs.Kept.{keeps, keeps_by, keeps_in_read, PlacedBy, PlacedInRead, PlacedAt, Refusals, IsKeeping, Kept}
 use Rattle.mw_law_store.specs.Moments.{Moment, CouldLook, CouldMiss}
 use Rattle.mw_law_store.specs.Recalled.{MayBeSaid}
 use Rattle.mw_law_store.proofs.Momenting.{IsMild, got_before, got_within}
@@ -146,7 +144,7 @@ module _ (worker tenant : ℕ) (start : Moment) (old new : State) (says : Saying
     (kept : Kept old tenant start) (lines : (new.accounts tenant).lines ≡ lines_after says (old.accounts tenant).lines)
     (others : (other : ℕ) → other ≢ worker → new.seats other ≡ old.seats other)
     (stays : (other : ℕ) (actor : Acting) → other ≢ worker → (old.seats other).actor ≡ Some actor → (looks : ℕ → Type 0) (misses : Refusals) → PlacedAt old.history looks misses actor actor.point
-        → PlacedAt new.history looks misses actor actor.point)
+    → PlacedAt new.history looks misses actor actor.point)
     (own : IsOwnPlace says tenant (old.seats worker)) where
   pub was_there : (other : ℕ) (actor : Acting) → other ≢ worker → (new.seats other).actor ≡ Some actor → (old.seats other).actor ≡ Some actor
   was_there other actor apart is = ap (λ (seat : Seat). seat.actor) (sym (others other apart)) ∙ is
@@ -162,12 +160,15 @@ module _ (worker tenant : ℕ) (start : Moment) (old new : State) (says : Saying
   other_keeps other actor apart is same =
       let sat = was_there other actor apart is in
       let still = keeping_stays start (old.accounts tenant).lines says store after may goes old.history (old.seats other) actor
-                  (λ keeps. else_by says own other actor apart sat same keeps) (kept.each other actor sat same) in
+      (λ keeps. else_by says own other actor apart sat same keeps) (kept.each other actor sat same) in
       subst (λ (now : List (Option Mark)). IsKeeping new.history start now (new.seats other) actor) (sym lines)
       (subst (λ (seat : Seat). IsKeeping new.history start (lines_after says (old.accounts tenant).lines) seat actor) (sym (others other apart))
-      (record { is_empty = still.is_empty; kept_for = stays other actor apart sat
-          (λ value. CouldLook start (lines_after says (old.accounts tenant).lines) (old.seats other).kept (old.seats other).request actor.job value)
-          (λ n entries index address value. CouldMiss start (lines_after says (old.accounts tenant).lines) (old.seats other).kept n entries index address value) still.kept_for }))
+      (record {
+        is_empty = still.is_empty;
+        kept_for = stays other actor apart sat
+            (λ value. CouldLook start (lines_after says (old.accounts tenant).lines) (old.seats other).kept (old.seats other).request actor.job value)
+            (λ n entries index address value. CouldMiss start (lines_after says (old.accounts tenant).lines) (old.seats other).kept n entries index address value) still.kept_for;
+      }))
 
   -- where the worker's place is: where it was, or at the end of the lines
   abbrev pub PlaceGoesOn : Type 0

@@ -20,19 +20,19 @@ use Rattle.mw_actor.specs.declared.points.Sweep.{Sweep}
 use Rattle.mw_actor.specs.declared.points.Sweep.TheVariants.{Yes as SweepYes, DoneYes as SweepDoneYes, No as SweepNo, DoneNo as SweepDoneNo}
 use Rattle.mw_actor.specs.declared.points.Task.{Task}
 use Rattle.mw_actor.specs.Acting.{Acting, is_alone, alone, same_slot, planted, own_entries, entries_of, entry_of}
-use Rattle.mw_actor.specs.Admitting.{admitted, claiming, next_gate, round_over, is_worn, next_fill, prepared}
-use Rattle.mw_actor.specs.Finishing.{works, resumed, unpinned, gives_up, refusal, finishes}
-use Rattle.mw_actor.specs.Helping.{turns_to, helps, other_gate_read, pinned, count_read, addr_read, expected_read, next_read, new_read}
+use Rattle.mw_actor.specs.Admitting.{admitted, claiming, next_gate, round_over, is_worn}
+use Rattle.mw_actor.specs.Finishing.{works, resumed, gives_up, refusal, finishes}
+use Rattle.mw_actor.specs.Helping.{turns_to, helps, other_gate_read, pinned, next_read, new_read}
 use Rattle.mw_actor.specs.Inspecting.{status_read, next_word, attempts, dirty_seen, held_seen, inspected, attempt_met, attempt_confirmed, dirty_gate_read, dirty_confirmed}
 use Rattle.mw_actor.specs.Program.{goes}
-use Rattle.mw_actor.specs.Sweeping.{filed, sweep_over, next_sweep, held_swept, dirty_swept, attempt_swept, swept, sweep_confirmed}
+use Rattle.mw_actor.specs.Sweeping.{filed, sweep_over, next_sweep, swept, sweep_confirmed}
 use Rattle.mw_look.proofs.RangeLaws.{either_way}
 use Rattle.mw_look.specs.Program.{same_word}
 use Rattle.mw_pool.specs.Moves.{after_admit, after_claim, after_pin}
 use Rattle.mw_pool.specs.declared.doors.Admission.{Admission}
 use Rattle.mw_pool.specs.declared.doors.Admission.TheVariants.{Fault as HasFailed, Busy as IsBusy, To}
 use Rattle.mw_words.specs.declared.limits.TheConstants.{MAX_ENTRIES, MAX_VALUE, MAX_WORDS, WORN_NUMBER}
-use Rattle.mw_words.specs.declared.replies.Reply.TheVariants.{Yes as SaysYes, Fault as SaysFault, Worn as SaysWorn, Busy as SaysBusy}
+use Rattle.mw_words.specs.declared.replies.Reply.TheVariants.{Yes as SaysYes, Fault as SaysFault, Worn as SaysWorn}
 use Rattle.mw_world.specs.declared.notes.Note.TheVariants.{Kept}
 use Rattle.mw_world.specs.Definition.Notes.{inspect_note}
 use Rattle.mw_law_store.specs.Kept.{keeps}

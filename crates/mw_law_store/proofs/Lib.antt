@@ -14,6 +14,7 @@ pub mod Frames
 pub mod GoingOn
 pub mod Grounding
 pub mod Held
+pub mod Histories
 pub mod Holding
 pub mod Keeping
 pub mod KeepingOn
@@ -31,8 +32,10 @@ pub mod Recalling
 pub mod Replies
 pub mod Restarting
 pub mod Running
+pub mod Sealed
 pub mod Seeing
 pub mod Serving
+pub mod SinceStart
 pub mod Starting
 pub mod Stepped
 pub mod Taking

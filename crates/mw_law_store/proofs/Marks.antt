@@ -131,13 +131,13 @@ module _ (live : Live) (born : Born) (tells : Tells) (seats : ℕ → Seat) (ten
       sits live born tells seats tenant now worker seat
       (changes_put at now n r changed live born tells tells
       (λ slot seq is same.
-          let of_change = change_same at at (born.request slot seq) n (ap at (sym same)) (born.change slot seq) (tells slot seq) (asking.changes.asked slot seq is) in
-          let minds = spared.changes (born.change slot seq) (tells slot seq) of_change in
-          record { found = r; is_asked = changed.mine; has_slot = minds.0; its_entries = minds.1; is_placed = minds.2 })
+      let of_change = change_same at at (born.request slot seq) n (ap at (sym same)) (born.change slot seq) (tells slot seq) (asking.changes.asked slot seq is) in
+      let minds = spared.changes (born.change slot seq) (tells slot seq) of_change in
+      record { found = r; is_asked = changed.mine; has_slot = minds.0; its_entries = minds.1; is_placed = minds.2 })
       (λ slot seq is other. refl)
       (λ slot seq lives is same.
-          let of_change = asking.changes.asked slot seq is in
-          spared.kept of_change.found (ap at (sym same) ∙ of_change.is_asked) (asking.changes.kept slot seq lives is of_change.found of_change.is_asked))
+      let of_change = asking.changes.asked slot seq is in
+      spared.kept of_change.found (ap at (sym same) ∙ of_change.is_asked) (asking.changes.kept slot seq lives is of_change.found of_change.is_asked))
       asking.changes)
       mine
       (λ other differs. actor_put at now n r changed live born tenant (seats other).request (seats other).retiring (seats other).actor
@@ -177,16 +177,16 @@ module _ (live : Live) (born : Born) (tells : Tells) (seats : ℕ → Seat) (ten
   change_replied now says slot seq found reply is_born is_found untold told same changed = record {
     changes = changes_put at now n (record found { placed = Some reply }) changed live born tells says
         (λ k l is mine.
-            let of_change = asking.changes.asked k l is in
-            let alike = one_found at (born.request k l) n of_change.found found mine of_change.is_asked is_found in
-            let which = asking.changes.apart k l slot seq is is_born mine in
-            record {
-              found = record found { placed = Some reply };
-              is_asked = changed.mine;
-              has_slot = sym (ap (λ (r : RequestState). r.admitted) alike) ∙ of_change.has_slot;
-              its_entries = sym (ap (λ (r : RequestState). entries_of r.job) alike) ∙ of_change.its_entries;
-              is_placed = sym (ap (λ (i : ℕ). says i l) which.0 ∙ ap (says slot) which.1 ∙ told);
-            })
+        let of_change = asking.changes.asked k l is in
+        let alike = one_found at (born.request k l) n of_change.found found mine of_change.is_asked is_found in
+        let which = asking.changes.apart k l slot seq is is_born mine in
+        record {
+          found = record found { placed = Some reply };
+          is_asked = changed.mine;
+          has_slot = sym (ap (λ (r : RequestState). r.admitted) alike) ∙ of_change.has_slot;
+          its_entries = sym (ap (λ (r : RequestState). entries_of r.job) alike) ∙ of_change.its_entries;
+          is_placed = sym (ap (λ (i : ℕ). says i l) which.0 ∙ ap (says slot) which.1 ∙ told);
+        })
         (λ k l is other. same k l (λ e f. other (ap (λ (i : ℕ). born.request i l) e ∙ ap (born.request slot) f)))
         (λ k l lives is mine. asking.changes.kept k l lives is found (ap at mine ∙ is_found))
         asking.changes;
@@ -238,15 +238,15 @@ module _ (live : Live) (born : Born) (tells : Tells) (seats : ℕ → Seat) (ten
       sits live born tells seats tenant now worker (record (seats worker) { actor = Some next; attempt = attempt })
       (changes_put at now n (record found { retired = true }) changed live born tells tells
       (λ k l is_born mine.
-          let of_change = asking.changes.asked k l is_born in
-          let alike = one_found at (born.request k l) n of_change.found found mine of_change.is_asked is_found in
-          record {
-            found = record found { retired = true };
-            is_asked = changed.mine;
-            has_slot = sym (ap (λ (r : RequestState). r.admitted) alike) ∙ of_change.has_slot;
-            its_entries = sym (ap (λ (r : RequestState). entries_of r.job) alike) ∙ of_change.its_entries;
-            is_placed = sym (ap (λ (r : RequestState). r.placed) alike) ∙ of_change.is_placed;
-          })
+      let of_change = asking.changes.asked k l is_born in
+      let alike = one_found at (born.request k l) n of_change.found found mine of_change.is_asked is_found in
+      record {
+        found = record found { retired = true };
+        is_asked = changed.mine;
+        has_slot = sym (ap (λ (r : RequestState). r.admitted) alike) ∙ of_change.has_slot;
+        its_entries = sym (ap (λ (r : RequestState). entries_of r.job) alike) ∙ of_change.its_entries;
+        is_placed = sym (ap (λ (r : RequestState). r.placed) alike) ∙ of_change.is_placed;
+      })
       (λ k l is_born other. refl)
       (λ k l lives is_born mine. absurd (row.retires_else lowered k l lives is_born mine))
       asking.changes)

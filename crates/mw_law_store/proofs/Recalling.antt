@@ -1,5 +1,5 @@
 -- What lines recall of a store they recall after whatever is said.
-use Rattle.std.specs.Prelude.{ℕ, ◌≡◌, List, length, slice_get, slice_set, Option, Some, None}
+use Rattle.std.specs.Prelude.{ℕ, ◌≡◌, List, [], length, slice_get, slice_set, Option, Some, None}
 use Rattle.std.proofs.Common.{refl, sym, ap, subst, ◌∙◌, inl, inr, arith}
 use Rattle.std.proofs.lemmas.List.{length-set}
 use Rattle.std.proofs.lemmas.Option.{same_Some, none-some}
@@ -15,9 +15,10 @@ use Rattle.mw_law_late.specs.Late.{more, IsNumbered}
 use Rattle.mw_law_store.specs.Going.{Silent, Says, KeepsPlace, SaysLate, Goes, Decides}
 use Rattle.mw_law_store.specs.Laws.{SayingsAreRecalled}
 use Rattle.mw_law_store.specs.Moments.{Moment, after_mark, moment_of, IsAskedBefore, CouldCome, HasPlace}
-use Rattle.mw_law_store.specs.Recalled.{Recalled, MayBeSaid}
+use Rattle.mw_law_store.specs.Recalled.{Recalled, AreSinceStart, MayBeSaid}
 use Rattle.mw_law_store.proofs.Momenting.{moment_late, late_all, IsMild, got_last, got_which, got_there, got_late_which}
 use Rattle.mw_law_store.proofs.Placed.{asked_before, asked_late, by_coming, coming_is_mild, look_late, miss_late, has_place_late}
+use Rattle.mw_law_store.proofs.SinceStart.{none_since, since_late, goes_since}
 use Rattle.mw_law_store.proofs.Telling.{Tells, which_request, goes_tells, written_tells}
 use Rattle.mw_law_store.proofs.Writing.{length_more, other_line, recalled_tells, sealed_stays, SealsHere, one_written, no_seal, quiet, keeps_recalled, restated, not_sealed, answered, last_moment, word_at_end}
 
@@ -89,26 +90,27 @@ asks_recalled start lines k job s t numbered recalled d =
     (λ reply placed. absurd (none-some reply placed))
     (λ is. let below = numbered k is.found is.is_asked in absurd (omega (arith, below, is_next)))
     (no_seal start lines (Ask k job) k (asked job) (λ n e. cc))
+    (goes_since start lines s t (Ask k job) tt d recalled.since)
 
 pub says_recalled : (start : Moment) (lines : List (Option Mark)) (mark : Mark) (s t : Store) → IsNumbered s → Recalled start lines s → MayBeSaid start lines (Says mark) s → Goes s mark t → Recalled start (more lines (Some mark)) t
-says_recalled start lines mark s t numbered recalled may d = by mark may d (goes_tells (moment_of start lines) s t mark d (recalled_tells start lines s recalled)) where
-  by : (mark : Mark) → MayBeSaid start lines (Says mark) s → Goes s mark t → Tells (after_mark (moment_of start lines) mark) t → Recalled start (more lines (Some mark)) t
-  by (Ask k job) may d tells = asks_recalled start lines k job s t numbered recalled d
-  by (Admit k) may d tells = restated start lines (Admit k) s t k d.found _ recalled d.waits.is_asked (requests_of t _ d.after) refl refl (λ n e. cc) tells
-  by (Busy k) may d tells = answered start lines (Busy k) s t k d.found SaysBusy recalled d.waits.is_asked d.waits.has_no_reply (requests_of t _ d.after) tells tt (no_seal start lines (Busy k) k _ (λ n e. cc))
-  by (Look k) may d tells = answered start lines (Look k) s t k d.found _ recalled d.is_asked d.has_no_reply (requests_of t _ d.after) tells (look_place start lines s t k d recalled) (no_seal start lines (Look k) k _ (λ n e. cc))
-  by (Miss k index) may d tells =
-      answered start lines (Miss k index) s t k d.found _ recalled d.is_asked d.has_no_reply (requests_of t _ d.after) tells (miss_place start lines s t k index d recalled) (no_seal start lines (Miss k index) k _ (λ n e. cc))
-  by (Seal k) may d tells =
-      answered start lines (Seal k) s t k d.found SaysYes recalled d.can_be_written.is_asked d.can_be_written.has_no_reply (requests_of t _ d.after) tells (seal_place start lines s t k d recalled) (seals_here start lines s t k d recalled)
-  by (SealFail k) may d tells =
-      answered start lines (SealFail k) s t k d.found SaysFault recalled d.can_be_written.is_asked d.can_be_written.has_no_reply (requests_of t _ d.after) tells tt (no_seal start lines (SealFail k) k _ (λ n e. cc))
-  by FileFail may d tells =
-      quiet start lines (Some FileFail) s t refl (λ n e. other_line FileFail (Seal n) (λ f. cc) e) (ap (λ (v : Store). v.words) d.after) (ap (λ (v : Store). v.in_doubt) d.after) (requests_of t _ d.after) recalled
-  by (GiveUp k) may d tells = answered start lines (GiveUp k) s t k d.found SaysFault recalled d.is_asked d.has_no_reply (requests_of t _ d.after) tells tt (no_seal start lines (GiveUp k) k _ (λ n e. cc))
-  by (Retire k) may d tells = restated start lines (Retire k) s t k d.found _ recalled d.is_asked (requests_of t _ d.after) refl refl (λ n e. cc) tells
-  by (HandOut k) may d tells = restated start lines (HandOut k) s t k d.found _ recalled d.is_asked (requests_of t _ d.after) refl refl (λ n e. cc) tells
-  by (Restart interrupted found opened) may d tells = absurd may
+says_recalled start lines mark s t numbered recalled may d = by mark may d (goes_tells (moment_of start lines) s t mark d (recalled_tells start lines s recalled)) (goes_since start lines s t mark may d recalled.since) where
+  by : (mark : Mark) → MayBeSaid start lines (Says mark) s → Goes s mark t → Tells (after_mark (moment_of start lines) mark) t → AreSinceStart (more lines (Some mark)) t.next → Recalled start (more lines (Some mark)) t
+  by (Ask k job) may d tells since = asks_recalled start lines k job s t numbered recalled d
+  by (Admit k) may d tells since = restated start lines (Admit k) s t k d.found _ recalled d.waits.is_asked (requests_of t _ d.after) refl refl (λ n e. cc) tells since
+  by (Busy k) may d tells since = answered start lines (Busy k) s t k d.found SaysBusy recalled d.waits.is_asked d.waits.has_no_reply (requests_of t _ d.after) tells tt (no_seal start lines (Busy k) k _ (λ n e. cc)) since
+  by (Look k) may d tells since = answered start lines (Look k) s t k d.found _ recalled d.is_asked d.has_no_reply (requests_of t _ d.after) tells (look_place start lines s t k d recalled) (no_seal start lines (Look k) k _ (λ n e. cc)) since
+  by (Miss k index) may d tells since =
+      answered start lines (Miss k index) s t k d.found _ recalled d.is_asked d.has_no_reply (requests_of t _ d.after) tells (miss_place start lines s t k index d recalled) (no_seal start lines (Miss k index) k _ (λ n e. cc)) since
+  by (Seal k) may d tells since =
+      answered start lines (Seal k) s t k d.found SaysYes recalled d.can_be_written.is_asked d.can_be_written.has_no_reply (requests_of t _ d.after) tells (seal_place start lines s t k d recalled) (seals_here start lines s t k d recalled) since
+  by (SealFail k) may d tells since =
+      answered start lines (SealFail k) s t k d.found SaysFault recalled d.can_be_written.is_asked d.can_be_written.has_no_reply (requests_of t _ d.after) tells tt (no_seal start lines (SealFail k) k _ (λ n e. cc)) since
+  by FileFail may d tells since =
+      quiet start lines (Some FileFail) s t refl (λ n e. other_line FileFail (Seal n) (λ f. cc) e) (ap (λ (v : Store). v.words) d.after) (ap (λ (v : Store). v.in_doubt) d.after) (requests_of t _ d.after) since recalled
+  by (GiveUp k) may d tells since = answered start lines (GiveUp k) s t k d.found SaysFault recalled d.is_asked d.has_no_reply (requests_of t _ d.after) tells tt (no_seal start lines (GiveUp k) k _ (λ n e. cc)) since
+  by (Retire k) may d tells since = restated start lines (Retire k) s t k d.found _ recalled d.is_asked (requests_of t _ d.after) refl refl (λ n e. cc) tells since
+  by (HandOut k) may d tells since = restated start lines (HandOut k) s t k d.found _ recalled d.is_asked (requests_of t _ d.after) refl refl (λ n e. cc) tells since
+  by (Restart interrupted found opened) may d tells since = absurd may
 
 -- A mark that comes late.
 
@@ -171,6 +173,7 @@ decided_recalled start lines place mark k found reply s recalled free is_asked n
           record { found = there.0; is_asked = there.1; has_reply = there.2 };
       fit = λ other n at.
           ap (λ (now : Moment). fits now.words (now.entries n)) (moment_late start lines place mark other mild free) ∙ recalled.fit other n (seal_was_there lines place mark other n mild free at);
+      since = since_late lines place mark s.next mild free recalled.since;
     }
 
 pub late_recalled : (start : Moment) (lines : List (Option Mark)) (place : ℕ) (mark : Mark) (n : ℕ) (reply : Reply) (s t : Store) → Recalled start lines s
@@ -184,3 +187,16 @@ sayings_are_recalled start lines Silent s t numbered recalled may goes = subst (
 sayings_are_recalled start lines (Says mark) s t numbered recalled may goes = says_recalled start lines mark s t numbered recalled may goes
 sayings_are_recalled start lines KeepsPlace s t numbered recalled may goes = subst (Recalled start (more lines None)) (sym goes) (keeps_recalled start lines s recalled)
 sayings_are_recalled start lines (SaysLate place mark n reply) s t numbered recalled may goes = late_recalled start lines place mark n reply s t recalled may goes
+
+-- of a store with no requests no lines recall its words
+pub nothing_recalled : (start : Moment) (store : Store) → start.words ≡ store.words → start.doubt ≡ store.in_doubt → ((n : ℕ) (r : RequestState) → request store n ≡ Some r → ⊥) → Recalled start [] store
+nothing_recalled start store words doubt none = record {
+  words = words;
+  doubt = doubt;
+  entries = λ n r at. absurd (none n r at);
+  asked = λ n r at. absurd (none n r at);
+  places = λ n r reply at placed. absurd (none n r at);
+  sealed = λ place n at. absurd (none-some (Some (Seal n)) at);
+  fit = λ place n at. absurd (none-some (Some (Seal n)) at);
+  since = none_since store.next;
+}

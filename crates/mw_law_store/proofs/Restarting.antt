@@ -97,13 +97,14 @@ restart_tied config state next founds tenant store decided sound files grounds l
     let words = if take then put store.words (entries_in_doubt store (interrupted_request call)) else store.words in
     let same_found : found.words ≡ words =
     found_so (is_sealed_then call) before doubt found.words finds
-    ∙ ap (λ (w : List ℕ). if take then put w doubt else w) left.words ∙ ap (λ (d : List Entry). if take then put store.words d else store.words) same_doubt in
-    (store_after_start store words opened,
-    record {
-      could_be_interrupted = could_be_cut config state tenant store found.interrupted decided sound files grounds tied cut;
-      is_in_doubt = λ taken. in_doubt store (interrupted_request call) before found.words doubt same_doubt taken;
-      after = refl;
-    },
-    subst (λ (s : State). Tied s tenant (store_after_start store words opened)) came.1
-    (started_tied config (λ other. reopened (state.accounts other) (found_of founds other) (under_way config state (found_of founds other).interrupted)) tenant (store_after_start store words opened)
-    (opened_words found.words found.fails_at ∙ same_found) tied.holds.quota refl (opened_failed found.words found.fails_at) (opened_doubt found.words found.fails_at) tied.holds.next refl))
+    ∙ ap (λ (w : List ℕ). if take then put w doubt else w) left.words ∙ ap (λ (d : List Entry). if take then put store.words d else store.words) same_doubt in (
+      store_after_start store words opened,
+      record {
+        could_be_interrupted = could_be_cut config state tenant store found.interrupted decided sound files grounds tied cut;
+        is_in_doubt = λ taken. in_doubt store (interrupted_request call) before found.words doubt same_doubt taken;
+        after = refl;
+      },
+      subst (λ (s : State). Tied s tenant (store_after_start store words opened)) came.1
+          (started_tied config (λ other. reopened (state.accounts other) (found_of founds other) (under_way config state (found_of founds other).interrupted)) tenant (store_after_start store words opened)
+          (opened_words found.words found.fails_at ∙ same_found) tied.holds.quota refl (opened_failed found.words found.fails_at) (opened_doubt found.words found.fails_at) tied.holds.next refl),
+    )

@@ -1,11 +1,10 @@
 -- Every run is followed by each tenant's store, and where numbers are left it serves each tenant as its store alone would.
-use Rattle.std.specs.Prelude.{ℕ, ◌≡◌, ◌<◌, List, [], ◌∷◌, ◌++◌, Some}
-use Rattle.std.proofs.Common.{refl}
+use Rattle.std.specs.Prelude.{ℕ, ◌≡◌, ◌<◌, List, Some}
 use Rattle.mw_lone.specs.Store.{Store}
 use Rattle.mw_world.specs.declared.config.Config.{Config}
 use Rattle.mw_world.specs.Claim.Headline.{IsPlayed, EveryRunServesAlone}
 use Rattle.mw_world.specs.Definition.Happenings.{Happening, Come, Step, File, Hand, Restart}
-use Rattle.mw_world.specs.Definition.State.{State, Opening, tenants_of, world_at}
+use Rattle.mw_world.specs.Definition.State.{State, Opening, tenants_of}
 use Rattle.mw_world.specs.Definition.World.{step}
 use Rattle.mw_law_store.specs.Followed.{IsFollowed, IsFollowedBy}
 use Rattle.mw_law_store.specs.History.{IsNoStart}

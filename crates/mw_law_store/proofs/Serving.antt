@@ -223,10 +223,10 @@ module _ (events_serve : EventsAreServed) (restarts_serve : RestartsAreServed) (
       let now = known [] (event ∷ events) state refl refl in
       let gives = event_gives state next event made now.0 now.1 low served at in
       let later : KnownOn next events = λ early rest between parted came.
-          known (event ∷ early) rest between (ap (λ (more : List Happening). event ∷ more) parted) (ap (option_and_then (λ one. run config one early)) at ∙ came) in
+      known (event ∷ early) rest between (ap (λ (more : List Happening). event ∷ more) parted) (ap (option_and_then (λ one. run config one early)) at ∙ came) in
       let through = goes_through events next last made low later gives.served on in
       let said : replies_to config tenant state (event ∷ events) ≡ option_to_list (outgoing state tenant event) ++ replies_to config tenant next events =
-          ap (λ o. option_to_list (outgoing state tenant event) ++ unwrap_or (option_map (λ one. replies_to config tenant one events) o) []) at in
+      ap (λ o. option_to_list (outgoing state tenant event) ++ unwrap_or (option_map (λ one. replies_to config tenant one events) o) []) at in
       record {
         served = through.served;
         replies =

@@ -227,16 +227,19 @@ tells_none spoiled status change decided not = ap (λ (s : Bool). told s status 
 cut_fits : (config : Config) (state : State) (tenant : ℕ) (store : Store) (interrupted : Option ℕ) (doubt : List Entry) → DecidedChangesFit → IsSound config state → HasFiles config state → HasGrounds state
     → Tied state tenant store → Cut state tenant interrupted doubt → CouldBeInterrupted store interrupted
 cut_fits config state tenant store interrupted doubt decided sound files grounds tied (AsBefore is same) = subst (CouldBeInterrupted store) (sym is) tt
-cut_fits config state tenant store interrupted doubt decided sound files grounds tied (ASeal number is sealing) = subst (CouldBeInterrupted store) (sym is) (of_change.found, record {
-  is_asked = of_change.is_asked;
-  has_slot = of_change.has_slot;
-  has_no_reply = of_change.is_placed ∙ tells_none (state.history.is_spoiled slot seq) (state.history.fate slot seq) (state.history.change slot seq) sealing.fate unspoiled;
-  file_works = sym tied.holds.faulted ∙ sealing.works;
-  as_expected = ap (λ (words : List ℕ). fits words (entries_of of_change.found.job)) (sym tied.holds.words)
-      ∙ ap (fits (state.accounts tenant).file.contents) (of_change.its_entries ∙ sealing.change)
-      ∙ ap (λ (t : ℕ). fits (state.accounts t).file.contents (state.history.change slot seq)) (sym sealing.same_tenant)
-      ∙ decided config state sealing.target sound files grounds sealing.live sealing.is_born sealing.fate;
-})
+cut_fits config state tenant store interrupted doubt decided sound files grounds tied (ASeal number is sealing) = subst (CouldBeInterrupted store) (sym is) (
+  of_change.found,
+  record {
+    is_asked = of_change.is_asked;
+    has_slot = of_change.has_slot;
+    has_no_reply = of_change.is_placed ∙ tells_none (state.history.is_spoiled slot seq) (state.history.fate slot seq) (state.history.change slot seq) sealing.fate unspoiled;
+    file_works = sym tied.holds.faulted ∙ sealing.works;
+    as_expected = ap (λ (words : List ℕ). fits words (entries_of of_change.found.job)) (sym tied.holds.words)
+        ∙ ap (fits (state.accounts tenant).file.contents) (of_change.its_entries ∙ sealing.change)
+        ∙ ap (λ (t : ℕ). fits (state.accounts t).file.contents (state.history.change slot seq)) (sym sealing.same_tenant)
+        ∙ decided config state sealing.target sound files grounds sealing.live sealing.is_born sealing.fate;
+  },
+)
   where
     slot : ℕ
     slot = sealing.target.slot

@@ -14,6 +14,7 @@ use Rattle.mw_lone.specs.Store.{Store, RequestState, new_store, request, entries
 use Rattle.mw_lone.proofs.SoundStores.{Requests, get-insert_same, get-insert_other}
 use Rattle.mw_law_late.specs.Doing.{Does, CouldBeInterrupted}
 use Rattle.mw_law_late.proofs.Deciding.{marks-do}
+use Rattle.mw_law_store.specs.Acknowledged.{begun}
 use Rattle.mw_law_store.specs.Going.{Goes}
 use Rattle.mw_law_store.specs.Laws.{WordsAreOfMarks}
 use Rattle.mw_law_store.specs.Moments.{Moment, first_moment, doubt_at, after_mark, after_marks}
@@ -128,7 +129,10 @@ run_tells now s t (mark ∷ marks) e tells =
 pub first_tells : (words : List ℕ) (quota : ℕ) → Tells (first_moment words) (new_store words quota)
 first_tells words quota = record { words = refl; doubt = refl; entries = none_asked (first_moment words) }
 
+pub begun_tells : (words : List ℕ) (quota : ℕ) (opened : Bool) → Tells (first_moment words) (begun words quota opened)
+begun_tells words quota opened = let first = first_tells words quota in record { words = first.words; doubt = first.doubt; entries = first.entries }
+
 pub words_are_of_marks : WordsAreOfMarks
-words_are_of_marks words quota marks t e =
-    let tells = run_tells (first_moment words) (new_store words quota) t marks e (first_tells words quota) in
+words_are_of_marks words quota opened marks t e =
+    let tells = run_tells (first_moment words) (begun words quota opened) t marks e (begun_tells words quota opened) in
     (sym tells.words, sym tells.doubt)

@@ -14,9 +14,10 @@ use Rattle.mw_lone.specs.Store.{Store, RequestState, request}
 use Rattle.mw_lone.proofs.SoundStores.{Requests, get-insert_same, get-insert_other}
 use Rattle.mw_law_late.specs.Late.{more}
 use Rattle.mw_law_store.specs.Moments.{Moment, after_mark, after_line, moment_of, moment_at, IsAskedBefore, HasPlace}
-use Rattle.mw_law_store.specs.Recalled.{Recalled, IsSealedIn}
+use Rattle.mw_law_store.specs.Recalled.{Recalled, AreSinceStart, IsSealedIn}
 use Rattle.mw_law_store.proofs.Momenting.{moment_more, moment_all, moment_before, got_within, got_which}
 use Rattle.mw_law_store.proofs.Placed.{asked_before, asked_on, has_place_before}
+use Rattle.mw_law_store.proofs.SinceStart.{since_more}
 use Rattle.mw_law_store.proofs.Telling.{Tells, which_request}
 
 pub length_more : (lines : List (Option Mark)) (line : Option Mark) → length (more lines line) ≡ length lines + 1
@@ -52,8 +53,8 @@ pub record SealsHere (start : Moment) (lines : List (Option Mark)) (k n : ℕ) (
 pub one_written : (start : Moment) (lines : List (Option Mark)) (mark : Mark) (s t : Store) (k : ℕ) (y : RequestState) → Recalled start lines s → t.requests ≡ map.insert s.requests k y
     → Tells (after_mark (moment_of start lines) mark) t → IsAskedBefore (more lines (Some mark)) (length (more lines (Some mark))) k
     → ((reply : Reply) → y.placed ≡ Some reply → HasPlace start (more lines (Some mark)) k y.job reply) → (IsSealedIn s k → y.placed ≡ Some SaysYes)
-    → ((n : ℕ) → mark ≡ Seal n → SealsHere start lines k n y) → Recalled start (more lines (Some mark)) t
-one_written start lines mark s t k y recalled after tells its_ask its_place stays seals =
+    → ((n : ℕ) → mark ≡ Seal n → SealsHere start lines k n y) → AreSinceStart (more lines (Some mark)) t.next → Recalled start (more lines (Some mark)) t
+one_written start lines mark s t k y recalled after tells its_ask its_place stays seals since =
     let at_end = moment_more start lines (Some mark) in
     record {
       words = ap (λ (now : Moment). now.words) at_end ∙ tells.words;
@@ -88,6 +89,7 @@ one_written start lines mark s t k y recalled after tells its_ask its_place stay
             (ap (moment_at start (more lines (Some mark))) last.0 ∙ moment_before start lines (Some mark) (length lines) (omega arith) ∙ moment_all start lines)
             ∙ here.as_expected
       ];
+      since = since;
     }
 
 -- no seal at all
@@ -96,8 +98,8 @@ no_seal start lines mark k y apart n e = absurd (apart n e)
 
 -- A line at the end that changes neither a moment nor a request.
 pub quiet : (start : Moment) (lines : List (Option Mark)) (line : Option Mark) (s t : Store) → after_line (moment_of start lines) line ≡ moment_of start lines → ((n : ℕ) → line ≡ Some (Seal n) → ⊥)
-    → t.words ≡ s.words → t.in_doubt ≡ s.in_doubt → t.requests ≡ s.requests → Recalled start lines s → Recalled start (more lines line) t
-quiet start lines line s t still apart words doubt requests recalled =
+    → t.words ≡ s.words → t.in_doubt ≡ s.in_doubt → t.requests ≡ s.requests → AreSinceStart (more lines line) t.next → Recalled start lines s → Recalled start (more lines line) t
+quiet start lines line s t still apart words doubt requests since recalled =
     let at_end : moment_of start (more lines line) ≡ moment_of start lines = moment_more start lines line ∙ still in
     let back = λ (n : ℕ). ap (λ (m : Requests). map.get m n) requests in
     record {
@@ -116,22 +118,23 @@ quiet start lines line s t still apart words doubt requests recalled =
             ap (λ (now : Moment). fits now.words (now.entries n)) (moment_before start lines line place (omega (arith, within))) ∙ recalled.fit place n before
         | inr last ↦ absurd (apart n last.1)
       ];
+      since = since;
     }
 
 pub keeps_recalled : (start : Moment) (lines : List (Option Mark)) (s : Store) → Recalled start lines s → Recalled start (more lines None) s
-keeps_recalled start lines s recalled = quiet start lines None s s refl (λ n e. none-some (Seal n) e) refl refl refl recalled
+keeps_recalled start lines s recalled = quiet start lines None s s refl (λ n e. none-some (Seal n) e) refl refl refl (since_more lines None s.next tt recalled.since) recalled
 
 -- A request that was asked is written.
 
 -- its reply stays
 pub restated : (start : Moment) (lines : List (Option Mark)) (mark : Mark) (s t : Store) (k : ℕ) (found y : RequestState) → Recalled start lines s → request s k ≡ Some found → t.requests ≡ map.insert s.requests k y
-    → y.job ≡ found.job → y.placed ≡ found.placed → ((n : ℕ) → mark ≡ Seal n → ⊥) → Tells (after_mark (moment_of start lines) mark) t → Recalled start (more lines (Some mark)) t
-restated start lines mark s t k found y recalled is_asked after same_job same_reply apart tells =
+    → y.job ≡ found.job → y.placed ≡ found.placed → ((n : ℕ) → mark ≡ Seal n → ⊥) → Tells (after_mark (moment_of start lines) mark) t → AreSinceStart (more lines (Some mark)) t.next → Recalled start (more lines (Some mark)) t
+restated start lines mark s t k found y recalled is_asked after same_job same_reply apart tells since =
     one_written start lines mark s t k y recalled after tells (asked_by_end lines (Some mark) k (recalled.asked k found is_asked))
     (λ reply placed. subst (λ job. HasPlace start (more lines (Some mark)) k job reply) (sym same_job)
     (has_place_before start lines (Some mark) k found.job reply (λ m is same. apart m (same_Some mark (Seal m) is)) (recalled.places k found reply is_asked (sym same_reply ∙ placed))))
     (λ is. same_reply ∙ ap (λ (x : RequestState). x.placed) (same_Some found is.found (sym is_asked ∙ is.is_asked)) ∙ is.has_reply)
-    (no_seal start lines mark k y apart)
+    (no_seal start lines mark k y apart) since
 
 -- an open one was not sealed
 pub not_sealed : (s : Store) (k : ℕ) (found : RequestState) → request s k ≡ Some found → found.placed ≡ None → IsSealedIn s k → ⊥
@@ -140,12 +143,12 @@ not_sealed s k found is_asked none is = none-some SaysYes (sym none ∙ ap (λ (
 -- it has its reply now, which has its place
 pub answered : (start : Moment) (lines : List (Option Mark)) (mark : Mark) (s t : Store) (k : ℕ) (found : RequestState) (reply : Reply) → Recalled start lines s → request s k ≡ Some found → found.placed ≡ None
     → t.requests ≡ map.insert s.requests k (record found { placed = Some reply }) → Tells (after_mark (moment_of start lines) mark) t → HasPlace start (more lines (Some mark)) k found.job reply
-    → ((n : ℕ) → mark ≡ Seal n → SealsHere start lines k n (record found { placed = Some reply })) → Recalled start (more lines (Some mark)) t
-answered start lines mark s t k found reply recalled is_asked none after tells place seals =
+    → ((n : ℕ) → mark ≡ Seal n → SealsHere start lines k n (record found { placed = Some reply })) → AreSinceStart (more lines (Some mark)) t.next → Recalled start (more lines (Some mark)) t
+answered start lines mark s t k found reply recalled is_asked none after tells place seals since =
     one_written start lines mark s t k (record found { placed = Some reply }) recalled after tells (asked_by_end lines (Some mark) k (recalled.asked k found is_asked))
     (λ said placed. subst (λ is. HasPlace start (more lines (Some mark)) k found.job is) (same_Some reply said placed) place)
     (λ is. absurd (not_sealed s k found is_asked none is))
-    seals
+    seals since
 
 -- the words of the moment before the last line
 pub last_moment : (start : Moment) (lines : List (Option Mark)) (line : Option Mark) → moment_at start (more lines line) (length lines) ≡ moment_of start lines

@@ -4,13 +4,13 @@ use Rattle.mw_words.specs.declared.jobs.Entry.{Entry}
 use Rattle.mw_words.specs.declared.replies.Reply.{Reply}
 use Rattle.mw_words.specs.declared.replies.Reply.TheVariants.{Val, Yes as SaysYes, No as SaysNo, Fault as SaysFault, Worn as SaysWorn}
 use Rattle.mw_words.specs.declared.statuses.Status.{Status}
-use Rattle.mw_words.specs.declared.statuses.Status.TheVariants.{Draft, Open, YesDirty, Yes, No, DoneYes, DoneNo}
+use Rattle.mw_words.specs.declared.statuses.Status.TheVariants.{Yes, No, DoneYes, DoneNo}
 use Rattle.mw_look.specs.declared.points.After.{After as AfterRead}
 use Rattle.mw_look.specs.declared.points.After.TheVariants.{Again, Answer}
 use Rattle.mw_look.specs.declared.points.Point.{Point as ReadPoint}
 use Rattle.mw_look.specs.declared.points.Point.TheVariants.{Unpin as UnpinOfRead, FreeSlot as FreeOfRead, LowerDoor as LowerOfRead, Replied as RepliedOfRead}
 use Rattle.mw_actor.specs.declared.points.After.{After}
-use Rattle.mw_actor.specs.declared.points.After.TheVariants.{Work, GiveUp as ThenGiveUp, Reply as ThenReply}
+use Rattle.mw_actor.specs.declared.points.After.TheVariants.{Reply as ThenReply}
 use Rattle.mw_actor.specs.declared.points.Point.{Point}
 use Rattle.mw_actor.specs.declared.points.Point.TheVariants.{Read, ReadDoor, Admit, ScanGate, Claim, Unpin, FreeSlot, LowerDoor, Replied}
 use Rattle.mw_actor.specs.Acting.{entry_at}

@@ -1,7 +1,6 @@
 -- A tenant's store follows its part of a world: in every run, and legally where numbers are left.
-use Rattle.std.specs.Prelude.{ℕ, ◌≡◌, ◌≢◌, All, List, Option, Some}
+use Rattle.std.specs.Prelude.{ℕ, ◌≡◌, ◌≢◌, All, List, Some}
 use Rattle.mw_words.specs.declared.replies.Reply.TheVariants.{Worn}
-use Rattle.mw_lone.specs.declared.marks.Mark.{Mark}
 use Rattle.mw_lone.specs.Store.{Store, run as run_of_store, replies_from}
 use Rattle.mw_law_late.specs.Late.{IsNumbered}
 use Rattle.mw_actor.specs.Acting.{Acting}

@@ -1,12 +1,10 @@
 -- What is proved of tenants and their stores.
-use Rattle.std.specs.Prelude.{ℕ, ◌≡◌, ◌≢◌, ◌<◌, ◌++◌, true, List, [], ◌∷◌, slice_get, slice_set, Option, Some, None}
-use Rattle.std.specs.Option.{option_map_or}
-use Rattle.mw_words.specs.Change.{fits, word_at}
+use Rattle.std.specs.Prelude.{ℕ, ◌≡◌, ◌<◌, Bool, true, List, slice_set, Option, Some}
+use Rattle.mw_words.specs.Change.{fits}
 use Rattle.mw_words.specs.declared.replies.Reply.{Reply}
-use Rattle.mw_words.specs.declared.replies.Reply.TheVariants.{Yes as SaysYes}
 use Rattle.mw_words.specs.declared.statuses.Status.TheVariants.{YesDirty}
 use Rattle.mw_lone.specs.declared.marks.Mark.{Mark}
-use Rattle.mw_lone.specs.Store.{Store, RequestState, new_store, request, run as run_of_store, replies_from}
+use Rattle.mw_lone.specs.Store.{Store, RequestState, run as run_of_store, replies_from}
 use Rattle.mw_law_late.specs.Late.{marks_in, IsKeptFor, IsNumbered, IsOpen}
 use Rattle.mw_actor.specs.declared.points.Slot.{Slot}
 use Rattle.mw_world.specs.declared.config.Config.{Config}
@@ -19,6 +17,7 @@ use Rattle.mw_law_moves.specs.Guards.{IsLive}
 use Rattle.mw_law_runs.specs.Files.{FilesFit}
 use Rattle.mw_law_runs.specs.Sound.{IsSound}
 use Rattle.mw_law_files.specs.Files.{HasFiles}
+use Rattle.mw_law_store.specs.Acknowledged.{begun}
 use Rattle.mw_law_store.specs.Followed.{IsFollowed, IsFollowedBy, GoesOn, IsServedSo}
 use Rattle.mw_law_store.specs.Going.{Saying, lines_after, StoreGoes}
 use Rattle.mw_law_store.specs.Grounds.{HasGrounds}
@@ -29,9 +28,10 @@ use Rattle.mw_law_store.specs.Recalled.{Recalled, MayBeSaid}
 -- Of lines and stores, without a world.
 
 -- The moment after lines is the one after their marks; what a legal run leaves of a store has the moment's words, and its change in doubt. So after every run of
--- the store alone its words are the first ones, with the changes of all seals put over them and of all starts that took one, in their order.
+-- the store alone, whose file opened at first or didn't, its words are the first ones, with the changes of all seals put over them and of all starts that took
+-- one, in their order.
 abbrev pub WordsAreOfMarks : Type 0
-WordsAreOfMarks = (words : List ℕ) (quota : ℕ) (marks : List Mark) (t : Store) → run_of_store (new_store words quota) marks ≡ Some t
+WordsAreOfMarks = (words : List ℕ) (quota : ℕ) (opened : Bool) (marks : List Mark) (t : Store) → run_of_store (begun words quota opened) marks ≡ Some t
     → (t.words ≡ (after_marks (first_moment words) marks).words) × (t.in_doubt ≡ (after_marks (first_moment words) marks).doubt)
 
 abbrev pub LinesAreMoments : Type 0

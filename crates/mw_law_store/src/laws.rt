@@ -1,6 +1,9 @@
 //! What holds of tenants and their stores: facts for proofs to cite. The functions do nothing.
+ghost use Rattle.mw_world.specs.Claim.Headline.{EveryRunServesAlone};
 ghost use Rattle.mw_law_store.specs.Acknowledged.{SealsAreHeld};
-ghost use Rattle.mw_law_store.specs.Laws.{DecidedChangesFit, EventsKeepGrounds, LateMarksLeaveReplies, LinesAreMoments, RunsHaveGrounds, SayingsAreRecalled, WordsAreOfMarks};
+ghost use Rattle.mw_law_store.specs.HeldInRuns.{RunsHoldChanges};
+ghost use Rattle.mw_law_store.specs.History.{AsksStandOnce, RepliesHavePlaces, SealedComeInOrder, SealsFit, SealsStay, SealsStayLong, WordsAreOfSealed};
+ghost use Rattle.mw_law_store.specs.Laws.{DecidedChangesFit, EventsAreFollowed, EventsKeepGrounds, LateMarksLeaveReplies, LinesAreMoments, RunsAreFollowed, RunsHaveGrounds, SayingsAreRecalled, WordsAreOfMarks};
 ghost use Rattle.mw_law_store.specs.Worn.{RunsAreNotWorn};
 
 /// After every run of the store alone its words are the first ones, with the changes of all seals put over
@@ -8,6 +11,13 @@ ghost use Rattle.mw_law_store.specs.Worn.{RunsAreNotWorn};
 pub fn words_are_of_marks()
     ensures words { WordsAreOfMarks }
     ensures lines { LinesAreMoments }
+{}
+
+/// The words of a moment are those before it with the changes sealed since put over them, in order; those sealed before a
+/// place come first of all, and at a seal's place its request's stands right after them.
+pub fn sealed_come_in_order()
+    ensures words { WordsAreOfSealed }
+    ensures order { SealedComeInOrder }
 {}
 
 /// What was acknowledged is held: each request that was handed YES was sealed before that, since it came and with no
@@ -40,4 +50,28 @@ pub fn changes_fit()
 /// Where numbers are left no request comes to say WORN.
 pub fn runs_are_not_worn()
     ensures { RunsAreNotWorn }
+{}
+
+/// Each tenant's store follows its part of a world after every run, also where a number was used up.
+pub fn runs_are_followed()
+    ensures keep { EventsAreFollowed }
+    ensures runs { RunsAreFollowed }
+{}
+
+/// After every run, also where a number was used up, each reply has its place among its tenant's sealed
+/// changes, each of which fits the words before it; each request came at one line alone; and while all goes
+/// on without a start, what stands among the lines stays.
+pub fn replies_have_places()
+    ensures places { RepliesHavePlaces }
+    ensures asks { AsksStandOnce }
+    ensures fit { SealsFit }
+    ensures stay { SealsStay }
+    ensures long { SealsStayLong }
+{}
+
+/// Every run in which there are numbers left serves each tenant as its store alone would, and its file's
+/// words hold each change that was acknowledged.
+pub fn every_run_serves_alone()
+    ensures alone { EveryRunServesAlone }
+    ensures held { RunsHoldChanges }
 {}

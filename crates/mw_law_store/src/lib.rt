@@ -4,5 +4,7 @@
 mod laws;
 
 pub use laws::{
-    changes_fit, late_marks_leave_replies, runs_are_not_worn, runs_have_grounds, sayings_are_recalled, seals_are_held, words_are_of_marks,
+    changes_fit, every_run_serves_alone, late_marks_leave_replies, replies_have_places,
+    runs_are_followed, runs_are_not_worn, runs_have_grounds, sayings_are_recalled,
+    sealed_come_in_order, seals_are_held, words_are_of_marks,
 };

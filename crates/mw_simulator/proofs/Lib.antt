@@ -12,6 +12,7 @@ pub mod Images
 pub mod MadeSteps
 pub mod Reopened
 pub mod Restarted
+pub mod Serving
 pub mod ShownAccounts
 pub mod SoundBooks
 pub mod Turning

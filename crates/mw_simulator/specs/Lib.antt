@@ -11,6 +11,7 @@ pub mod Making
 pub mod Openings
 pub mod Running
 pub mod Seats
+pub mod Serving
 pub mod Shows
 pub mod Starts
 pub mod Staying

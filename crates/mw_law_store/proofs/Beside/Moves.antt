@@ -100,7 +100,7 @@ module _ (state : State) (tenant other : ℕ) (differs : other ≢ tenant) where
   module _ (config : Config) (memory : Memory config state) (by : ℕ) where
     claim_aside : (own : Slot) (gate : Gate) (request : ℕ) (entries : List Entry) → MayClaim config state own gate tenant entries → SameFor other state (made state by (Claim own gate tenant request entries))
     claim_aside own gate request entries guard = record {
-        was = λ slot seq is. by_place slot seq (same_place own.slot own.seq slot seq) is;
+      was = λ slot seq is. by_place slot seq (same_place own.slot own.seq slot seq) is;
       still = λ slot seq is. (same state.history.is_born true slot seq is ∙ is.0, same state.history.tenant tenant slot seq is ∙ is.1);
       request = λ slot seq is. same state.history.request request slot seq is;
       change = λ slot seq is. same state.history.change entries slot seq is;

@@ -113,7 +113,7 @@ module _ (config : Config) (state next : State) (actor : Acting) (sound : IsSoun
     turn_same : (tenant : ℕ) → tenant ≢ actor.tenant → SameFor tenant state next
     turn_same tenant apart =
         let same = moves_aside config state actor.worker actor.tenant tenant apart (moves_told state actor.worker actor ended.news) guards sound.memory
-            (turn_for config state actor ended.news informed) in
+        (turn_for config state actor ended.news informed) in
         is_shared next (world_told state actor ended.news) ended.same (λ (one : State). SameFor tenant state one)
         (record { was = same.was; still = same.still; request = same.request; change = same.change; tells = same.tells })
 
@@ -127,7 +127,7 @@ module _ (config : Config) (state next : State) (actor : Acting) (sound : IsSoun
     call_same : (tenant : ℕ) → tenant ≢ actor.tenant → SameFor tenant state next
     call_same tenant apart =
         let same = moves_aside config state actor.worker actor.tenant tenant apart (moves_of_call state actor.worker actor called outcome)
-            (calls_have_guards config state actor called outcome informed at) sound.memory (calls_for config state actor called outcome informed at) in
+        (calls_have_guards config state actor called outcome informed at) sound.memory (calls_for config state actor called outcome informed at) in
         is_shared next (made_all state actor.worker (moves_of_call state actor.worker actor called outcome)) (calls_are_moves config state next actor.worker actor called outcome at is)
         (λ (one : State). SameFor tenant state one)
         (record { was = same.was; still = same.still; request = same.request; change = same.change; tells = same.tells })

@@ -111,7 +111,7 @@ module _ (config : Config) (state : State) (sound : IsSound config state) (has :
           file_works = door_fault (Admit from to) from sits is ∙ ready.had_no_fault;
         },
         subst (λ (one : Door). one.used < (state.accounts actor.tenant).quota) (sym is)
-        (below from.used (state.accounts actor.tenant).quota actor.quota ready.was_below_quota (same_quota (Admit from to) sits)),
+            (below from.used (state.accounts actor.tenant).quota actor.quota ready.was_below_quota (same_quota (Admit from to) sits)),
       )
 
   pub claim_gives : (point : Point) (own : Slot) (gate : Gate) (tenant : ℕ) (entries : List Entry) (next : Acting) → MayClaim config state own gate tenant entries

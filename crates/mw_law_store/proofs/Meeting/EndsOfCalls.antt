@@ -153,7 +153,7 @@ module _ (config : Config) (state : State) (world : IsGroundedWorld config state
   own_failed_to_seal place ready =
       let made = breaks state actor change held SealCall place in
       let led = failed_to_seal state actor (then_goes false) made.cells (Filed false) store tied sits refl refl change place ready (ends false) (λ slot seq lives born. lives)
-                (used_there state.cells.doors actor.tenant actor.tenant) in
+      (used_there state.cells.doors actor.tenant actor.tenant) in
       leads_saying state actor made store (SealFail (state.history.request change.slot change.seq)) led.0 refl (λ start. tt) led.1 led.1 refl led.2
 
   -- the file fails in a call that seals nothing
@@ -161,12 +161,12 @@ module _ (config : Config) (state : State) (world : IsGroundedWorld config state
   own_failed_to_prepare place works certain =
       let made = breaks state actor change held PrepareCall place in
       let led = failed_file state actor (then_goes false) made.cells (Filed false) store tied sits refl refl works certain (ends false) (λ slot seq lives born. lives)
-                (used_there state.cells.doors actor.tenant actor.tenant) in
+      (used_there state.cells.doors actor.tenant actor.tenant) in
       leads_saying state actor made store FileFail led.0 refl (λ start. tt) led.1 led.1 refl led.2
 
   pub own_failed_to_settle : (place : ℕ) → held.has_failed ≡ false → held.doubt ≡ [] → LeadsOn state (moved state actor.worker actor (breaks state actor change held SettleCall place)) actor.worker actor.tenant store
   own_failed_to_settle place works certain =
       let made = breaks state actor change held SettleCall place in
       let led = failed_file state actor (then_goes false) made.cells (Filed false) store tied sits refl refl works certain (ends false) (λ slot seq lives born. lives)
-                (used_there state.cells.doors actor.tenant actor.tenant) in
+      (used_there state.cells.doors actor.tenant actor.tenant) in
       leads_saying state actor made store FileFail led.0 refl (λ start. tt) led.1 led.1 refl led.2

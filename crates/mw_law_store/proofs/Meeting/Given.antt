@@ -1,5 +1,5 @@
 -- What a step gives besides its end, by what it means: what the store is to have found at it.
-use Rattle.std.specs.Prelude.{ℕ, ◌≡◌, ◌≢◌, ◌<◌, ◌≤◌, true, false, List, slice_get, Some, None}
+use Rattle.std.specs.Prelude.{ℕ, ◌≡◌, ◌≢◌, ◌<◌, true, false, List, slice_get, Some, None}
 use Rattle.mw_words.specs.declared.jobs.Entry.{Entry}
 use Rattle.mw_words.specs.declared.jobs.Job.TheVariants.{Get}
 use Rattle.mw_words.specs.declared.replies.Reply.{Reply}
@@ -17,7 +17,7 @@ use Rattle.mw_actor.specs.declared.points.Slot.{Slot}
 use Rattle.mw_actor.specs.declared.points.Task.{Task}
 use Rattle.mw_actor.specs.Acting.{Acting, entries_of}
 use Rattle.mw_world.specs.declared.notes.Note.{Note}
-use Rattle.mw_world.specs.declared.notes.Note.TheVariants.{Nothing, Admitted, FoundBusy, FoundFault, Looked, Kept, LookedBefore, Claimed, Decided, Refused, Moved, Freed, Lowered, GaveUp}
+use Rattle.mw_world.specs.declared.notes.Note.TheVariants.{Admitted, FoundBusy, FoundFault, Looked, Kept, LookedBefore, Claimed, Decided, Refused, Freed, Lowered, GaveUp}
 use Rattle.mw_world.specs.declared.notes.Phase.TheVariants.{Keeping}
 use Rattle.mw_world.specs.Definition.History.{expected, new}
 use Rattle.mw_world.specs.Definition.Logical.{held_value}

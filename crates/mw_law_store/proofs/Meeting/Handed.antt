@@ -87,7 +87,7 @@ module _ (config : Config) (openings : ℕ → Opening) (state : State) (worker 
       let next = gave state worker tenant in
       let at : next.accounts tenant ≡ _ = upd_here state.accounts tenant _ in
       let there = subst (λ (its : ℕ). Tied state its store → (t : Store) × HandsAny store n t × (is_worn_reply reply ≡ false → HandsOut store n t) × Tied (gave state worker its) its t) same
-          (gave_tied state worker actor reply store sits stands) followed.tied in
+      (gave_tied state worker actor reply store sits stands) followed.tied in
       met openings state next (Hand worker) worker tenant store followed (Says (HandOut n)) there.0 (ap (λ (a : Account). a.closed) at) (ap (λ (a : Account). a.lines) at) tt there.1
       (λ fresh. there.2 (not_worn fresh)) (λ other apart. upd_else state.seats worker other _ apart) (λ other one apart is looks misses placed. placed) tt there.3
       (λ fresh. gives_out store n actor.job reply (has same fresh) ∙ sym (its_given same)) (λ fresh legal. tt)

@@ -1,8 +1,7 @@
 -- What is to be known of an event that is no start, to go on by it: a tenant's store goes on, and where its marks were legal they are so still.
-use Rattle.std.specs.Prelude.{ℕ, ◌≡◌, ◌≢◌, ◌⊎◌, true, false, List, length, Option, Some}
-use Rattle.std.proofs.Common.{refl, sym, ap, subst, ◌∙◌, inl, inr}
+use Rattle.std.specs.Prelude.{ℕ, ◌≡◌, ◌≢◌, true, false, List, Option, Some}
+use Rattle.std.proofs.Common.{sym, ap, subst, ◌∙◌, inl, inr}
 use Rattle.std.proofs.lemmas.Bool.{cases_eq}
-use Rattle.mw_words.specs.declared.jobs.Entry.{Entry}
 use Rattle.mw_words.specs.declared.replies.Reply.{Reply}
 use Rattle.mw_words.specs.declared.replies.Reply.TheVariants.{Val, No as SaysNo}
 use Rattle.mw_words.specs.declared.statuses.Status.{Status}
@@ -62,7 +61,7 @@ module _ (openings : ℕ → Opening) (state next : State) (event : Happening) (
     (may : MayBeSaid (start_of openings state tenant) (state.accounts tenant).lines says store) (goes : StoreGoes says store after) (does : NoneIsWorn state → StoreDoes says store after)
     (others : (other : ℕ) → other ≢ worker → next.seats other ≡ state.seats other)
     (stays : (other : ℕ) (actor : Acting) → other ≢ worker → (state.seats other).actor ≡ Some actor → (looks : ℕ → Type 0) (misses : Refusals) → PlacedAt state.history looks misses actor actor.point
-        → PlacedAt next.history looks misses actor actor.point)
+    → PlacedAt next.history looks misses actor actor.point)
     (own : IsOwnPlace says tenant (state.seats worker)) where
   abbrev pub begun : Moment
   begun = start_of openings state tenant
@@ -78,9 +77,12 @@ module _ (openings : ℕ → Opening) (state next : State) (event : Happening) (
 
   pub mine_none : (actor : Acting) → keeps actor.point ≡ false → IsMine actor
   mine_none actor none = record {
-    keeping = record { is_empty = λ keeps. absurd (both keeps); kept_for =
-        placed_none next.history (λ value. CouldLook begun (next.accounts tenant).lines (next.seats worker).kept (next.seats worker).request actor.job value)
-        (λ n entries index address value. CouldMiss begun (next.accounts tenant).lines (next.seats worker).kept n entries index address value) actor actor.point none };
+    keeping = record {
+      is_empty = λ keeps. absurd (both keeps);
+      kept_for =
+          placed_none next.history (λ value. CouldLook begun (next.accounts tenant).lines (next.seats worker).kept (next.seats worker).request actor.job value)
+          (λ n entries index address value. CouldMiss begun (next.accounts tenant).lines (next.seats worker).kept n entries index address value) actor actor.point none;
+    };
     place = λ keeps. absurd (both keeps);
     legal = λ fresh legal.
         placed_none next.history (λ value. IsKeptFor legal.base (lines_after says before) (next.seats worker).kept (Look (next.seats worker).request) (next.seats worker).request (Val value))
@@ -98,7 +100,7 @@ module _ (openings : ℕ → Opening) (state next : State) (event : Happening) (
       let seat = state.seats other in
       let away : keeps actor.point ≡ true → IsElse seat.kept says = λ keeps_it. turn_else says may goes seat.kept (else_by worker tenant begun state next says store after may goes followed.kept lines others stays own says own other actor apart sat same keeps_it) in
       let stands : keeps actor.point ≡ true → (mark : Mark) (n : ℕ) (reply : Reply) → IsKeptFor legal.base before seat.kept mark n reply → IsKeptFor legal.base (lines_after says before) seat.kept mark n reply =
-          λ keeps_it mark n reply. legal_stays legal.base store after before says seat.kept mark n reply legal.numbered legal.lines (does fresh) (late legal) (away keeps_it) in
+      λ keeps_it mark n reply. legal_stays legal.base store after before says seat.kept mark n reply legal.numbered legal.lines (does fresh) (late legal) (away keeps_it) in
       subst (λ (now : Seat). LegalAt next.history legal.base (lines_after says before) now actor actor.point) (sym (others other apart))
       (stays other actor apart sat
       (λ value. IsKeptFor legal.base (lines_after says before) seat.kept (Look seat.request) seat.request (Val value))

@@ -1,5 +1,5 @@
 -- What becomes of the place that a request keeps, at each of its steps.
-use Rattle.std.specs.Prelude.{ℕ, ◌≡◌, ◌⊎◌, ◌==◌, ◌-◌, ◌+◌, Bool, true, false, cond, nat_lt, Option, Some, None}
+use Rattle.std.specs.Prelude.{ℕ, ◌≡◌, ◌==◌, ◌-◌, ◌+◌, Bool, true, false, cond, nat_lt, Option, Some, None}
 use Rattle.std.proofs.Common.{refl, sym, subst, inl, inr}
 use Rattle.mw_words.specs.declared.gates.Gate.{Gate}
 use Rattle.mw_words.specs.declared.limits.TheConstants.{MAX_ENTRIES, WORN_NUMBER}
@@ -14,16 +14,14 @@ use Rattle.mw_look.specs.declared.points.Point.{Point as ReadPoint}
 use Rattle.mw_look.specs.declared.points.Point.TheVariants as look
 use Rattle.mw_look.specs.declared.points.Trail.{Trail}
 use Rattle.mw_look.specs.declared.points.Trail.TheVariants.{Held as ByHeld, Planted as ByPlanted}
-use Rattle.mw_look.specs.Program.{Reading, goes as read_goes, word_of, same_word, seq_of, slot_of, pinned, pinning, next_entry, resumed, word_seen}
+use Rattle.mw_look.specs.Program.{Reading, goes as read_goes, word_of, same_word, seq_of, pinned, next_entry, resumed, word_seen}
 use Rattle.mw_pool.specs.Moves.{after_pin}
 use Rattle.mw_actor.specs.declared.points.Point.{Point}
 use Rattle.mw_actor.specs.declared.points.Point.TheVariants.{Read, Inspect, DecideNo}
 use Rattle.mw_actor.specs.Acting.{Acting}
 use Rattle.mw_actor.specs.Asks.{asks}
 use Rattle.mw_actor.specs.Program.{goes, tells}
-use Rattle.mw_world.specs.declared.notes.Note.{Note}
-use Rattle.mw_world.specs.declared.notes.Note.TheVariants.{Nothing, Kept}
-use Rattle.mw_world.specs.Definition.Notes.{note_of, read_note, read_point}
+use Rattle.mw_world.specs.Definition.Notes.{note_of, read_note}
 use Rattle.mw_world.specs.Definition.State.{State}
 use Rattle.mw_law_runs.proofs.Ending.{Ends}
 use Rattle.mw_law_store.specs.Kept.{keeps}

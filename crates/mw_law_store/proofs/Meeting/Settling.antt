@@ -147,7 +147,7 @@ pub settles : (config : Config) (state : State) (actor : Acting) (news : News) �
 settles config state actor news sound grounds sits ends guards own reply mine goes = (
   (done.is_born, done.same_tenant),
   ap (λ (spoiled : Bool). told spoiled (past.fate own.slot own.seq) (past.change own.slot own.seq)) (unspoiled state grounds own done.stays_not found.decided)
-  ∙ ap (λ (change : List Entry). told false (past.fate own.slot own.seq) change) done.same_entries ∙ found.tells,
+      ∙ ap (λ (change : List Entry). told false (past.fate own.slot own.seq) change) done.same_entries ∙ found.tells,
 )
   where
     past : History

@@ -24,6 +24,7 @@ use Rattle.mw_law_store.proofs.Acknowledging.{marks_more}
 use Rattle.mw_law_store.proofs.Fitting.{decided_changes_fit}
 use Rattle.mw_law_store.proofs.Legal.{whole_run, restart_legal, start_numbered}
 use Rattle.mw_law_store.proofs.Momenting.{lines_are_moments}
+use Rattle.mw_law_store.proofs.Recalling.{nothing_recalled}
 use Rattle.mw_law_store.proofs.Restarting.{restart_tied}
 use Rattle.mw_law_store.proofs.Serving.{IsServed, StartsAreServed, RestartsAreServed, StoresAreShown, StoresAreLeft}
 use Rattle.mw_law_store.proofs.Starting.{first_tied, shows_store, leaves_in_doubt}
@@ -41,15 +42,7 @@ nothing_asked store n r empty is = none-some r (sym (map.get-empty nat_cmp n) �
 
 -- no line recalls a store of which nothing was asked since its last start
 pub none_recalled : (start : Moment) (store : Store) → store.requests ≡ map.empty → Tells start store → Recalled start [] store
-none_recalled start store empty tells = record {
-  words = tells.words;
-  doubt = tells.doubt;
-  entries = tells.entries;
-  asked = λ n r is. absurd (nothing_asked store n r empty is);
-  places = λ n r reply is placed. absurd (nothing_asked store n r empty is);
-  sealed = λ place n is. absurd (none-some _ is);
-  fit = λ place n is. absurd (none-some _ is);
-}
+none_recalled start store empty tells = nothing_recalled start store tells.words tells.doubt (λ n r is. nothing_asked store n r empty is)
 
 -- at a start nobody keeps a place
 pub none_kept : (config : Config) (accounts : ℕ → Account) (tenant : ℕ) (start : Moment) → Kept (started config accounts) tenant start

@@ -27,7 +27,7 @@ use Rattle.mw_actor.specs.Program.{replied}
 use Rattle.mw_lone.specs.Store.{Store, is_cas}
 use Rattle.mw_world.specs.declared.config.Config.{Config}
 use Rattle.mw_world.specs.declared.notes.Note.{Note}
-use Rattle.mw_world.specs.declared.notes.Note.TheVariants.{Nothing, Admitted, FoundBusy, FoundFault, Looked, Kept, LookedBefore, Claimed, Decided, Refused, Moved, Freed, Lowered as IsLowered, GaveUp, SealedIt, FailedToSeal, FailedFile}
+use Rattle.mw_world.specs.declared.notes.Note.TheVariants.{Admitted, Claimed, Freed, Lowered as IsLowered, SealedIt, FailedToSeal, FailedFile}
 use Rattle.mw_world.specs.Definition.Cells.{Cells}
 use Rattle.mw_world.specs.Definition.Happenings.{Step as StepEvent}
 use Rattle.mw_world.specs.Definition.Notes.{note_of, read_note, read_point, door_note, inspect_note, resolve_note, release_note, give_up_note, answer_note}

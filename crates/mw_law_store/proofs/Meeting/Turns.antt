@@ -1,5 +1,5 @@
 -- A step of a request that is no call on a file serves the request's tenant: by what it means.
-use Rattle.std.specs.Prelude.{ℕ, ◌≡◌, ◌≢◌, ◌⊎◌, ◌<◌, ◌+◌, ◌-◌, Bool, true, false, List, length, slice_get, slice_set, Option, Some, None}
+use Rattle.std.specs.Prelude.{ℕ, ◌≡◌, ◌≢◌, ◌⊎◌, ◌+◌, ◌-◌, Bool, true, false, List, length, slice_get, slice_set, Option, Some, None}
 use Rattle.std.proofs.Common.{refl, sym, ap, subst, ◌∙◌, inl, inr, arith}
 use Rattle.mw_words.specs.declared.doors.Door.{Door}
 use Rattle.mw_words.specs.declared.jobs.Entry.{Entry}
@@ -21,11 +21,9 @@ use Rattle.mw_look.specs.declared.points.Trail.TheVariants.{Held as ByHeld, Plan
 use Rattle.mw_actor.specs.declared.points.After.{After}
 use Rattle.mw_actor.specs.declared.points.After.TheVariants.{Work, GiveUp as ThenGiveUp, Reply as ThenReply}
 use Rattle.mw_actor.specs.declared.points.Point.{Point}
-use Rattle.mw_actor.specs.declared.points.Point.TheVariants.{Read, DecideNo, LowerDoor, Unpin}
+use Rattle.mw_actor.specs.declared.points.Point.TheVariants.{Read, DecideNo, LowerDoor}
 use Rattle.mw_actor.specs.declared.points.Slot.{Slot}
 use Rattle.mw_actor.specs.Acting.{Acting, entry_at, entry_of}
-use Rattle.mw_world_file.specs.Files.{File}
-use Rattle.mw_world_file.specs.Maps.{upd}
 use Rattle.mw_world.specs.declared.notes.Note.{Note}
 use Rattle.mw_world.specs.declared.notes.Note.TheVariants.{Nothing, Admitted, FoundBusy, FoundFault, Looked, Kept, LookedBefore, Claimed, Decided, Refused, Moved, Freed, Lowered as IsLowered, GaveUp, SealedIt, FailedToSeal, FailedFile}
 use Rattle.mw_world.specs.declared.notes.Phase.{Phase}
@@ -39,22 +37,21 @@ use Rattle.mw_world.specs.Definition.Turns.{goes_on, moved_to, next_attempt}
 use Rattle.mw_law_moves.specs.Relying.{Later}
 use Rattle.mw_law_knowledge.specs.Points.{Knows}
 use Rattle.mw_law_knowledge.proofs.Deeds.Keeping.{upd_here, upd_else}
-use Rattle.mw_law_store.specs.Due.{Due, Answers, Dropping, due, lowers, lowers_then, lowers_in_read, waits}
+use Rattle.mw_law_store.specs.Due.{Dropping, due, lowers, lowers_then, lowers_in_read, waits}
 use Rattle.mw_law_store.specs.Followed.{start_of, IsFollowedBy, IsLegalTo}
 use Rattle.mw_law_store.specs.Going.{Saying, Silent, Says, KeepsPlace, SaysLate, lines_after, StoreGoes, StoreDoes, GivesBack, Decides, given_out}
 use Rattle.mw_law_store.specs.Kept.{keeps, PlacedBy, PlacedInRead, PlacedAt, Refusals, IsKeeping, KeptAt, LegalAt}
 use Rattle.mw_law_store.specs.Moments.{Moment, IsAskedBefore, CouldLook, CouldMiss, CouldCome}
 use Rattle.mw_law_store.specs.Recalled.{MayBeSaid}
-use Rattle.mw_law_store.specs.Tied.{is_live, born_of, told_of, IsHis, SeatTied, Tied}
+use Rattle.mw_law_store.specs.Tied.{is_live, born_of, IsHis, SeatTied, Tied}
 use Rattle.mw_law_store.specs.Worn.{NoneIsWorn, is_worn_after, is_worn_at}
 use Rattle.mw_law_store.proofs.Claims.{OwnsAreBorn}
 use Rattle.mw_law_store.proofs.Dues.Ending.{KeepsOn, Stays, Settled, EndOf}
-use Rattle.mw_law_store.proofs.Ends.{EndsBy, Same, Settles as SettlesEnd, Placed}
 use Rattle.mw_law_store.proofs.Held.{NoMoreTaken, CountsAsMany}
 use Rattle.mw_law_runs.specs.Owed.{own_of}
 use Rattle.mw_law_store.proofs.Frames.{tied_actor}
 use Rattle.mw_law_store.proofs.Marks.{is_his, one_found}
-use Rattle.mw_law_store.proofs.Keeping.{IsOwnPlace, IsPlaceOf, placed_so, placed_stays}
+use Rattle.mw_law_store.proofs.Keeping.{IsOwnPlace, placed_so, placed_stays}
 use Rattle.mw_law_store.proofs.Legal.{LatePlace, look_is_kept, miss_is_kept}
 use Rattle.mw_law_store.proofs.Marking as marking
 use Rattle.mw_law_store.proofs.Meeting.Given as given
@@ -415,8 +412,11 @@ module _ (openings : ℕ → Opening) (state : State) (actor next : Acting) (cel
       let made = marking.looked_before state actor next cells news store followed.tied sits same_tenant same_job value (end.0, gives.answers, end.2, end.3) known.taken known.doors in
       let could : CouldLook start before seat.kept seat.request actor.job value = subst (λ (point : Point). KeptAt state.history start before seat actor point) gives.is its_place.kept_for gives.keeping in
       meets_late LookedBefore known (Look seat.request) seat.request (Val value) made.0 refl (ap keeps gives.is)
-      (λ r is. (refl, subst (λ (job : Job). CouldLook start before seat.kept seat.request job value)
-      (sym his.its_job ∙ ap (λ (one : RequestState). one.job) (one_found (request store) seat.request seat.request his.found r refl his.is_asked is)) could))
+      (λ r is. (
+        refl,
+        subst (λ (job : Job). CouldLook start before seat.kept seat.request job value)
+            (sym his.its_job ∙ ap (λ (one : RequestState). one.job) (one_found (request store) seat.request seat.request his.found r refl his.is_asked is)) could,
+      ))
       made.1 (λ legal. subst (λ (point : Point). LegalAt state.history legal.base before seat actor point) gives.is (legal.kept actor.worker actor sits refl) gives.keeping) made.2
       (keeps_none LookedBefore (λ e. cc) (λ e. cc) known.place)
 
@@ -469,8 +469,11 @@ module _ (openings : ℕ → Opening) (state : State) (actor next : Acting) (cel
           meets_late (Refused target entry value) known (Miss (state.history.request target.slot target.seq) entry) (state.history.request target.slot target.seq)
           (SaysNo (entry_at (state.history.change target.slot target.seq) entry).addr value) made.0
           (ap (λ (b : Bool). late_unless b before seat.kept (Miss (state.history.request target.slot target.seq) entry)) is) (ap keeps gives.is)
-          (λ r asked. (refl, subst (λ (entries : List Entry). CouldMiss start before seat.kept (state.history.request target.slot target.seq) entries entry (entry_at (state.history.change target.slot target.seq) entry).addr value)
-          (sym row.its_entries ∙ ap (λ (one : RequestState). entries_of one.job) (one_found (request store) _ _ row.found r refl row.is_asked asked)) could))
+          (λ r asked. (
+            refl,
+            subst (λ (entries : List Entry). CouldMiss start before seat.kept (state.history.request target.slot target.seq) entries entry (entry_at (state.history.change target.slot target.seq) entry).addr value)
+                (sym row.its_entries ∙ ap (λ (one : RequestState). entries_of one.job) (one_found (request store) _ _ row.found r refl row.is_asked asked)) could,
+          ))
           made.1 legal_there made.2 none
 
   -- A slot is let go.

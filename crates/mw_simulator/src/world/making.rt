@@ -5,6 +5,7 @@ ghost use Rattle.mw_world.specs.Definition.State.{IsConfig};
 ghost use Rattle.mw_simulator.specs.BitPlaces.{HasPlacesOf};
 ghost use Rattle.mw_simulator.specs.Holding.{Holds};
 ghost use Rattle.mw_simulator.specs.Running.{Stands};
+ghost use Rattle.mw_simulator.specs.Serving.{Serves};
 ghost use Rattle.mw_simulator.specs.Starts.{AreFresh, AreGiven, AreIdle, AreTenants, HaveWords, IsFresh};
 ghost use Rattle.mw_simulator.specs.Ties.{Tie};
 
@@ -27,6 +28,7 @@ impl World {
         ensures config { IfOk result (λ world. world.config ≡ config) }
         ensures stands { IfOk result (λ world. Stands world []) }
         ensures holds { IfOk result Holds }
+        ensures serves { IfOk result Serves }
     {
         let accounts = fresh_accounts(alloc, &config.tenants)?;
         let cells = first_cells(alloc, &config, &accounts)?;

@@ -10,6 +10,7 @@ ghost use Rattle.mw_simulator.specs.Bits.{bits_at};
 ghost use Rattle.mw_simulator.specs.Crashes.{CrashesDoNoHarm};
 ghost use Rattle.mw_simulator.specs.Holding.{Holds};
 ghost use Rattle.mw_simulator.specs.Running.{Happens, Runs, RunsBySteps, Stands, StandsAfter};
+ghost use Rattle.mw_simulator.specs.Serving.{AreLegal, Serves};
 ghost use Rattle.mw_simulator.specs.Shows.{Shows};
 ghost use Rattle.mw_simulator.specs.Staying.{IsUnchanged, LeavesFiles};
 
@@ -57,10 +58,13 @@ impl World {
     }
 
     /// A tenant's marks: what has happened to its store alone, in order. The tenant is one of the world's.
-    /// The only error is want of memory.
+    /// Wherever a run from a new world has led it in which there were numbers left, they are a legal run of
+    /// the store that has the tenant's first words alone, and that store hands out by them the replies that
+    /// were handed out to the tenant. The only error is want of memory.
     pub fn marks(&self, tenant: u8) -> Result<Vec<Mark>, AllocError>
         requires { tenant < length self.now.config.tenants.items }
-        ensures { (state : State) → Shows self.now state → IfOk result (λ marks. marks.items ≡ marks_of state tenant) }
+        ensures shown { (state : State) → Shows self.now state → IfOk result (λ marks. marks.items ≡ marks_of state tenant) }
+        ensures legal { IfOk result (λ marks. AreLegal self.now tenant marks.items) }
     {
         self.accounts[usize::from(tenant)].lines.marks(self.alloc)
     }
@@ -70,7 +74,8 @@ impl World {
     /// there is none; no such request is taken. [`WorldFault::Memory`]: there is no memory for what it
     /// means. After an error the world is unchanged, but for the room that it keeps for further marks and
     /// claims. No event but a call on a tenant's file, and a start, touches that file. Wherever a run from a
-    /// new world has led it, all holds that is to hold of every run.
+    /// new world has led it, all holds that is to hold of every run; and while there were numbers left, each
+    /// tenant is served as its store alone would serve it.
     pub fn step(&mut self, event: Event) -> Result<(), WorldFault>
         ensures config { self.new.config ≡ self.old.config }
         ensures happens { (state : State) → Shows self.old state → Happens self.old self.new state event result }
@@ -79,6 +84,7 @@ impl World {
         ensures files { LeavesFiles self.old self.new event }
         ensures moments { (state : State) → Shows self.old state → CrashesDoNoHarm self.old self.new state event result }
         ensures holds { Holds self.new }
+        ensures serves { Serves self.new }
     {
         self.apply(&event)
     }
@@ -86,12 +92,14 @@ impl World {
     /// One event after the other. At an error this stops, with the index of the event that was refused;
     /// the events before it have happened, and the world is as they left it, but for the room that it keeps
     /// for further marks and claims. Wherever a run from a new world has led it, all
-    /// holds that is to hold of every run.
+    /// holds that is to hold of every run; and while there were numbers left, each tenant is served as its
+    /// store alone would serve it.
     pub fn run(&mut self, events: &[Event]) -> Result<(), (usize, WorldFault)>
         ensures config { self.new.config ≡ self.old.config }
         ensures steps { RunsBySteps self.old self.new events.now result }
         ensures runs { (happened : List Happening) → Stands self.old happened → Runs self.new happened events.now result }
         ensures holds { Holds self.new }
+        ensures serves { Serves self.new }
     {
         for (index, event) in events.iter().enumerate() {
             if let Err(fault) = self.apply(event) {

@@ -1,11 +1,12 @@
 use Rattle.std.proofs.Common.{◌≡◌, subst}
 use Rattle.std.specs.Prelude.{IfOk}
 use Rattle.mw_world.specs.Definition.State.{tenant_at}
+use Rattle.mw_simulator.proofs.Serving.{legal_of}
 use Rattle.mw_simulator.proofs.ShownAccounts.{account_read, marks_shown}
 use Rattle.mw_simulator.proofs.world.World.marks.Goals as goal
 
-pub returns : goal.returns
-returns c state shows =
+pub returns-clause-shown : goal.returns-clause-shown
+returns-clause-shown c state shows =
     let world = c.args.self.now in
     let tenant = c.args.tenant in
     let shown = c.index.result.now in
@@ -13,3 +14,6 @@ returns c state shows =
     let shows_it = shows.accounts tenant shown here in
     let is = marks_shown (tenant_at world.config tenant).words shown (state.accounts tenant) shows_it in
     subst (λ all. IfOk c.marks.result (λ marks. marks.items ≡ all)) is c.marks.ensures
+
+pub returns-clause-legal : goal.returns-clause-legal
+returns-clause-legal c = legal_of (λ marks. marks.items) c.args.self.now c.args.tenant c.marks.result c.requires (returns-clause-shown c)

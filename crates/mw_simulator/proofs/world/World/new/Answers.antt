@@ -4,6 +4,7 @@ use Rattle.mw_simulator.specs.Starts.{AreFresh, AreTenants, HaveWords}
 use Rattle.mw_simulator.proofs.FirstWorlds.{AreShown, are_tenants, first_accounts, fresh_shown, have_words, shows_start, zeros_are_words}
 use Rattle.mw_simulator.proofs.SoundBooks.{fresh_sound}
 use Rattle.mw_simulator.proofs.Holding.{holds}
+use Rattle.mw_simulator.proofs.Serving.{serves}
 use Rattle.mw_simulator.proofs.world.World.new.Goals as goal
 
 pub first_cells-requires-clause-accounts : goal.first_cells-requires-clause-accounts
@@ -38,3 +39,6 @@ returns-clause-stands c =
 
 pub returns-clause-holds : goal.returns-clause-holds
 returns-clause-holds c = holds _
+
+pub returns-clause-serves : goal.returns-clause-serves
+returns-clause-serves c = serves _

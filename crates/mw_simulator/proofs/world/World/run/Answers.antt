@@ -3,6 +3,7 @@ use Rattle.std.proofs.lemmas.List.{take_all}
 use Rattle.mw_simulator.specs.Running.{AllStep, GoesOn}
 use Rattle.mw_simulator.proofs.GoingOn.{goes_nowhere, goes_on_more, one_event_more, one_step_more, event_read, stops_at}
 use Rattle.mw_simulator.proofs.Holding.{holds}
+use Rattle.mw_simulator.proofs.Serving.{serves}
 use Rattle.mw_simulator.proofs.world.World.run.Goals as goal
 
 pub loop-index-init : goal.loop-index-init
@@ -64,3 +65,9 @@ returns-clause-holds c = holds _
 
 pub returns-in-Err-clause-holds : goal.returns-in-Err-clause-holds
 returns-in-Err-clause-holds c = holds _
+
+pub returns-clause-serves : goal.returns-clause-serves
+returns-clause-serves c = serves _
+
+pub returns-in-Err-clause-serves : goal.returns-in-Err-clause-serves
+returns-in-Err-clause-serves c = serves _

@@ -1,6 +1,7 @@
 -- What had happened, and this event, have happened.
 use Rattle.mw_simulator.proofs.GoingOn.{stands_after}
 use Rattle.mw_simulator.proofs.Holding.{holds}
+use Rattle.mw_simulator.proofs.Serving.{serves}
 use Rattle.mw_simulator.proofs.world.World.step.Goals as goal
 
 pub returns-clause-stands : goal.returns-clause-stands
@@ -9,3 +10,6 @@ returns-clause-stands c happened stands =
 
 pub returns-clause-holds : goal.returns-clause-holds
 returns-clause-holds c = holds _
+
+pub returns-clause-serves : goal.returns-clause-serves
+returns-clause-serves c = serves _

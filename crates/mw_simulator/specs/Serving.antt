@@ -1,0 +1,42 @@
+-- How a world in memory serves its tenants, wherever a run from a new world has led it in which there were numbers left at every moment.
+use Rattle.std.specs.Prelude.{ℕ, ◌≡◌, ◌<◌, List, slice_get, replicate, Some}
+use Rattle.mw_words.specs.declared.replies.Reply.TheVariants.{Yes as SaysYes}
+use Rattle.mw_lone.specs.declared.marks.Mark.{Mark}
+use Rattle.mw_lone.specs.Store.{IsLegalRun, replies as replies_of_store}
+use Rattle.mw_world.specs.declared.config.Config.{Config}
+use Rattle.mw_world.specs.Claim.Headline.{IsRun, IsServedAlone}
+use Rattle.mw_world.specs.Definition.Happenings.{Happening}
+use Rattle.mw_world.specs.Definition.State.{first_openings, marks_of, new_world, tenant_at, tenants_of}
+use Rattle.mw_world.specs.Definition.World.{replies_to}
+use Rattle.mw_law_store.specs.Acknowledged.{changes_of, put_all, IsHeld}
+use Rattle.mw_law_store.specs.Moments.{first_moment}
+use Rattle.mw_simulator.specs.declared.world.World.{World}
+use Rattle.mw_simulator.specs.Running.{Stands}
+
+-- a tenant's words at first
+abbrev pub first_words : Config → ℕ → List ℕ
+first_words config tenant = replicate (tenant_at config tenant).words 0
+
+-- A tenant is served as its store alone would serve it. The words of its file are the first ones with all its changes put over them, in the order of its
+-- marks, and each change for which YES was handed out is one of these.
+pub record ServesTenant (world : World) (happened : List Happening) (stands : Stands world happened) (tenant : ℕ) : Type 0 where
+  pub alone : IsServedAlone world.config (first_openings world.config) happened stands.state tenant
+  pub words : (stands.state.accounts tenant).file.contents
+      ≡ put_all (first_words world.config tenant) (changes_of (first_moment (first_words world.config tenant)) (marks_of stands.state tenant))
+  pub held : (place n : ℕ) → slice_get (replies_to world.config tenant (new_world world.config) happened) place ≡ Some (n, SaysYes)
+      → IsHeld (first_words world.config tenant) (marks_of stands.state tenant) n
+
+-- So is each tenant.
+abbrev pub Serves : World → Type 0
+Serves world = (happened : List Happening) (stands : Stands world happened) (tenant : ℕ) → IsRun world.config (first_openings world.config) happened stands.state → tenant < tenants_of world.config
+    → ServesTenant world happened stands tenant
+
+-- A tenant's marks are a legal run of the store alone that has its first words and its quota, and the replies that were handed out to the tenant are those
+-- that this store hands out by these marks.
+pub record AreOfStore (config : Config) (happened : List Happening) (tenant : ℕ) (marks : List Mark) : Type 0 where
+  pub legal : IsLegalRun (first_words config tenant) (tenant_at config tenant).quota marks
+  pub replies : replies_to config tenant (new_world config) happened ≡ replies_of_store (first_words config tenant) (tenant_at config tenant).quota marks
+
+abbrev pub AreLegal : World → ℕ → List Mark → Type 0
+AreLegal world tenant marks = (happened : List Happening) (stands : Stands world happened) → IsRun world.config (first_openings world.config) happened stands.state
+    → AreOfStore world.config happened tenant marks
