@@ -1,5 +1,5 @@
 //! What holds of tenants and their stores: facts for proofs to cite. The functions do nothing.
-ghost use Rattle.mw_world.specs.Claim.Headline.{EveryRunServesAlone};
+ghost use Rattle.mw_world.specs.Claim.Headline.{EqualMarksHaveEqualReplies, EveryRunServesAlone};
 ghost use Rattle.mw_law_store.specs.Acknowledged.{SealsAreHeld};
 ghost use Rattle.mw_law_store.specs.HeldInRuns.{RunsHoldChanges};
 ghost use Rattle.mw_law_store.specs.History.{AsksStandOnce, RepliesHavePlaces, SealedComeInOrder, SealsFit, SealsStay, SealsStayLong, WordsAreOfSealed};
@@ -69,9 +69,11 @@ pub fn replies_have_places()
     ensures long { SealsStayLong }
 {}
 
-/// Every run in which there are numbers left serves each tenant as its store alone would, and its file's
-/// words hold each change that was acknowledged.
+/// Every run in which there are numbers left serves each tenant as its store alone would; runs that agree on
+/// a tenant's marks hand out the same replies to it; and its file's words hold each change that was
+/// acknowledged.
 pub fn every_run_serves_alone()
     ensures alone { EveryRunServesAlone }
+    ensures equal { EqualMarksHaveEqualReplies }
     ensures held { RunsHoldChanges }
 {}

@@ -36,7 +36,6 @@ pub of_either : (places : ℕ) (words : List ℕ) (change : List Entry) (image :
 of_either places words change image (inl is) = inl is.words_are
 of_either places words change image (inr is) = inr (is.words_are ∙ ap Some (sym (put-put_pairs change words)))
 
-
 -- what a disk leaves does not rest on the call that it is told to fail
 untold : {P : List ℕ → Type 0} (outcome : Outcome) (disk before now : Memory) → (outcome ≡ Good → before ≡ disk) → ((number : ℕ) → outcome ≡ Fail number → before ≡ failing disk number)
     → LeavesOnly (memory_facts before) (memory_facts now) P → LeavesOnly (memory_facts disk) (memory_facts now) P
