@@ -25,6 +25,8 @@ pub mod Meant
 pub mod Meeting
 pub mod Momenting
 pub mod Numbers
+pub mod OverCalls
+pub mod Owning
 pub mod Placed
 pub mod Reaching
 pub mod ReadsWear
@@ -33,6 +35,7 @@ pub mod Replies
 pub mod Restarting
 pub mod Running
 pub mod Sealed
+pub mod SealedLists
 pub mod Seeing
 pub mod Serving
 pub mod SinceStart

@@ -1,13 +1,11 @@
 -- A tenant's store follows its part of a world: in every run, and legally where numbers are left.
-use Rattle.std.specs.Prelude.{ℕ, ◌≡◌, ◌≢◌, All, List, Some}
-use Rattle.mw_words.specs.declared.replies.Reply.TheVariants.{Worn}
-use Rattle.mw_lone.specs.Store.{Store, run as run_of_store, replies_from}
+use Rattle.std.specs.Prelude.{ℕ, ◌≡◌, Some}
+use Rattle.mw_lone.specs.Store.{Store, run as run_of_store}
 use Rattle.mw_law_late.specs.Late.{IsNumbered}
 use Rattle.mw_actor.specs.Acting.{Acting}
-use Rattle.mw_world.specs.declared.config.Config.{Config}
 use Rattle.mw_world.specs.Definition.Happenings.{Happening}
-use Rattle.mw_world.specs.Definition.State.{State, Opening, marks_in, marks_of, store_at, world_at}
-use Rattle.mw_world.specs.Definition.World.{outgoing, replies_to}
+use Rattle.mw_world.specs.Definition.State.{State, Opening, marks_in, store_at}
+use Rattle.mw_world.specs.Definition.World.{outgoing}
 use Rattle.mw_law_store.specs.Going.{Saying, lines_after, StoreGoes, StoreDoes, given_out}
 use Rattle.mw_law_store.specs.Kept.{Kept, LegalAt}
 use Rattle.mw_law_store.specs.Moments.{Moment, first_moment, after_marks}
@@ -50,11 +48,3 @@ pub record IsLegalTo (openings : ℕ → Opening) (state : State) (tenant : ℕ)
   pub lines : run_of_store base (marks_in (state.accounts tenant).lines) ≡ Some store
   pub kept : (worker : ℕ) (actor : Acting) → (state.seats worker).actor ≡ Some actor → actor.tenant ≡ tenant
       → LegalAt state.history base (state.accounts tenant).lines (state.seats worker) actor actor.point
-
--- A run with numbers left.
-pub record IsServedSo (config : Config) (openings : ℕ → Opening) (events : List Happening) (state : State) (tenant : ℕ) : Type 0 where
-  pub store : Store
-  pub followed : IsFollowedBy openings state tenant store
-  pub legal : IsLegalTo openings state tenant store
-  pub replies : replies_to config tenant (world_at config openings) events ≡ replies_from (store_at (openings tenant)) (marks_of state tenant)
-  pub never_worn : All (λ numbered. numbered.1 ≢ Worn) (replies_to config tenant (world_at config openings) events)

@@ -8,7 +8,7 @@ use Rattle.mw_lone.specs.Store.{Store, RequestState, run as run_of_store, replie
 use Rattle.mw_law_late.specs.Late.{marks_in, IsKeptFor, IsNumbered, IsOpen}
 use Rattle.mw_actor.specs.declared.points.Slot.{Slot}
 use Rattle.mw_world.specs.declared.config.Config.{Config}
-use Rattle.mw_world.specs.Claim.Headline.{IsPlayed, IsRun}
+use Rattle.mw_world.specs.Claim.Headline.{IsPlayed}
 use Rattle.mw_world.specs.Definition.Happenings.{Found, Happening}
 use Rattle.mw_world.specs.Definition.Restarts.{restart}
 use Rattle.mw_world.specs.Definition.State.{State, IsConfig, IsStart, Opening, tenants_of, world_at}
@@ -18,7 +18,7 @@ use Rattle.mw_law_runs.specs.Files.{FilesFit}
 use Rattle.mw_law_runs.specs.Sound.{IsSound}
 use Rattle.mw_law_files.specs.Files.{HasFiles}
 use Rattle.mw_law_store.specs.Acknowledged.{begun}
-use Rattle.mw_law_store.specs.Followed.{IsFollowed, IsFollowedBy, GoesOn, IsServedSo}
+use Rattle.mw_law_store.specs.Followed.{IsFollowed, IsFollowedBy, GoesOn}
 use Rattle.mw_law_store.specs.Going.{Saying, lines_after, StoreGoes}
 use Rattle.mw_law_store.specs.Grounds.{HasGrounds}
 use Rattle.mw_law_store.specs.History.{IsNoStart}
@@ -81,8 +81,3 @@ RestartsAreFollowed = (config : Config) (openings : ℕ → Opening) (state next
 abbrev pub RunsAreFollowed : Type 0
 RunsAreFollowed = (config : Config) (openings : ℕ → Opening) (events : List Happening) (state : State) (tenant : ℕ) → IsPlayed config openings events state → tenant < tenants_of config
     → IsFollowed openings state tenant
-
--- Where numbers are left the marks are legal, and hand out the replies that the run does.
-abbrev pub RunsAreServed : Type 0
-RunsAreServed = (config : Config) (openings : ℕ → Opening) (events : List Happening) (state : State) (tenant : ℕ) → IsRun config openings events state → tenant < tenants_of config
-    → IsServedSo config openings events state tenant

@@ -8,6 +8,8 @@ pub mod History
 pub mod Kept
 pub mod Laws
 pub mod Moments
+pub mod OverCalls
+pub mod Own
 pub mod Recalled
 pub mod Tied
 pub mod Worn

@@ -3,6 +3,8 @@ ghost use Rattle.mw_world.specs.Claim.Headline.{EqualMarksHaveEqualReplies, Ever
 ghost use Rattle.mw_law_store.specs.Acknowledged.{SealsAreHeld};
 ghost use Rattle.mw_law_store.specs.HeldInRuns.{RunsHoldChanges};
 ghost use Rattle.mw_law_store.specs.History.{AsksStandOnce, RepliesHavePlaces, SealedComeInOrder, SealsFit, SealsStay, SealsStayLong, WordsAreOfSealed};
+ghost use Rattle.mw_law_store.specs.OverCalls.{AsksTellTheirJobs, CallsKeepTheirPlace, PlacesStayRight, RepliesKeepTheirPlace, RequestsBegin, RequestsHaveBegun, RequestsStayBegun, SealedAreRight, SealedGoOn, SealsBegin, StartsSealNothing};
+ghost use Rattle.mw_law_store.specs.Own.{FaultsAreCounted, FaultsAreOwn, MarksAreOwn, NeighboursFaultsLeaveNoMark};
 ghost use Rattle.mw_law_store.specs.Laws.{DecidedChangesFit, EventsAreFollowed, EventsKeepGrounds, LateMarksLeaveReplies, LinesAreMoments, RunsAreFollowed, RunsHaveGrounds, SayingsAreRecalled, WordsAreOfMarks};
 ghost use Rattle.mw_law_store.specs.Worn.{RunsAreNotWorn};
 
@@ -67,6 +69,44 @@ pub fn replies_have_places()
     ensures fit { SealsFit }
     ensures stay { SealsStay }
     ensures long { SealsStayLong }
+{}
+
+/// A tenant's sealed changes since its last start: none are where a run begins and at each start; every other
+/// event leaves them, or adds one at the end; each fits the words after those before it, no request has two,
+/// and its file's words are those after all.
+pub fn sealed_changes_go_on()
+    ensures begin { SealsBegin }
+    ensures start { StartsSealNothing }
+    ensures go_on { SealedGoOn }
+    ensures right { SealedAreRight }
+{}
+
+/// How many changes of its tenant were sealed when a request came: it is told where the request comes, and
+/// stays told over every event but a start, while the worker has the request; so each request that is there has
+/// such a number. A line that tells that the request came tells its job.
+pub fn requests_have_begun()
+    ensures come { RequestsBegin }
+    ensures stay { RequestsStayBegun }
+    ensures all { RequestsHaveBegun }
+    ensures jobs { AsksTellTheirJobs }
+{}
+
+/// A reply that stands is right at a place among its tenant's sealed changes that is no smaller than what was
+/// sealed when its request came; so it is over a whole call; and it stays right where more is sealed.
+pub fn replies_keep_their_place()
+    ensures replies { RepliesKeepTheirPlace }
+    ensures calls { CallsKeepTheirPlace }
+    ensures stay { PlacesStayRight }
+{}
+
+/// A tenant's marks, and its whole account, are changed by events of its own requests alone, and by starts. A
+/// mark that tells of a failure of its file is added by each call on its own file in which a device call
+/// fails, and by nothing else: no neighbour's failing disk leaves a mark.
+pub fn marks_are_own()
+    ensures own { MarksAreOwn }
+    ensures neighbours { NeighboursFaultsLeaveNoMark }
+    ensures faults { FaultsAreOwn }
+    ensures counted { FaultsAreCounted }
 {}
 
 /// Every run in which there are numbers left serves each tenant as its store alone would; runs that agree on

@@ -102,7 +102,7 @@ frees_so (Freed slot) actor after for_job ends = λ waiting. frees_after actor.j
 frees_so note actor after for_job ends = tt
 
 -- No step but a call on a file means that a change is sealed, or that the file failed.
-abbrev IsTurns : Note → Type 0
+abbrev pub IsTurns : Note → Type 0
 IsTurns (SealedIt target) = ⊥
 IsTurns (FailedToSeal target) = ⊥
 IsTurns FailedFile = ⊥
@@ -145,7 +145,7 @@ read_turns (look.RecheckWord trail status was written) (look.Unpin slot seq afte
 read_turns (look.RecheckWord trail status was written) after = tt
 read_turns point after = tt
 
-note_turns : (actor : Acting) (point : Point) (news : News) (after : Point) → IsTurns (note_of actor point news after)
+pub note_turns : (actor : Acting) (point : Point) (news : News) (after : Point) → IsTurns (note_of actor point news after)
 note_turns actor (Read reading) news after = read_turns reading.point (read_point after)
 note_turns actor ReadDoor news after = door_turns after
 note_turns actor (Inspect task entry) news after = inspect_turns after
