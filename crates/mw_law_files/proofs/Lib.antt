@@ -6,6 +6,7 @@ pub mod Filed
 pub mod Making
 pub mod Moving
 pub mod Placing
+pub mod Readiness
 pub mod Room
 pub mod Running
 pub mod Staying

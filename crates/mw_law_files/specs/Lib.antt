@@ -1,4 +1,5 @@
 pub mod Enabled
 pub mod Files
 pub mod Laws
+pub mod Ready
 pub mod Room

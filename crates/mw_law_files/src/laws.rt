@@ -2,6 +2,7 @@
 ghost use Rattle.mw_world.specs.Claim.Headline.{EveryRunHolds};
 ghost use Rattle.mw_law_files.specs.Enabled.{CallsCanBeMade, RunsAreEnabled, StartsFindWords};
 ghost use Rattle.mw_law_files.specs.Laws.{CallsKeepFiles, ComesKeepFiles, EventsKeepFiles, FirstStartsHaveFiles, HandsKeepFiles, RestartsKeepFiles, RunsGoOn, RunsHaveFiles, SoundWorldsWithFilesAreRight, StartsHaveFiles, TurnsKeepFiles};
+ghost use Rattle.mw_law_files.specs.Ready.{OtherEventsDoNot, ReadyEventsHappen};
 ghost use Rattle.mw_law_files.specs.Room.{OutsideLeavesRoom};
 
 /// A step of a request that is no call on a file keeps what holds of the files of a sound world.
@@ -72,4 +73,12 @@ pub fn starts_find_words()
 /// some words pass the test for them.
 pub fn runs_are_enabled()
     ensures { RunsAreEnabled }
+{}
+
+/// After every run an event can happen just where it is ready: a request comes to an idle worker, a reply is
+/// handed out where it stands, a step or a call is made where a request has come to one, a device call fails in
+/// a call that makes it, and all starts again where this may be found of the files.
+pub fn ready_events_happen()
+    ensures ready { ReadyEventsHappen }
+    ensures others { OtherEventsDoNot }
 {}

@@ -6,6 +6,6 @@ mod laws;
 
 pub use laws::{
     calls_can_be_made, calls_keep_files, comes_keep_files, events_keep_files, every_run_holds,
-    hands_keep_files, outside_leaves_room, runs_are_enabled, runs_have_files, starts_find_words,
-    starts_have_files, turns_keep_files,
+    hands_keep_files, outside_leaves_room, ready_events_happen, runs_are_enabled, runs_have_files,
+    starts_find_words, starts_have_files, turns_keep_files,
 };
