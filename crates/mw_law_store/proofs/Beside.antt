@@ -1,5 +1,3 @@
-pub mod Doors
-pub mod Gates
 pub mod Moves
 pub mod Points
 pub mod Tenants

@@ -27,6 +27,7 @@ use Rattle.mw_law_store.specs.Going.{Saying, Silent, Says, KeepsPlace, SaysLate,
 use Rattle.mw_law_store.specs.Kept.{keeps, keeps_by, keeps_in_read, PlacedBy, PlacedInRead, PlacedAt, Refusals, IsKeeping, Kept}
 use Rattle.mw_law_store.specs.Moments.{Moment, CouldLook, CouldMiss}
 use Rattle.mw_law_store.specs.Recalled.{MayBeSaid}
+use Rattle.mw_law_store.proofs.Legal.{IsElse}
 use Rattle.mw_law_store.proofs.Momenting.{IsMild, got_before, got_within}
 use Rattle.mw_law_store.proofs.Placed.{coming_is_mild, look_before, miss_before, look_late, miss_late}
 
@@ -81,11 +82,6 @@ module _ (by : ℕ) (old new : State) (later : Later by old new) (looks : ℕ �
 
 -- What could take place at a place that was kept could take place there after whatever is said.
 module _ (start : Moment) (lines : List (Option Mark)) (says : Saying) (store after : Store) (may : MayBeSaid start lines says store) (goes : StoreGoes says store after) where
-  -- what is said late isn't said at this place
-  abbrev pub IsElse : Saying → ℕ → Type 0
-  IsElse (SaysLate late mark n reply) place = place ≢ late
-  IsElse said place = Unit {0}
-
   late_is_mild : (late : ℕ) (mark : Mark) (n : ℕ) (reply : Reply) → MayBeSaid start lines (SaysLate late mark n reply) store → StoreGoes (SaysLate late mark n reply) store after → IsMild mark
   late_is_mild late mark n reply may goes = coming_is_mild start lines late mark n goes.found.job reply (may.1 goes.found goes.is_open.is_asked)
 
@@ -107,14 +103,14 @@ module _ (start : Moment) (lines : List (Option Mark)) (says : Saying) (store af
   got_else : (late place : ℕ) (mark : Mark) → place ≢ late → slice_get (slice_set lines late (Some mark)) place ≡ slice_get lines place
   got_else late place mark other = get_others lines late place (Some mark) other
 
-  empty_stays_by : (said : Saying) (place : ℕ) → IsElse said place → slice_get lines place ≡ Some None → slice_get (lines_after said lines) place ≡ Some None
+  empty_stays_by : (said : Saying) (place : ℕ) → IsElse place said → slice_get lines place ≡ Some None → slice_get (lines_after said lines) place ≡ Some None
   empty_stays_by Silent place other empty = empty
   empty_stays_by (Says mark) place other empty = got_before lines (Some mark) None place empty
   empty_stays_by KeepsPlace place other empty = got_before lines None None place empty
   empty_stays_by (SaysLate late mark n reply) place other empty = got_else late place mark other ∙ empty
 
   -- so a worker's place is kept
-  pub keeping_stays : (past : History) (seat : Seat) (actor : Acting) → (keeps actor.point ≡ true → IsElse says seat.kept) → IsKeeping past start lines seat actor → IsKeeping past start (lines_after says lines) seat actor
+  pub keeping_stays : (past : History) (seat : Seat) (actor : Acting) → (keeps actor.point ≡ true → IsElse seat.kept says) → IsKeeping past start lines seat actor → IsKeeping past start (lines_after says lines) seat actor
   keeping_stays past seat actor other keeping =
       let within : keeps actor.point ≡ true → seat.kept ≤ length lines = λ keeps. (let low = got_within lines None seat.kept (keeping.is_empty keeps) in omega (arith, low)) in
       record {
@@ -150,7 +146,7 @@ module _ (worker tenant : ℕ) (start : Moment) (old new : State) (says : Saying
   was_there other actor apart is = ap (λ (seat : Seat). seat.actor) (sym (others other apart)) ∙ is
 
   pub else_by : (said : Saying) → IsOwnPlace said tenant (old.seats worker) → (other : ℕ) (actor : Acting) → other ≢ worker → (old.seats other).actor ≡ Some actor → actor.tenant ≡ tenant → keeps actor.point ≡ true
-      → IsElse start (old.accounts tenant).lines says store after may goes said (old.seats other).kept
+      → IsElse (old.seats other).kept said
   else_by Silent own other actor apart is same keeps = tt
   else_by (Says mark) own other actor apart is same keeps = tt
   else_by KeepsPlace own other actor apart is same keeps = tt

@@ -9,7 +9,7 @@ use Rattle.mw_words.specs.declared.replies.Reply.TheVariants.{Worn}
 use Rattle.mw_lone.specs.declared.marks.Mark.{Mark}
 use Rattle.mw_lone.specs.declared.marks.Mark.TheVariants.{Restart as IsRestart}
 use Rattle.mw_lone.specs.Store.{Store, step as step_of_store, run as run_of_store, replies_from, outgoing as outgoing_mark}
-use Rattle.mw_law_late.specs.Late.{IsNumbered, IsKeptFor}
+use Rattle.mw_law_late.specs.Late.{IsNumbered}
 use Rattle.mw_law_late.proofs.Lines.{empty-place, mark-more, run-append}
 use Rattle.mw_look.specs.declared.points.Point.{Point as ReadPoint}
 use Rattle.mw_look.specs.declared.points.Point.TheVariants.{Replied as RepliedOfRead}
@@ -36,6 +36,7 @@ use Rattle.mw_law_store.specs.History.{IsNoStart}
 use Rattle.mw_law_store.specs.Laws.{RunsHaveGrounds}
 use Rattle.mw_law_store.specs.Tied.{Tied}
 use Rattle.mw_law_store.specs.Worn.{RunsAreNotWorn, NoneIsWorn, is_worn_at, is_worn_read, is_worn_reply}
+use Rattle.mw_law_store.proofs.Legal.{LatePlace}
 use Rattle.mw_law_store.proofs.Reaching.{ArePointsMeant, runs_are_meant}
 use Rattle.mw_law_store.proofs.Replies.{replies_append, late_marks_leave_replies}
 
@@ -49,11 +50,6 @@ pub record IsServed (openings : ℕ → Opening) (state : State) (tenant : ℕ) 
 abbrev pub RepliesGoOn : (ℕ → Opening) → ℕ → State → State → List (ℕ × Reply) → Type 0
 RepliesGoOn openings tenant state next given =
     replies_from (store_at (openings tenant)) (marks_of next tenant) ≡ replies_from (store_at (openings tenant)) (marks_of state tenant) ++ given
-
--- A mark that comes late is legal at the place that was kept for it.
-abbrev pub LatePlace : Store → List (Option Mark) → Saying → Type 0
-LatePlace base lines (SaysLate place mark n reply) = IsKeptFor base lines place mark n reply
-LatePlace base lines says = Unit {0}
 
 -- What is handed out, by what is said.
 

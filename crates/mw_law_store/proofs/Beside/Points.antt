@@ -1,15 +1,11 @@
 -- The moves of a step are for its request's tenant.
-use Rattle.std.specs.Prelude.{ℕ, ◌≡◌, ◌++◌, Bool, true, false, [], ◌∷◌, Some}
+use Rattle.std.specs.Prelude.{ℕ, ◌≡◌, ◌++◌, Bool, true, false, [], ◌∷◌}
 use Rattle.std.proofs.Common.{refl, subst}
 use Rattle.mw_words.specs.declared.replies.Reply.TheVariants.{Fault as SaysFault}
-use Rattle.mw_words.specs.declared.statuses.Status.{Status}
-use Rattle.mw_words.specs.declared.statuses.Status.TheVariants.{No as IsNo}
 use Rattle.mw_look.specs.declared.news.News.{News}
-use Rattle.mw_look.specs.declared.news.News.TheVariants.{Won, Filed}
+use Rattle.mw_look.specs.declared.news.News.TheVariants.{Won}
 use Rattle.mw_look.specs.declared.points.Point.{Point as ReadPoint}
 use Rattle.mw_look.specs.declared.points.Point.TheVariants as look
-use Rattle.mw_look.specs.declared.steps.Call.{Call}
-use Rattle.mw_look.specs.declared.steps.Call.TheVariants.{Prepare as PrepareCall, Seal as SealCall, Settle as SettleCall, Cancel as CancelCall}
 use Rattle.mw_actor.specs.declared.points.Point.{Point}
 use Rattle.mw_actor.specs.declared.points.Point.TheVariants as points
 use Rattle.mw_actor.specs.declared.points.Point.TheVariants.{Read, Replied}
@@ -17,16 +13,11 @@ use Rattle.mw_actor.specs.declared.points.Slot.{Slot}
 use Rattle.mw_actor.specs.declared.points.Sweep.{Sweep}
 use Rattle.mw_actor.specs.declared.points.Sweep.TheVariants.{Yes as SweepYes}
 use Rattle.mw_actor.specs.Acting.{Acting, entry_of}
-use Rattle.mw_world_file.specs.declared.outcomes.Outcome.{Outcome}
-use Rattle.mw_world_file.specs.declared.outcomes.Outcome.TheVariants.{Good, Fail}
 use Rattle.mw_world.specs.declared.config.Config.{Config}
 use Rattle.mw_law_knowledge.specs.Informed.{IsInformed}
 use Rattle.mw_law_knowledge.specs.Told.{told}
-use Rattle.mw_world.specs.Definition.Calls.{Called, called_at, fails_on, starts_from}
 use Rattle.mw_world.specs.Definition.State.{State}
-use Rattle.mw_law_moves.specs.Moves.{SetDoor}
-use Rattle.mw_law_moves.specs.Stepped.{broken_moves, faulted, give_up_moves, moves_at, moves_called, moves_of_call, moves_told, next_of, pose, read_moves, release_moves, resolve_moves, status_moves}
-use Rattle.mw_law_runs.proofs.Owed.Pins.{none_some, some_same}
+use Rattle.mw_law_moves.specs.Stepped.{give_up_moves, moves_at, moves_told, pose, read_moves, release_moves, resolve_moves}
 use Rattle.mw_law_store.proofs.Beside.Moves.{AllFor}
 
 -- What a step at a point asks for: a read is its tenant's, and a change that is decided, or whose request gives up, is one of the tenant.
@@ -103,47 +94,7 @@ module _ (state : State) (worker : ℕ) (next : Acting) where
   at_point actor (points.LowerDoor onward) news after its = (refl, (tt, tt))
   at_point actor point news after its = (tt, tt)
 
-  -- those of a call too, whose change is one of its tenant
-  good_for : (call : Call) (target : Slot) (status : Status) (tenant : ℕ) → state.history.tenant target.slot target.seq ≡ tenant → AllFor tenant state worker (status_moves call target status ++ pose next ∷ [])
-  good_for PrepareCall target status tenant its = (its, (tt, tt))
-  good_for SealCall target status tenant its = (its, (tt, tt))
-  good_for SettleCall target status tenant its = (its, (tt, tt))
-  good_for CancelCall target (IsNo entry value) tenant its = (its, (tt, tt))
-  good_for CancelCall target status tenant its = (tt, tt)
-
-  bad_for : (call : Call) (target : Slot) (tenant : ℕ) → state.history.tenant target.slot target.seq ≡ tenant
-      → AllFor tenant state worker (SetDoor tenant (faulted state tenant) ∷ broken_moves call target ++ pose next ∷ [])
-  bad_for SealCall target tenant its = (refl, (its, (tt, tt)))
-  bad_for call target tenant its = (refl, (tt, tt))
-
-module _ (state : State) (worker : ℕ) (actor : Acting) (called : Called) (status : Status) (its : state.history.tenant called.change.slot called.change.seq ≡ actor.tenant) where
-  call_for : (starts had_failed : Bool) (outcome : Outcome) → AllFor actor.tenant state worker (moves_called state worker actor called status starts had_failed outcome)
-  call_for false had_failed outcome = (tt, tt)
-  call_for true true outcome = (refl, (tt, tt))
-  call_for true false Good = good_for state worker (next_of state worker actor (Filed true)) called.call called.change status actor.tenant its
-  call_for true false (Fail number) = bad_for state worker (next_of state worker actor (Filed false)) called.call called.change actor.tenant its
-
--- the change of a call is one of its request's tenant
-called_for : (config : Config) (state : State) (actor : Acting) (point : Point) (called : Called) → let me = record actor { point = point } in IsInformed config state me → called_at point ≡ Some called
-    → state.history.tenant called.change.slot called.change.seq ≡ actor.tenant
-called_for config state actor (points.Prepare own) called informed is =
-    subst (λ (one : Called). state.history.tenant one.change.slot one.change.seq ≡ actor.tenant) (some_same _ called is) informed.knows.drafted.own.same_tenant
-called_for config state actor (points.Seal task) called informed is =
-    subst (λ (one : Called). state.history.tenant one.change.slot one.change.seq ≡ actor.tenant) (some_same _ called is) informed.knows.0.at_work.target.same_tenant
-called_for config state actor (points.Settle task) called informed is =
-    subst (λ (one : Called). state.history.tenant one.change.slot one.change.seq ≡ actor.tenant) (some_same _ called is) informed.knows.0.at_work.target.same_tenant
-called_for config state actor (points.Cancel task) called informed is =
-    subst (λ (one : Called). state.history.tenant one.change.slot one.change.seq ≡ actor.tenant) (some_same _ called is) informed.knows.0.at_work.target.same_tenant
-called_for config state actor point called informed is = absurd (none_some called is)
-
 -- All moves of a step that is no call are for its tenant.
 pub turn_for : (config : Config) (state : State) (actor : Acting) (news : News) → IsInformed config state actor → AllFor actor.tenant state actor.worker (moves_told state actor.worker actor news)
 turn_for config state actor news informed =
     at_point state actor.worker (told state actor news) actor actor.point news (told state actor news).point (point_for config state actor actor.point informed)
-
--- So are those of a call on a file.
-pub calls_for : (config : Config) (state : State) (actor : Acting) (called : Called) (outcome : Outcome) → IsInformed config state actor → called_at actor.point ≡ Some called
-    → AllFor actor.tenant state actor.worker (moves_of_call state actor.worker actor called outcome)
-calls_for config state actor called outcome informed at =
-    let status = state.cells.statuses called.change.slot in
-    call_for state actor.worker actor called status (called_for config state actor actor.point called informed at) (starts_from called.call status) (fails_on called.call (state.accounts actor.tenant).file) outcome

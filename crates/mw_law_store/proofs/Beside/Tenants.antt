@@ -1,46 +1,38 @@
 -- A step of one tenant's request leaves another tenant's part of the world as it was.
-use Rattle.std.specs.Prelude.{ℕ, ◌≡◌, ◌≢◌, ◌&&◌, not, is_some, Option, Some, None}
-use Rattle.std.proofs.Common.{refl, sym, ap, subst, ◌∙◌, inl, inr}
+use Rattle.std.specs.Prelude.{ℕ, ◌≡◌, ◌≢◌, ◌<◌, ◌⊎◌, true, ◌&&◌, not, is_some, Some}
+use Rattle.std.proofs.Common.{refl, sym, ap, ◌∙◌, inl, inr, arith}
 use Rattle.mw_words.specs.declared.doors.Door.{Door}
 use Rattle.mw_look.specs.declared.news.News.{News}
 use Rattle.mw_actor.specs.Acting.{Acting}
 use Rattle.mw_actor.specs.Asks.{asks}
 use Rattle.mw_actor.specs.Program.{replied}
-use Rattle.mw_world_file.specs.declared.outcomes.Outcome.{Outcome}
 use Rattle.mw_world.specs.declared.config.Config.{Config}
-use Rattle.mw_world.specs.Definition.Calls.{Called, call, call_if, called_at, calling, moved_if}
 use Rattle.mw_world.specs.Definition.Cells.{Cells}
-use Rattle.mw_world.specs.Definition.Extent.{has_slot}
 use Rattle.mw_world.specs.Definition.State.{State, Account}
 use Rattle.mw_world.specs.Definition.Turns.{Made, made_of, may_make, moved, turn, turned}
-use Rattle.mw_law_knowledge.specs.Calls.{told_of_call}
 use Rattle.mw_law_knowledge.specs.Informed.{IsInformed}
 use Rattle.mw_law_knowledge.specs.Told.{told, world_told}
-use Rattle.mw_law_knowledge.proofs.Calls.Guarding.{calls_have_guards}
 use Rattle.mw_law_knowledge.proofs.Deeds.Keeping.{upd_else}
 use Rattle.mw_law_knowledge.proofs.Guards.Doing.{deeds_have_guards}
 use Rattle.mw_law_knowledge.proofs.Guards.Looking.{looks_have_guards}
 use Rattle.mw_law_moves.specs.Guards.{Guards}
-use Rattle.mw_law_moves.specs.Moves.{made_all}
+use Rattle.mw_law_moves.specs.Memory.{Memory}
 use Rattle.mw_law_moves.specs.Relying.{Later}
-use Rattle.mw_law_moves.specs.Stepped.{moves_of_call, moves_told, next_of}
-use Rattle.mw_law_moves.proofs.Called.{calls_are_moves}
+use Rattle.mw_law_moves.specs.Stepped.{moves_told}
 use Rattle.mw_law_moves.proofs.Shared.{is_shared}
 use Rattle.mw_law_runs.specs.Owed.{OneStepped}
 use Rattle.mw_law_runs.specs.Sound.{IsSound}
 use Rattle.mw_law_runs.proofs.Ending.{Ends, TurnEnds, turn_ends}
-use Rattle.mw_law_runs.proofs.Filing as filing
 use Rattle.mw_law_runs.proofs.Owed.Leaving.{last_pins_are_free}
-use Rattle.mw_law_runs.proofs.Owed.Pins.{none_some, some_same}
+use Rattle.mw_law_runs.proofs.Owed.Pins.{some_same}
 use Rattle.mw_law_runs.proofs.Seating.{are_seated}
-use Rattle.mw_law_runs.proofs.Tests.{guarded, if_slot, second_holds}
+use Rattle.mw_law_runs.proofs.Tests.{guarded, second_holds}
 use Rattle.mw_law_runs.proofs.Turning as turning
 use Rattle.mw_law_files.proofs.Turning.{follows}
-use Rattle.mw_law_store.proofs.Beside.Doors.{call_others, other_doors}
-use Rattle.mw_law_store.proofs.Beside.Gates.{fewer}
-use Rattle.mw_law_store.proofs.Beside.Moves.{SameFor, moves_aside}
-use Rattle.mw_law_store.proofs.Beside.Points.{calls_for, turn_for}
+use Rattle.mw_law_store.proofs.Beside.Moves.{SameFor, moves_aside, moves_doors}
+use Rattle.mw_law_store.proofs.Beside.Points.{turn_for}
 use Rattle.mw_law_store.proofs.Elsewhere.{StepsAside}
+use Rattle.mw_law_store.specs.Tied.{is_live}
 
 -- Whatever a worker's step makes, other workers and other tenants' accounts are as they were.
 pub record OthersStay (state : State) (worker tenant : ℕ) (next : State) : Type 0 where
@@ -53,23 +45,26 @@ made_stays state worker actor made = record {
   accounts = λ other apart. upd_else state.accounts actor.tenant other _ apart;
 }
 
-made_if : (state next : State) (worker : ℕ) (actor : Acting) (found : Option Made) → moved_if state worker actor found ≡ Some next → OthersStay state worker actor.tenant next
-made_if state next worker actor None is = absurd (none_some next is)
-made_if state next worker actor (Some made) is = subst (OthersStay state worker actor.tenant) (some_same _ next is) (made_stays state worker actor made)
-
 pub turn_stays : (config : Config) (state next : State) (actor : Acting) → turn config state actor.worker (Some actor) ≡ Some next → OthersStay state actor.worker actor.tenant next
 turn_stays config state next actor is =
     guarded (OthersStay state actor.worker actor.tenant) (not (is_some (replied actor)) && may_make config (asks actor)) (turned state actor.worker actor) next
     (λ may. follows (OthersStay state actor.worker actor.tenant) (λ (cells : Cells) (news : News). moved state actor.worker actor (made_of state actor.worker actor cells news))
     (λ cells news. made_stays state actor.worker actor (made_of state actor.worker actor cells news)) (asks actor) state.cells) is
 
-pub call_stays : (config : Config) (state next : State) (actor : Acting) (outcome : Outcome) → call config state actor.worker (Some actor) outcome ≡ Some next → OthersStay state actor.worker actor.tenant next
-call_stays config state next actor outcome is = by_found (called_at actor.point) is
+-- A slot that is taken after a step for a change of before was taken for it before.
+fewer : (config : Config) (state next : State) (worker : ℕ) → Memory config state → Later worker state next → (slot seq : ℕ) → is_live next.cells slot seq → state.history.is_born slot seq ≡ true
+    → is_live state.cells slot seq
+fewer config state next worker memory later slot seq live is_born = by_latest (memory.claims.latest slot seq is_born)
   where
-    by_found : (found : Option Called) → call_if config state actor.worker actor found outcome ≡ Some next → OthersStay state actor.worker actor.tenant next
-    by_found None is = absurd (none_some next is)
-    by_found (Some called) is = made_if state next actor.worker actor (calling config state actor called outcome)
-        (if_slot (has_slot config called.change.slot) (moved_if state actor.worker actor (calling config state actor called outcome)) next is)
+    by_latest : (seq < (state.cells.gates slot).seq) ⊎ ((seq ≡ (state.cells.gates slot).seq) × ((state.cells.gates slot).taken ≡ true)) → is_live state.cells slot seq
+    by_latest (inl past) = absurd (omega (arith, past, later.seqs slot, live.1))
+    by_latest (inr now) = (now.1, sym now.0)
+
+-- Other tenants' doors stay.
+other_doors : (config : Config) (state : State) (actor : Acting) (news : News) → IsInformed config state actor → (tenant : ℕ) → tenant ≢ actor.tenant
+    → (world_told state actor news).cells.doors tenant ≡ state.cells.doors tenant
+other_doors config state actor news informed tenant apart =
+    moves_doors state actor.worker actor.tenant tenant apart (moves_told state actor.worker actor news) (turn_for config state actor news informed)
 
 -- A step that leaves another tenant's door, changes and account, and all other workers, as they were is one beside that tenant.
 steps_aside : (config : Config) (state next : State) (actor later_actor : Acting) (tenant : ℕ) → tenant ≢ actor.tenant → IsSound config state → Later actor.worker state next
@@ -122,26 +117,3 @@ module _ (config : Config) (state next : State) (actor : Acting) (sound : IsSoun
     turn_aside tenant apart =
         steps_aside config state next actor (told state actor ended.news) tenant apart sound (turning.later config state next actor sound sits is) ended.stepped refl (turn_stays config state next actor is)
         (ap (λ (cells : Cells). cells.doors tenant) ended.same.cells ∙ other_doors config state actor ended.news informed tenant apart) (turn_same tenant apart)
-
-  module _ (called : Called) (outcome : Outcome) (at : called_at actor.point ≡ Some called) (is : call config state actor.worker (Some actor) outcome ≡ Some next) where
-    call_same : (tenant : ℕ) → tenant ≢ actor.tenant → SameFor tenant state next
-    call_same tenant apart =
-        let same = moves_aside config state actor.worker actor.tenant tenant apart (moves_of_call state actor.worker actor called outcome)
-        (calls_have_guards config state actor called outcome informed at) sound.memory (calls_for config state actor called outcome informed at) in
-        is_shared next (made_all state actor.worker (moves_of_call state actor.worker actor called outcome)) (calls_are_moves config state next actor.worker actor called outcome at is)
-        (λ (one : State). SameFor tenant state one)
-        (record { was = same.was; still = same.still; request = same.request; change = same.change; tells = same.tells })
-
-    called_aside : (tenant : ℕ) → tenant ≢ actor.tenant → StepsAside state next actor.worker tenant
-    called_aside tenant apart =
-        steps_aside config state next actor (next_of state actor.worker actor (told_of_call state actor called outcome)) tenant apart sound (filing.later config state next actor called outcome sound sits at is)
-        (filing.stepped config state next actor called outcome sound sits at is) refl (call_stays config state next actor outcome is)
-        (call_others config state next actor called outcome informed at is tenant apart) (call_same tenant apart)
-
-  -- So is a call on a file.
-  pub call_aside : (outcome : Outcome) → call config state actor.worker (Some actor) outcome ≡ Some next → (tenant : ℕ) → tenant ≢ actor.tenant → StepsAside state next actor.worker tenant
-  call_aside outcome is tenant apart = by_found (called_at actor.point) refl
-    where
-      by_found : (found : Option Called) → called_at actor.point ≡ found → StepsAside state next actor.worker tenant
-      by_found None at = absurd (none_some next (subst (λ (found : Option Called). call_if config state actor.worker actor found outcome ≡ Some next) at is))
-      by_found (Some called) at = called_aside called outcome at is tenant apart

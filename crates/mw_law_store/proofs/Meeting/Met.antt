@@ -21,14 +21,14 @@ use Rattle.mw_world.specs.Definition.History.{History}
 use Rattle.mw_world.specs.Definition.State.{State, Seat, Opening, store_at, marks_in}
 use Rattle.mw_world.specs.Definition.World.{outgoing}
 use Rattle.mw_law_store.specs.Followed.{start_of, IsFollowedBy, GoesOn, IsLegalTo}
-use Rattle.mw_law_store.specs.Going.{Saying, Silent, Says, KeepsPlace, SaysLate, lines_after, StoreGoes, StoreDoes, given_out}
+use Rattle.mw_law_store.specs.Going.{Saying, lines_after, StoreGoes, StoreDoes, given_out}
 use Rattle.mw_law_store.specs.Kept.{keeps, keeps_by, PlacedBy, PlacedInRead, PlacedAt, Refusals, LegalAt, IsKeeping}
 use Rattle.mw_law_store.specs.Moments.{Moment, CouldLook, CouldMiss}
 use Rattle.mw_law_store.specs.Recalled.{MayBeSaid}
 use Rattle.mw_law_store.specs.Tied.{Tied}
 use Rattle.mw_law_store.specs.Worn.{NoneIsWorn}
 use Rattle.mw_law_store.proofs.GoingOn.{goes_on}
-use Rattle.mw_law_store.proofs.Keeping.{IsElse as IsElseThere, IsOwnPlace, PlaceGoesOn, placed_so, else_by, was_there, kept_goes_on}
+use Rattle.mw_law_store.proofs.Keeping.{IsOwnPlace, PlaceGoesOn, placed_so, else_by, was_there, kept_goes_on}
 use Rattle.mw_law_store.proofs.Legal.{LatePlace, IsElse, says_legal, legal_stays}
 use Rattle.mw_law_store.proofs.Recalling.{sayings_are_recalled}
 
@@ -98,7 +98,7 @@ module _ (openings : ℕ → Opening) (state next : State) (event : Happening) (
   other_legal late fresh legal other actor apart is same =
       let sat = was_there worker tenant begun state next says store after may goes followed.kept lines others stays own other actor apart is in
       let seat = state.seats other in
-      let away : keeps actor.point ≡ true → IsElse seat.kept says = λ keeps_it. turn_else says may goes seat.kept (else_by worker tenant begun state next says store after may goes followed.kept lines others stays own says own other actor apart sat same keeps_it) in
+      let away : keeps actor.point ≡ true → IsElse seat.kept says = λ keeps_it. else_by worker tenant begun state next says store after may goes followed.kept lines others stays own says own other actor apart sat same keeps_it in
       let stands : keeps actor.point ≡ true → (mark : Mark) (n : ℕ) (reply : Reply) → IsKeptFor legal.base before seat.kept mark n reply → IsKeptFor legal.base (lines_after says before) seat.kept mark n reply =
       λ keeps_it mark n reply. legal_stays legal.base store after before says seat.kept mark n reply legal.numbered legal.lines (does fresh) (late legal) (away keeps_it) in
       subst (λ (now : Seat). LegalAt next.history legal.base (lines_after says before) now actor actor.point) (sym (others other apart))
@@ -111,12 +111,6 @@ module _ (openings : ℕ → Opening) (state next : State) (event : Happening) (
       (λ n entries index address value. IsKeptFor legal.base (lines_after says before) seat.kept (Miss n index) n (SaysNo address value))
       actor actor.point (λ keeps_it value kept. stands keeps_it (Look seat.request) seat.request (Val value) kept)
       (λ keeps_it n entries index address value kept. stands keeps_it (Miss n index) n (SaysNo address value) kept) (legal.kept other actor sat same)))
-    where
-      turn_else : (said : Saying) → MayBeSaid begun before said store → StoreGoes said store after → (place : ℕ) → IsElseThere begun before says store after may goes said place → IsElse place said
-      turn_else Silent may goes place other = tt
-      turn_else (Says mark) may goes place other = tt
-      turn_else KeepsPlace may goes place other = tt
-      turn_else (SaysLate late mark n reply) may goes place other = other
 
   pub met : Tied next tenant after → (NoneIsWorn state → given_out says store ≡ outgoing state tenant event)
       → (NoneIsWorn state → (legal : IsLegalTo openings state tenant store) → LatePlace legal.base before says)
