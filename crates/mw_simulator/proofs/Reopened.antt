@@ -41,7 +41,7 @@ module _ (config : Config) (state : State) (tenant : ℕ) (shown : AccountInMemo
   may_is : may_interrupt config state tenant interrupted ≡ may_be_made (state.accounts tenant).file (quota_of shown.book) halt.cut
   may_is = halted.may ∙ ap (λ places. may_be_made (state.accounts tenant).file places halt.cut) (sym places_are)
 
-  found_by : (words image : List ℕ) → IsLeft shown.book (state.accounts tenant).file halt.cut torn words image
+  abbrev found_by : (words image : List ℕ) → IsLeft shown.book (state.accounts tenant).file halt.cut torn words image
       → IsFoundBy shown interrupted torn fails_at (record { interrupted = interrupted; words = words; opening_calls = open_calls image; fails_at = fails_at })
   found_by words image left = record { same_call = refl; same_failure = refl; image = image; words = left.has; calls = refl; left = subst (λ made. IsLeftOf (disk_under shown.book.device) made torn image) halted.made_so left.left }
 
@@ -66,7 +66,7 @@ module _ (config : Config) (state : State) (tenant : ℕ) (shown : AccountInMemo
       let taken = started.taken ∙ ap (λ doubt. takes account.file.contents doubt started.words) (sym doubt_is) in
       record {
         found = record { interrupted = interrupted; words = started.words; opening_calls = open_calls started.image; fails_at = fails_at };
-        found_so = found_by started.words started.image started.left;
+        opened = record { found_so = found_by started.words started.image started.left; came = started.came };
         may = all_true (may_interrupt config state tenant interrupted)
             (may_find (is_sealed_then call) account.file.contents (doubt_then account.file call) started.words)
             (may_fail (open_calls started.image) fails_at)

@@ -5,6 +5,7 @@ use Rattle.mw_record.specs.Damages.{file_words}
 use Rattle.mw_file.specs.Opening.{open_calls}
 use Rattle.mw_world_file.specs.Devices.{disk_under}
 use Rattle.mw_world_file.specs.Files.{File}
+use Rattle.mw_world_file.specs.Openings.{CameOfBytes}
 use Rattle.mw_world_file.specs.Reopening.{IsLeftOf}
 use Rattle.mw_world.specs.declared.events.Event.{Event}
 use Rattle.mw_world.specs.declared.events.Event.TheVariants.{Come as IsCome, Step as IsStep, File as IsFile, Hand as IsHand, Restart as IsRestart}
@@ -66,12 +67,17 @@ pub record IsFoundBy (shown : AccountInMemory) (interrupted : Option Interrupted
   pub calls : open_calls image ≡ found.opening_calls
   pub left : IsLeftOf (disk_under shown.book.device) (made_in interrupted) torn image
 
+-- This was found of a tenant's file, and the tenant's new disk came of that image by the device calls of its opening, whether these went well or one failed.
+pub record IsOpenedBy (shown now : AccountInMemory) (interrupted : Option Interrupted) (torn : List ℕ) (fails_at : Option ℕ) (found : Found) : Type 0 where
+  pub found_so : IsFoundBy shown interrupted torn fails_at found
+  pub came : CameOfBytes found_so.image found.words fails_at (disk_under now.book.device)
+
 -- A start went well, and this was found of the tenants' files.
 pub record Started (old new : World) (state : State) (stops : List Stop) : Type 0 where
   pub named : are_named (tenants_of old.config) stops ≡ true
   pub founds : List Found
-  pub found : (tenant : ℕ) (shown : AccountInMemory) → slice_get old.accounts.items tenant ≡ Some shown
-      → IsFoundBy shown (interrupted_in (stop_of stops tenant)) (torn_in (stop_of stops tenant)) (fails_in (stop_of stops tenant)) (found_of founds tenant)
+  pub found : (tenant : ℕ) (shown now : AccountInMemory) → slice_get old.accounts.items tenant ≡ Some shown → slice_get new.accounts.items tenant ≡ Some now
+      → IsOpenedBy shown now (interrupted_in (stop_of stops tenant)) (torn_in (stop_of stops tenant)) (fails_in (stop_of stops tenant)) (found_of founds tenant)
   pub leads : Leads (restart old.config state founds) new
 
 -- words that may be found of a tenant's file, by the call that was under way

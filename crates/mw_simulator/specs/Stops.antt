@@ -18,7 +18,7 @@ use Rattle.mw_world.specs.Definition.State.{State, tenant_at}
 use Rattle.mw_simulator.specs.declared.accounts.Account.{Account as AccountInMemory}
 use Rattle.mw_simulator.specs.declared.world.halts.Halt.{Halt}
 use Rattle.mw_simulator.specs.declared.world.World.{World}
-use Rattle.mw_simulator.specs.Running.{CannotStop, IsFoundBy, fails_in, interrupted_in, made_in, stop_of, torn_in}
+use Rattle.mw_simulator.specs.Running.{CannotStop, IsOpenedBy, fails_in, interrupted_in, made_in, stop_of, torn_in}
 use Rattle.mw_simulator.specs.Shows.{Shows, ShowsAccount}
 use Rattle.mw_simulator.specs.Starts.{EachOf}
 
@@ -58,7 +58,7 @@ Halts config state tenant interrupted None = may_interrupt config state tenant i
 -- A tenant in memory, and what it is after a start: this was found of its file, and may be found.
 pub record IsReopened (config : Config) (state : State) (tenant : ℕ) (interrupted : Option Interrupted) (torn : List ℕ) (fails_at : Option ℕ) (old new : AccountInMemory) : Type 0 where
   pub found : Found
-  pub found_so : IsFoundBy old interrupted torn fails_at found
+  pub opened : IsOpenedBy old new interrupted torn fails_at found
   pub may : may_be_found config state tenant found ≡ true
   pub shows : ShowsAccount (tenant_at config tenant).words new (reopened (state.accounts tenant) found (under_way config state found.interrupted))
 
