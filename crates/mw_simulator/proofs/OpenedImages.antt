@@ -21,7 +21,7 @@ use Rattle.mw_world.specs.Definition.State.{Opening, State, store_of, tenants_of
 use Rattle.mw_simulator.specs.declared.accounts.Account.{Account as AccountInMemory}
 use Rattle.mw_simulator.specs.declared.world.World.{World}
 use Rattle.mw_simulator.specs.Images.{EveryImageInAStartIsOfStore, EveryImageIsOfStore, IsLeftInStart}
-use Rattle.mw_simulator.specs.Running.{Started, Steps, interrupted_in, stop_of}
+use Rattle.mw_simulator.specs.Running.{Started, Steps, outage_of}
 use Rattle.mw_simulator.specs.Shows.{Shows}
 use Rattle.mw_simulator.specs.Staying.{book_at}
 use Rattle.mw_simulator.proofs.Crashes.{Found as FoundBook, tenant_found}
@@ -97,7 +97,7 @@ module _ (openings : ℕ → Opening) (events : List Happening) (state : State) 
       sym (opened_contents found.words found.fails_at) ∙ ap (λ (one : State). (one.accounts tenant).file.contents) leads.1
       ∙ (start.leads.shows.accounts tenant kept.shown kept.is).book.same_contents ∙ ap (λ (book : Book). book.contents.items) kept.same
 
-  left_by : (was : AccountInMemory) → slice_get old.accounts.items tenant ≡ Some was → IsLeftInStart old.config state (interrupted_in (stop_of stops.items tenant)) store now.contents.items image
+  left_by : (was : AccountInMemory) → slice_get old.accounts.items tenant ≡ Some was → IsLeftInStart old.config state (outage_of stops.items tenant).interrupted store now.contents.items image
   left_by was at =
       let opened = start.found tenant was kept.shown at kept.is in
       let served = serves old.config openings events state tenant is low in
@@ -108,11 +108,11 @@ module _ (openings : ℕ → Opening) (events : List Happening) (state : State) 
       (subst (λ (book : Book). MayHaveLeft (memory_facts (disk_under book.device)) 0 image) (sym kept.same) left) in
       record {
         is = opened.came.moments.each image since ∙ ap Some words_are;
-        found = may_find_so old.config state tenant (interrupted_in (stop_of stops.items tenant)) found store now.contents.items (subst (LeavesStore old.config state tenant) same_store served.left)
+        found = may_find_so old.config state tenant (outage_of stops.items tenant).interrupted found store now.contents.items (subst (LeavesStore old.config state tenant) same_store served.left)
             opened.found_so.same_call may words_are;
       }
 
-  left_in_start : IsLeftInStart old.config state (interrupted_in (stop_of stops.items tenant)) store now.contents.items image
+  left_in_start : IsLeftInStart old.config state (outage_of stops.items tenant).interrupted store now.contents.items image
   left_in_start = elim ((slice_get_cases old.accounts.items tenant).1) [
     | inl w ↦ left_by w.0 w.2
     | inr past ↦ absurd (omega (arith, low, past.0, old.tenants))
@@ -120,7 +120,7 @@ module _ (openings : ℕ → Opening) (events : List Happening) (state : State) 
 
 images_in_a_start : EveryRunServesAlone → EveryImageInAStartIsOfStore
 images_in_a_start serves config openings events state old new stops tenant now store image is same_config shows steps is_now legal left =
-    subst (λ c. IsLeftInStart c state (interrupted_in (stop_of stops.items tenant)) store now.contents.items image) same_config
+    subst (λ c. IsLeftInStart c state (outage_of stops.items tenant).interrupted store now.contents.items image) same_config
     (left_in_start openings events state old new stops tenant now store image serves (subst (λ c. IsRun c openings events state) (sym same_config) is) shows steps is_now legal left)
 
 pub images_of_store : EveryRunServesAlone → EveryImageIsOfStore

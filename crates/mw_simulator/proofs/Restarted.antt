@@ -18,7 +18,7 @@ use Rattle.mw_world.specs.Definition.State.{Account, State, first_cells, started
 use Rattle.mw_simulator.specs.declared.accounts.Account.{Account as AccountInMemory}
 use Rattle.mw_simulator.specs.declared.world.World.{World}
 use Rattle.mw_simulator.specs.Claims.{Recalls}
-use Rattle.mw_simulator.specs.Running.{IsOpenedBy, Started, are_named, fails_in, interrupted_in, stop_of, torn_in}
+use Rattle.mw_simulator.specs.Running.{IsOpenedBy, Started, are_named, outage_of}
 use Rattle.mw_simulator.specs.Shows.{Shows, ShowsAccount}
 use Rattle.mw_simulator.specs.Starts.{AreIdle, HaveWords}
 use Rattle.mw_simulator.specs.Stops.{AreReopened, IsReopened}
@@ -91,7 +91,7 @@ found_words image words is = are_words (words_of image) (places_of image) words 
 -- This was found of a tenant's file, and the tenant is reopened so.
 pub record WasFound (config : Config) (state : State) (stops : List Stop) (olds news : List AccountInMemory) (tenant : ℕ) (found : Found) : Type 0 where
   pub by : (old new : AccountInMemory) → slice_get olds tenant ≡ Some old → slice_get news tenant ≡ Some new
-      → IsOpenedBy old new (interrupted_in (stop_of stops tenant)) (torn_in (stop_of stops tenant)) (fails_in (stop_of stops tenant)) found
+      → IsOpenedBy old new (outage_of stops tenant) found
   pub may : may_be_found config state tenant found ≡ true
   pub shows : (new : AccountInMemory) → slice_get news tenant ≡ Some new
       → ShowsAccount (tenant_at config tenant).words new (reopened (state.accounts tenant) found (under_way config state found.interrupted))
@@ -99,11 +99,11 @@ pub record WasFound (config : Config) (state : State) (stops : List Stop) (olds 
 
 was_found : (config : Config) (state : State) (stops : List Stop) (olds news : List AccountInMemory) (tenant : ℕ) (old new : AccountInMemory)
     → slice_get olds tenant ≡ Some old → slice_get news tenant ≡ Some new
-    → (is : IsReopened config state tenant (interrupted_in (stop_of stops tenant)) (torn_in (stop_of stops tenant)) (fails_in (stop_of stops tenant)) old new) → WasFound config state stops olds news tenant is.found
+    → (is : IsReopened config state tenant (outage_of stops tenant) old new) → WasFound config state stops olds news tenant is.found
 was_found config state stops olds news tenant old new at_old at_new is = record {
   by = λ was now at_was at_now.
-      subst (λ o. IsOpenedBy o now (interrupted_in (stop_of stops tenant)) (torn_in (stop_of stops tenant)) (fails_in (stop_of stops tenant)) is.found) (some_same (slice_get olds tenant) old was at_old at_was)
-      (subst (λ o. IsOpenedBy old o (interrupted_in (stop_of stops tenant)) (torn_in (stop_of stops tenant)) (fails_in (stop_of stops tenant)) is.found) (some_same (slice_get news tenant) new now at_new at_now) is.opened);
+      subst (λ o. IsOpenedBy o now (outage_of stops tenant) is.found) (some_same (slice_get olds tenant) old was at_old at_was)
+      (subst (λ o. IsOpenedBy old o (outage_of stops tenant) is.found) (some_same (slice_get news tenant) new now at_new at_now) is.opened);
   may = is.may;
   shows = λ other at. subst (λ o. ShowsAccount (tenant_at config tenant).words o (reopened (state.accounts tenant) is.found (under_way config state is.found.interrupted)))
       (some_same (slice_get news tenant) new other at_new at) is.shows;

@@ -20,7 +20,7 @@ use Rattle.mw_world.specs.Claim.Headline.{IsRun}
 use Rattle.mw_simulator.specs.declared.accounts.Account.{Account as AccountInMemory}
 use Rattle.mw_simulator.specs.declared.world.World.{World}
 use Rattle.mw_simulator.specs.Crashes.{stop_in_call}
-use Rattle.mw_simulator.specs.Running.{Steps, interrupted_in, stop_of}
+use Rattle.mw_simulator.specs.Running.{Steps, outage_of}
 use Rattle.mw_simulator.specs.Shows.{Shows}
 use Rattle.mw_simulator.specs.Staying.{book_at, served_by}
 
@@ -61,7 +61,7 @@ pub record IsLeftInStart (config : Config) (state : State) (interrupted : Option
 abbrev pub EveryImageInAStartIsOfStore : Type 0
 EveryImageInAStartIsOfStore = (config : Config) (openings : ℕ → Opening) (events : List Happening) (state : State) (old new : World) (stops : Vec Stop Global) (tenant : ℕ) (now : Book) (store : Store) (image : List ℕ)
     → IsRun config openings events state → old.config ≡ config → Shows old state → Steps old (IsRestart stops) new → book_at new tenant ≡ Some now → store_of openings state tenant ≡ Some store
-    → MayHaveLeft (memory_facts (disk_under now.device)) 0 image → IsLeftInStart config state (interrupted_in (stop_of stops.items tenant)) store now.contents.items image
+    → MayHaveLeft (memory_facts (disk_under now.device)) 0 image → IsLeftInStart config state (outage_of stops.items tenant).interrupted store now.contents.items image
 
 -- What a crash leaves of a tenant's disk is of the tenant's store alone: between events, at each moment of a call on the file, and at each moment of a start.
 pub record EveryImageIsOfStore : Type 0 where
