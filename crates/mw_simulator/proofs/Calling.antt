@@ -33,7 +33,7 @@ use Rattle.mw_world.specs.Definition.Calls as calls
 use Rattle.mw_world.specs.Definition.Cells.{Cells, write}
 use Rattle.mw_world.specs.Definition.Extent.{has_slot}
 use Rattle.mw_world.specs.Definition.Noting.{marked, noted, poised, seated}
-use Rattle.mw_world.specs.Definition.State.{State, Account, Seat, tenant_at, tenants_of}
+use Rattle.mw_world.specs.Definition.State.{State, Account, Seat, tenants_of}
 use Rattle.mw_world.specs.Definition.Turns.{Made, goes_on, moved, next_attempt}
 use Rattle.mw_simulator.specs.declared.accounts.Account.{Account as AccountInMemory}
 use Rattle.mw_simulator.specs.declared.world.calls.Ended.{Ended}

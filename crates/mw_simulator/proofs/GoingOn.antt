@@ -30,22 +30,25 @@ counted : {A : Type 0} (m n : ℕ) (b : Bool) (x y : A) → (if (m == n) && b th
 counted m n b x y e = grind (arith, nat_tests, e)
 
 -- what was found of the tenants' files is what the stops say
-all_told : (old new : World) (state : State) (stops : List Stop) (started : Started old new state stops) → AreTold stops started.founds
-all_told old new state stops started tenant lt = elim ((slice_get_cases old.accounts.items tenant).1) [
-  | inl w ↦ let found = started.found tenant w.0 w.2 in (found.same_call, found.same_failure)
+all_told : (old new : World) (state : State) (stops : List Stop) → new.config ≡ old.config → (started : Started old new state stops) → AreTold stops started.founds
+all_told old new state stops same started tenant lt = elim ((slice_get_cases old.accounts.items tenant).1) [
+  | inl w ↦ elim ((slice_get_cases new.accounts.items tenant).1) [
+    | inl v ↦ let found = (started.found tenant w.0 v.0 w.2 v.2).found_so in (found.same_call, found.same_failure)
+    | inr past ↦ absurd (omega (arith, past.0, lt, count, new.tenants, ap tenants_of same))
+  ]
   | inr past ↦ absurd (omega (arith, past.0, lt, count, old.tenants))
 ]
   where
     count : length started.founds ≡ tenants_of old.config
     count = counted (length started.founds) (tenants_of old.config) (may_all_be_found old.config state started.founds (tenants_of old.config)) (restarted old.config state started.founds) started.leads.state started.leads.is
 
-has_happened : (old new : World) (state : State) (event : Event) (x : Unit {0}) → Happens old new state event (Ok x) → HasHappened old.config new state event
-has_happened old new state (IsCome worker tenant job) x comes = record { happening = Come worker tenant job; tells = refl; leads = comes.1 }
-has_happened old new state (IsStep worker) x leads = record { happening = Step worker; tells = refl; leads = leads }
-has_happened old new state (IsFile worker outcome) x leads = record { happening = File worker outcome; tells = refl; leads = leads }
-has_happened old new state (IsHand worker) x leads = record { happening = Hand worker; tells = refl; leads = leads }
-has_happened old new state (IsRestart stops) x started =
-    record { happening = Restart started.founds; tells = (started.founds, refl, all_told old new state stops.items started); leads = started.leads }
+has_happened : (old new : World) (state : State) (event : Event) (x : Unit {0}) → new.config ≡ old.config → Happens old new state event (Ok x) → HasHappened old.config new state event
+has_happened old new state (IsCome worker tenant job) x same comes = record { happening = Come worker tenant job; tells = refl; leads = comes.1 }
+has_happened old new state (IsStep worker) x same leads = record { happening = Step worker; tells = refl; leads = leads }
+has_happened old new state (IsFile worker outcome) x same leads = record { happening = File worker outcome; tells = refl; leads = leads }
+has_happened old new state (IsHand worker) x same leads = record { happening = Hand worker; tells = refl; leads = leads }
+has_happened old new state (IsRestart stops) x same started =
+    record { happening = Restart started.founds; tells = (started.founds, refl, all_told old new state stops.items same started); leads = started.leads }
 
 all_tell_more : (events : List Event) (happenings : List Happening) (event : Event) (happening : Happening) → AllTell events happenings → Tells event happening
     → AllTell (events ++ event ∷ []) (happenings ++ happening ∷ [])
@@ -78,7 +81,7 @@ goes_nowhere world happened stands = record { more = []; tell = tt; stands = sub
 pub goes_on_more : (old new : World) (happened : List Happening) (events : List Event) (event : Event) (x : Unit {0}) → new.config ≡ old.config
     → ((state : State) → Shows old state → Happens old new state event (Ok x)) → GoesOn old happened events → GoesOn new happened (events ++ event ∷ [])
 goes_on_more old new happened events event x same happens goes =
-    let now = has_happened old new goes.stands.state event x (happens goes.stands.state goes.stands.shows) in
+    let now = has_happened old new goes.stands.state event x same (happens goes.stands.state goes.stands.shows) in
     record {
       more = goes.more ++ now.happening ∷ [];
       tell = all_tell_more events goes.more event now.happening goes.tell now.tells;

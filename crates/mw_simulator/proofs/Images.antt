@@ -16,7 +16,7 @@ use Rattle.mw_world.specs.Definition.Restarts.{interrupted_request, under_way}
 use Rattle.mw_world.specs.Definition.State.{tenants_of}
 use Rattle.mw_simulator.specs.declared.accounts.Account.{Account as AccountInMemory}
 use Rattle.mw_simulator.specs.Crashes.{IsCrashSafe, stop_in_call}
-use Rattle.mw_simulator.specs.Images.{EveryImageAtRestIsOfStore, EveryImageInACallIsOfStore, EveryImageIsOfStore}
+use Rattle.mw_simulator.specs.Images.{EveryImageAtRestIsOfStore, EveryImageInACallIsOfStore}
 
 -- what an image of a device is, of a file of these words with this change in doubt
 pub image_of_device : (device : Device) (places : ℕ) (words : List ℕ) (doubt : List Entry) (image : List ℕ) → StandsFor device places words doubt → MayLeave (memory_facts (disk_under device)) image
@@ -31,7 +31,7 @@ there (account ∷ accounts) zero shown is = omega arith
 there (account ∷ accounts) (suc tenant) shown is = let lt = there accounts tenant shown is in omega (arith, lt)
 
 -- the disk of a tenant in memory leaves the store's words
-images_at_rest : EveryRunServesAlone → EveryImageAtRestIsOfStore
+pub images_at_rest : EveryRunServesAlone → EveryImageAtRestIsOfStore
 images_at_rest serves config openings events state world tenant shown store image is same_config shows is_shown legal may =
     let lt = there world.accounts.items tenant shown is_shown in
     let low : tenant < tenants_of config = subst (λ n. tenant < n) (world.tenants ∙ ap tenants_of same_config) lt in
@@ -45,7 +45,7 @@ images_at_rest serves config openings events state world tenant shown store imag
     (image_of_device shown.book.device (length shown.book.places.items) shown.book.contents.items shown.book.doubt.items image book.stands may))
 
 -- the same of a book
-there_at : (accounts : List AccountInMemory) (tenant : ℕ) (book : Book) → option_map (λ account. account.book) (slice_get accounts tenant) ≡ Some book → tenant < length accounts
+pub there_at : (accounts : List AccountInMemory) (tenant : ℕ) (book : Book) → option_map (λ account. account.book) (slice_get accounts tenant) ≡ Some book → tenant < length accounts
 there_at accounts tenant book at = by (slice_get accounts tenant) refl
   where
     by : (o : Option AccountInMemory) → slice_get accounts tenant ≡ o → tenant < length accounts
@@ -53,7 +53,7 @@ there_at accounts tenant book at = by (slice_get accounts tenant) refl
     by (Some shown) is = there accounts tenant shown is
 
 -- and so it does in the midst of a call
-images_in_a_call : EveryRunServesAlone → EveryImageInACallIsOfStore
+pub images_in_a_call : EveryRunServesAlone → EveryImageInACallIsOfStore
 images_in_a_call serves config openings events state old new worker outcome tenant was now store image is same_config shows steps of_tenant is_was is_now legal left =
     let low : tenant < tenants_of config = subst (λ n. tenant < n) (old.tenants ∙ ap tenants_of same_config) (there_at old.accounts.items tenant was is_was) in
     let served = serves config openings events state tenant is low in
@@ -67,6 +67,3 @@ images_in_a_call serves config openings events state old new worker outcome tena
           (subst (λ ws. IsFileOfEither ws (entries_in_doubt served.store (interrupted_request (under_way config state interrupted))) image) served.left.words
           (subst (λ es. IsFileOfEither (state.accounts tenant).file.contents es image) (served.left.in_doubt interrupted safe.may) (safe.moments.each image left)));
     }
-
-pub images_of_store : EveryRunServesAlone → EveryImageIsOfStore
-images_of_store serves = record { at_rest = images_at_rest serves; in_a_call = images_in_a_call serves }

@@ -1,5 +1,5 @@
 -- A tenant in memory after a start.
-use Rattle.std.specs.Prelude.{ℕ, ◌≡◌, ◌&&◌, Bool, true, false, List, [], ◌∷◌, ◌++◌, is_none, slice_get, Option, Some, Err}
+use Rattle.std.specs.Prelude.{ℕ, ◌≡◌, ◌&&◌, Bool, true, false, List, [], ◌∷◌, ◌++◌, is_none, slice_get, Some, Err}
 use Rattle.std.proofs.Common.{refl, sym, ap, subst, ◌∙◌, inl, inr, arith}
 use Rattle.std.proofs.lemmas.Option.{slice_get_within}
 use Rattle.mw_lone.specs.declared.marks.Mark.TheVariants.{Restart as IsRestart}
@@ -10,14 +10,13 @@ use Rattle.mw_world_file.specs.Books.{quota_of}
 use Rattle.mw_world_file.specs.Devices.{disk_under}
 use Rattle.mw_world_file.specs.Reopening.{IsLeft, IsLeftOf, IsRestarted, Restarts, doubt_left, is_sealed_left, may_be_made}
 use Rattle.mw_world.specs.declared.config.Config.{Config}
-use Rattle.mw_world.specs.declared.events.Interrupted.{Interrupted}
 use Rattle.mw_world.specs.declared.events.Stop.{Stop}
 use Rattle.mw_world.specs.Definition.Restarts.{doubt_then, interrupted_request, is_sealed_then, may_fail, may_find, may_interrupt, takes, under_way}
 use Rattle.mw_world.specs.Definition.State.{State, marks_in, tenant_at}
 use Rattle.mw_simulator.specs.declared.accounts.Account.{Account as AccountInMemory}
 use Rattle.mw_simulator.specs.declared.world.halts.Halt.{Halt}
 use Rattle.mw_simulator.specs.declared.world.World.{World}
-use Rattle.mw_simulator.specs.Running.{IsFoundBy, fails_in, interrupted_in, stop_of, torn_in}
+use Rattle.mw_simulator.specs.Running.{IsFoundBy, Outage, outage_of}
 use Rattle.mw_simulator.specs.Shows.{Shows, ShowsAccount}
 use Rattle.mw_simulator.specs.Stops.{AllReopen, IsHalted, IsReopened, Reopens}
 
@@ -27,49 +26,49 @@ all_true true true false a b c = absurd (cc)
 all_true true false z a b c = absurd (cc)
 all_true false y z a b c = absurd (cc)
 
-module _ (config : Config) (state : State) (tenant : ℕ) (shown : AccountInMemory) (interrupted : Option Interrupted) (torn : List ℕ) (fails_at : Option ℕ) (halt : Halt)
-    (words_of : ℕ) (shows : ShowsAccount words_of shown (state.accounts tenant)) (halted : IsHalted config state tenant interrupted halt) where
+module _ (config : Config) (state : State) (tenant : ℕ) (shown : AccountInMemory) (outage : Outage) (halt : Halt)
+    (words_of : ℕ) (shows : ShowsAccount words_of shown (state.accounts tenant)) (halted : IsHalted config state tenant outage.interrupted halt) where
   places_are : quota_of shown.book ≡ (state.accounts tenant).quota
   places_are = shows.places
 
-  doubt_is : doubt_then (state.accounts tenant).file (under_way config state interrupted) ≡ doubt_left (state.accounts tenant).file (quota_of shown.book) halt.cut
+  doubt_is : doubt_then (state.accounts tenant).file (under_way config state outage.interrupted) ≡ doubt_left (state.accounts tenant).file (quota_of shown.book) halt.cut
   doubt_is = halted.is.doubt ∙ ap (λ places. doubt_left (state.accounts tenant).file places halt.cut) (sym places_are)
 
-  sealed_is : is_sealed_then (under_way config state interrupted) ≡ is_sealed_left (state.accounts tenant).file (quota_of shown.book) halt.cut
+  sealed_is : is_sealed_then (under_way config state outage.interrupted) ≡ is_sealed_left (state.accounts tenant).file (quota_of shown.book) halt.cut
   sealed_is = halted.is.sealed ∙ ap (λ places. is_sealed_left (state.accounts tenant).file places halt.cut) (sym places_are)
 
-  may_is : may_interrupt config state tenant interrupted ≡ may_be_made (state.accounts tenant).file (quota_of shown.book) halt.cut
+  may_is : may_interrupt config state tenant outage.interrupted ≡ may_be_made (state.accounts tenant).file (quota_of shown.book) halt.cut
   may_is = halted.may ∙ ap (λ places. may_be_made (state.accounts tenant).file places halt.cut) (sym places_are)
 
-  found_by : (words image : List ℕ) → IsLeft shown.book (state.accounts tenant).file halt.cut torn words image
-      → IsFoundBy shown interrupted torn fails_at (record { interrupted = interrupted; words = words; opening_calls = open_calls image; fails_at = fails_at })
-  found_by words image left = record { same_call = refl; same_failure = refl; image = image; words = left.has; calls = refl; left = subst (λ made. IsLeftOf (disk_under shown.book.device) made torn image) halted.made_so left.left }
+  abbrev found_by : (words image : List ℕ) → IsLeft shown.book (state.accounts tenant).file halt.cut outage.torn words image
+      → IsFoundBy shown outage (record { interrupted = outage.interrupted; words = words; opening_calls = open_calls image; fails_at = outage.fails_at })
+  found_by words image left = record { same_call = refl; same_failure = refl; image = image; words = left.has; calls = refl; left = subst (λ made. IsLeftOf (disk_under shown.book.device) made outage.torn image) halted.made_so left.left }
 
-  may_have_words : (words image : List ℕ) → IsLeft shown.book (state.accounts tenant).file halt.cut torn words image
-      → may_find (is_sealed_then (under_way config state interrupted)) (state.accounts tenant).file.contents
-      (doubt_then (state.accounts tenant).file (under_way config state interrupted)) words ≡ true
+  may_have_words : (words image : List ℕ) → IsLeft shown.book (state.accounts tenant).file halt.cut outage.torn words image
+      → may_find (is_sealed_then (under_way config state outage.interrupted)) (state.accounts tenant).file.contents
+      (doubt_then (state.accounts tenant).file (under_way config state outage.interrupted)) words ≡ true
   may_have_words words image left =
       let contents = (state.accounts tenant).file.contents in
-      let doubt = doubt_then (state.accounts tenant).file (under_way config state interrupted) in
+      let doubt = doubt_then (state.accounts tenant).file (under_way config state outage.interrupted) in
       ap (λ whole. may_find whole contents doubt words) sealed_is
       ∙ ap (λ doubted. may_find (is_sealed_left (state.accounts tenant).file (quota_of shown.book) halt.cut) contents doubted words) doubt_is
       ∙ left.found
 
   -- the tenant after a start that went well
-  pub is_reopened : (took opened : Bool) (new : AccountInMemory) → IsRestarted shown.book (state.accounts tenant).file halt.cut torn fails_at new.book took → opened ≡ is_none fails_at
+  pub is_reopened : (took opened : Bool) (new : AccountInMemory) → IsRestarted shown.book (state.accounts tenant).file halt.cut outage.torn outage.fails_at new.book took → opened ≡ is_none outage.fails_at
       → new.quota ≡ shown.quota → new.asked ≡ shown.asked → new.lines.lines.items ≡ []
       → new.lines.closed.items ≡ shown.lines.closed.items ++ marks_in shown.lines.lines.items ++ IsRestart halt.sealing took opened ∷ []
-      → words_of ≡ (tenant_at config tenant).words → IsReopened config state tenant interrupted torn fails_at shown new
+      → words_of ≡ (tenant_at config tenant).words → IsReopened config state tenant outage shown new
   is_reopened took opened new started up quota asked none closed long =
       let account = state.accounts tenant in
-      let call = under_way config state interrupted in
+      let call = under_way config state outage.interrupted in
       let taken = started.taken ∙ ap (λ doubt. takes account.file.contents doubt started.words) (sym doubt_is) in
       record {
-        found = record { interrupted = interrupted; words = started.words; opening_calls = open_calls started.image; fails_at = fails_at };
-        found_so = found_by started.words started.image started.left;
-        may = all_true (may_interrupt config state tenant interrupted)
+        found = record { interrupted = outage.interrupted; words = started.words; opening_calls = open_calls started.image; fails_at = outage.fails_at };
+        opened = record { found_so = found_by started.words started.image started.left; came = started.came };
+        may = all_true (may_interrupt config state tenant outage.interrupted)
             (may_find (is_sealed_then call) account.file.contents (doubt_then account.file call) started.words)
-            (may_fail (open_calls started.image) fails_at)
+            (may_fail (open_calls started.image) outage.fails_at)
             (may_is ∙ started.left.made) (may_have_words started.words started.image started.left) started.fails;
         shows = record {
           book = started.shows;
@@ -88,11 +87,11 @@ module _ (config : Config) (state : State) (tenant : ℕ) (shown : AccountInMemo
       }
 
 -- a start of a tenant that was refused
-pub not_reopened : (world : World) (state : State) (tenant : ℕ) (shown : AccountInMemory) (interrupted : Option Interrupted) (torn : List ℕ) (fails_at : Option ℕ) (halt : Halt)
-    (fault : BookFault) → slice_get world.accounts.items tenant ≡ Some shown → Shows world state → IsHalted world.config state tenant interrupted halt
-    → Restarts shown.book halt.cut torn fails_at (Err fault) → Reopens world state tenant shown interrupted torn fails_at (Err fault)
-not_reopened world state tenant shown interrupted torn fails_at halt Memory here shows halted ends = tt
-not_reopened world state tenant shown interrupted torn fails_at halt NotEnabled here shows halted ends =
+pub not_reopened : (world : World) (state : State) (tenant : ℕ) (shown : AccountInMemory) (outage : Outage) (halt : Halt)
+    (fault : BookFault) → slice_get world.accounts.items tenant ≡ Some shown → Shows world state → IsHalted world.config state tenant outage.interrupted halt
+    → Restarts shown.book halt.cut outage.torn outage.fails_at (Err fault) → Reopens world state tenant shown outage (Err fault)
+not_reopened world state tenant shown outage halt Memory here shows halted ends = tt
+not_reopened world state tenant shown outage halt NotEnabled here shows halted ends =
     let account = state.accounts tenant in
     let shown_so = shows.accounts tenant shown here in
     let config = world.config in
@@ -100,13 +99,13 @@ not_reopened world state tenant shown interrupted torn fails_at halt NotEnabled 
     record {
       there = omega (arith, slice_get_within world.accounts.items tenant shown here, world.tenants);
       why = elim (ends account.file shown_so.book) [
-        | inl few ↦ inl (may_is config state tenant shown interrupted torn fails_at halt words shown_so halted ∙ few)
+        | inl few ↦ inl (may_is config state tenant shown outage halt words shown_so halted ∙ few)
         | inr cannot ↦ inr (record {
           shown = shown;
           is = here;
-          found = record { interrupted = interrupted; words = cannot.words; opening_calls = open_calls cannot.image; fails_at = fails_at };
-          found_so = found_by config state tenant shown interrupted torn fails_at halt words shown_so halted cannot.words cannot.image cannot.left;
-          may = may_have_words config state tenant shown interrupted torn fails_at halt words shown_so halted cannot.words cannot.image cannot.left;
+          found = record { interrupted = outage.interrupted; words = cannot.words; opening_calls = open_calls cannot.image; fails_at = outage.fails_at };
+          found_so = found_by config state tenant shown outage halt words shown_so halted cannot.words cannot.image cannot.left;
+          may = may_have_words config state tenant shown outage halt words shown_so halted cannot.words cannot.image cannot.left;
           fails = cannot.fails;
         })
       ];
@@ -114,7 +113,7 @@ not_reopened world state tenant shown interrupted torn fails_at halt NotEnabled 
 
 -- a start at which one tenant was refused
 pub one_refused : (world : World) (stops : List Stop) (tenant : ℕ) (shown : AccountInMemory) (fault : BookFault)
-    → ((state : State) → Shows world state → Reopens world state tenant shown (interrupted_in (stop_of stops tenant)) (torn_in (stop_of stops tenant)) (fails_in (stop_of stops tenant)) (Err fault))
+    → ((state : State) → Shows world state → Reopens world state tenant shown (outage_of stops tenant) (Err fault))
     → AllReopen world stops (Err fault)
 one_refused world stops tenant shown Memory ends = tt
 one_refused world stops tenant shown NotEnabled ends = λ state shows. (tenant, ends state shows)

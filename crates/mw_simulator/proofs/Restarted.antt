@@ -18,7 +18,7 @@ use Rattle.mw_world.specs.Definition.State.{Account, State, first_cells, started
 use Rattle.mw_simulator.specs.declared.accounts.Account.{Account as AccountInMemory}
 use Rattle.mw_simulator.specs.declared.world.World.{World}
 use Rattle.mw_simulator.specs.Claims.{Recalls}
-use Rattle.mw_simulator.specs.Running.{IsFoundBy, Started, are_named, fails_in, interrupted_in, stop_of, torn_in}
+use Rattle.mw_simulator.specs.Running.{IsOpenedBy, Started, are_named, outage_of}
 use Rattle.mw_simulator.specs.Shows.{Shows, ShowsAccount}
 use Rattle.mw_simulator.specs.Starts.{AreIdle, HaveWords}
 use Rattle.mw_simulator.specs.Stops.{AreReopened, IsReopened}
@@ -90,7 +90,8 @@ found_words image words is = are_words (words_of image) (places_of image) words 
 
 -- This was found of a tenant's file, and the tenant is reopened so.
 pub record WasFound (config : Config) (state : State) (stops : List Stop) (olds news : List AccountInMemory) (tenant : ℕ) (found : Found) : Type 0 where
-  pub by : (old : AccountInMemory) → slice_get olds tenant ≡ Some old → IsFoundBy old (interrupted_in (stop_of stops tenant)) (torn_in (stop_of stops tenant)) (fails_in (stop_of stops tenant)) found
+  pub by : (old new : AccountInMemory) → slice_get olds tenant ≡ Some old → slice_get news tenant ≡ Some new
+      → IsOpenedBy old new (outage_of stops tenant) found
   pub may : may_be_found config state tenant found ≡ true
   pub shows : (new : AccountInMemory) → slice_get news tenant ≡ Some new
       → ShowsAccount (tenant_at config tenant).words new (reopened (state.accounts tenant) found (under_way config state found.interrupted))
@@ -98,13 +99,15 @@ pub record WasFound (config : Config) (state : State) (stops : List Stop) (olds 
 
 was_found : (config : Config) (state : State) (stops : List Stop) (olds news : List AccountInMemory) (tenant : ℕ) (old new : AccountInMemory)
     → slice_get olds tenant ≡ Some old → slice_get news tenant ≡ Some new
-    → (is : IsReopened config state tenant (interrupted_in (stop_of stops tenant)) (torn_in (stop_of stops tenant)) (fails_in (stop_of stops tenant)) old new) → WasFound config state stops olds news tenant is.found
+    → (is : IsReopened config state tenant (outage_of stops tenant) old new) → WasFound config state stops olds news tenant is.found
 was_found config state stops olds news tenant old new at_old at_new is = record {
-  by = λ other at. subst (λ o. IsFoundBy o (interrupted_in (stop_of stops tenant)) (torn_in (stop_of stops tenant)) (fails_in (stop_of stops tenant)) is.found) (some_same (slice_get olds tenant) old other at_old at) is.found_so;
+  by = λ was now at_was at_now.
+      subst (λ o. IsOpenedBy o now (outage_of stops tenant) is.found) (some_same (slice_get olds tenant) old was at_old at_was)
+      (subst (λ o. IsOpenedBy old o (outage_of stops tenant) is.found) (some_same (slice_get news tenant) new now at_new at_now) is.opened);
   may = is.may;
   shows = λ other at. subst (λ o. ShowsAccount (tenant_at config tenant).words o (reopened (state.accounts tenant) is.found (under_way config state is.found.interrupted)))
       (some_same (slice_get news tenant) new other at_new at) is.shows;
-  words = found_words is.found_so.image is.found.words is.found_so.words;
+  words = found_words is.opened.found_so.image is.found.words is.opened.found_so.words;
 }
 
 module _ (old : World) (state : State) (stops : List Stop) (news : List AccountInMemory) (shows : Shows old state)
@@ -161,7 +164,8 @@ module _ (old : World) (state : State) (stops : List Stop) (news : List AccountI
   has_started new same named is tied idle recalls = record {
     named = named;
     founds = found.founds;
-    found = λ tenant shown at. (found.each tenant (omega (arith, slice_get_within old.accounts.items tenant shown at, old.tenants))).by shown at;
+    found = λ tenant shown now at at_now.
+        (found.each tenant (omega (arith, slice_get_within old.accounts.items tenant shown at, old.tenants))).by shown now at (subst (λ all. slice_get all tenant ≡ Some now) is at_now);
     leads = record {
       state = restarted old.config state found.founds;
       is = restarts_to;

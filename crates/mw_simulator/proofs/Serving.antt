@@ -3,17 +3,25 @@ use Rattle.std.specs.Prelude.{ℕ, ◌≡◌, ◌<◌, List, IsSome, Option, Som
 use Rattle.std.proofs.Common.{refl, sym, ap, subst, ◌∙◌}
 use Rattle.mw_lone.specs.declared.marks.Mark.{Mark}
 use Rattle.mw_lone.specs.Store.{Store, run as run_of_store, replies_from}
+use Rattle.mw_world.specs.Claim.Headline.{IsRun}
 use Rattle.mw_world.specs.Definition.Happenings.{Happening}
 use Rattle.mw_world.specs.Definition.State.{State, first_openings, marks_of, store_at, tenants_of}
+use Rattle.mw_world.proofs.FirstInvariant.{new_worlds_start}
 use Rattle.mw_law_store.proofs.Holding.{runs_hold_changes}
 use Rattle.mw_law_store.proofs.Running.{every_run_serves_alone}
 use Rattle.mw_simulator.specs.declared.world.World.{World}
 use Rattle.mw_simulator.specs.Running.{Stands}
 use Rattle.mw_simulator.specs.Shows.{Shows}
-use Rattle.mw_simulator.specs.Serving.{Serves, AreLegal}
+use Rattle.mw_simulator.specs.Serving.{AreLegal, HadNumbers, Serves}
+
+-- a world in memory is the one after a run
+played : (world : World) (happened : List Happening) (stands : Stands world happened) → HadNumbers world.config happened → IsRun world.config (first_openings world.config) happened stands.state
+played world happened stands had =
+    record { played = record { made = world.configured; starts = new_worlds_start world.config world.configured; runs = stands.runs }; numbers = had }
 
 pub serves : (world : World) → Serves world
-serves world happened stands tenant is_run low =
+serves world happened stands tenant had low =
+    let is_run = played world happened stands had in
     let held = runs_hold_changes every_run_serves_alone world.config (first_openings world.config) happened stands.state tenant is_run low in
     record { alone = every_run_serves_alone world.config (first_openings world.config) happened stands.state tenant is_run low; words = held.0; held = held.1 }
 
@@ -22,7 +30,8 @@ some_is found store is = subst (λ (one : Option Store). IsSome one) (sym is) re
 
 pub are_legal : (world : World) (tenant : ℕ) (marks : List Mark) → tenant < tenants_of world.config → ((happened : List Happening) (stands : Stands world happened) → marks ≡ marks_of stands.state tenant)
     → AreLegal world tenant marks
-are_legal world tenant marks low are happened stands is_run =
+are_legal world tenant marks low are happened stands had =
+    let is_run = played world happened stands had in
     let alone = every_run_serves_alone world.config (first_openings world.config) happened stands.state tenant is_run low in
     let first = store_at (first_openings world.config tenant) in
     record {

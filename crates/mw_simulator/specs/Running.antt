@@ -5,6 +5,7 @@ use Rattle.mw_record.specs.Damages.{file_words}
 use Rattle.mw_file.specs.Opening.{open_calls}
 use Rattle.mw_world_file.specs.Devices.{disk_under}
 use Rattle.mw_world_file.specs.Files.{File}
+use Rattle.mw_world_file.specs.Openings.{CameOfBytes}
 use Rattle.mw_world_file.specs.Reopening.{IsLeftOf}
 use Rattle.mw_world.specs.declared.events.Event.{Event}
 use Rattle.mw_world.specs.declared.events.Event.TheVariants.{Come as IsCome, Step as IsStep, File as IsFile, Hand as IsHand, Restart as IsRestart}
@@ -37,19 +38,20 @@ abbrev pub are_named : ℕ → List Stop → Bool
 are_named tenants [] = true
 are_named tenants (stop ∷ stops) = nat_lt stop.tenant tenants && not (list_any (is_of stop.tenant) stops) && are_named tenants stops
 
--- The call that was under way, the bytes that stand where bytes were written and not synced, and the device call of the opening that fails. A
--- tenant that isn't named has none of these.
-abbrev pub interrupted_in : Option Stop → Option Interrupted
-interrupted_in None = None
-interrupted_in (Some stop) = stop.interrupted
+-- How a tenant's file was stopped and is opened again: the call that was under way, the bytes that stand where bytes were written and not synced, and the
+-- device call of the opening that fails.
+pub record Outage : Type 0 where
+  pub interrupted : Option Interrupted
+  pub torn : List ℕ
+  pub fails_at : Option ℕ
 
-abbrev pub torn_in : Option Stop → List ℕ
-torn_in None = []
-torn_in (Some stop) = stop.torn.items
+-- as a stop says; a tenant that isn't named has none of these
+abbrev pub outage_in : Option Stop → Outage
+outage_in None = record { interrupted = None; torn = []; fails_at = None }
+outage_in (Some stop) = record { interrupted = stop.interrupted; torn = stop.torn.items; fails_at = stop.fails_at }
 
-abbrev pub fails_in : Option Stop → Option ℕ
-fails_in None = None
-fails_in (Some stop) = stop.fails_at
+abbrev pub outage_of : List Stop → ℕ → Outage
+outage_of stops tenant = outage_in (stop_of stops tenant)
 
 -- how many device calls were made of the call that was under way; 0 where none was
 abbrev pub made_in : Option Interrupted → ℕ
@@ -58,20 +60,25 @@ made_in (Some interrupted) = interrupted.made
 
 -- What is found of a tenant's file is what a stop says, with the words of an image and the device calls of an opening of that image. It is
 -- the image that the torn bytes leave: of the tenant's own disk where no device call was made of a call under way, else of one that came of it.
-pub record IsFoundBy (shown : AccountInMemory) (interrupted : Option Interrupted) (torn : List ℕ) (fails_at : Option ℕ) (found : Found) : Type 0 where
-  pub same_call : found.interrupted ≡ interrupted
-  pub same_failure : found.fails_at ≡ fails_at
+pub record IsFoundBy (shown : AccountInMemory) (outage : Outage) (found : Found) : Type 0 where
+  pub same_call : found.interrupted ≡ outage.interrupted
+  pub same_failure : found.fails_at ≡ outage.fails_at
   pub image : List ℕ
   pub words : file_words image ≡ Some found.words
   pub calls : open_calls image ≡ found.opening_calls
-  pub left : IsLeftOf (disk_under shown.book.device) (made_in interrupted) torn image
+  pub left : IsLeftOf (disk_under shown.book.device) (made_in outage.interrupted) outage.torn image
+
+-- This was found of a tenant's file, and the tenant's new disk came of that image by the device calls of its opening, whether these went well or one failed.
+pub record IsOpenedBy (shown now : AccountInMemory) (outage : Outage) (found : Found) : Type 0 where
+  pub found_so : IsFoundBy shown outage found
+  pub came : CameOfBytes found_so.image found.words outage.fails_at (disk_under now.book.device)
 
 -- A start went well, and this was found of the tenants' files.
 pub record Started (old new : World) (state : State) (stops : List Stop) : Type 0 where
   pub named : are_named (tenants_of old.config) stops ≡ true
   pub founds : List Found
-  pub found : (tenant : ℕ) (shown : AccountInMemory) → slice_get old.accounts.items tenant ≡ Some shown
-      → IsFoundBy shown (interrupted_in (stop_of stops tenant)) (torn_in (stop_of stops tenant)) (fails_in (stop_of stops tenant)) (found_of founds tenant)
+  pub found : (tenant : ℕ) (shown now : AccountInMemory) → slice_get old.accounts.items tenant ≡ Some shown → slice_get new.accounts.items tenant ≡ Some now
+      → IsOpenedBy shown now (outage_of stops tenant) (found_of founds tenant)
   pub leads : Leads (restart old.config state founds) new
 
 -- words that may be found of a tenant's file, by the call that was under way
@@ -79,22 +86,22 @@ abbrev pub may_have : File → Option UnderWay → List ℕ → Bool
 may_have file call words = may_find (is_sealed_then call) file.contents (doubt_then file call) words
 
 -- The opening of what may be found of a tenant's file makes no device call of the number that is to fail.
-pub record CannotFail (world : World) (state : State) (tenant : ℕ) (interrupted : Option Interrupted) (torn : List ℕ) (fails_at : Option ℕ) : Type 0 where
+pub record CannotFail (world : World) (state : State) (tenant : ℕ) (outage : Outage) : Type 0 where
   pub shown : AccountInMemory
   pub is : slice_get world.accounts.items tenant ≡ Some shown
   pub found : Found
-  pub found_so : IsFoundBy shown interrupted torn fails_at found
-  pub may : may_have (state.accounts tenant).file (under_way world.config state interrupted) found.words ≡ true
+  pub found_so : IsFoundBy shown outage found
+  pub may : may_have (state.accounts tenant).file (under_way world.config state outage.interrupted) found.words ≡ true
   pub fails : may_fail found.opening_calls found.fails_at ≡ false
 
 -- A tenant's file can't have been stopped so: the call wasn't under way, or didn't make so many device calls; or the opening can't fail so.
-pub record CannotStop (world : World) (state : State) (tenant : ℕ) (interrupted : Option Interrupted) (torn : List ℕ) (fails_at : Option ℕ) : Type 0 where
+pub record CannotStop (world : World) (state : State) (tenant : ℕ) (outage : Outage) : Type 0 where
   pub there : tenant < tenants_of world.config
-  pub why : (may_interrupt world.config state tenant interrupted ≡ false) ⊎ CannotFail world state tenant interrupted torn fails_at
+  pub why : (may_interrupt world.config state tenant outage.interrupted ≡ false) ⊎ CannotFail world state tenant outage
 
 -- The world can't be stopped so: a tenant is named that isn't there, or twice; or one can't have been stopped so.
 abbrev pub CannotRestart : World → State → List Stop → Type 0
-CannotRestart world state stops = (are_named (tenants_of world.config) stops ≡ false) ⊎ ((tenant : ℕ) × CannotStop world state tenant (interrupted_in (stop_of stops tenant)) (torn_in (stop_of stops tenant)) (fails_in (stop_of stops tenant)))
+CannotRestart world state stops = (are_named (tenants_of world.config) stops ≡ false) ⊎ ((tenant : ℕ) × CannotStop world state tenant (outage_of stops tenant))
 
 -- How a start ends, by its answer. After an error the world in memory is what it was.
 abbrev pub Restarts : World → World → State → List Stop → Result (Unit {0}) WorldFault → Type 0
@@ -114,7 +121,7 @@ Happens old new state (IsRestart stops) result = Restarts old new state stops.it
 -- this is found of so many tenants as the stops say
 abbrev pub AreTold : List Stop → List Found → Type 0
 AreTold stops founds = (tenant : ℕ) → tenant < length founds
-    → ((found_of founds tenant).interrupted ≡ interrupted_in (stop_of stops tenant)) × ((found_of founds tenant).fails_at ≡ fails_in (stop_of stops tenant))
+    → ((found_of founds tenant).interrupted ≡ (outage_of stops tenant).interrupted) × ((found_of founds tenant).fails_at ≡ (outage_of stops tenant).fails_at)
 
 -- An event says that this happens.
 abbrev pub Tells : Event → Happening → Type 0

@@ -1,17 +1,21 @@
 -- How a world in memory serves its tenants, wherever a run from a new world has led it in which there were numbers left at every moment.
-use Rattle.std.specs.Prelude.{ℕ, ◌≡◌, ◌<◌, List, slice_get, replicate, Some}
+use Rattle.std.specs.Prelude.{ℕ, ◌≡◌, ◌<◌, ◌++◌, List, slice_get, replicate, Some}
 use Rattle.mw_words.specs.declared.replies.Reply.TheVariants.{Yes as SaysYes}
 use Rattle.mw_lone.specs.declared.marks.Mark.{Mark}
 use Rattle.mw_lone.specs.Store.{IsLegalRun, replies as replies_of_store}
 use Rattle.mw_world.specs.declared.config.Config.{Config}
-use Rattle.mw_world.specs.Claim.Headline.{IsRun, IsServedAlone}
+use Rattle.mw_world.specs.Claim.Headline.{HasNumbers, IsServedAlone}
 use Rattle.mw_world.specs.Definition.Happenings.{Happening}
-use Rattle.mw_world.specs.Definition.State.{first_openings, marks_of, new_world, tenant_at, tenants_of}
-use Rattle.mw_world.specs.Definition.World.{replies_to}
+use Rattle.mw_world.specs.Definition.State.{State, first_openings, marks_of, new_world, tenant_at, tenants_of}
+use Rattle.mw_world.specs.Definition.World.{replies_to, run}
 use Rattle.mw_law_store.specs.Acknowledged.{changes_of, put_all, IsHeld}
 use Rattle.mw_law_store.specs.Moments.{first_moment}
 use Rattle.mw_simulator.specs.declared.world.World.{World}
 use Rattle.mw_simulator.specs.Running.{Stands}
+
+-- There were numbers left at every moment of a run from a new world.
+abbrev pub HadNumbers : Config → List Happening → Type 0
+HadNumbers config happened = (first rest : List Happening) (between : State) → happened ≡ first ++ rest → run config (new_world config) first ≡ Some between → HasNumbers config between
 
 -- a tenant's words at first
 abbrev pub first_words : Config → ℕ → List ℕ
@@ -28,8 +32,7 @@ pub record ServesTenant (world : World) (happened : List Happening) (stands : St
 
 -- So is each tenant.
 abbrev pub Serves : World → Type 0
-Serves world = (happened : List Happening) (stands : Stands world happened) (tenant : ℕ) → IsRun world.config (first_openings world.config) happened stands.state → tenant < tenants_of world.config
-    → ServesTenant world happened stands tenant
+Serves world = (happened : List Happening) (stands : Stands world happened) (tenant : ℕ) → HadNumbers world.config happened → tenant < tenants_of world.config → ServesTenant world happened stands tenant
 
 -- A tenant's marks are a legal run of the store alone that has its first words and its quota, and the replies that were handed out to the tenant are those
 -- that this store hands out by these marks.
@@ -38,5 +41,4 @@ pub record AreOfStore (config : Config) (happened : List Happening) (tenant : �
   pub replies : replies_to config tenant (new_world config) happened ≡ replies_of_store (first_words config tenant) (tenant_at config tenant).quota marks
 
 abbrev pub AreLegal : World → ℕ → List Mark → Type 0
-AreLegal world tenant marks = (happened : List Happening) (stands : Stands world happened) → IsRun world.config (first_openings world.config) happened stands.state
-    → AreOfStore world.config happened tenant marks
+AreLegal world tenant marks = (happened : List Happening) → Stands world happened → HadNumbers world.config happened → AreOfStore world.config happened tenant marks

@@ -18,7 +18,7 @@ use Rattle.mw_world.specs.Definition.State.{State, tenant_at}
 use Rattle.mw_simulator.specs.declared.accounts.Account.{Account as AccountInMemory}
 use Rattle.mw_simulator.specs.declared.world.halts.Halt.{Halt}
 use Rattle.mw_simulator.specs.declared.world.World.{World}
-use Rattle.mw_simulator.specs.Running.{CannotStop, IsFoundBy, fails_in, interrupted_in, made_in, stop_of, torn_in}
+use Rattle.mw_simulator.specs.Running.{CannotStop, IsOpenedBy, Outage, made_in, outage_of}
 use Rattle.mw_simulator.specs.Shows.{Shows, ShowsAccount}
 use Rattle.mw_simulator.specs.Starts.{EachOf}
 
@@ -56,26 +56,26 @@ Halts config state tenant interrupted (Some halt) = IsHalted config state tenant
 Halts config state tenant interrupted None = may_interrupt config state tenant interrupted ≡ false
 
 -- A tenant in memory, and what it is after a start: this was found of its file, and may be found.
-pub record IsReopened (config : Config) (state : State) (tenant : ℕ) (interrupted : Option Interrupted) (torn : List ℕ) (fails_at : Option ℕ) (old new : AccountInMemory) : Type 0 where
+pub record IsReopened (config : Config) (state : State) (tenant : ℕ) (outage : Outage) (old new : AccountInMemory) : Type 0 where
   pub found : Found
-  pub found_so : IsFoundBy old interrupted torn fails_at found
+  pub opened : IsOpenedBy old new outage found
   pub may : may_be_found config state tenant found ≡ true
   pub shows : ShowsAccount (tenant_at config tenant).words new (reopened (state.accounts tenant) found (under_way config state found.interrupted))
 
 -- how a tenant is reopened, by the answer
-abbrev pub Reopens : World → State → ℕ → AccountInMemory → Option Interrupted → List ℕ → Option ℕ → Result AccountInMemory BookFault → Type 0
-Reopens world state tenant shown interrupted torn fails_at (Ok new) = IsReopened world.config state tenant interrupted torn fails_at shown new
-Reopens world state tenant shown interrupted torn fails_at (Err NotEnabled) = CannotStop world state tenant interrupted torn fails_at
-Reopens world state tenant shown interrupted torn fails_at (Err Memory) = Unit {0}
+abbrev pub Reopens : World → State → ℕ → AccountInMemory → Outage → Result AccountInMemory BookFault → Type 0
+Reopens world state tenant shown outage (Ok new) = IsReopened world.config state tenant outage shown new
+Reopens world state tenant shown outage (Err NotEnabled) = CannotStop world state tenant outage
+Reopens world state tenant shown outage (Err Memory) = Unit {0}
 
 -- these tenants in memory are what the world's, in order, are after a start
 abbrev pub AreReopened : World → List Stop → List AccountInMemory → Type 0
 AreReopened world stops news = EachOf (λ tenant old new. (state : State) → Shows world state
-    → IsReopened world.config state tenant (interrupted_in (stop_of stops tenant)) (torn_in (stop_of stops tenant)) (fails_in (stop_of stops tenant)) old new) world.accounts.items news
+    → IsReopened world.config state tenant (outage_of stops tenant) old new) world.accounts.items news
 
 -- how all tenants are reopened, by the answer
 abbrev pub AllReopen : World → List Stop → Result (Vec AccountInMemory Global) BookFault → Type 0
 AllReopen world stops (Ok news) = (length news.items ≡ length world.accounts.items) × AreReopened world stops news.items
 AllReopen world stops (Err NotEnabled) = (state : State) → Shows world state
-    → (tenant : ℕ) × CannotStop world state tenant (interrupted_in (stop_of stops tenant)) (torn_in (stop_of stops tenant)) (fails_in (stop_of stops tenant))
+    → (tenant : ℕ) × CannotStop world state tenant (outage_of stops tenant)
 AllReopen world stops (Err Memory) = Unit {0}

@@ -56,7 +56,8 @@ fails_named number k true is doomed = by (number == k + 1) refl (and_parts (numb
 fails_named number k false is doomed = absurd (doomed (cond-false ((number == k + 1 || false) && nat_lt k most_counted) (Some false) (Some true) is))
 
 -- A new disk, of bytes that are a file, on which the named call is to fail.
-module _ (disk : Memory) (bytes words : List ℕ) (places : ℕ) (fails_at : Option ℕ) (reads : (memory_facts disk).reads ≡ bytes) (rest : IsAtRest (memory_facts disk)) (is : IsFile places words bytes)
+module _ (disk : Memory) (bytes words : List ℕ) (places : ℕ) (fails_at : Option ℕ) (reads : (memory_facts disk).reads ≡ bytes) (rest : IsAtRest (memory_facts disk)) (begins : (memory_facts disk).moment ≡ 0)
+    (is : IsFile places words bytes)
     (plan : (k : ℕ) → (memory_facts disk).plan k ≡ scripted (named fails_at) k) where
   plan_named : (number k : ℕ) → fails_at ≡ Some number → (memory_facts disk).plan k ≡ scripted (number ∷ []) k
   plan_named number k at = plan k ∙ ap (λ f. scripted (named f) k) at
@@ -117,6 +118,7 @@ module _ (disk : Memory) (bytes words : List ℕ) (places : ℕ) (fails_at : Opt
     first = disk;
     reads = reads;
     rest = rest;
+    begins = begins;
     ran = subst (λ f. OpeningRan (open_calls bytes) f disk (disk_of file)) (sym none)
         (subst (λ n. OpeningRan n None disk (disk_of file)) (calls_as opened.image (opened.seen refl)) opened.made);
     moments = same_words (disk_of file) (opened.unchanged refl rest).left;
@@ -148,6 +150,7 @@ module _ (disk : Memory) (bytes words : List ℕ) (places : ℕ) (fails_at : Opt
         first = disk;
         reads = reads;
         rest = rest;
+        begins = begins;
         ran = subst (λ f. OpeningRan (open_calls bytes) f disk after) (sym at) (all.0, ap (λ n. n + 1) all.1 ∙ sym (failed_there number at after failed none_before none));
         moments = same_words after (failed.unchanged refl rest).left;
       }

@@ -12,11 +12,12 @@ abbrev pub OpeningRan : ℕ → Option ℕ → Disk → Disk → Type 0
 OpeningRan calls None before after = AllWell calls (memory_facts before) (memory_facts after)
 OpeningRan calls (Some number) before after = (failed : OneFailed calls (memory_facts before) (memory_facts after)) × (failed.well + 1 ≡ number)
 
--- The disk came of one with these bytes, all of which were synced, by the device calls of their opening. Whenever a crash came since that began,
--- it left a file of these words.
+-- The disk came of a new one with these bytes, all of which were synced, by the device calls of their opening. Whenever a crash came since that
+-- began, which is at every moment of the disk, it left a file of these words.
 pub record CameOfBytes (image words : List ℕ) (fails_at : Option ℕ) (after : Disk) : Type 0 where
   pub first : Disk
   pub reads : (memory_facts first).reads ≡ image
   pub rest : IsAtRest (memory_facts first)
+  pub begins : (memory_facts first).moment ≡ 0
   pub ran : OpeningRan (open_calls image) fails_at first after
   pub moments : LeavesOnly (memory_facts first) (memory_facts after) (λ bytes. file_words bytes ≡ Some words)

@@ -77,7 +77,7 @@ impl World {
         requires { slice_get self.now.accounts.items tenant ≡ Some account.now }
         ensures sound { IfOk result (λ new. HasSound (tenant_at self.now.config tenant).words new.book) }
         ensures reopens { (state : State) → Shows self.now state
-            → Reopens self.now state tenant account.now (spec.interrupted_in (spec.stop_of stops.now tenant)) (spec.torn_in (spec.stop_of stops.now tenant)) (spec.fails_in (spec.stop_of stops.now tenant)) result }
+            → Reopens self.now state tenant account.now (spec.outage_of stops.now tenant) result }
     {
         match stop_of(stops, tenant) {
             Some(stop) => self.reopened(
@@ -103,7 +103,7 @@ impl World {
     ) -> Result<Account, BookFault>
         requires { slice_get self.now.accounts.items tenant ≡ Some account.now }
         ensures sound { IfOk result (λ new. HasSound (tenant_at self.now.config tenant).words new.book) }
-        ensures reopens { (state : State) → Shows self.now state → Reopens self.now state tenant account.now interrupted torn.now fails_at result }
+        ensures reopens { (state : State) → Shows self.now state → Reopens self.now state tenant account.now (record { interrupted = interrupted; torn = torn.now; fails_at = fails_at }) result }
     {
         let Some(halt) = self.halt(tenant, account, interrupted) else {
             return Err(BookFault::NotEnabled);

@@ -1,5 +1,5 @@
 use Rattle.mw_law_store.proofs.Running.{every_run_serves_alone}
-use Rattle.mw_simulator.proofs.Images.{images_of_store}
+use Rattle.mw_simulator.proofs.OpenedImages.{images_of_store}
 use Rattle.mw_simulator.proofs.laws.what_serving_alone_leaves.Goals as goal
 
 pub returns : goal.returns

@@ -3,7 +3,7 @@ use Rattle.std.proofs.lemmas.List.{length_push}
 use Rattle.mw_world_file.specs.SoundBooks.{HasSound}
 use Rattle.mw_world.specs.Definition.State.{State, tenant_at}
 use Rattle.mw_simulator.specs.declared.accounts.Account.{Account}
-use Rattle.mw_simulator.specs.Running.{fails_in, interrupted_in, stop_of, torn_in}
+use Rattle.mw_simulator.specs.Running.{outage_of}
 use Rattle.mw_simulator.specs.Shows.{Shows}
 use Rattle.mw_simulator.specs.Stops.{AreReopened, IsReopened}
 use Rattle.mw_simulator.specs.TenantBooks.{AreSound}
@@ -27,7 +27,7 @@ loop-tenant-preserved c =
     let new = c.in-Ok-stopped.reopened in
     let old = c.account-item.result in
     let R : ℕ → Account → Account → Type 0 = λ k a b. (state : State) → Shows world state
-    → IsReopened world.config state k (interrupted_in (stop_of stops k)) (torn_in (stop_of stops k)) (fails_in (stop_of stops k)) a b in
+    → IsReopened world.config state k (outage_of stops k) a b in
     let read = subst (λ all. old ≡ get_or all tenant old) c.deref-account-items.ensures.value c.account-item.is in
     record {
       count = ap length c.in-Ok-push.ensures.items ∙ length_push before new ∙ ap (λ n. n + 1) c.loop-tenant.invariant.count;

@@ -7,14 +7,14 @@ use Rattle.mw_world_file.proofs.kept.Book.open.Goals as goal
 
 pub returns-in-Ok-open : goal.returns-in-Ok-open
 returns-in-Ok-open c words places is =
-    opened_ends c.in_ok-disk.disk c.args.bytes.items words places c.args.fails_at (ap (λ (m : Memory). (memory_facts m).reads) c.in_ok-disk.ensures.made) c.in_ok-disk.ensures.at_rest is
+    opened_ends c.in_ok-disk.disk c.args.bytes.items words places c.args.fails_at (ap (λ (m : Memory). (memory_facts m).reads) c.in_ok-disk.ensures.made) c.in_ok-disk.ensures.at_rest (ap (λ (m : Memory). (memory_facts m).moment) c.in_ok-disk.ensures.made) is
     (λ k. c.in_ok-disk.ensures.plan k ∙ ap (λ (script : List ℕ). scripted script k) c.in_ok-script_of.ensures)
     c.in-Ok-open.opened.0 c.in-Ok-open.opened.1.items c.in-Ok-open.ensures c.opened.result c.opened.ensures
 
 pub returns-in-Disk : goal.returns-in-Disk
 returns-in-Disk c words places is =
     let image = c.in-Ok.ensures.1 ∙ c.deref.ensures.value in
-    shut_ends c.in_ok-disk.disk c.args.bytes.items words places c.args.fails_at (ap (λ (m : Memory). (memory_facts m).reads) c.in_ok-disk.ensures.made) c.in_ok-disk.ensures.at_rest is
+    shut_ends c.in_ok-disk.disk c.args.bytes.items words places c.args.fails_at (ap (λ (m : Memory). (memory_facts m).reads) c.in_ok-disk.ensures.made) c.in_ok-disk.ensures.at_rest (ap (λ (m : Memory). (memory_facts m).moment) c.in_ok-disk.ensures.made) is
     (λ k. c.in_ok-disk.ensures.plan k ∙ ap (λ (script : List ℕ). scripted script k) c.in_ok-script_of.ensures)
     c.in-Err.failed.1 c.in-Err.failed.0 c.in-Disk.is c.in-Err.ensures (ap (λ (m : Memory). m.refused) c.in_ok-disk.ensures.made) c.in_ok-found.found.items c.places-quota.result MAX_POOL
     (c.in_ok-found.ensures ∙ ap words_in image ∙ words_found c.args.bytes.items words is.words_are)
