@@ -4,6 +4,8 @@
 #[cfg(test)]
 mod line_tests;
 #[cfg(test)]
+mod mistake_tests;
+#[cfg(test)]
 mod replay_tests;
 #[cfg(test)]
 mod schedule_tests;

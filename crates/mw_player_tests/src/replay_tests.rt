@@ -3,6 +3,7 @@ use crate::line_tests::{
     HEAD, lines_without_arrival, steps_not_enabled, stops_not_enabled, workers_not_enabled,
     wrong_lines,
 };
+use crate::mistake_tests::of_mistakes;
 use crate::schedule_tests::{CLAIM_LOST, SLOT_RECYCLED, of_files, of_late_workers, of_requests};
 use mw_look::Kind;
 use mw_player::{Halt, Player, replay, replay_args};
@@ -113,7 +114,8 @@ fn schedules_of_files(rt: HostRuntime) -> Result<(), Fail> {
 
 #[test]
 fn schedules_of_late_workers(rt: HostRuntime) -> Result<(), Fail> {
-    play_each(&rt, &of_late_workers())
+    play_each(&rt, &of_late_workers())?;
+    play_each(&rt, &of_mistakes())
 }
 
 #[test]

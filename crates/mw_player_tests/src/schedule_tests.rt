@@ -403,44 +403,6 @@ end 0
 end 1
 ";
 
-const LATE_ATTEMPT_OF_REFUSED: &str = "\
-pool 3
-workers 3
-tenant t 2 3
-come 0 t CAS 0:0:1 1:5:6
-to 0 plant
-come 1 t CAS 0:7:8
-to 1 pin
-before 1 resolve
-end 0
-come 0 t CAS 0:0:1
-end 0
-come 0 t CAS 0:1:2
-to 0 plant
-to 1 release
-come 2 t GET 0
-end 2
-";
-
-const UNSETTLED: &str = "\
-pool 2
-workers 2
-tenant t 1 2
-come 0 t CAS 0:0:1
-to 0 release
-come 1 t CAS 0:1:2
-end 1
-end 0
-";
-
-const FIRST_ENTRY_DIFFERS: &str = "\
-pool 1
-workers 1
-tenant t 2 1
-come 0 t CAS 0:5:6 1:0:1
-end 0
-";
-
 /// One worker uses one slot for two tenants, one after the other.
 pub const SLOT_RECYCLED: &str = "\
 pool 2
@@ -471,7 +433,7 @@ end 1
 pub type Schedule = (&'static str, &'static str, &'static str);
 
 /// Schedules of requests that come between each other, each with its name and what is printed.
-pub fn of_requests() -> [Schedule; 7] {
+pub fn of_requests() -> [Schedule; 6] {
     [
         (
             "own-quota-busy",
@@ -494,7 +456,6 @@ pub fn of_requests() -> [Schedule; 7] {
             STALE_REFERENCE,
             "0 t YES\n0 u YES\n0 u YES\n1 t VAL 1\n",
         ),
-        ("first-entry-differs", FIRST_ENTRY_DIFFERS, "0 t NO 0 0\n"),
         (
             "worn-numbers",
             WORN_NUMBERS,
@@ -551,7 +512,7 @@ pub fn of_files() -> [Schedule; 9] {
 }
 
 /// Schedules of workers that go on late, each with its name and what is printed.
-pub fn of_late_workers() -> [Schedule; 10] {
+pub fn of_late_workers() -> [Schedule; 8] {
     [
         (
             "late-finisher-under-done-no",
@@ -588,12 +549,6 @@ pub fn of_late_workers() -> [Schedule; 10] {
             LATE_STALE_ROW_OF_NEIGHBOUR,
             "0 t YES\n1 t NO 0 1\n0 u YES\n0 u VAL 7\n",
         ),
-        (
-            "late-attempt-of-refused",
-            LATE_ATTEMPT_OF_REFUSED,
-            "0 t NO 1 0\n0 t YES\n2 t VAL 2\n",
-        ),
-        ("unsettled", UNSETTLED, "1 t YES\n0 t YES\n"),
         (
             "lost-release-under-done-yes",
             LOST_RELEASE_UNDER_DONE_YES,
