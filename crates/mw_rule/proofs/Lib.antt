@@ -1,1 +1,5 @@
+pub mod Keeping
 pub mod Layouts
+pub mod Leading
+pub mod Totals
+pub mod Words
