@@ -1,5 +1,6 @@
 pub mod Keeping
 pub mod Layouts
 pub mod Leading
+pub mod Stepping
 pub mod Totals
 pub mod Words
