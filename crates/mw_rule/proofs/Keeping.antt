@@ -1,6 +1,6 @@
 -- Whatever a thread's step is, if it is a stretch of events of its own worker, the rule is kept.
-use Rattle.std.specs.Prelude.{ℕ, ◌+◌, ◌≡◌, ◌≢◌, ◌≤◌, ◌<◌, true, List, [], ◌∷◌, ◌++◌, length, slice_index, slice_set}
-use Rattle.std.proofs.Common.{refl, sym, ap, subst, ◌∙◌, ◌⊎◌, inl, inr, arith}
+use Rattle.std.specs.Prelude.{ℕ, ◌≡◌, ◌≢◌, ◌≤◌, ◌<◌, true, List, ◌++◌, length, slice_index, slice_set}
+use Rattle.std.proofs.Common.{sym, ap, subst, ◌∙◌, inl, inr, arith}
 use Rattle.std.proofs.lemmas.List.{length-set, get_or-set_same, get_or-set_other}
 use mathlib.Core.Option.{some}
 use lib.ListN.{get_elem?}
@@ -17,7 +17,7 @@ use Rattle.mw_world.specs.Definition.State.{State, Opening, IsConfig}
 use Rattle.mw_law_runs.proofs.Numbers.{same_or_other}
 use Rattle.mw_rule.specs.declared.views.View.{View}
 use Rattle.mw_rule.specs.Layout.{index_of, words_of}
-use Rattle.mw_rule.specs.Rule.{Fits, IsSpent, Tied, Ties, has, total}
+use Rattle.mw_rule.specs.Rule.{Fits, Tied, Ties, has}
 use Rattle.mw_rule.proofs.Layouts.{index_injective, places_within, places_in_table}
 use Rattle.mw_rule.proofs.Leading.{Leads, others_fit, past_on}
 use Rattle.mw_rule.proofs.Totals.{total_set, total_two}
@@ -28,13 +28,13 @@ pub ties_on : (config : Config) (cells after : Cells) (words : List ℕ) (place 
     → Ties config after (slice_set words (index_of config.pool place) bits)
 ties_on config cells after words place bits is_config there long ties here else other its = elim (same_or_other (index_of config.pool other) (index_of config.pool place)) [
   | inl same ↦
-    let one : other ≡ place = index_injective config.pool other place (places_within config other is_config its) (places_within config place is_config there) same in
-    let low : index_of config.pool place < length words = subst (λ n. index_of config.pool place < n) (sym long) (places_in_table config place is_config there) in
-    subst (λ at. slice_index (slice_set words (index_of config.pool place) bits) (index_of config.pool at) ≡ pack at (read after at)) (sym one)
-    (get_or-set_same words (index_of config.pool place) bits 0 low ∙ sym here)
+      let one : other ≡ place = index_injective config.pool other place (places_within config other is_config its) (places_within config place is_config there) same in
+      let low : index_of config.pool place < length words = subst (λ n. index_of config.pool place < n) (sym long) (places_in_table config place is_config there) in
+      subst (λ at. slice_index (slice_set words (index_of config.pool place) bits) (index_of config.pool at) ≡ pack at (read after at)) (sym one)
+      (get_or-set_same words (index_of config.pool place) bits 0 low ∙ sym here)
   | inr apart ↦
-    get_or-set_other words (index_of config.pool place) (index_of config.pool other) bits 0 apart ∙ ties other its
-    ∙ ap (pack other) (sym (else other (λ e. apart (ap (index_of config.pool) e))))
+      get_or-set_other words (index_of config.pool place) (index_of config.pool other) bits 0 apart ∙ ties other its
+      ∙ ap (pack other) (sym (else other (λ e. apart (ap (index_of config.pool) e))))
 ]
 
 pub keep : (config : Config) (begun : (ℕ → Opening) → List Happening → Type 0) (s : Table Acting View) (tied : Tied config begun s) (id index bits worker : ℕ) (old new : View) (after : State)
@@ -52,9 +52,9 @@ keep config begun s tied id index bits worker old new after more at own same lea
     | inr else ↦ elim (tied.fits other view else.1) [
       | inl spent ↦ inl spent
       | inr fit ↦
-        let two = total_two (has worker) s.views id other old view else.0 at else.1 in
-        let all = tied.alone worker in
-        inr (others_fit config tied.past.openings (tied.past.before ++ tied.events) tied.state tied.past.played worker after more leads tied.events view (omega (arith, two, all, own)) fit)
+          let two = total_two (has worker) s.views id other old view else.0 at else.1 in
+          let all = tied.alone worker in
+          inr (others_fit config tied.past.openings (tied.past.before ++ tied.events) tied.state tied.past.played worker after more leads tied.events view (omega (arith, two, all, own)) fit)
     ]
   ];
   alone = λ one. let sums = total_set (has one) s.views id old new at in let all = tied.alone one in let even = same one in omega (arith, sums, all, even);

@@ -1,15 +1,13 @@
 -- Places that are there stand in the table, and apart.
-use Rattle.std.specs.Prelude.{ℕ, zero, suc, [], ◌∷◌, ◌≡◌, ◌<◌, ◌≤◌, ◌&&◌, Bool, true, false, All, List, length, nat_lt, slice_index_or}
-use Rattle.std.proofs.Common.{refl, ap, subst, sym, ◌⊎◌, inl, inr, arith}
+use Rattle.std.specs.Prelude.{ℕ, zero, suc, [], ◌∷◌, ◌≡◌, ◌<◌, ◌≤◌, Bool, true, false, All, List, length, nat_lt, slice_index_or}
+use Rattle.std.proofs.Common.{refl, ap, arith}
 use Rattle.std.proofs.lemmas.Bool.Decides.{nat_tests}
 use Rattle.mw_words.specs.declared.places.At.TheVariants.{Door as AtDoor, Gate as AtGate, Row as AtRow, Data, Status as AtStatus, Count, Addr, Expected, New}
 use Rattle.mw_words.specs.declared.limits.TheConstants.{MAX_ENTRIES, MAX_WORDS}
-use Rattle.mw_world.specs.declared.config.Config.{Config}
 use Rattle.mw_world.specs.declared.config.Tenant.{Tenant}
-use Rattle.mw_world.specs.Definition.Extent.{has_place}
-use Rattle.mw_world.specs.Definition.State.{IsConfig, no_tenant, tenant_at, tenants_of}
+use Rattle.mw_world.specs.Definition.State.{no_tenant, tenant_at, tenants_of}
 use Rattle.mw_law_runs.proofs.Tests.{first_holds, second_holds}
-use Rattle.mw_rule.specs.Layout.{index_of, words_of, Within, PlacesAreInTable, PlacesAreWithin, PlacesStandApart}
+use Rattle.mw_rule.specs.Layout.{PlacesAreInTable, PlacesAreWithin, PlacesStandApart}
 
 -- past its end a list has what it is read with
 index_past : {A : Type 0} (all : List A) (index : ℕ) (none : A) → length all ≤ index → slice_index_or all index none ≡ none
@@ -114,6 +112,7 @@ has_words tenants tenant address all low = by (nat_lt tenant (length tenants)) r
   where
     past : length tenants ≤ tenant → (slice_index_or tenants tenant no_tenant).words ≡ 0
     past over = ap (λ (one : Tenant). one.words) (index_past tenants tenant no_tenant over)
+
     by : (test : Bool) → nat_lt tenant (length tenants) ≡ test → (tenant < length tenants) × (address < MAX_WORDS)
     by true is = let known = low_of tenant (length tenants) is in let most = (all tenant no_tenant known).1 in (known, omega (arith, low, most))
     by false is = let none = past (grind (arith, nat_tests, is)) in absurd (omega (arith, low, none))

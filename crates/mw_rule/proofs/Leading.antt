@@ -1,7 +1,7 @@
 -- Stretches of events of one worker, and what they leave of what others know.
-use Rattle.std.specs.Prelude.{ℕ, ◌+◌, ◌≡◌, ◌≢◌, ◌≤◌, ◌<◌, ◌==◌, true, false, List, [], ◌∷◌, ◌++◌, length, Option, Some, None}
+use Rattle.std.specs.Prelude.{ℕ, ◌≡◌, ◌≢◌, ◌<◌, List, [], ◌∷◌, ◌++◌, length, Option, Some, None}
 use Rattle.std.specs.Option.{option_and_then}
-use Rattle.std.proofs.Common.{refl, sym, ap, subst, ◌∙◌, append_assoc, append-nil, ◌⊎◌, inl, inr, arith}
+use Rattle.std.proofs.Common.{refl, sym, ap, subst, ◌∙◌, append_assoc, append-nil, inl, inr, arith}
 use Rattle.std.proofs.lemmas.Option.{same_Some, option_and_then_some}
 use Rattle.mw_lone.specs.declared.marks.Mark.{Mark}
 use Rattle.mw_lone.specs.declared.marks.Mark.TheVariants.{Ask}
@@ -21,10 +21,9 @@ use Rattle.mw_law_store.specs.Moments.{Moment, SealedChange, first_moment, after
 use Rattle.mw_law_store.proofs.Histories as histories
 use Rattle.mw_law_store.proofs.Momenting.{got_within}
 use Rattle.mw_law_store.proofs.Running.{events_are_followed, runs_are_followed}
-use Rattle.mw_rule.specs.declared.views.Deed.{Deed}
 use Rattle.mw_rule.specs.declared.views.Reins.{Reins}
 use Rattle.mw_rule.specs.declared.views.View.{View}
-use Rattle.mw_rule.specs.Rule.{Each, Fits, Holds, Past, deed_of, made_by, times}
+use Rattle.mw_rule.specs.Rule.{Fits, Holds, Past, deed_of, made_by, times}
 use Rattle.mw_rule.specs.Seen.{CameAfter, ComeFirst, Gave, HasBegun, HasBegunFor, opening_at, sealed_of, seen_at}
 use Rattle.mw_rule.proofs.Totals.{each_apart}
 
@@ -116,11 +115,11 @@ module _ (config : Config) (openings : ℕ → Opening) (before : List Happening
     begun_on request begun has = elim has [
       | inl none ↦ inl none
       | inr came ↦
-        let within = got_within (old.accounts tenant).lines (Some (Ask request came.job)) came.line came.came in
-        let stays = ap (λ (changes : List SealedChange). length changes) (gone.1.before came.line (omega (arith, within))) in
-        let sealed = came.sealed in
-        inr (subst (λ (start : Moment). CameAfter start (new.accounts tenant).lines request begun) (sym same_start)
-            (record { line = came.line; job = came.job; came = gone.1.marks came.line (Ask request came.job) came.came; sealed = omega (arith, stays, sealed) }))
+          let within = got_within (old.accounts tenant).lines (Some (Ask request came.job)) came.line came.came in
+          let stays = ap (λ (changes : List SealedChange). length changes) (gone.1.before came.line (omega (arith, within))) in
+          let sealed = came.sealed in
+          inr (subst (λ (start : Moment). CameAfter start (new.accounts tenant).lines request begun) (sym same_start)
+          (record { line = came.line; job = came.job; came = gone.1.marks came.line (Ask request came.job) came.came; sealed = omega (arith, stays, sealed) }))
     ]
 
   pub seen_on : (seen : List (List SealedChange)) → ComeFirst (tenants_of config) seen (sealed_of openings old) → ComeFirst (tenants_of config) seen (sealed_of openings new)

@@ -1,7 +1,7 @@
 -- The events of one worker by its request: it comes, makes a step, and hands out its reply.
-use Rattle.std.specs.Prelude.{ℕ, ◌+◌, ◌≡◌, ◌≢◌, ◌≤◌, ◌<◌, ◌==◌, ◌&&◌, not, Bool, true, false, cond, if◌then◌else◌, List, [], ◌∷◌, ◌++◌, length, is_some, is_none, nat_lt, Option, Some, None}
+use Rattle.std.specs.Prelude.{ℕ, ◌≡◌, ◌≢◌, ◌<◌, ◌==◌, ◌&&◌, not, Bool, true, false, if◌then◌else◌, List, [], ◌∷◌, ◌++◌, length, is_some, is_none, nat_lt, Option, Some, None}
 use Rattle.std.specs.Option.{option_and_then}
-use Rattle.std.proofs.Common.{refl, sym, ap, subst, ◌∙◌, append_assoc, append-nil, ◌⊎◌, inl, inr, arith}
+use Rattle.std.proofs.Common.{refl, sym, ap, subst, ◌∙◌, append_assoc, inr, arith}
 use Rattle.std.proofs.lemmas.Bool.Decides.{nat_tests}
 use Rattle.mw_words.specs.declared.replies.Reply.{Reply}
 use Rattle.mw_words.specs.declared.jobs.Job.{Job}
@@ -9,7 +9,6 @@ use Rattle.mw_words.specs.Change.{is_well_formed}
 use Rattle.mw_lone.specs.declared.marks.Mark.{Mark}
 use Rattle.mw_lone.specs.declared.marks.Mark.TheVariants.{Ask, Reply as HandOut}
 use Rattle.mw_look.specs.declared.news.Got.{Got}
-use Rattle.mw_look.specs.declared.news.News.{News}
 use Rattle.mw_look.specs.News.{news_of}
 use Rattle.mw_look.specs.Steps.{place}
 use Rattle.mw_actor.specs.Acting.{Acting, first}
@@ -26,7 +25,7 @@ use Rattle.mw_world.specs.Definition.History.{History}
 use Rattle.mw_world.specs.Definition.Noting.{more, seated}
 use Rattle.mw_world.specs.Definition.State.{State, Account, Opening, Seat, tenant_at, tenants_of}
 use Rattle.mw_world.specs.Definition.Turns.{may_make, made_of, moved, next_attempt, turn, turned}
-use Rattle.mw_world.specs.Definition.World.{begun, asked, come, hand, handed, may_come, run, step}
+use Rattle.mw_world.specs.Definition.World.{begun, asked, hand, handed, may_come, run}
 use Rattle.mw_law_knowledge.proofs.Deeds.Keeping.{upd_here, upd_else}
 use Rattle.mw_law_store.specs.Followed.{start_of}
 use Rattle.mw_law_store.specs.Moments.{Moment, after_marks, first_moment, moment_at, moment_of}
@@ -37,7 +36,7 @@ use Rattle.mw_rule.specs.declared.views.Reins.{Reins}
 use Rattle.mw_rule.specs.Carrying.{comes, settled, settled_as, told_as, told_of}
 use Rattle.mw_rule.specs.Rule.{Holds, deed_if, made_by}
 use Rattle.mw_rule.specs.Seen.{HasBegun, HasBegunFor, sealed_of}
-use Rattle.mw_rule.proofs.Leading.{KeepsGift, Leads, begun_for_on, leads_on, made_on, one_gift, played_on}
+use Rattle.mw_rule.proofs.Leading.{Leads, begun_for_on, leads_on, made_on, one_gift}
 use Rattle.mw_rule.proofs.Words.{cells_after, done_is, news_after}
 
 itself : (n : ℕ) → (n == n) ≡ true
@@ -192,9 +191,9 @@ steps config openings before old state played events some reins actor got leads 
     settles config openings old after events (some ++ Step reins.worker ∷ []) (record reins { attempt = next_attempt actor.point reins.attempt; made = reins.made ++ Stepped ∷ [] }) (told_of got reins.attempt actor)
     (leads_on config old state after reins.worker some (Step reins.worker ∷ []) leads (step_leads config openings before state played reins.worker actor (holds.actor ∙ carries) running there))
     (subst
-      (λ all. Holds config openings after all (record reins { actor = Some (told_of got reins.attempt actor); attempt = next_attempt actor.point reins.attempt; made = reins.made ++ Stepped ∷ [] }))
-      (append_assoc events some (Step reins.worker ∷ []))
-      (step_holds config openings before state played (events ++ some) reins actor carries holds got running there told))
+    (λ all. Holds config openings after all (record reins { actor = Some (told_of got reins.attempt actor); attempt = next_attempt actor.point reins.attempt; made = reins.made ++ Stepped ∷ [] }))
+    (append_assoc events some (Step reins.worker ∷ []))
+    (step_holds config openings before state played (events ++ some) reins actor carries holds got running there told))
 
 -- A request comes.
 module _ (config : Config) (openings : ℕ → Opening) (state : State) (events : List Happening) (reins : Reins) (tenant : ℕ) (job : Job) (idle : reins.actor ≡ None) (low : tenant < tenants_of config)
@@ -205,6 +204,7 @@ module _ (config : Config) (openings : ℕ → Opening) (state : State) (events 
     where
       is_low : (n m : ℕ) → n < m → nat_lt n m ≡ true
       is_low n m lt = grind (arith, nat_tests, lt)
+
       by_tests : (a b c d : Bool) → a ≡ true → b ≡ true → c ≡ true → d ≡ true → (a && b && c && d) ≡ true
       by_tests a b c d p q r s = λ i. p i && q i && r i && s i
 

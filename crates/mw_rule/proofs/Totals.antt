@@ -1,12 +1,12 @@
 -- Sums over what threads know, and what holds of each reins.
-use Rattle.std.specs.Prelude.{ℕ, zero, suc, ◌+◌, ◌≡◌, ◌≢◌, ◌≤◌, ◌==◌, Bool, true, false, List, [], ◌∷◌, ◌++◌, slice_set}
-use Rattle.std.proofs.Common.{refl, sym, ap, subst, ◌∙◌, arith, set}
+use Rattle.std.specs.Prelude.{ℕ, zero, suc, ◌+◌, ◌≡◌, ◌≢◌, ◌≤◌, ◌==◌, List, [], ◌∷◌, ◌++◌, slice_set}
+use Rattle.std.proofs.Common.{refl, sym, ap, arith}
 use Rattle.std.proofs.lemmas.Bool.Decides.{nat_tests}
 use mathlib.Core.Option.{some, some-injective, some-ne-none}
 use lib.ListN.{get_elem?}
 use Rattle.mw_rule.specs.declared.views.Reins.{Reins}
 use Rattle.mw_rule.specs.declared.views.View.{View}
-use Rattle.mw_rule.specs.Rule.{Each, times, weight, has, total}
+use Rattle.mw_rule.specs.Rule.{Each, times, weight, total}
 
 pub total_set : (count : View → ℕ) (views : List View) (id : ℕ) (old new : View) → get_elem? views id ≡ some old → total count (slice_set views id new) + count old ≡ total count views + count new
 total_set count [] id old new is = absurd (some-ne-none old (sym is))

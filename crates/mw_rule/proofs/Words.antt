@@ -1,6 +1,6 @@
 -- What a step does in bits is what it does to what stands at its place, and what a request is told of the bits is what it is told there.
 use Rattle.std.specs.Prelude.{ℕ, ◌≡◌, ◌≢◌, ◌==◌, Bool, true, false, cond}
-use Rattle.std.proofs.Common.{refl, sym, ap, subst, ◌∙◌}
+use Rattle.std.proofs.Common.{refl, sym, ap, ◌∙◌}
 use Rattle.mw_words.specs.declared.places.At.{At}
 use Rattle.mw_look.specs.declared.news.Got.TheVariants.{Word as Bits, Won as GotWon, Lost as GotLost}
 use Rattle.mw_look.specs.declared.news.News.{News}

@@ -1,6 +1,5 @@
 -- What a step asks of the thread that makes it, and what it tells the thread.
 use Rattle.std.specs.Prelude.{ℕ, ◌≡◌, ◌≤◌, ◌<◌, true, List, [], ◌∷◌, ◌++◌, map, length, Option, Some, None}
-use Rattle.mw_words.specs.declared.places.At.TheVariants.{Door as AtDoor}
 use Rattle.mw_words.specs.declared.replies.Reply.{Reply}
 use Rattle.mw_words.specs.Change.{is_well_formed}
 use Rattle.mw_look.specs.declared.news.Got.{Got}

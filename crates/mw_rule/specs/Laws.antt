@@ -1,6 +1,6 @@
 -- What is proved of the rule.
-use Rattle.std.specs.Prelude.{ℕ, ◌≡◌, ◌<◌, ◌≤◌, ◌≢◌, true, List, [], length, slice_index, Option, Some, None, cond, ◌==◌}
-use Rattle.atomic_table.specs.Table.{State as Table, Me, Allows, Splits, Joins, opening}
+use Rattle.std.specs.Prelude.{ℕ, ◌≡◌, ◌<◌, List, [], length}
+use Rattle.atomic_table.specs.Table.{Me, Allows, Splits, Joins, opening}
 use Rattle.mw_words.specs.declared.places.At.TheVariants.{Door as AtDoor}
 use Rattle.mw_look.specs.declared.news.Got.TheVariants.{Word as Bits}
 use Rattle.mw_look.specs.declared.steps.Op.{Op}
@@ -11,7 +11,7 @@ use Rattle.mw_world.specs.Claim.Headline.{IsPlayed}
 use Rattle.mw_world.specs.Definition.Happenings.{Happening}
 use Rattle.mw_world.specs.Definition.State.{State, Opening, Seat, tenants_of}
 use Rattle.mw_rule.specs.declared.views.View.{View}
-use Rattle.mw_rule.specs.Carrying.{Drives, MayCome, Has, Took, Began, Looked}
+use Rattle.mw_rule.specs.Carrying.{Drives, MayCome, Took, Began, Looked}
 use Rattle.mw_rule.specs.Dealing.{maker, spent, dealt, left_over, note, hears}
 use Rattle.mw_rule.specs.Layout.{index_of, words_of}
 use Rattle.mw_rule.specs.Rule.{IsLive, Ties, Tied}

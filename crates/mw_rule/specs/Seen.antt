@@ -1,11 +1,10 @@
 -- What was seen of a tenant's sealed changes, and what its requests rest on.
-use Rattle.std.specs.Prelude.{ℕ, zero, suc, true, ◌+◌, ◌≡◌, ◌≤◌, ◌<◌, ◌⊎◌, List, [], ◌∷◌, ◌++◌, length, slice_get, slice_index_or, Option, Some, None}
+use Rattle.std.specs.Prelude.{ℕ, zero, suc, true, ◌≡◌, ◌≤◌, ◌<◌, ◌⊎◌, List, [], ◌∷◌, ◌++◌, length, slice_get, slice_index_or, Option, Some, None}
 use Rattle.mw_words.specs.declared.jobs.Job.{Job}
 use Rattle.mw_lone.specs.declared.marks.Mark.{Mark}
 use Rattle.mw_lone.specs.declared.marks.Mark.TheVariants.{Ask}
 use Rattle.mw_actor.specs.Acting.{Acting}
-use Rattle.mw_world.specs.declared.config.Config.{Config}
-use Rattle.mw_world.specs.Definition.State.{State, Opening, tenants_of}
+use Rattle.mw_world.specs.Definition.State.{State, Opening}
 use Rattle.mw_law_store.specs.Followed.{start_of}
 use Rattle.mw_law_store.specs.History.{IsBeginning}
 use Rattle.mw_law_store.specs.Moments.{Moment, SealedChange, moment_of, moment_at}

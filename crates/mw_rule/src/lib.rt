@@ -7,11 +7,15 @@
 #![tactic(auto)]
 
 mod indexes;
+mod laws;
 mod rule;
 mod views;
 mod ways;
 
 pub use indexes::index_of;
+pub use laws::{
+    places_stand_apart, steps_keep_the_rule, tables_start_under_the_rule, what_is_known_is_parted,
+};
 pub use rule::{Begins, Deals, Hears, Notes, Tie};
 pub use views::{Deed, Finished, Opened, Reins, Sealed, View};
 pub use ways::{Way, way_of};
