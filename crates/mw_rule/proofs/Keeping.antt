@@ -1,0 +1,61 @@
+-- Whatever a thread's step is, if it is a stretch of events of its own worker, the rule is kept.
+use Rattle.std.specs.Prelude.{ℕ, ◌≡◌, ◌≢◌, ◌≤◌, ◌<◌, true, List, ◌++◌, length, slice_index, slice_set}
+use Rattle.std.proofs.Common.{sym, ap, subst, ◌∙◌, inl, inr, arith}
+use Rattle.std.proofs.lemmas.List.{length-set, get_or-set_same, get_or-set_other}
+use mathlib.Core.Option.{some}
+use lib.ListN.{get_elem?}
+use Rattle.atomic_table.specs.Table.{State as Table}
+use Rattle.atomic_table.proofs.Lists.{at_set}
+use Rattle.mw_words.specs.declared.places.At.{At}
+use Rattle.mw_look.specs.Places.{pack}
+use Rattle.mw_actor.specs.Acting.{Acting}
+use Rattle.mw_world.specs.declared.config.Config.{Config}
+use Rattle.mw_world.specs.Definition.Cells.{Cells, read}
+use Rattle.mw_world.specs.Definition.Extent.{has_place}
+use Rattle.mw_world.specs.Definition.Happenings.{Happening}
+use Rattle.mw_world.specs.Definition.State.{State, Opening, IsConfig}
+use Rattle.mw_law_runs.proofs.Numbers.{same_or_other}
+use Rattle.mw_rule.specs.declared.views.View.{View}
+use Rattle.mw_rule.specs.Layout.{index_of, words_of}
+use Rattle.mw_rule.specs.Rule.{Fits, Tied, Ties, has}
+use Rattle.mw_rule.proofs.Layouts.{index_injective, places_within, places_in_table}
+use Rattle.mw_rule.proofs.Leading.{Leads, others_fit, past_on}
+use Rattle.mw_rule.proofs.Totals.{total_set, total_two}
+
+-- One place has other bits in the table, as it has in the world.
+pub ties_on : (config : Config) (cells after : Cells) (words : List ℕ) (place : At) (bits : ℕ) → IsConfig config → has_place config place ≡ true → length words ≡ words_of config
+    → Ties config cells words → pack place (read after place) ≡ bits → ((other : At) → other ≢ place → read after other ≡ read cells other)
+    → Ties config after (slice_set words (index_of config.pool place) bits)
+ties_on config cells after words place bits is_config there long ties here else other its = elim (same_or_other (index_of config.pool other) (index_of config.pool place)) [
+  | inl same ↦
+      let one : other ≡ place = index_injective config.pool other place (places_within config other is_config its) (places_within config place is_config there) same in
+      let low : index_of config.pool place < length words = subst (λ n. index_of config.pool place < n) (sym long) (places_in_table config place is_config there) in
+      subst (λ at. slice_index (slice_set words (index_of config.pool place) bits) (index_of config.pool at) ≡ pack at (read after at)) (sym one)
+      (get_or-set_same words (index_of config.pool place) bits 0 low ∙ sym here)
+  | inr apart ↦
+      get_or-set_other words (index_of config.pool place) (index_of config.pool other) bits 0 apart ∙ ties other its
+      ∙ ap (pack other) (sym (else other (λ e. apart (ap (index_of config.pool) e))))
+]
+
+pub keep : (config : Config) (begun : (ℕ → Opening) → List Happening → Type 0) (s : Table Acting View) (tied : Tied config begun s) (id index bits worker : ℕ) (old new : View) (after : State)
+    (more : List Happening) → get_elem? s.views id ≡ some old → 1 ≤ has worker old → ((one : ℕ) → has one new ≡ has one old) → Leads config tied.state worker after more
+    → Fits config tied.past.openings after (tied.events ++ more) new → Ties config after.cells (slice_set s.words index bits)
+    → Tied config begun (record { words = slice_set s.words index bits; homes = s.homes; views = slice_set s.views id new })
+keep config begun s tied id index bits worker old new after more at own same leads fits ties = record {
+  state = after;
+  events = tied.events ++ more;
+  past = past_on config begun tied.state after tied.events more worker tied.past leads;
+  long = length-set s.words index bits ∙ tied.long;
+  ties = ties;
+  fits = λ other view is. elim (at_set s.views id other new view is) [
+    | inl here ↦ inr (subst (Fits config tied.past.openings after (tied.events ++ more)) here.1 fits)
+    | inr else ↦ elim (tied.fits other view else.1) [
+      | inl spent ↦ inl spent
+      | inr fit ↦
+          let two = total_two (has worker) s.views id other old view else.0 at else.1 in
+          let all = tied.alone worker in
+          inr (others_fit config tied.past.openings (tied.past.before ++ tied.events) tied.state tied.past.played worker after more leads tied.events view (omega (arith, two, all, own)) fit)
+    ]
+  ];
+  alone = λ one. let sums = total_set (has one) s.views id old new at in let all = tied.alone one in let even = same one in omega (arith, sums, all, even);
+}

@@ -1,0 +1,166 @@
+-- Stretches of events of one worker, and what they leave of what others know.
+use Rattle.std.specs.Prelude.{ℕ, ◌≡◌, ◌≢◌, ◌<◌, List, [], ◌∷◌, ◌++◌, length, Option, Some, None}
+use Rattle.std.specs.Option.{option_and_then}
+use Rattle.std.proofs.Common.{refl, sym, ap, subst, ◌∙◌, append_assoc, append-nil, inl, inr, arith}
+use Rattle.std.proofs.lemmas.Option.{same_Some, option_and_then_some}
+use Rattle.mw_lone.specs.declared.marks.Mark.{Mark}
+use Rattle.mw_lone.specs.declared.marks.Mark.TheVariants.{Ask}
+use Rattle.mw_actor.specs.Acting.{Acting}
+use Rattle.mw_world_file.specs.Maps.{upd}
+use Rattle.mw_world.specs.declared.config.Config.{Config}
+use Rattle.mw_world.specs.Claim.Headline.{IsPlayed}
+use Rattle.mw_world.specs.Definition.Happenings.{Happening}
+use Rattle.mw_world.specs.Definition.State.{State, Account, Opening, tenants_of, world_at}
+use Rattle.mw_world.specs.Definition.World.{step, run}
+use Rattle.mw_law_knowledge.proofs.Deeds.Keeping.{upd_here, upd_else}
+use Rattle.mw_law_runs.proofs.Numbers.{same_or_other}
+use Rattle.mw_law_runs.proofs.Running.{runs_are_sound}
+use Rattle.mw_law_store.specs.Followed.{start_of}
+use Rattle.mw_law_store.specs.History.{AreNoStarts, IsBeginning, SealsHaveGoneOn}
+use Rattle.mw_law_store.specs.Moments.{Moment, SealedChange, first_moment, after_marks, moment_of}
+use Rattle.mw_law_store.proofs.Histories as histories
+use Rattle.mw_law_store.proofs.Momenting.{got_within}
+use Rattle.mw_law_store.proofs.Running.{events_are_followed, runs_are_followed}
+use Rattle.mw_rule.specs.declared.views.Reins.{Reins}
+use Rattle.mw_rule.specs.declared.views.View.{View}
+use Rattle.mw_rule.specs.Rule.{Fits, Holds, Past, deed_of, made_by, times}
+use Rattle.mw_rule.specs.Seen.{CameAfter, ComeFirst, Gave, HasBegun, HasBegunFor, opening_at, sealed_of, seen_at}
+use Rattle.mw_rule.proofs.Totals.{each_apart}
+
+-- what a start gave a tenant stays
+pub record KeepsGift (old new : Account) : Type 0 where
+  pub quota : new.quota ≡ old.quota
+  pub is_up : new.is_up ≡ old.is_up
+
+pub same_gift : (account : Account) → KeepsGift account account
+same_gift account = record { quota = refl; is_up = refl }
+
+-- The world after some events of one worker, none of which is a start.
+pub record Leads (config : Config) (old : State) (worker : ℕ) (new : State) (more : List Happening) : Type 0 where
+  pub runs : run config old more ≡ Some new
+  pub others : (other : ℕ) → other ≢ worker → new.seats other ≡ old.seats other
+  pub quiet : (other : ℕ) → other ≢ worker → made_by other more ≡ []
+  pub no_starts : AreNoStarts more
+  pub gifts : (tenant : ℕ) → KeepsGift (old.accounts tenant) (new.accounts tenant)
+
+pub run_on : (config : Config) (old between new : State) (events more : List Happening) → run config old events ≡ Some between → run config between more ≡ Some new
+    → run config old (events ++ more) ≡ Some new
+run_on config old between new [] more first rest = subst (λ state. run config state more ≡ Some new) (sym (same_Some old between first)) rest
+run_on config old between new (event ∷ events) more first rest =
+    option_and_then_some (λ one. run config one events) (step config old event) between first (λ next at on.
+    ap (option_and_then (λ one. run config one (events ++ more))) at ∙ run_on config next between new events more on rest)
+
+pub made_on : (worker : ℕ) (events more : List Happening) → made_by worker (events ++ more) ≡ made_by worker events ++ made_by worker more
+made_on worker [] more = refl
+made_on worker (event ∷ events) more =
+    ap (λ rest. deed_of worker event ++ rest) (made_on worker events more) ∙ sym (append_assoc (deed_of worker event) (made_by worker events) (made_by worker more))
+
+pub no_starts_on : (events more : List Happening) → AreNoStarts events → AreNoStarts more → AreNoStarts (events ++ more)
+no_starts_on [] more first rest = rest
+no_starts_on (event ∷ events) more first rest = (first.0, no_starts_on events more first.1 rest)
+
+pub stays_there : (config : Config) (state : State) (worker : ℕ) → Leads config state worker state []
+stays_there config state worker = record { runs = refl; others = λ other apart. refl; quiet = λ other apart. refl; no_starts = tt; gifts = λ tenant. same_gift (state.accounts tenant) }
+
+pub leads_on : (config : Config) (old between new : State) (worker : ℕ) (first more : List Happening) → Leads config old worker between first → Leads config between worker new more
+    → Leads config old worker new (first ++ more)
+leads_on config old between new worker first more one two = record {
+  runs = run_on config old between new first more one.runs two.runs;
+  others = λ other apart. two.others other apart ∙ one.others other apart;
+  quiet = λ other apart. made_on other first more ∙ ap (λ made. made ++ made_by other more) (one.quiet other apart) ∙ two.quiet other apart;
+  no_starts = no_starts_on first more one.no_starts two.no_starts;
+  gifts = λ tenant. record { quota = (two.gifts tenant).quota ∙ (one.gifts tenant).quota; is_up = (two.gifts tenant).is_up ∙ (one.gifts tenant).is_up };
+}
+
+-- one account changes, and has the gift that it had
+pub one_gift : (accounts : ℕ → Account) (tenant : ℕ) (now : Account) → KeepsGift (accounts tenant) now → (other : ℕ) → KeepsGift (accounts other) (upd accounts tenant now other)
+one_gift accounts tenant now keeps other = elim (same_or_other other tenant) [
+  | inl same ↦ subst (λ k. KeepsGift (accounts k) (upd accounts tenant now k)) (sym same) (subst (KeepsGift (accounts tenant)) (sym (upd_here accounts tenant now)) keeps)
+  | inr apart ↦ subst (KeepsGift (accounts other)) (sym (upd_else accounts tenant other now apart)) (same_gift (accounts other))
+]
+
+pub begins_on : (first between all : List SealedChange) → IsBeginning first between → IsBeginning between all → IsBeginning first all
+begins_on first between all one two = record {
+  rest = one.rest ++ two.rest;
+  parted = two.parted ∙ ap (λ changes. changes ++ two.rest) one.parted ∙ append_assoc first one.rest two.rest;
+}
+
+pub begins_itself : (all : List SealedChange) → IsBeginning all all
+begins_itself all = record { rest = []; parted = sym (append-nil all) }
+
+-- What a run's further events leave.
+module _ (config : Config) (openings : ℕ → Opening) (before : List Happening) (old : State) (played : IsPlayed config openings before old)
+    (worker : ℕ) (new : State) (more : List Happening) (leads : Leads config old worker new more) where
+  pub played_on : IsPlayed config openings (before ++ more) new
+  played_on = record { made = played.made; starts = played.starts; runs = run_on config (world_at config openings) old new before more played.runs leads.runs }
+
+  module _ (tenant : ℕ) (low : tenant < tenants_of config) where
+    gone : ((new.accounts tenant).closed ≡ (old.accounts tenant).closed) × SealsHaveGoneOn (start_of openings old tenant) (old.accounts tenant).lines (new.accounts tenant).lines
+    gone = histories.seals_stay_long runs_are_followed events_are_followed config openings before more old new tenant played low leads.no_starts leads.runs
+
+    pub same_start : start_of openings new tenant ≡ start_of openings old tenant
+    same_start = ap (λ (marks : List Mark). after_marks (first_moment (openings tenant).words) marks) gone.0
+
+    pub sealed_on : IsBeginning (sealed_of openings old tenant) (sealed_of openings new tenant)
+    sealed_on = subst (λ (start : Moment). IsBeginning (sealed_of openings old tenant) (moment_of start (new.accounts tenant).lines).sealed) (sym same_start) gone.1.begins
+
+    pub gave_on : (opening : Opening) → Gave openings old tenant opening → Gave openings new tenant opening
+    gave_on opening gave = record {
+      quota = (leads.gifts tenant).quota ∙ gave.quota;
+      words = ap (λ (start : Moment). start.words) same_start ∙ gave.words;
+      is_up = (leads.gifts tenant).is_up ∙ gave.is_up;
+    }
+
+    pub begun_on : (request begun : ℕ) → HasBegun (start_of openings old tenant) (old.accounts tenant).lines request begun → HasBegun (start_of openings new tenant) (new.accounts tenant).lines request begun
+    begun_on request begun has = elim has [
+      | inl none ↦ inl none
+      | inr came ↦
+          let within = got_within (old.accounts tenant).lines (Some (Ask request came.job)) came.line came.came in
+          let stays = ap (λ (changes : List SealedChange). length changes) (gone.1.before came.line (omega (arith, within))) in
+          let sealed = came.sealed in
+          inr (subst (λ (start : Moment). CameAfter start (new.accounts tenant).lines request begun) (sym same_start)
+          (record { line = came.line; job = came.job; came = gone.1.marks came.line (Ask request came.job) came.came; sealed = omega (arith, stays, sealed) }))
+    ]
+
+  pub seen_on : (seen : List (List SealedChange)) → ComeFirst (tenants_of config) seen (sealed_of openings old) → ComeFirst (tenants_of config) seen (sealed_of openings new)
+  seen_on seen first tenant low = begins_on (seen_at seen tenant) (sealed_of openings old tenant) (sealed_of openings new tenant) (first tenant low) (sealed_on tenant low)
+
+  tenant_there : (one : ℕ) (actor : Acting) → (old.seats one).actor ≡ Some actor → actor.tenant < tenants_of config
+  tenant_there one actor sits = ((runs_are_sound config openings before old played).0.counts.seats one actor sits).tenant
+
+  pub begun_for_on : (one request begun : ℕ) (actor : Option Acting) → (old.seats one).actor ≡ actor → HasBegunFor openings old request begun actor → HasBegunFor openings new request begun actor
+  begun_for_on one request begun None sits has = tt
+  begun_for_on one request begun (Some actor) sits has = begun_on actor.tenant (tenant_there one actor sits) request begun has
+
+  module _ (events : List Happening) where
+    others_hold : (reins : Reins) → reins.worker ≢ worker → Holds config openings old events reins → Holds config openings new (events ++ more) reins
+    others_hold reins apart holds =
+        let same = leads.others reins.worker apart in
+        record {
+          there = holds.there;
+          actor = ap (λ seat. seat.actor) same ∙ holds.actor;
+          attempt = ap (λ seat. seat.attempt) same ∙ holds.attempt;
+          request = ap (λ seat. seat.request) same ∙ holds.request;
+          made = made_on reins.worker events more ∙ ap (λ made. made_by reins.worker events ++ made) (leads.quiet reins.worker apart) ∙ append-nil (made_by reins.worker events) ∙ holds.made;
+          begun = begun_for_on reins.worker reins.request reins.begun reins.actor holds.actor holds.begun;
+        }
+
+    -- what a thread knows that has no reins of the worker
+    pub others_fit : (view : View) → times worker view.reins ≡ 0 → Fits config openings old events view → Fits config openings new (events ++ more) view
+    others_fit view none fits = record {
+      same_config = fits.same_config;
+      gave = λ tenant low. gave_on tenant low (opening_at view.openings tenant) (fits.gave tenant low);
+      reins = each_apart (Holds config openings old events) (Holds config openings new (events ++ more)) worker view.reins none others_hold fits.reins;
+      seen = seen_on view.seen fits.seen;
+      told = seen_on view.told fits.told;
+    }
+
+abbrev pub past_on : (config : Config) (begun : (ℕ → Opening) → List Happening → Type 0) (old new : State) (events more : List Happening) (worker : ℕ) → Past config begun old events → Leads config old worker new more
+    → Past config begun new (events ++ more)
+past_on config begun old new events more worker past leads = record {
+  openings = past.openings;
+  before = past.before;
+  began = past.began;
+  played = subst (λ all. IsPlayed config past.openings all new) (append_assoc past.before events more) (played_on config past.openings (past.before ++ events) old past.played worker new more leads);
+  no_starts = no_starts_on events more past.no_starts leads.no_starts;
+}

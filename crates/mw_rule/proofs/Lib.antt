@@ -1,0 +1,9 @@
+pub mod Keeping
+pub mod Layouts
+pub mod Leading
+pub mod Moving
+pub mod Parting
+pub mod Stepping
+pub mod Totals
+pub mod Viewing
+pub mod Words

@@ -1,0 +1,199 @@
+-- The steps of requests keep the rule, a request's first step too.
+use Rattle.std.specs.Prelude.{ℕ, ◌≡◌, ◌≤◌, ◌<◌, true, false, List, [], ◌∷◌, ◌++◌, length, slice_index, slice_set, Some, None}
+use Rattle.std.proofs.Common.{refl, sym, ap, subst, ◌∙◌, append-nil, inr, arith}
+use Rattle.std.proofs.lemmas.Bool.Decides.{nat_tests}
+use Rattle.std.proofs.lemmas.List.{length-append}
+use mathlib.Core.Option.{some}
+use lib.ListN.{get_elem?}
+use Rattle.atomic_table.specs.Table.{State as Table, keeps}
+use Rattle.mw_words.specs.declared.jobs.Job.{Job}
+use Rattle.mw_words.specs.declared.jobs.Job.TheVariants.{Get, Cas}
+use Rattle.mw_words.specs.declared.places.At.TheVariants.{Door as AtDoor}
+use Rattle.mw_words.specs.Change.{is_well_formed}
+use Rattle.mw_look.specs.declared.news.Got.TheVariants.{Word as Bits}
+use Rattle.mw_look.specs.declared.steps.Op.{Op}
+use Rattle.mw_look.specs.News.{news_of, news_of_bits}
+use Rattle.mw_look.specs.Places.{pack}
+use Rattle.mw_look.specs.Steps.{Step, Load, Change, File, op_of, place, place_of}
+use Rattle.mw_look.proofs.PlaceLaws.{packs_are_seen, place_of_bits}
+use Rattle.mw_actor.specs.Acting.{Acting, first}
+use Rattle.mw_actor.specs.Asks.{asks}
+use Rattle.mw_actor.specs.Program.{replied}
+use Rattle.mw_world.specs.declared.config.Config.{Config}
+use Rattle.mw_world.specs.Definition.Calls.{called_at}
+use Rattle.mw_world.specs.Definition.Cells.{Cells, read}
+use Rattle.mw_world.specs.Definition.Extent.{has_place}
+use Rattle.mw_world.specs.Definition.Happenings.{Happening, Come}
+use Rattle.mw_world.specs.Definition.State.{Opening, tenant_at, tenants_of}
+use Rattle.mw_world.specs.Definition.Turns.{may_make}
+use Rattle.mw_law_store.specs.History.{IsBeginning}
+use Rattle.mw_law_store.specs.Moments.{SealedChange}
+use Rattle.mw_law_runs.proofs.Lawful.{runs_are_lawful}
+use Rattle.mw_rule.specs.declared.views.Reins.{Reins}
+use Rattle.mw_rule.specs.declared.views.View.{View}
+use Rattle.mw_rule.specs.Carrying.{Took, comes, told, told_as}
+use Rattle.mw_rule.specs.Laws.{FirstStepsKeepTheRule, StepsKeepTheRule}
+use Rattle.mw_rule.specs.Layout.{index_of}
+use Rattle.mw_rule.specs.Rule.{Each, Fits, Holds, Tied, Ties}
+use Rattle.mw_rule.specs.Seen.{sealed_of, seen_at}
+use Rattle.mw_rule.specs.Ways.{finds, made_of_bits}
+use Rattle.mw_rule.proofs.Keeping.{ties_on}
+use Rattle.mw_rule.proofs.Leading.{played_on, stays_there}
+use Rattle.mw_rule.proofs.Stepping.{Reached, after_come, come_holds, come_leads, steps}
+use Rattle.mw_rule.proofs.Viewing.{Moved, live_fits, moves, told_worker}
+use Rattle.mw_rule.proofs.Words.{cells_after, news_after, step_other, step_packs, step_tells}
+
+-- the place of a step that may be made is there
+place_there : (config : Config) (step : Step) → may_make config step ≡ true → has_place config (place step) ≡ true
+place_there config (Load at) may = may
+place_there config (Change kind at from to) may = may
+place_there config (File call slot) may = absurd (false_true may)
+  where
+    false_true : false ≡ true → ⊥
+    false_true e = cc
+
+module _ (config : Config) (begun : (ℕ → Opening) → List Happening → Type 0) (s : Table Acting View) (tied : Tied config begun s) (id : ℕ) (old : View) (at : get_elem? s.views id ≡ some old)
+    (reins : Reins) (only : old.reins ≡ reins ∷ []) where
+  its_fits : Fits config tied.past.openings tied.state tied.events old
+  its_fits = live_fits config tied.past.openings tied.state tied.events old (inr (reins, [], only)) (tied.fits id old at)
+
+  its_holds : Holds config tied.past.openings tied.state tied.events reins
+  its_holds = (subst (Each (Holds config tied.past.openings tied.state tied.events)) only its_fits.reins).0
+
+  -- a step of the request that the thread carries
+  module _ (actor : Acting) (carries : reins.actor ≡ Some actor) (running : replied actor ≡ None) (no_call : called_at actor.point ≡ None) (make : ℕ → ℕ)
+      (makes : (bits : ℕ) → make bits ≡ made_of_bits (op_of (asks actor)) bits) where
+    step_moves : (index : ℕ) → index ≡ index_of config.pool (place (asks actor))
+        → Moved config begun s id index (make (slice_index s.words index)) old (told (finds (op_of (asks actor)) (slice_index s.words index)))
+    step_moves index is =
+        let state = tied.state in
+        let openings = tied.past.openings in
+        let before = tied.past.before ++ tied.events in
+        let step = asks actor in
+        let bits = slice_index s.words index in
+        let lawful = runs_are_lawful config openings before state tied.past.played in
+        let may = (lawful.steps reins.worker actor (its_holds.actor ∙ carries) running no_call).there in
+        let right = (lawful.steps reins.worker actor (its_holds.actor ∙ carries) running no_call).right in
+        let there = place_there config step may in
+        let seen : bits ≡ pack (place step) (read state.cells (place step)) = ap (slice_index s.words) is ∙ tied.ties (place step) there in
+        let told_so : news_of (place step) (finds (op_of step) bits) ≡ news_after step state.cells =
+        ap (λ b. news_of (place step) (finds (op_of step) b)) seen ∙ step_tells config step state.cells may (lawful.fit (place step)) in
+        let made : pack (place step) (read (cells_after step state.cells) (place step)) ≡ make bits =
+        step_packs config step state.cells may right ∙ sym (makes bits ∙ ap (made_of_bits (op_of step)) seen) in
+        let ties : Ties config (cells_after step state.cells) (slice_set s.words index (make bits)) =
+        subst (λ n. Ties config (cells_after step state.cells) (slice_set s.words n (make bits))) (sym is)
+        (ties_on config state.cells (cells_after step state.cells) s.words (place step) (make bits) tied.past.played.made there tied.long tied.ties made (λ other apart. step_other step state.cells other apart)) in
+        let reached = steps config openings before state state tied.past.played tied.events [] reins actor (finds (op_of step) bits) (stays_there config state reins.worker)
+        (subst (λ all. Holds config openings state all reins) (sym (append-nil tied.events)) its_holds) carries running may told_so in
+        moves config begun s tied id index (make bits) old reins (told (finds (op_of step) bits)) (cells_after step state.cells) at only its_fits (told_worker (finds (op_of step) bits))
+        (subst (λ one. Reached config openings state reins.worker tied.events one (cells_after step state.cells)) (ap (told_as (finds (op_of step) bits) reins) (sym carries)) reached) ties
+
+pub steps_keep : (config : Config) (begun : (ℕ → Opening) → List Happening → Type 0) → StepsKeepTheRule config begun
+steps_keep config begun slots id worker me op make drives makes s tied homes at low =
+    let step = asks drives.actor in
+    let is : index_of config.pool (place_of op) ≡ index_of config.pool (place step) = ap (λ (one : Op). index_of config.pool (place_of one)) (sym drives.is) ∙ ap (index_of config.pool) (place_of_bits step) in
+    let moved = step_moves config begun s tied id me.0 at drives.reins drives.has.only drives.actor drives.carries drives.running drives.no_call make
+    (subst (λ (one : Op). (bits : ℕ) → make bits ≡ made_of_bits one bits) (sym drives.is) makes) (index_of config.pool (place_of op)) is in (
+      moved.view,
+      keeps,
+      tt,
+      moved.tied,
+      subst (λ (one : Op). Took (finds one (slice_index s.words (index_of config.pool (place_of op)))) me.0 moved.view) drives.is (record { goes_on = moved.goes_on; reins = moved.reins; ready = moved.ready }),
+    )
+
+-- A request begins with a load of its tenant's door.
+first_runs : (worker tenant quota pool : ℕ) (job : Job) → replied (first worker tenant quota pool job) ≡ None
+first_runs worker tenant quota pool (Get address) = refl
+first_runs worker tenant quota pool (Cas entries) = refl
+
+first_calls_none : (worker tenant quota pool : ℕ) (job : Job) → called_at (first worker tenant quota pool job).point ≡ None
+first_calls_none worker tenant quota pool (Get address) = refl
+first_calls_none worker tenant quota pool (Cas entries) = refl
+
+first_asks : (worker tenant quota pool : ℕ) (job : Job) → asks (first worker tenant quota pool job) ≡ Load (AtDoor tenant)
+first_asks worker tenant quota pool (Get address) = refl
+first_asks worker tenant quota pool (Cas entries) = refl
+
+no_shorter : (first all : List SealedChange) → IsBeginning first all → length first ≤ length all
+no_shorter first all begins = let long = ap (λ changes. length changes) begins.parted in omega (arith, long, length-append first begins.rest)
+
+module _ (config : Config) (begun : (ℕ → Opening) → List Happening → Type 0) (s : Table Acting View) (tied : Tied config begun s) (id : ℕ) (old : View) (at : get_elem? s.views id ≡ some old)
+    (reins : Reins) (only : old.reins ≡ reins ∷ []) (idle : reins.actor ≡ None) (tenant : ℕ) (job : Job) (low : tenant < tenants_of config)
+    (may_ask : is_well_formed (tenant_at config tenant).words job ≡ true) (make : ℕ → ℕ) (makes : (bits : ℕ) → make bits ≡ bits) where
+  the_first : Acting
+  the_first = first reins.worker tenant (tied.state.accounts tenant).quota config.pool job
+
+  abbrev number : ℕ
+  number = (tied.state.accounts tenant).asked
+
+  abbrev so_many : ℕ
+  so_many = length (sealed_of tied.past.openings tied.state tenant)
+
+  abbrev index : ℕ
+  index = index_of config.pool (AtDoor tenant)
+
+  first_reached : Reached config tied.past.openings tied.state reins.worker tied.events (told (Bits (slice_index s.words index)) (comes the_first number so_many reins)) tied.state.cells
+  unfolding the_first
+  first_reached =
+      let state = tied.state in
+      let openings = tied.past.openings in
+      let before = tied.past.before ++ tied.events in
+      let holds = its_holds config begun s tied id old at reins only in
+      let actor = first reins.worker tenant (state.accounts tenant).quota config.pool job in
+      let running = first_runs reins.worker tenant (state.accounts tenant).quota config.pool job in
+      let no_call = first_calls_none reins.worker tenant (state.accounts tenant).quota config.pool job in
+      let asks_so : asks actor ≡ Load (AtDoor tenant) = first_asks reins.worker tenant (state.accounts tenant).quota config.pool job in
+      let after = after_come config state reins.worker tenant job in
+      let leads = come_leads config openings state tied.events reins tenant job idle low may_ask holds in
+      let came = come_holds config openings state tied.events reins tenant job idle low may_ask holds in
+      let played = played_on config openings before state tied.past.played reins.worker after (Come reins.worker tenant job ∷ []) leads in
+      let lawful = runs_are_lawful config openings (before ++ Come reins.worker tenant job ∷ []) after played in
+      let may = (lawful.steps reins.worker actor came.actor running no_call).there in
+      let there : has_place config (AtDoor tenant) ≡ true = subst (λ (step : Step). has_place config (place step) ≡ true) asks_so (place_there config (asks actor) may) in
+      let bits = slice_index s.words index in
+      let seen : bits ≡ pack (AtDoor tenant) (read state.cells (AtDoor tenant)) = tied.ties (AtDoor tenant) there in
+      let told_so : news_of (place (asks actor)) (Bits bits) ≡ news_after (asks actor) after.cells =
+      subst (λ (step : Step). news_of (place step) (Bits bits) ≡ news_after step after.cells) (sym asks_so)
+      (ap (news_of_bits (AtDoor tenant)) seen ∙ packs_are_seen (AtDoor tenant) (read state.cells (AtDoor tenant)) (lawful.fit (AtDoor tenant))) in
+      let reached = steps config openings (before ++ Come reins.worker tenant job ∷ []) state after played tied.events (Come reins.worker tenant job ∷ [])
+      (comes actor number so_many reins) actor (Bits bits) leads came refl running may told_so in
+      subst (λ (cells : Cells). Reached config openings state reins.worker tied.events (told (Bits bits) (comes actor number so_many reins)) cells)
+      (ap (λ (step : Step). cells_after step state.cells) asks_so) reached
+
+  first_moves : (actor : Acting) → actor ≡ the_first
+      → Moved config begun s id index (make (slice_index s.words index)) old (λ one. told (Bits (slice_index s.words index)) (comes actor number so_many one))
+  first_moves actor is =
+      let bits = slice_index s.words index in
+      let state = tied.state in
+      let there : has_place config (AtDoor tenant) ≡ true = grind (arith, nat_tests, low) in
+      let lawful = runs_are_lawful config tied.past.openings (tied.past.before ++ tied.events) state tied.past.played in
+      let seen : pack (AtDoor tenant) (read state.cells (AtDoor tenant)) ≡ make bits = sym (tied.ties (AtDoor tenant) there) ∙ sym (makes bits) in
+      moves config begun s tied id index (make bits) old reins (λ one. told (Bits bits) (comes actor number so_many one)) state.cells at only (its_fits config begun s tied id old at reins only)
+      (λ one. told_worker (Bits bits) (comes actor number so_many one))
+      (subst (λ (a : Acting). Reached config tied.past.openings state reins.worker tied.events (told (Bits bits) (comes a number so_many reins)) state.cells) (sym is) first_reached)
+      (ties_on config state.cells state.cells s.words (AtDoor tenant) (make bits) tied.past.played.made there tied.long tied.ties seen (λ other apart. refl))
+
+pub first_steps_keep : (config : Config) (begun : (ℕ → Opening) → List Happening → Type 0) → FirstStepsKeepTheRule config begun
+unfolding the_first
+first_steps_keep config begun slots id worker me actor make may makes s tied homes at low =
+    let fits = its_fits config begun s tied id me.0 at may.reins may.has.only in
+    let there : actor.tenant < tenants_of config = subst (λ (one : Config). actor.tenant < tenants_of one) fits.same_config may.tenant in
+    let asks_well : is_well_formed (tenant_at config actor.tenant).words actor.job ≡ true =
+    subst (λ (one : Config). is_well_formed (tenant_at one actor.tenant).words actor.job ≡ true) fits.same_config may.may_ask in
+    let gave = fits.gave actor.tenant there in
+    let is : actor ≡ first may.reins.worker actor.tenant (tied.state.accounts actor.tenant).quota config.pool actor.job =
+    may.is ∙ (λ i. first (sym may.has.own i) actor.tenant (sym gave.quota i) (fits.same_config i).pool actor.job) in
+    let moved = first_moves config begun s tied id me.0 at may.reins may.has.only may.idle actor.tenant actor.job there asks_well make makes actor is in (
+      moved.view,
+      keeps,
+      tt,
+      moved.tied,
+      record {
+        goes_on = moved.goes_on;
+        request = (tied.state.accounts actor.tenant).asked;
+        begun = length (sealed_of tied.past.openings tied.state actor.tenant);
+        no_fewer = no_shorter (seen_at me.0.seen actor.tenant) (sealed_of tied.past.openings tied.state actor.tenant) (fits.seen actor.tenant there);
+        reins = moved.reins;
+        ready = moved.ready;
+      },
+    )

@@ -1,0 +1,198 @@
+-- What threads know may be looked at, cut in two and put together, and the rule is kept; and it holds of a table that is made of a world.
+use Rattle.std.specs.Prelude.{ℕ, zero, suc, ◌+◌, ◌≡◌, ◌≢◌, ◌≤◌, ◌<◌, ◌==◌, List, [], ◌∷◌, ◌++◌, length, slice_index, slice_set, Option, Some, None}
+use Rattle.std.proofs.Common.{refl, sym, ap, subst, ◌∙◌, append-nil, ◌⊎◌, inl, inr, arith}
+use Rattle.std.proofs.lemmas.Bool.Decides.{nat_tests}
+use Rattle.std.proofs.lemmas.List.{set-get_or}
+use mathlib.Core.Option.{some, some-injective, some-ne-none}
+use lib.ListN.{get_elem?}
+use Rattle.atomic_table.specs.Table.{State as Table, keeps}
+use Rattle.atomic_table.proofs.Lists.{at_set, at_snoc}
+use Rattle.mw_actor.specs.Acting.{Acting}
+use Rattle.mw_world.specs.declared.config.Config.{Config}
+use Rattle.mw_world.specs.Claim.Headline.{IsPlayed}
+use Rattle.mw_world.specs.Definition.Happenings.{Happening}
+use Rattle.mw_world.specs.Definition.State.{State, Opening, Seat, tenants_of}
+use Rattle.mw_law_runs.proofs.Numbers.{same_or_other}
+use Rattle.mw_law_store.specs.History.{IsBeginning}
+use Rattle.mw_law_store.specs.Moments.{SealedChange}
+use Rattle.mw_rule.specs.declared.views.Reins.{Reins}
+use Rattle.mw_rule.specs.declared.views.View.{View}
+use Rattle.mw_rule.specs.Dealing.{dealt, head_of, hears, left_over, maker, note, reins_from, reins_of, rest_of, spent}
+use Rattle.mw_rule.specs.Laws.{DealsKeepTheRule, HearingKeepsTheRule, LooksKeepTheRule, NotesKeepTheRule, StartsUnderTheRule}
+use Rattle.mw_rule.specs.Rule.{Each, Fits, Holds, IsSpent, Tied, Ties, has, times, total, weight}
+use Rattle.mw_rule.specs.Seen.{HasBegunFor, sealed_of, seen_at}
+use Rattle.mw_rule.proofs.Totals.{total_set, total_more}
+use Rattle.mw_rule.proofs.Viewing.{all_seen, live_fits, sees, sees_on}
+
+-- the rule of the same words where threads know other things of the same world
+other_views : (config : Config) (begun : (ℕ → Opening) → List Happening → Type 0) (s now : Table Acting View) (tied : Tied config begun s) → now.words ≡ s.words
+    → ((id : ℕ) (view : View) → get_elem? now.views id ≡ some view → IsSpent view ⊎ Fits config tied.past.openings tied.state tied.events view) → ((worker : ℕ) → total (has worker) now.views ≤ 1)
+    → Tied config begun now
+other_views config begun s now tied same fits alone = record {
+  state = tied.state;
+  events = tied.events;
+  past = tied.past;
+  long = ap length same ∙ tied.long;
+  ties = subst (Ties config tied.state.cells) (sym same) tied.ties;
+  fits = fits;
+  alone = alone;
+}
+
+pub looks_keep : (config : Config) (begun : (ℕ → Opening) → List Happening → Type 0) → LooksKeepTheRule config begun
+looks_keep config begun slots id index me make live makes s tied homes at low =
+    let openings = tied.past.openings in
+    let sealed = sealed_of openings tied.state in
+    let fits = live_fits config openings tied.state tied.events me.0 live (tied.fits id me.0 at) in
+    let new = sees config sealed me.0 me.0.reins in
+    let new_fits : Fits config openings tied.state tied.events new = record { same_config = fits.same_config; gave = fits.gave; reins = fits.reins; seen = all_seen sealed (tenants_of config); told = fits.told } in
+    let words : slice_set s.words index (make (slice_index s.words index)) ≡ s.words = ap (slice_set s.words index) (makes (slice_index s.words index)) ∙ set-get_or s.words index 0 in (
+      new,
+      keeps,
+      tt,
+      other_views config begun s (record { words = slice_set s.words index (make (slice_index s.words index)); homes = s.homes; views = slice_set s.views id new }) tied words
+          (λ other view is. elim (at_set s.views id other new view is) [
+            | inl here ↦ inr (subst (Fits config openings tied.state tied.events) here.1 new_fits)
+            | inr else ↦ tied.fits other view else.1
+          ]) (λ worker. let sums = total_set (has worker) s.views id me.0 new at in let all = tied.alone worker in omega (arith, sums, all)),
+      record { goes_on = sees_on config sealed me.0 me.0.reins fits.same_config fits.seen fits.told; same_reins = refl; same_mine = refl },
+    )
+
+-- A thread's knowledge is cut in two parts that fit where it fits, and have its reins together.
+parts_keep : (config : Config) (begun : (ℕ → Opening) → List Happening → Type 0) (id : ℕ) (view left right : View)
+    → ((openings : ℕ → Opening) (state : State) (events : List Happening) → IsSpent view ⊎ Fits config openings state events view
+    → (IsSpent left ⊎ Fits config openings state events left) × (IsSpent right ⊎ Fits config openings state events right))
+    → ((worker : ℕ) → has worker left + has worker right ≡ has worker view) → (s : Table Acting View) → Tied config begun s → get_elem? s.views id ≡ some view
+    → Tied config begun (record { words = s.words; homes = s.homes; views = slice_set s.views id left ++ right ∷ [] })
+parts_keep config begun id view left right fit sums s tied at =
+    let both = fit tied.past.openings tied.state tied.events (tied.fits id view at) in
+    let So : View → Type 0 = λ one. IsSpent one ⊎ Fits config tied.past.openings tied.state tied.events one in
+    other_views config begun s (record { words = s.words; homes = s.homes; views = slice_set s.views id left ++ right ∷ [] }) tied refl
+    (λ other one is. elim (at_snoc (slice_set s.views id left) right one other is) [
+      | inl before ↦ elim (at_set s.views id other left one before) [
+        | inl here ↦ subst So here.1 both.0
+        | inr else ↦ tied.fits other one else.1
+      ]
+      | inr last ↦ subst So last both.1
+    ])
+    (λ worker.
+    let first = total_set (has worker) s.views id view left at in
+    let second = total_more (has worker) (slice_set s.views id left) right in
+    let all = tied.alone worker in
+    let even = sums worker in omega (arith, first, second, all, even))
+
+heads_and_rests : (worker : ℕ) (all : List Reins) → times worker (rest_of all) + times worker (head_of all) ≡ times worker all
+heads_and_rests worker [] = refl
+heads_and_rests worker (one ∷ rest) = omega arith
+
+each_head : (P : Reins → Type 0) (all : List Reins) → Each P all → Each P (head_of all)
+each_head P [] holds = tt
+each_head P (one ∷ rest) holds = (holds.0, tt)
+
+each_rest : (P : Reins → Type 0) (all : List Reins) → Each P all → Each P (rest_of all)
+each_rest P [] holds = tt
+each_rest P (one ∷ rest) holds = holds.1
+
+pub deals_keep : (config : Config) (begun : (ℕ → Opening) → List Happening → Type 0) → DealsKeepTheRule config begun
+deals_keep config begun id view = parts_keep config begun id view (left_over view) (dealt view) (λ openings state events fit. elim fit [
+  | inl gone ↦ (inl (record { flag = gone.flag; no_reins = ap rest_of gone.no_reins }), inl (record { flag = gone.flag; no_reins = ap head_of gone.no_reins }))
+  | inr fits ↦ (
+    inr (record { same_config = fits.same_config; gave = fits.gave; reins = each_rest (Holds config openings state events) view.reins fits.reins; seen = fits.seen; told = fits.told }),
+    inr (record { same_config = fits.same_config; gave = fits.gave; reins = each_head (Holds config openings state events) view.reins fits.reins; seen = fits.seen; told = fits.told }),
+  )
+]) (λ worker. heads_and_rests worker view.reins)
+
+pub notes_keep : (config : Config) (begun : (ℕ → Opening) → List Happening → Type 0) → NotesKeepTheRule config begun
+notes_keep config begun id view = parts_keep config begun id view view (note view) (λ openings state events fit. elim fit [
+  | inl gone ↦ (inl gone, inl (record { flag = gone.flag; no_reins = refl }))
+  | inr fits ↦ (inr fits, inr (record { same_config = fits.same_config; gave = fits.gave; reins = tt; seen = fits.seen; told = fits.told }))
+]) (λ worker. omega arith)
+
+pub hearing_keeps : (config : Config) (begun : (ℕ → Opening) → List Happening → Type 0) → HearingKeepsTheRule config begun
+hearing_keeps config begun id other view its live its_live none s tied at apart its_at =
+    let openings = tied.past.openings in
+    let So : View → Type 0 = λ one. IsSpent one ⊎ Fits config openings tied.state tied.events one in
+    let fits = live_fits config openings tied.state tied.events view live (tied.fits id view at) in
+    let was : get_elem? s.views other ≡ some its = elim (at_set s.views id other (hears view its) its its_at) [
+      | inl here ↦ absurd (apart here.0)
+      | inr else ↦ else.1
+    ] in
+    let its_fits = live_fits config openings tied.state tied.events its its_live (tied.fits other its was) in
+    let new_fits : Fits config openings tied.state tied.events (hears view its) =
+    record { same_config = fits.same_config; gave = fits.gave; reins = fits.reins; seen = fits.seen; told = its_fits.seen } in
+    other_views config begun s (record { words = s.words; homes = s.homes; views = slice_set (slice_set s.views id (hears view its)) other spent }) tied refl
+    (λ third one is. elim (at_set (slice_set s.views id (hears view its)) other third spent one is) [
+      | inl here ↦ inl (subst IsSpent here.1 (record { flag = refl; no_reins = refl }))
+      | inr else ↦ elim (at_set s.views id third (hears view its) one else.1) [
+        | inl there ↦ inr (subst (Fits config openings tied.state tied.events) there.1 new_fits)
+        | inr third_one ↦ tied.fits third one third_one.1
+      ]
+    ])
+    (λ worker.
+    let first = total_set (has worker) s.views id view (hears view its) at in
+    let second = total_set (has worker) (slice_set s.views id (hears view its)) other its spent its_at in
+    let all = tied.alone worker in omega (arith, first, second, all))
+
+-- The first thread has the reins of each worker once.
+module _ (config : Config) (openings : ℕ → Opening) (state : State) (seats : ℕ → Seat) (same : (worker : ℕ) → worker < config.workers → seats worker ≡ state.seats worker) where
+  one_holds : (worker : ℕ) → worker < config.workers → Holds config openings state [] (reins_of worker (seats worker))
+  one_holds worker low = record {
+    there = low;
+    actor = ap (λ (seat : Seat). seat.actor) (sym (same worker low));
+    attempt = ap (λ (seat : Seat). seat.attempt) (sym (same worker low));
+    request = ap (λ (seat : Seat). seat.request) (sym (same worker low));
+    made = refl;
+    begun = by (seats worker).actor;
+  }
+    where
+      by : (actor : Option Acting) → HasBegunFor openings state (seats worker).request 0 actor
+      by None = tt
+      by (Some actor) = inl refl
+
+  all_hold : (first left : ℕ) → first + left ≤ config.workers → Each (Holds config openings state []) (reins_from seats first left)
+  all_hold first zero most = tt
+  all_hold first (suc left) most = (one_holds first (omega (arith, most)), all_hold (first + 1) left (omega (arith, most)))
+
+weight_none : (one other : ℕ) → one ≢ other → weight (one == other) ≡ 0
+weight_none one other apart = grind (arith, nat_tests, apart)
+
+weight_most : (one other : ℕ) → weight (one == other) ≤ 1
+weight_most one other = grind (arith, nat_tests)
+
+none_before : (seats : ℕ → Seat) (worker first left : ℕ) → worker < first → times worker (reins_from seats first left) ≡ 0
+none_before seats worker first zero low = refl
+none_before seats worker first (suc left) low =
+    let here = weight_none first worker (λ e. absurd (omega (arith, e, low))) in let rest = none_before seats worker (first + 1) left (omega (arith, low)) in omega (arith, here, rest)
+
+one_each : (seats : ℕ → Seat) (worker first left : ℕ) → times worker (reins_from seats first left) ≤ 1
+one_each seats worker first zero = omega arith
+one_each seats worker first (suc left) = elim (same_or_other first worker) [
+  | inl same ↦ let rest = none_before seats worker (first + 1) left (omega (arith, same)) in let here = weight_most first worker in omega (arith, rest, here)
+  | inr apart ↦ let here = weight_none first worker apart in let rest = one_each seats worker (first + 1) left in omega (arith, here, rest)
+]
+
+-- the one view of a new table
+the_one : (one view : View) (id : ℕ) → get_elem? (one ∷ []) id ≡ some view → one ≡ view
+the_one one view zero is = some-injective one view is
+the_one one view (suc id) is = absurd (some-ne-none view (sym is))
+
+nothing_first : (tenants : ℕ) (sealed : ℕ → List SealedChange) (tenant : ℕ) → tenant < tenants → IsBeginning (seen_at [] tenant) (sealed tenant)
+nothing_first tenants sealed tenant low = record { rest = sealed tenant; parted = refl }
+
+pub starts : (config : Config) (begun : (ℕ → Opening) → List Happening → Type 0) → StartsUnderTheRule config begun
+starts config begun openings before state given seats words began played gave same long ties =
+    let all_fit : Fits config openings state [] (maker config given seats) = record {
+      same_config = refl;
+      gave = gave;
+      reins = all_hold config openings state seats same 0 config.workers (omega arith);
+      seen = nothing_first (tenants_of config) (sealed_of openings state);
+      told = nothing_first (tenants_of config) (sealed_of openings state);
+    } in
+    record {
+      state = state;
+      events = [];
+      past = record { openings = openings; before = before; began = began; played = subst (λ all. IsPlayed config openings all state) (sym (append-nil before)) played; no_starts = tt };
+      long = long;
+      ties = ties;
+      fits = λ id view is. inr (subst (Fits config openings state []) (the_one (maker config given seats) view id is) all_fit);
+      alone = λ worker. let one = one_each seats worker 0 config.workers in omega (arith, one);
+    }

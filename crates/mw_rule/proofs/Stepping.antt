@@ -1,0 +1,242 @@
+-- The events of one worker by its request: it comes, makes a step, and hands out its reply.
+use Rattle.std.specs.Prelude.{ℕ, ◌≡◌, ◌≢◌, ◌<◌, ◌==◌, ◌&&◌, not, Bool, true, false, if◌then◌else◌, List, [], ◌∷◌, ◌++◌, length, is_some, is_none, nat_lt, Option, Some, None}
+use Rattle.std.specs.Option.{option_and_then}
+use Rattle.std.proofs.Common.{refl, sym, ap, subst, ◌∙◌, append_assoc, inr, arith}
+use Rattle.std.proofs.lemmas.Bool.Decides.{nat_tests}
+use Rattle.mw_words.specs.declared.replies.Reply.{Reply}
+use Rattle.mw_words.specs.declared.jobs.Job.{Job}
+use Rattle.mw_words.specs.Change.{is_well_formed}
+use Rattle.mw_lone.specs.declared.marks.Mark.{Mark}
+use Rattle.mw_lone.specs.declared.marks.Mark.TheVariants.{Ask, Reply as HandOut}
+use Rattle.mw_look.specs.declared.news.Got.{Got}
+use Rattle.mw_look.specs.News.{news_of}
+use Rattle.mw_look.specs.Steps.{place}
+use Rattle.mw_actor.specs.Acting.{Acting, first}
+use Rattle.mw_actor.specs.Asks.{asks}
+use Rattle.mw_actor.specs.Program.{replied, tells}
+use Rattle.mw_world_file.specs.Maps.{upd}
+use Rattle.mw_world.specs.declared.config.Config.{Config}
+use Rattle.mw_world.specs.declared.notes.Note.{Note}
+use Rattle.mw_world.specs.declared.notes.Note.TheVariants as note
+use Rattle.mw_world.specs.Claim.Headline.{IsPlayed}
+use Rattle.mw_world.specs.Definition.Cells.{Cells}
+use Rattle.mw_world.specs.Definition.Happenings.{Happening, Come, Step, Hand}
+use Rattle.mw_world.specs.Definition.History.{History}
+use Rattle.mw_world.specs.Definition.Noting.{more, seated}
+use Rattle.mw_world.specs.Definition.State.{State, Account, Opening, Seat, tenant_at, tenants_of}
+use Rattle.mw_world.specs.Definition.Turns.{may_make, made_of, moved, next_attempt, turn, turned}
+use Rattle.mw_world.specs.Definition.World.{begun, asked, hand, handed, may_come, run}
+use Rattle.mw_law_knowledge.proofs.Deeds.Keeping.{upd_here, upd_else}
+use Rattle.mw_law_store.specs.Followed.{start_of}
+use Rattle.mw_law_store.specs.Moments.{Moment, after_marks, first_moment, moment_at, moment_of}
+use Rattle.mw_law_store.proofs.Momenting.{got_last, moment_all, moment_before}
+use Rattle.mw_rule.specs.declared.views.Deed.{Deed}
+use Rattle.mw_rule.specs.declared.views.Deed.TheVariants.{Came, Stepped, Handed}
+use Rattle.mw_rule.specs.declared.views.Reins.{Reins}
+use Rattle.mw_rule.specs.Carrying.{comes, settled, settled_as, told_as, told_of}
+use Rattle.mw_rule.specs.Rule.{Holds, deed_if, made_by}
+use Rattle.mw_rule.specs.Seen.{HasBegun, HasBegunFor, sealed_of}
+use Rattle.mw_rule.proofs.Leading.{Leads, begun_for_on, leads_on, made_on, one_gift}
+use Rattle.mw_rule.proofs.Words.{cells_after, done_is, news_after}
+
+itself : (n : ℕ) → (n == n) ≡ true
+itself n = grind (arith, nat_tests)
+
+not_it : (one other : ℕ) → other ≢ one → (one == other) ≡ false
+not_it one other apart = grind (arith, nat_tests, apart)
+
+own_deed : (worker : ℕ) (deed : Deed) → deed_if (worker == worker) deed ++ [] ≡ deed ∷ []
+own_deed worker deed = ap (λ own. deed_if own deed ++ []) (itself worker)
+
+no_deed : (worker other : ℕ) (deed : Deed) → other ≢ worker → deed_if (worker == other) deed ++ [] ≡ []
+no_deed worker other deed apart = ap (λ own. deed_if own deed ++ []) (not_it worker other apart)
+
+-- a step's meaning leaves the request's number
+same_request : (note : Note) (past : History) (lines : List (Option Mark)) (seat : Seat) → (seated note past lines seat).request ≡ seat.request
+same_request note.Kept past lines seat = refl
+same_request (note.Freed slot) past lines seat = refl
+same_request note.Nothing past lines seat = refl
+same_request note.Admitted past lines seat = refl
+same_request note.FoundBusy past lines seat = refl
+same_request note.FoundFault past lines seat = refl
+same_request note.Looked past lines seat = refl
+same_request note.LookedBefore past lines seat = refl
+same_request (note.Claimed slot) past lines seat = refl
+same_request (note.Decided target status) past lines seat = refl
+same_request (note.Refused target entry value) past lines seat = refl
+same_request (note.Moved target address phase) past lines seat = refl
+same_request note.Lowered past lines seat = refl
+same_request (note.GaveUp own fault) past lines seat = refl
+same_request (note.SealedIt target) past lines seat = refl
+same_request (note.FailedToSeal target) past lines seat = refl
+same_request note.FailedFile past lines seat = refl
+
+-- What is reached by a worker's events, and what holds of its reins then.
+pub record Reached (config : Config) (openings : ℕ → Opening) (old : State) (worker : ℕ) (events : List Happening) (reins : Reins) (cells : Cells) : Type 0 where
+  pub after : State
+  pub more : List Happening
+  pub leads : Leads config old worker after more
+  pub holds : Holds config openings after (events ++ more) reins
+  pub same_cells : after.cells ≡ cells
+
+-- The world after a step, after a reply is handed out, and after a request came.
+module _ (state : State) (worker : ℕ) (actor : Acting) where
+  abbrev pub after_step : State
+  after_step = moved state worker actor (made_of state worker actor (cells_after (asks actor) state.cells) (news_after (asks actor) state.cells))
+
+  abbrev pub after_hand : State
+  after_hand = record state {
+    seats = upd state.seats worker (record (state.seats worker) { actor = None });
+    accounts = upd state.accounts actor.tenant (record (state.accounts actor.tenant) { lines = more (state.accounts actor.tenant).lines (Some (HandOut (state.seats worker).request)) });
+  }
+
+abbrev pub after_come : Config → State → ℕ → ℕ → Job → State
+after_come config state worker tenant job = record state {
+  seats = upd state.seats worker (begun (state.seats worker) (first worker tenant (state.accounts tenant).quota config.pool job) (state.accounts tenant).asked);
+  accounts = upd state.accounts tenant (asked (state.accounts tenant) job);
+}
+
+module _ (config : Config) (openings : ℕ → Opening) (before : List Happening) (state : State) (played : IsPlayed config openings before state) where
+  module _ (worker : ℕ) (actor : Acting) (sits : (state.seats worker).actor ≡ Some actor) where
+    step_happens : replied actor ≡ None → may_make config (asks actor) ≡ true → run config state (Step worker ∷ []) ≡ Some (after_step state worker actor)
+    step_happens running there =
+        ap (λ (one : Option Acting). option_and_then (λ next. Some next) (turn config state worker one)) sits
+        ∙ ap (λ (test : Bool). option_and_then (λ next. Some next) (if test then Some (turned state worker actor) else None)) (by_tests (replied actor) (may_make config (asks actor)) running there)
+        ∙ ap Some (done_is (asks actor) state.cells (λ cells news. moved state worker actor (made_of state worker actor cells news)))
+      where
+        by_tests : (reply : Option Reply) (may : Bool) → reply ≡ None → may ≡ true → (not (is_some reply) && may) ≡ true
+        by_tests None may none is = is
+        by_tests (Some reply) may none is = absurd (some_none reply none)
+          where
+            some_none : (reply : Reply) → Some reply ≡ None → ⊥
+            some_none reply e = cc
+
+    pub step_leads : replied actor ≡ None → may_make config (asks actor) ≡ true → Leads config state worker (after_step state worker actor) (Step worker ∷ [])
+    step_leads running there = record {
+      runs = step_happens running there;
+      others = λ other apart. upd_else state.seats worker other _ apart;
+      quiet = λ other apart. no_deed worker other Stepped apart;
+      no_starts = (tt, tt);
+      gifts = λ tenant. one_gift state.accounts actor.tenant _ (record { quota = refl; is_up = refl }) tenant;
+    }
+
+  -- A step, of the worker whose reins these are.
+  module _ (events : List Happening) (reins : Reins) (actor : Acting) (carries : reins.actor ≡ Some actor) (holds : Holds config openings state events reins) where
+    step_holds : (got : Got) → replied actor ≡ None → may_make config (asks actor) ≡ true → news_of (place (asks actor)) got ≡ news_after (asks actor) state.cells
+        → Holds config openings (after_step state reins.worker actor) (events ++ Step reins.worker ∷ [])
+        (record reins { actor = Some (told_of got reins.attempt actor); attempt = next_attempt actor.point reins.attempt; made = reins.made ++ Stepped ∷ [] })
+    step_holds got running there told =
+        let sits = holds.actor ∙ carries in
+        let after = after_step state reins.worker actor in
+        let own = upd_here state.seats reins.worker _ in
+        record {
+          there = holds.there;
+          actor = ap (λ (seat : Seat). seat.actor) own ∙ (λ i. Some (tells actor (sym told i) (next_attempt actor.point (holds.attempt i))));
+          attempt = ap (λ (seat : Seat). seat.attempt) own ∙ ap (next_attempt actor.point) holds.attempt;
+          request = ap (λ (seat : Seat). seat.request) own ∙ same_request _ _ _ (state.seats reins.worker) ∙ holds.request;
+          made = made_on reins.worker events (Step reins.worker ∷ []) ∙ ap (λ made. made_by reins.worker events ++ made) (own_deed reins.worker Stepped)
+              ∙ ap (λ made. made ++ Stepped ∷ []) holds.made;
+          begun = begun_for_on config openings before state played reins.worker after (Step reins.worker ∷ []) (step_leads reins.worker actor sits running there) reins.worker reins.request reins.begun (Some actor) sits
+              (subst (HasBegunFor openings state reins.request reins.begun) carries holds.begun);
+        }
+
+-- A reply is handed out.
+module _ (config : Config) (openings : ℕ → Opening) (state : State) (events : List Happening) (reins : Reins) (next : Acting)
+    (holds : Holds config openings state events (record reins { actor = Some next })) (reply : Reply) (stands : replied next ≡ Some reply) where
+  hand_leads : Leads config state reins.worker (after_hand state reins.worker next) (Hand reins.worker ∷ [])
+  hand_leads = record {
+    runs = ap (λ (one : Option Acting). option_and_then (λ last. Some last) (hand state reins.worker one)) holds.actor
+        ∙ ap (λ (one : Option Reply). option_and_then (λ last. Some last) (handed state reins.worker next.tenant one)) stands;
+    others = λ other apart. upd_else state.seats reins.worker other _ apart;
+    quiet = λ other apart. no_deed reins.worker other Handed apart;
+    no_starts = (tt, tt);
+    gifts = λ tenant. one_gift state.accounts next.tenant _ (record { quota = refl; is_up = refl }) tenant;
+  }
+
+  hand_holds : Holds config openings (after_hand state reins.worker next) (events ++ Hand reins.worker ∷ []) (record reins { actor = None; made = reins.made ++ Handed ∷ [] })
+  hand_holds =
+      let own = upd_here state.seats reins.worker (record (state.seats reins.worker) { actor = None }) in
+      record {
+        there = holds.there;
+        actor = ap (λ (seat : Seat). seat.actor) own;
+        attempt = ap (λ (seat : Seat). seat.attempt) own ∙ holds.attempt;
+        request = ap (λ (seat : Seat). seat.request) own ∙ holds.request;
+        made = made_on reins.worker events (Hand reins.worker ∷ []) ∙ ap (λ made. made_by reins.worker events ++ made) (own_deed reins.worker Handed) ∙ ap (λ made. made ++ Handed ∷ []) holds.made;
+        begun = tt;
+      }
+
+-- the reply is handed out, if it stands
+pub settles : (config : Config) (openings : ℕ → Opening) (old state : State) (events more : List Happening) (reins : Reins) (next : Acting) → Leads config old reins.worker state more
+    → Holds config openings state (events ++ more) (record reins { actor = Some next }) → Reached config openings old reins.worker events (settled reins next) state.cells
+settles config openings old state events more reins next leads holds = by (replied next) refl
+  where
+    by : (reply : Option Reply) → replied next ≡ reply → Reached config openings old reins.worker events (settled_as reins next reply) state.cells
+    by None stands = record { after = state; more = more; leads = leads; holds = holds; same_cells = refl }
+    by (Some reply) stands = record {
+      after = after_hand state reins.worker next;
+      more = more ++ Hand reins.worker ∷ [];
+      leads = leads_on config old state (after_hand state reins.worker next) reins.worker more (Hand reins.worker ∷ []) leads (hand_leads config openings state (events ++ more) reins next holds reply stands);
+      holds = subst (λ all. Holds config openings (after_hand state reins.worker next) all (record reins { actor = None; made = reins.made ++ Handed ∷ [] })) (append_assoc events more (Hand reins.worker ∷ []))
+          (hand_holds config openings state (events ++ more) reins next holds reply stands);
+      same_cells = refl;
+    }
+
+-- A step, after which the reply is handed out, if it stands; behind what the worker did before.
+pub steps : (config : Config) (openings : ℕ → Opening) (before : List Happening) (old state : State) (played : IsPlayed config openings before state) (events some : List Happening) (reins : Reins) (actor : Acting)
+    (got : Got) → Leads config old reins.worker state some → Holds config openings state (events ++ some) reins → reins.actor ≡ Some actor → replied actor ≡ None → may_make config (asks actor) ≡ true
+    → news_of (place (asks actor)) got ≡ news_after (asks actor) state.cells
+    → Reached config openings old reins.worker events (told_as got reins (Some actor)) (cells_after (asks actor) state.cells)
+steps config openings before old state played events some reins actor got leads holds carries running there told =
+    let after = after_step state reins.worker actor in
+    settles config openings old after events (some ++ Step reins.worker ∷ []) (record reins { attempt = next_attempt actor.point reins.attempt; made = reins.made ++ Stepped ∷ [] }) (told_of got reins.attempt actor)
+    (leads_on config old state after reins.worker some (Step reins.worker ∷ []) leads (step_leads config openings before state played reins.worker actor (holds.actor ∙ carries) running there))
+    (subst
+    (λ all. Holds config openings after all (record reins { actor = Some (told_of got reins.attempt actor); attempt = next_attempt actor.point reins.attempt; made = reins.made ++ Stepped ∷ [] }))
+    (append_assoc events some (Step reins.worker ∷ []))
+    (step_holds config openings before state played (events ++ some) reins actor carries holds got running there told))
+
+-- A request comes.
+module _ (config : Config) (openings : ℕ → Opening) (state : State) (events : List Happening) (reins : Reins) (tenant : ℕ) (job : Job) (idle : reins.actor ≡ None) (low : tenant < tenants_of config)
+    (may_ask : is_well_formed (tenant_at config tenant).words job ≡ true) (holds : Holds config openings state events reins) where
+  may : may_come config state reins.worker tenant job ≡ true
+  may = by_tests (nat_lt reins.worker config.workers) (nat_lt tenant (tenants_of config)) (is_none (state.seats reins.worker).actor) (is_well_formed (tenant_at config tenant).words job)
+      (is_low reins.worker config.workers holds.there) (is_low tenant (tenants_of config) low) (ap is_none (holds.actor ∙ idle)) may_ask
+    where
+      is_low : (n m : ℕ) → n < m → nat_lt n m ≡ true
+      is_low n m lt = grind (arith, nat_tests, lt)
+
+      by_tests : (a b c d : Bool) → a ≡ true → b ≡ true → c ≡ true → d ≡ true → (a && b && c && d) ≡ true
+      by_tests a b c d p q r s = λ i. p i && q i && r i && s i
+
+  pub come_leads : Leads config state reins.worker (after_come config state reins.worker tenant job) (Come reins.worker tenant job ∷ [])
+  come_leads = record {
+    runs = ap (λ (test : Bool). option_and_then (λ last. Some last) (if test then Some (after_come config state reins.worker tenant job) else None)) may;
+    others = λ other apart. upd_else state.seats reins.worker other _ apart;
+    quiet = λ other apart. no_deed reins.worker other Came apart;
+    no_starts = (tt, tt);
+    gifts = λ other. one_gift state.accounts tenant _ (record { quota = refl; is_up = refl }) other;
+  }
+
+  came_with : (account : Account) → account ≡ asked (state.accounts tenant) job
+      → HasBegun (after_marks (first_moment (openings tenant).words) account.closed) account.lines (state.accounts tenant).asked (length (sealed_of openings state tenant))
+  came_with account is =
+      let old = state.accounts tenant in
+      let start = start_of openings state tenant in
+      let line : Option Mark = Some (Ask old.asked job) in
+      let same : moment_at start (more old.lines line) (length old.lines) ≡ moment_of start old.lines = moment_before start old.lines line (length old.lines) (omega arith) ∙ moment_all start old.lines in
+      let long = ap (λ (now : Moment). length now.sealed) same in
+      subst (λ (one : Account). HasBegun (after_marks (first_moment (openings tenant).words) one.closed) one.lines old.asked (length (sealed_of openings state tenant))) (sym is)
+      (inr (record { line = length old.lines; job = job; came = got_last old.lines line; sealed = omega (arith, long) }))
+
+  pub come_holds : Holds config openings (after_come config state reins.worker tenant job) (events ++ Come reins.worker tenant job ∷ [])
+      (comes (first reins.worker tenant (state.accounts tenant).quota config.pool job) (state.accounts tenant).asked (length (sealed_of openings state tenant)) reins)
+  come_holds =
+      let own = upd_here state.seats reins.worker (begun (state.seats reins.worker) (first reins.worker tenant (state.accounts tenant).quota config.pool job) (state.accounts tenant).asked) in
+      record {
+        there = holds.there;
+        actor = ap (λ (seat : Seat). seat.actor) own;
+        attempt = ap (λ (seat : Seat). seat.attempt) own ∙ holds.attempt;
+        request = ap (λ (seat : Seat). seat.request) own;
+        made = made_on reins.worker events (Come reins.worker tenant job ∷ []) ∙ ap (λ made. made_by reins.worker events ++ made) (own_deed reins.worker Came) ∙ ap (λ made. made ++ Came ∷ []) holds.made;
+        begun = came_with (upd state.accounts tenant (asked (state.accounts tenant) job) tenant) (upd_here state.accounts tenant (asked (state.accounts tenant) job));
+      }

@@ -1,0 +1,156 @@
+-- What a thread knows after its own step.
+use Rattle.std.specs.Prelude.{ℕ, zero, suc, ◌≡◌, ◌≤◌, ◌<◌, ◌==◌, true, false, List, [], ◌∷◌, ◌++◌, length, map, slice_index_or, slice_set, Option, Some, None}
+use Rattle.std.proofs.Common.{refl, sym, ap, subst, ◌∙◌, ◌⊎◌, inl, inr, arith}
+use Rattle.std.proofs.lemmas.List.{length-append}
+use mathlib.Core.Option.{some}
+use lib.ListN.{get_elem?}
+use Rattle.atomic_table.specs.Table.{State as Table}
+use Rattle.mw_words.specs.declared.replies.Reply.{Reply}
+use Rattle.mw_look.specs.declared.news.Got.{Got}
+use Rattle.mw_actor.specs.Acting.{Acting}
+use Rattle.mw_actor.specs.Program.{replied}
+use Rattle.mw_world.specs.declared.config.Config.{Config}
+use Rattle.mw_world.specs.Claim.Headline.{IsPlayed}
+use Rattle.mw_world.specs.Definition.Cells.{Cells}
+use Rattle.mw_world.specs.Definition.Happenings.{Happening}
+use Rattle.mw_world.specs.Definition.State.{State, Opening, tenants_of}
+use Rattle.mw_world.specs.Definition.Turns.{next_attempt}
+use Rattle.mw_law_runs.proofs.Lawful.{runs_are_lawful}
+use Rattle.mw_law_store.specs.History.{IsBeginning}
+use Rattle.mw_law_store.specs.Moments.{SealedChange}
+use Rattle.mw_rule.specs.declared.views.Deed.TheVariants.{Stepped}
+use Rattle.mw_rule.specs.declared.views.Reins.{Reins}
+use Rattle.mw_rule.specs.declared.views.View.{View}
+use Rattle.mw_rule.specs.Carrying.{GoesOn, IsReady, IsReadyFor, settled_as, told, told_as, told_of}
+use Rattle.mw_rule.specs.Rule.{Each, Fits, Holds, IsLive, IsSpent, Tied, Ties, has, times, weight}
+use Rattle.mw_rule.specs.Seen.{ComeFirst, all_of, opening_at, sealed_of, seen_at}
+use Rattle.mw_rule.proofs.Keeping.{keep}
+use Rattle.mw_rule.proofs.Leading.{begins_itself, gave_on, played_on, seen_on}
+use Rattle.mw_rule.proofs.Stepping.{Reached}
+use Rattle.mw_rule.proofs.Totals.{own_once}
+
+-- a list with one more, read before its end and there
+read_before : {A : Type 0} (all : List A) (last none : A) (index : ℕ) → index < length all → slice_index_or (all ++ last ∷ []) index none ≡ slice_index_or all index none
+read_before [] last none index low = absurd (omega (arith, low))
+read_before (one ∷ rest) last none zero low = refl
+read_before (one ∷ rest) last none (suc index) low = read_before rest last none index (omega (arith, low))
+
+read_last : {A : Type 0} (all : List A) (last none : A) (index : ℕ) → index ≡ length all → slice_index_or (all ++ last ∷ []) index none ≡ last
+read_last [] last none zero is = refl
+read_last [] last none (suc index) is = absurd (omega (arith, is))
+read_last (one ∷ rest) last none zero is = absurd (omega (arith, is))
+read_last (one ∷ rest) last none (suc index) is = read_last rest last none index (omega (arith, is))
+
+all_long : (sealed : ℕ → List SealedChange) (tenants : ℕ) → length (all_of sealed tenants) ≡ tenants
+all_long sealed zero = refl
+all_long sealed (suc tenants) = let rest = all_long sealed tenants in omega (arith, rest, length-append (all_of sealed tenants) (sealed tenants ∷ []))
+
+pub all_at : (sealed : ℕ → List SealedChange) (tenants tenant : ℕ) → tenant < tenants → seen_at (all_of sealed tenants) tenant ≡ sealed tenant
+all_at sealed zero tenant low = absurd (omega (arith, low))
+all_at sealed (suc tenants) tenant low = elim (same_or_below tenant tenants (omega (arith, low))) [
+  | inl same ↦ read_last (all_of sealed tenants) (sealed tenants) [] tenant (same ∙ sym (all_long sealed tenants)) ∙ ap sealed (sym same)
+  | inr below ↦ let long = all_long sealed tenants in read_before (all_of sealed tenants) (sealed tenants) [] tenant (omega (arith, below, long)) ∙ all_at sealed tenants tenant below
+]
+  where
+    same_or_below : (n m : ℕ) → n ≤ m → (n ≡ m) ⊎ (n < m)
+    same_or_below zero zero le = inl refl
+    same_or_below zero (suc m) le = inr (omega arith)
+    same_or_below (suc n) zero le = absurd (omega (arith, le))
+    same_or_below (suc n) (suc m) le = elim (same_or_below n m (omega (arith, le))) [
+      | inl same ↦ inl (ap suc same)
+      | inr below ↦ inr (omega (arith, below))
+    ]
+
+-- with these reins, all that was sealed was seen
+abbrev pub sees : Config → (ℕ → List SealedChange) → View → List Reins → View
+sees config sealed old reins = record old { reins = reins; seen = all_of sealed (tenants_of config) }
+
+-- What was seen goes on.
+pub sees_on : (config : Config) (sealed : ℕ → List SealedChange) (old : View) (reins : List Reins) → old.config ≡ config → ComeFirst (tenants_of config) old.seen sealed → ComeFirst (tenants_of config) old.told sealed
+    → GoesOn old (sees config sealed old reins)
+sees_on config sealed old reins same seen told = record {
+  same_config = refl;
+  same_openings = refl;
+  same_told = refl;
+  seen = λ tenant low. let there = subst (λ (one : Config). tenant < tenants_of one) same low in
+      subst (IsBeginning (seen_at old.seen tenant)) (sym (all_at sealed (tenants_of config) tenant there)) (seen tenant there);
+  told = λ tenant low. let there = subst (λ (one : Config). tenant < tenants_of one) same low in
+      subst (IsBeginning (seen_at old.told tenant)) (sym (all_at sealed (tenants_of config) tenant there)) (told tenant there);
+}
+
+pub all_seen : (sealed : ℕ → List SealedChange) (tenants : ℕ) → ComeFirst tenants (all_of sealed tenants) sealed
+all_seen sealed tenants tenant low = subst (λ changes. IsBeginning changes (sealed tenant)) (sym (all_at sealed tenants tenant low)) (begins_itself (sealed tenant))
+
+-- A thread that is live knows what is so.
+no_reins : (one : Reins) (rest : List Reins) → one ∷ rest ≡ [] → ⊥
+no_reins one rest e = cc
+
+pub live_fits : (config : Config) (openings : ℕ → Opening) (state : State) (events : List Happening) (view : View) → IsLive view → IsSpent view ⊎ Fits config openings state events view
+    → Fits config openings state events view
+live_fits config openings state events view (inl flag) (inl spent) = absurd (true_false (sym spent.flag ∙ flag))
+  where
+    true_false : true ≡ false → ⊥
+    true_false e = cc
+live_fits config openings state events view (inr has_some) (inl spent) = absurd (no_reins has_some.0 has_some.1 (sym has_some.2 ∙ spent.no_reins))
+live_fits config openings state events view live (inr fits) = fits
+
+-- the next step of a request of which reins tell is at a place that is there
+ready_of : (config : Config) (openings : ℕ → Opening) (all events : List Happening) (state : State) (reins : Reins) → IsPlayed config openings all state → Holds config openings state events reins
+    → IsReady config reins
+ready_of config openings all events state reins played holds = by reins.actor refl
+  where
+    by : (actor : Option Acting) → reins.actor ≡ actor → IsReadyFor config actor
+    by None is = tt
+    by (Some actor) is = λ running no_call. ((runs_are_lawful config openings all state played).steps reins.worker actor (holds.actor ∙ is) running no_call).there
+
+-- A step leaves reins those of their worker.
+same_worker_as : (reins : Reins) (actor : Acting) (reply : Option Reply) → (settled_as reins actor reply).worker ≡ reins.worker
+same_worker_as reins actor None = refl
+same_worker_as reins actor (Some reply) = refl
+
+told_worker_as : (got : Got) (reins : Reins) (actor : Option Acting) → (told_as got reins actor).worker ≡ reins.worker
+told_worker_as got reins None = refl
+told_worker_as got reins (Some actor) = same_worker_as (record reins { attempt = next_attempt actor.point reins.attempt; made = reins.made ++ Stepped ∷ [] }) (told_of got reins.attempt actor) (replied (told_of got reins.attempt actor))
+
+pub told_worker : (got : Got) (reins : Reins) → (told got reins).worker ≡ reins.worker
+told_worker got reins = told_worker_as got reins reins.actor
+
+times_map : (f : Reins → Reins) → ((one : Reins) → (f one).worker ≡ one.worker) → (worker : ℕ) (all : List Reins) → times worker (map f all) ≡ times worker all
+times_map f same worker [] = refl
+times_map f same worker (one ∷ rest) = let first = ap (λ n. weight (n == worker)) (same one) in let more = times_map f same worker rest in omega (arith, first, more)
+
+-- What a thread knows after its worker's events, and the rule of the table then.
+pub record Moved (config : Config) (begun : (ℕ → Opening) → List Happening → Type 0) (s : Table Acting View) (id index bits : ℕ) (old : View) (f : Reins → Reins) : Type 0 where
+  pub view : View
+  pub tied : Tied config begun (record { words = slice_set s.words index bits; homes = s.homes; views = slice_set s.views id view })
+  pub goes_on : GoesOn old view
+  pub reins : view.reins ≡ map f old.reins
+  pub ready : Each (IsReady view.config) view.reins
+
+pub moves : (config : Config) (begun : (ℕ → Opening) → List Happening → Type 0) (s : Table Acting View) (tied : Tied config begun s) (id index bits : ℕ) (old : View) (reins : Reins) (f : Reins → Reins) (cells : Cells)
+    → get_elem? s.views id ≡ some old → old.reins ≡ reins ∷ [] → Fits config tied.past.openings tied.state tied.events old → ((one : Reins) → (f one).worker ≡ one.worker)
+    → Reached config tied.past.openings tied.state reins.worker tied.events (f reins) cells → Ties config cells (slice_set s.words index bits) → Moved config begun s id index bits old f
+moves config begun s tied id index bits old reins f cells at only fits same reached ties =
+    let openings = tied.past.openings in
+    let before = tied.past.before ++ tied.events in
+    let sealed = sealed_of openings reached.after in
+    let new = sees config sealed old (map f old.reins) in
+    let later = played_on config openings before tied.state tied.past.played reins.worker reached.after reached.more reached.leads in
+    let seen = seen_on config openings before tied.state tied.past.played reins.worker reached.after reached.more reached.leads in
+    let own : has reins.worker old ≡ 1 = ap (times reins.worker) only ∙ own_once reins.worker reins refl in
+    let new_fits : Fits config openings reached.after (tied.events ++ reached.more) new = record {
+      same_config = fits.same_config;
+      gave = λ tenant low. gave_on config openings before tied.state tied.past.played reins.worker reached.after reached.more reached.leads tenant low (opening_at old.openings tenant) (fits.gave tenant low);
+      reins = subst (λ all. Each (Holds config openings reached.after (tied.events ++ reached.more)) (map f all)) (sym only) (reached.holds, tt);
+      seen = all_seen sealed (tenants_of config);
+      told = seen old.told fits.told;
+    } in
+    record {
+      view = new;
+      tied = keep config begun s tied id index bits reins.worker old new reached.after reached.more at (omega (arith, own)) (λ one. times_map f same one old.reins) reached.leads new_fits
+          (subst (λ all. Ties config all (slice_set s.words index bits)) (sym reached.same_cells) ties);
+      goes_on = sees_on config sealed old (map f old.reins) fits.same_config (seen old.seen fits.seen) (seen old.told fits.told);
+      reins = refl;
+      ready = subst (λ (one : Config). Each (IsReady one) (map f old.reins)) (sym fits.same_config)
+          (subst (λ all. Each (IsReady config) (map f all)) (sym only) (ready_of config openings (before ++ reached.more) (tied.events ++ reached.more) reached.after (f reins) later reached.holds, tt));
+    }

@@ -1,0 +1,11 @@
+use Rattle.mw_rule.proofs.Parting.{deals_keep, hearing_keeps, notes_keep}
+use Rattle.mw_rule.proofs.laws.what_is_known_is_parted.Goals as goal
+
+pub returns-clause-deals : goal.returns-clause-deals
+returns-clause-deals g c = λ key. deals_keep (g.B.Begins.config key) (g.B.Begins.begun key)
+
+pub returns-clause-notes : goal.returns-clause-notes
+returns-clause-notes g c = λ key. notes_keep (g.B.Begins.config key) (g.B.Begins.begun key)
+
+pub returns-clause-hears : goal.returns-clause-hears
+returns-clause-hears g c = λ key. hearing_keeps (g.B.Begins.config key) (g.B.Begins.begun key)

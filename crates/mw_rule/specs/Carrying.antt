@@ -1,0 +1,119 @@
+-- What a step asks of the thread that makes it, and what it tells the thread.
+use Rattle.std.specs.Prelude.{ℕ, ◌≡◌, ◌≤◌, ◌<◌, true, List, [], ◌∷◌, ◌++◌, map, length, Option, Some, None}
+use Rattle.mw_words.specs.declared.replies.Reply.{Reply}
+use Rattle.mw_words.specs.Change.{is_well_formed}
+use Rattle.mw_look.specs.declared.news.Got.{Got}
+use Rattle.mw_look.specs.declared.steps.Op.{Op}
+use Rattle.mw_look.specs.News.{news_of}
+use Rattle.mw_look.specs.Steps.{op_of, place, place_of}
+use Rattle.mw_actor.specs.Acting.{Acting, first}
+use Rattle.mw_actor.specs.Asks.{asks}
+use Rattle.mw_actor.specs.Program.{replied, tells}
+use Rattle.mw_world.specs.declared.config.Config.{Config}
+use Rattle.mw_world.specs.Definition.Calls.{called_at}
+use Rattle.mw_world.specs.Definition.Extent.{has_place}
+use Rattle.mw_world.specs.Definition.State.{tenant_at, tenants_of}
+use Rattle.mw_world.specs.Definition.Turns.{may_make, next_attempt}
+use Rattle.mw_law_store.specs.Moments.{SealedChange}
+use Rattle.mw_rule.specs.declared.views.Deed.TheVariants.{Came, Stepped, Handed}
+use Rattle.mw_rule.specs.declared.views.Reins.{Reins}
+use Rattle.mw_rule.specs.declared.views.View.{View}
+use Rattle.mw_rule.specs.Rule.{Each}
+use Rattle.mw_rule.specs.Seen.{ComeFirst, opening_at, seen_at}
+
+-- The reins once their worker's request stands so. Where it has its reply, that is handed out, and the worker has no request.
+abbrev pub settled_as : Reins → Acting → Option Reply → Reins
+settled_as reins actor None = record reins { actor = Some actor }
+settled_as reins actor (Some reply) = record reins { actor = None; made = reins.made ++ Handed ∷ [] }
+
+abbrev pub settled : Reins → Acting → Reins
+settled reins actor = settled_as reins actor (replied actor)
+
+-- the request once it was told what its step found
+abbrev pub told_of : Got → ℕ → Acting → Acting
+told_of got attempt actor = tells actor (news_of (place (asks actor)) got) (next_attempt actor.point attempt)
+
+-- the reins once their worker made the step that its request asks for, and was told what it found
+abbrev pub told_as : Got → Reins → Option Acting → Reins
+told_as got reins None = reins
+told_as got reins (Some actor) =
+    settled (record reins { attempt = next_attempt actor.point reins.attempt; made = reins.made ++ Stepped ∷ [] }) (told_of got reins.attempt actor)
+
+abbrev pub told : Got → Reins → Reins
+told got reins = told_as got reins reins.actor
+
+-- the reins once this request came, under this number, when so many changes were sealed
+abbrev pub comes : Acting → ℕ → ℕ → Reins → Reins
+comes actor request begun reins = record reins { actor = Some actor; request = request; begun = begun; made = reins.made ++ Came ∷ [] }
+
+-- The next step of the worker's request, if it has one without a reply that has come to no call on a file, is at a place that is there.
+abbrev pub IsReadyFor : Config → Option Acting → Type 0
+IsReadyFor config None = Unit {0}
+IsReadyFor config (Some actor) = replied actor ≡ None → called_at actor.point ≡ None → may_make config (asks actor) ≡ true
+
+abbrev pub IsReady : Config → Reins → Type 0
+IsReady config reins = IsReadyFor config reins.actor
+
+-- A thread has these reins alone.
+pub record Has (view : View) (worker : ℕ) (reins : Reins) : Type 0 where
+  pub only : view.reins ≡ reins ∷ []
+  pub own : reins.worker ≡ worker
+
+-- This is the next step of the request that the thread carries for a worker: the request has no reply, and has come to no call on a file.
+pub record Drives (view : View) (worker : ℕ) (op : Op) : Type 0 where
+  pub reins : Reins
+  pub has : Has view worker reins
+  pub actor : Acting
+  pub carries : reins.actor ≡ Some actor
+  pub running : replied actor ≡ None
+  pub no_call : called_at actor.point ≡ None
+  pub is : op_of (asks actor) ≡ op
+  pub there : has_place view.config (place_of op) ≡ true
+
+-- This request may come to the thread's worker, which has none: its tenant is there, may ask for this, and has this quota.
+pub record MayCome (view : View) (worker : ℕ) (actor : Acting) : Type 0 where
+  pub reins : Reins
+  pub has : Has view worker reins
+  pub idle : reins.actor ≡ None
+  pub tenant : actor.tenant < tenants_of view.config
+  pub may_ask : is_well_formed (tenant_at view.config actor.tenant).words actor.job ≡ true
+  pub is : actor ≡ first worker actor.tenant (opening_at view.openings actor.tenant).quota view.config.pool actor.job
+
+-- of each tenant the changes that one list has come first of those that the other has
+abbrev pub Precede : ℕ → List (List SealedChange) → List (List SealedChange) → Type 0
+Precede tenants first then = ComeFirst tenants first (seen_at then)
+
+-- What no step changes, and that what was seen goes on: all that the thread had seen, and all that it was told, comes first of what it has seen now.
+pub record GoesOn (old new : View) : Type 0 where
+  pub same_config : new.config ≡ old.config
+  pub same_openings : new.openings ≡ old.openings
+  pub same_told : new.told ≡ old.told
+  pub seen : Precede (tenants_of old.config) old.seen new.seen
+  pub told : Precede (tenants_of old.config) old.told new.seen
+
+-- A load that is no event: the thread has seen what was sealed.
+pub record Looked (old new : View) : Type 0 where
+  pub goes_on : GoesOn old new
+  pub same_reins : new.reins ≡ old.reins
+  pub same_mine : new.mine ≡ old.mine
+
+-- A step of the thread's worker, which found this.
+pub record Took (got : Got) (old new : View) : Type 0 where
+  pub goes_on : GoesOn old new
+  pub reins : new.reins ≡ map (told got) old.reins
+  pub ready : Each (IsReady new.config) new.reins
+
+-- A request came, and made its first step, which found this. No less was sealed than the thread had seen.
+pub record Began (actor : Acting) (got : Got) (old new : View) : Type 0 where
+  pub goes_on : GoesOn old new
+  pub request : ℕ
+  pub begun : ℕ
+  pub no_fewer : length (seen_at old.seen actor.tenant) ≤ begun
+  pub reins : new.reins ≡ map (λ one. told got (comes actor request begun one)) old.reins
+  pub ready : Each (IsReady new.config) new.reins
+
+-- The thread carries this request for a worker, which did this since the table was made; or the request was finished.
+pub record Carries (view : View) (worker attempt : ℕ) (actor : Acting) (reins : Reins) : Type 0 where
+  pub own : reins.worker ≡ worker
+  pub same_attempt : reins.attempt ≡ attempt
+  pub only : view.reins ≡ settled reins actor ∷ []

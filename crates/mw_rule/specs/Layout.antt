@@ -1,0 +1,54 @@
+-- Where each shared word stands in the table.
+use Rattle.std.specs.Prelude.{ℕ, ◌≡◌, ◌+◌, ◌*◌, ◌<◌, true}
+use Rattle.mw_words.specs.declared.limits.TheConstants.{MAX_ENTRIES, MAX_TENANTS, MAX_WORDS, MAX_WORKERS}
+use Rattle.mw_words.specs.declared.places.At.{At}
+use Rattle.mw_words.specs.declared.places.At.TheVariants.{Door as AtDoor, Gate as AtGate, Row as AtRow, Data, Status as AtStatus, Count, Addr, Expected, New}
+use Rattle.mw_world.specs.declared.config.Config.{Config}
+use Rattle.mw_world.specs.Definition.Extent.{has_place}
+use Rattle.mw_world.specs.Definition.State.{IsConfig, tenants_of}
+
+-- the slots' words come after the doors and the rows
+abbrev pub slots_from : ℕ
+slots_from = MAX_TENANTS + MAX_WORKERS
+
+-- a slot's words lie together: its gate, its status, its count, and three of each entry
+abbrev pub slot_wide : ℕ
+slot_wide = 3 + 3 * MAX_ENTRIES
+
+-- Where a word stands, by the number of slots: first the doors, then the rows, then the slots, then the tenants' words, for each tenant as many as a tenant may have.
+abbrev pub index_of : ℕ → At → ℕ
+index_of pool (AtDoor tenant) = tenant
+index_of pool (AtRow worker) = MAX_TENANTS + worker
+index_of pool (AtGate slot) = slots_from + slot_wide * slot
+index_of pool (AtStatus slot) = slots_from + slot_wide * slot + 1
+index_of pool (Count slot) = slots_from + slot_wide * slot + 2
+index_of pool (Addr slot entry) = slots_from + slot_wide * slot + (3 + entry)
+index_of pool (Expected slot entry) = slots_from + slot_wide * slot + (3 + MAX_ENTRIES + entry)
+index_of pool (New slot entry) = slots_from + slot_wide * slot + (3 + 2 * MAX_ENTRIES + entry)
+index_of pool (Data tenant address) = slots_from + slot_wide * pool + MAX_WORDS * tenant + address
+
+-- how many words the table has
+abbrev pub words_of : Config → ℕ
+words_of config = slots_from + slot_wide * config.pool + MAX_WORDS * tenants_of config
+
+-- each number of a place is below the most that there can be, and slots are of the pool
+abbrev pub Within : ℕ → At → Type 0
+Within pool (AtDoor tenant) = tenant < MAX_TENANTS
+Within pool (AtRow worker) = worker < MAX_WORKERS
+Within pool (AtGate slot) = slot < pool
+Within pool (AtStatus slot) = slot < pool
+Within pool (Count slot) = slot < pool
+Within pool (Addr slot entry) = (slot < pool) × (entry < MAX_ENTRIES)
+Within pool (Expected slot entry) = (slot < pool) × (entry < MAX_ENTRIES)
+Within pool (New slot entry) = (slot < pool) × (entry < MAX_ENTRIES)
+Within pool (Data tenant address) = address < MAX_WORDS
+
+-- Places that are there are within, stand in the table, and stand apart.
+abbrev pub PlacesAreWithin : Type 0
+PlacesAreWithin = (config : Config) (at : At) → IsConfig config → has_place config at ≡ true → Within config.pool at
+
+abbrev pub PlacesAreInTable : Type 0
+PlacesAreInTable = (config : Config) (at : At) → IsConfig config → has_place config at ≡ true → index_of config.pool at < words_of config
+
+abbrev pub PlacesStandApart : Type 0
+PlacesStandApart = (pool : ℕ) (one other : At) → Within pool one → Within pool other → index_of pool one ≡ index_of pool other → one ≡ other

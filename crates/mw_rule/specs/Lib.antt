@@ -1,0 +1,7 @@
+pub mod Carrying
+pub mod Dealing
+pub mod Layout
+pub mod Laws
+pub mod Rule
+pub mod Seen
+pub mod Ways

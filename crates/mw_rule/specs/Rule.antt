@@ -1,0 +1,106 @@
+-- The rule: between any two steps the words in the table, and what the threads know, are those of the world after some run.
+use Rattle.std.specs.Prelude.{ℕ, ◌+◌, ◌≡◌, ◌≤◌, ◌<◌, ◌==◌, ◌⊎◌, Bool, true, false, cond, List, [], ◌∷◌, ◌++◌, length, slice_index}
+use mathlib.Core.Option.{some}
+use lib.ListN.{get_elem?}
+use Rattle.atomic_table.specs.Table.{State as Table}
+use Rattle.mw_words.specs.declared.places.At.{At}
+use Rattle.mw_look.specs.Places.{pack}
+use Rattle.mw_actor.specs.Acting.{Acting}
+use Rattle.mw_world.specs.declared.config.Config.{Config}
+use Rattle.mw_world.specs.Claim.Headline.{IsPlayed}
+use Rattle.mw_world.specs.Definition.Cells.{Cells, read}
+use Rattle.mw_world.specs.Definition.Extent.{has_place}
+use Rattle.mw_world.specs.Definition.Happenings.{Happening, Come, Step, File, Hand, Restart}
+use Rattle.mw_world.specs.Definition.State.{State, Opening, tenants_of}
+use Rattle.mw_law_store.specs.History.{AreNoStarts}
+use Rattle.mw_rule.specs.declared.views.Deed.{Deed}
+use Rattle.mw_rule.specs.declared.views.Deed.TheVariants.{Came, Stepped, Called, Handed}
+use Rattle.mw_rule.specs.declared.views.Reins.{Reins}
+use Rattle.mw_rule.specs.declared.views.View.{View}
+use Rattle.mw_rule.specs.Layout.{index_of, words_of}
+use Rattle.mw_rule.specs.Seen.{ComeFirst, Gave, HasBegunFor, opening_at, sealed_of}
+
+-- At each place that is there stands in the table what stands there in the world, in bits.
+abbrev pub Ties : Config → Cells → List ℕ → Type 0
+Ties config cells words = (at : At) → has_place config at ≡ true → slice_index words (index_of config.pool at) ≡ pack at (read cells at)
+
+-- each of these is so
+abbrev pub Each : {A : Type 0} → (A → Type 0) → List A → Type 0
+Each P [] = Unit {0}
+Each P (x ∷ xs) = P x × Each P xs
+
+-- the event, if it is one of this worker
+abbrev pub deed_if : Bool → Deed → List Deed
+deed_if own deed = cond own (deed ∷ []) []
+
+abbrev pub deed_of : ℕ → Happening → List Deed
+deed_of worker (Come one tenant job) = deed_if (one == worker) Came
+deed_of worker (Step one) = deed_if (one == worker) Stepped
+deed_of worker (File one outcome) = deed_if (one == worker) Called
+deed_of worker (Hand one) = deed_if (one == worker) Handed
+deed_of worker (Restart founds) = []
+
+-- what a worker did, in order
+abbrev pub made_by : ℕ → List Happening → List Deed
+made_by worker [] = []
+made_by worker (event ∷ events) = deed_of worker event ++ made_by worker events
+
+-- how many reins of a worker there are among these, and in a view
+abbrev pub weight : Bool → ℕ
+weight own = cond own 1 0
+
+abbrev pub times : ℕ → List Reins → ℕ
+times worker [] = 0
+times worker (one ∷ rest) = weight (one.worker == worker) + times worker rest
+
+abbrev pub has : ℕ → View → ℕ
+has worker view = times worker view.reins
+
+abbrev pub total : (View → ℕ) → List View → ℕ
+total count [] = 0
+total count (view ∷ views) = count view + total count views
+
+-- A run of the world, of which these events have happened since the table was made; what was before is a run with which the table may have begun, and no
+-- start has happened since.
+pub record Past (config : Config) (begun : (ℕ → Opening) → List Happening → Type 0) (state : State) (events : List Happening) : Type 0 where
+  pub openings : ℕ → Opening
+  pub before : List Happening
+  pub began : begun openings before
+  pub played : IsPlayed config openings (before ++ events) state
+  pub no_starts : AreNoStarts events
+
+-- What reins tell of their worker is so.
+pub record Holds (config : Config) (openings : ℕ → Opening) (state : State) (events : List Happening) (reins : Reins) : Type 0 where
+  pub there : reins.worker < config.workers
+  pub actor : (state.seats reins.worker).actor ≡ reins.actor
+  pub attempt : (state.seats reins.worker).attempt ≡ reins.attempt
+  pub request : (state.seats reins.worker).request ≡ reins.request
+  pub made : made_by reins.worker events ≡ reins.made
+  pub begun : HasBegunFor openings state reins.request reins.begun reins.actor
+
+-- What a thread knows is so.
+pub record Fits (config : Config) (openings : ℕ → Opening) (state : State) (events : List Happening) (view : View) : Type 0 where
+  pub same_config : view.config ≡ config
+  pub gave : (tenant : ℕ) → tenant < tenants_of config → Gave openings state tenant (opening_at view.openings tenant)
+  pub reins : Each (Holds config openings state events) view.reins
+  pub seen : ComeFirst (tenants_of config) view.seen (sealed_of openings state)
+  pub told : ComeFirst (tenants_of config) view.told (sealed_of openings state)
+
+-- A thread that has given all that it knew to another knows nothing, and has no reins.
+pub record IsSpent (view : View) : Type 0 where
+  pub flag : view.is_spent ≡ true
+  pub no_reins : view.reins ≡ []
+
+-- A thread has reins, or hasn't given away what it knew.
+abbrev pub IsLive : View → Type 0
+IsLive view = (view.is_spent ≡ false) ⊎ ((one : Reins) × (rest : List Reins) × (view.reins ≡ one ∷ rest))
+
+-- The rule of the table: there is a run; the words are those of the world after it; so is what each thread knows, if it isn't spent; and no two threads have reins of one worker.
+pub record Tied (config : Config) (begun : (ℕ → Opening) → List Happening → Type 0) (s : Table Acting View) : Type 0 where
+  pub state : State
+  pub events : List Happening
+  pub past : Past config begun state events
+  pub long : length s.words ≡ words_of config
+  pub ties : Ties config state.cells s.words
+  pub fits : (id : ℕ) (view : View) → get_elem? s.views id ≡ some view → IsSpent view ⊎ Fits config past.openings state events view
+  pub alone : (worker : ℕ) → total (has worker) s.views ≤ 1

@@ -1,0 +1,33 @@
+//! What holds of the rule: facts for proofs to cite. The functions do nothing.
+ghost use Rattle.mw_rule.specs.Laws.{DealsKeepTheRule, FirstStepsKeepTheRule, HearingKeepsTheRule, LooksKeepTheRule, NotesKeepTheRule, StartsUnderTheRule, StepsKeepTheRule};
+ghost use Rattle.mw_rule.specs.Layout.{PlacesAreInTable, PlacesAreWithin, PlacesStandApart};
+
+use crate::rule::Begins;
+
+/// Each shared word that is there stands in the table, and two of them stand apart.
+pub fn places_stand_apart()
+    ensures within { PlacesAreWithin }
+    ensures there { PlacesAreInTable }
+    ensures apart { PlacesStandApart }
+{}
+
+/// The rule holds of a table that is made of a world after a run with which it may begin.
+pub fn tables_start_under_the_rule<B: Begins>()
+    ensures { (key : B) → StartsUnderTheRule (B.config key) (B.begun key) }
+{}
+
+/// A step of a request that a thread carries keeps the rule, and so does the first step of a request, with
+/// which it comes: each is one event of the world's run, or with a request's first step its coming and with
+/// its last one its reply. A load that is no event keeps it too.
+pub fn steps_keep_the_rule<B: Begins>()
+    ensures steps { (key : B) → StepsKeepTheRule (B.config key) (B.begun key) }
+    ensures first { (key : B) → FirstStepsKeepTheRule (B.config key) (B.begun key) }
+    ensures looks { (key : B) → LooksKeepTheRule (B.config key) (B.begun key) }
+{}
+
+/// Reins may be given to a new thread, and a note of what was seen; and a thread may be told what a note says.
+pub fn what_is_known_is_parted<B: Begins>()
+    ensures deals { (key : B) → DealsKeepTheRule (B.config key) (B.begun key) }
+    ensures notes { (key : B) → NotesKeepTheRule (B.config key) (B.begun key) }
+    ensures hears { (key : B) → HearingKeepsTheRule (B.config key) (B.begun key) }
+{}

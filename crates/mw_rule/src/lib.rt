@@ -1,0 +1,21 @@
+//! The rule between the shared words of running threads and the world: between any two steps the words in
+//! the table, and what the threads know, are those of the world after some run.
+//!
+//! What to read first. `specs/Layout` says where each shared word stands, `specs/Ways` what each kind of step
+//! makes of a word's bits; `specs/Rule` is the rule, with what one thread knows; `specs/Carrying` what a step
+//! asks of the thread that makes it, and what it tells the thread. `mw_table` has the steps.
+#![tactic(auto)]
+
+mod indexes;
+mod laws;
+mod rule;
+mod views;
+mod ways;
+
+pub use indexes::index_of;
+pub use laws::{
+    places_stand_apart, steps_keep_the_rule, tables_start_under_the_rule, what_is_known_is_parted,
+};
+pub use rule::{Begins, Deals, Hears, Notes, Tie};
+pub use views::{Deed, Finished, Opened, Reins, Sealed, View};
+pub use ways::{Way, way_of};
