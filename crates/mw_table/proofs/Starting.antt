@@ -1,0 +1,84 @@
+-- A table that is made of a world begins under the rule.
+use Rattle.std.specs.Prelude.{ℕ, ◌≡◌, ◌<◌, ◌≤◌, ◌⊎◌, true, List, [], map, length, replicate, slice_get, slice_index_or, Option, Some, None}
+use Rattle.std.specs.Option.{option_map_or}
+use Rattle.std.proofs.Common.{refl, sym, ap, subst, ◌∙◌, inl, inr, arith}
+use Rattle.std.proofs.lemmas.List.{get_or-map}
+use Rattle.std.proofs.lemmas.Option.{slice_get_cases}
+use Rattle.atomic_table.specs.Table.{opening}
+use Rattle.mw_lone.specs.declared.marks.Mark.{Mark}
+use Rattle.mw_actor.specs.Acting.{Acting}
+use Rattle.mw_world.specs.Claim.Headline.{IsPlayed}
+use Rattle.mw_world.specs.Definition.Happenings.{Happening}
+use Rattle.mw_world.specs.Definition.State.{Opening, Seat, State, first_openings, idle_seat, new_world, tenant_at, tenants_of}
+use Rattle.mw_world.proofs.FirstInvariant.{new_worlds_start}
+use Rattle.mw_law_runs.proofs.Lawful.{runs_are_lawful}
+use Rattle.mw_law_store.specs.Moments.{after_marks, first_moment}
+use Rattle.mw_simulator.specs.declared.accounts.Account.{Account as AccountInMemory}
+use Rattle.mw_simulator.specs.declared.seats.Seat.{Seat as SeatInMemory}
+use Rattle.mw_simulator.specs.declared.world.World.{World}
+use Rattle.mw_simulator.specs.Running.{Stands}
+use Rattle.mw_simulator.specs.Seats.{seat_of}
+use Rattle.mw_simulator.specs.Shows.{Shows, ShowsAccount}
+use Rattle.mw_rule.specs.Carrying.{IsReadyFor}
+use Rattle.mw_rule.specs.Layout.{words_of}
+use Rattle.mw_rule.specs.Rule.{Tied, Ties}
+use Rattle.mw_rule.specs.Seen.{Gave, no_opening, opening_at}
+use Rattle.mw_table.specs.Beginning.{LedTo, first_view, opening_of, seat_in, up_after}
+use Rattle.mw_rule.proofs.Parting.{starts}
+use Rattle.mw_table.proofs.Opened.{run_told}
+
+-- a worker of a world in memory is that of the world that it shows
+pub seats_same : (world : World) (state : State) (worker : ℕ) → Shows world state → worker < world.config.workers → seat_in world worker ≡ state.seats worker
+seats_same world state worker shows low = by_seat (slice_get_cases world.seats.items worker).1
+  where
+    by_seat : ((seat : SeatInMemory) × (worker < length world.seats.items) × (slice_get world.seats.items worker ≡ Some seat) × (slice_index_or world.seats.items worker seat ≡ seat))
+        ⊎ ((length world.seats.items ≤ worker) × (slice_get world.seats.items worker ≡ None)) → seat_in world worker ≡ state.seats worker
+    by_seat (inl there) = ap (λ (o : Option SeatInMemory). option_map_or seat_of o idle_seat) there.2 ∙ shows.seats worker there.0 there.2
+    by_seat (inr past) = let many = world.workers in absurd (omega (arith, past.0, low, many))
+
+-- a run of the world in memory is one of a server
+pub played : (world : World) (before : List Happening) (stands : Stands world before) → IsPlayed world.config (first_openings world.config) before stands.state
+played world before stands = record { made = world.configured; starts = new_worlds_start world.config world.configured; runs = stands.runs }
+
+-- the next step of a worker's request is at a place that is there
+pub ready : (world : World) (before : List Happening) (worker : ℕ) → Stands world before → worker < world.config.workers → IsReadyFor world.config (seat_in world worker).actor
+ready world before worker stands low =
+    subst (λ (seat : Seat). IsReadyFor world.config seat.actor) (sym (seats_same world stands.state worker stands.shows low)) (by_actor (stands.state.seats worker).actor refl)
+  where
+    by_actor : (found : Option Acting) → (stands.state.seats worker).actor ≡ found → IsReadyFor world.config found
+    by_actor None is = tt
+    by_actor (Some actor) is = λ running no_call.
+        ((runs_are_lawful world.config (first_openings world.config) before stands.state (played world before stands)).steps worker actor is running no_call).there
+
+-- what the last start gave is told by the account in memory
+gave_so : (world : World) (before : List Happening) (stands : Stands world before) (tenant : ℕ) → tenant < tenants_of world.config
+    → Gave (first_openings world.config) stands.state tenant (opening_at (map opening_of world.accounts.items) tenant)
+gave_so world before stands tenant low = by_account (slice_get_cases world.accounts.items tenant).1
+  where
+    shown_so : (shown : AccountInMemory) → ShowsAccount (tenant_at world.config tenant).words shown (stands.state.accounts tenant)
+        → Gave (first_openings world.config) stands.state tenant (opening_of shown)
+    shown_so shown shows = record {
+      quota = sym shows.quota;
+      words =
+          let counts : length shown.book.contents.items ≡ (tenant_at world.config tenant).words = shows.words_are in
+          ap (λ (marks : List Mark). (after_marks (first_moment (replicate (tenant_at world.config tenant).words 0)) marks).words) (sym shows.closed)
+          ∙ ap (λ (n : ℕ). (after_marks (first_moment (replicate n 0)) shown.lines.closed.items).words) (sym counts);
+      is_up = run_told world.config before (new_world world.config) stands.state (λ one. refl) stands.runs tenant ∙ ap (up_after true) (sym shows.closed);
+    }
+
+    by_account : ((shown : AccountInMemory) × (tenant < length world.accounts.items) × (slice_get world.accounts.items tenant ≡ Some shown) × (slice_index_or world.accounts.items tenant shown ≡ shown))
+        ⊎ ((length world.accounts.items ≤ tenant) × (slice_get world.accounts.items tenant ≡ None))
+        → Gave (first_openings world.config) stands.state tenant (opening_at (map opening_of world.accounts.items) tenant)
+    by_account (inl there) =
+        let given : opening_at (map opening_of world.accounts.items) tenant ≡ opening_of there.0 =
+        get_or-map opening_of world.accounts.items tenant there.0 no_opening there.1 ∙ ap opening_of there.3 in
+        subst (λ (one : Opening). Gave (first_openings world.config) stands.state tenant one) (sym given) (shown_so there.0 (stands.shows.accounts tenant there.0 there.2))
+    by_account (inr past) = let many = world.tenants in absurd (omega (arith, past.0, low, many))
+
+-- the rule holds of the table at first
+pub first_table : (world : World) (before : List Happening) (words : List ℕ) → Stands world before → length words ≡ words_of world.config
+    → ((state : State) → Shows world state → Ties world.config state.cells words) → Tied world.config (LedTo world) (opening {S = Acting} words [] (first_view world))
+first_table world before words stands long ties =
+    starts world.config (LedTo world) (first_openings world.config) before stands.state (map opening_of world.accounts.items) (seat_in world) words
+    (record { first = refl; stands = stands }) (played world before stands) (gave_so world before stands) (λ worker low. seats_same world stands.state worker stands.shows low) long
+    (ties stands.state stands.shows)

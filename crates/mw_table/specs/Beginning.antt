@@ -1,0 +1,41 @@
+-- What a table begins with that is made of a world in memory.
+use Rattle.std.specs.Prelude.{ℕ, ◌≡◌, Bool, true, List, [], ◌∷◌, map, length, replicate, slice_get}
+use Rattle.std.specs.Option.{option_map_or}
+use Rattle.mw_lone.specs.declared.marks.Mark.{Mark}
+use Rattle.mw_lone.specs.declared.marks.Mark.TheVariants.{Restart}
+use Rattle.mw_world.specs.Definition.Happenings.{Happening}
+use Rattle.mw_world.specs.Definition.State.{Opening, Seat, first_openings, idle_seat}
+use Rattle.mw_simulator.specs.declared.accounts.Account.{Account}
+use Rattle.mw_simulator.specs.declared.world.World.{World}
+use Rattle.mw_simulator.specs.Running.{Stands}
+use Rattle.mw_simulator.specs.Seats.{seat_of}
+use Rattle.mw_law_store.specs.Moments.{after_marks, first_moment}
+use Rattle.mw_rule.specs.declared.views.View.{View}
+use Rattle.mw_rule.specs.Dealing.{maker}
+
+-- The run that led to the world began at the first start of all, and these events have happened since.
+pub record LedTo (world : World) (openings : ℕ → Opening) (before : List Happening) : Type 0 where
+  pub first : openings ≡ first_openings world.config
+  pub stands : Stands world before
+
+-- Whether a tenant's file opened at the last start among these marks; where there is none, at the start before.
+abbrev pub up_after : Bool → List Mark → Bool
+up_after is_up [] = is_up
+up_after is_up (Restart interrupted found opened ∷ marks) = up_after opened marks
+up_after is_up (mark ∷ marks) = up_after is_up marks
+
+-- what the last start gave a tenant
+abbrev pub opening_of : Account → Opening
+opening_of account = record {
+  quota = account.quota;
+  words = (after_marks (first_moment (replicate (length account.book.contents.items) 0)) account.lines.closed.items).words;
+  is_up = up_after true account.lines.closed.items;
+}
+
+-- a worker; past the last one, an idle one
+abbrev pub seat_in : World → ℕ → Seat
+seat_in world worker = option_map_or seat_of (slice_get world.seats.items worker) idle_seat
+
+-- what the first thread knows
+abbrev pub first_view : World → View
+first_view world = maker world.config (map opening_of world.accounts.items) (seat_in world)

@@ -1,0 +1,7 @@
+pub mod Beginning
+pub mod Carried
+pub mod Dealt
+pub mod Numbers
+pub mod Passes
+pub mod Places
+pub mod Said

@@ -1,0 +1,21 @@
+-- A pass and its table.
+use Rattle.std.specs.Prelude.{◌≡◌, Bool, true, false}
+use Rattle.mw_look.specs.declared.steps.Kind.TheVariants.{Plant as PlantKind}
+use Rattle.mw_look.specs.declared.steps.Op.{Op}
+use Rattle.mw_look.specs.declared.steps.Op.TheVariants.{Change as ChangeBits}
+use Rattle.mw_table.specs.declared.shared.Pass.{Pass}
+use Rattle.mw_table.specs.declared.shared.Shared.{Shared}
+
+-- The pass is of this table.
+pub record IsOf (shared : Shared) (pass : Pass) : Type 0 where
+  pub table : pass.seat.table_id ≡ shared.table.shared.table_id
+  pub config : pass.seat.me.0.config ≡ shared.table.shared.key.world.value.config
+
+-- The pass is still the same worker's.
+abbrev pub IsOfSameWorker : Pass → Pass → Type 0
+IsOfSameWorker old new = new.worker ≡ old.worker
+
+-- the step is an attempt to hold a word, which has a number of its own
+abbrev pub is_plant : Op → Bool
+is_plant (ChangeBits PlantKind at from to) = true
+is_plant op = false

@@ -1,0 +1,32 @@
+-- Which shared word stands at an index of the table.
+use Rattle.std.specs.Prelude.{ℕ, ◌≡◌, ◌+◌, ◌-◌, ◌*◌, ◌/◌, ◌%◌, ◌==◌, nat_lt, true, if◌then◌else◌}
+use Rattle.mw_words.specs.declared.limits.TheConstants.{MAX_ENTRIES, MAX_TENANTS, MAX_WORDS}
+use Rattle.mw_words.specs.declared.places.At.{At}
+use Rattle.mw_words.specs.declared.places.At.TheVariants.{Door as AtDoor, Gate as AtGate, Row as AtRow, Data, Status as AtStatus, Count, Addr, Expected, New}
+use Rattle.mw_look.specs.Places.{pack}
+use Rattle.mw_world.specs.declared.config.Config.{Config}
+use Rattle.mw_world.specs.Definition.Cells.{Cells, read}
+use Rattle.mw_world.specs.Definition.Extent.{has_place}
+use Rattle.mw_rule.specs.Layout.{index_of, slot_wide, slots_from}
+
+-- by the index within a slot's words
+abbrev pub slot_place : ℕ → ℕ → At
+slot_place slot index =
+    if index == 0 then AtGate slot
+    else (if index == 1 then AtStatus slot
+    else (if index == 2 then Count slot
+    else (if nat_lt index (3 + MAX_ENTRIES) then Addr slot (index - 3)
+    else (if nat_lt index (3 + 2 * MAX_ENTRIES) then Expected slot (index - (3 + MAX_ENTRIES))
+    else New slot (index - (3 + 2 * MAX_ENTRIES))))))
+
+-- The word at an index, whether there is such a word or not: those of tenants, workers and slots that aren't there stand unused.
+abbrev pub place_at : ℕ → ℕ → At
+place_at pool index =
+    if nat_lt index MAX_TENANTS then AtDoor index
+    else (if nat_lt index slots_from then AtRow (index - MAX_TENANTS)
+    else (if nat_lt index (slots_from + slot_wide * pool) then slot_place ((index - slots_from) / slot_wide) ((index - slots_from) % slot_wide)
+    else Data ((index - (slots_from + slot_wide * pool)) / MAX_WORDS) ((index - (slots_from + slot_wide * pool)) % MAX_WORDS)))
+
+-- these bits stand at an index, if a shared word does
+abbrev pub IsAt : Config → Cells → ℕ → ℕ → Type 0
+IsAt config cells index bits = (at : At) → has_place config at ≡ true → index_of config.pool at ≡ index → bits ≡ pack at (read cells at)

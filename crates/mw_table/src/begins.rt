@@ -1,0 +1,58 @@
+//! The first step of a request, and loads that are no step of one.
+ghost use Rattle.std.specs.Prelude.{◌≡◌, true};
+ghost use Rattle.mw_look.specs.declared.news.Got.TheVariants.{Word as Found};
+ghost use Rattle.mw_world.specs.Definition.Extent.{has_place};
+ghost use Rattle.mw_rule.specs.Carrying.{Began, Looked, MayCome};
+ghost use Rattle.mw_table.specs.Passes.{IsOf, IsOfSameWorker};
+ghost use Rattle.mw_table.specs.Said.{BeganAs};
+
+use crate::shared::{Pass, Shared};
+use atomic_table::Play;
+use mw_actor::Actor;
+use mw_rule::{View, index_of};
+use mw_words::At;
+
+/// A request's first step tells that the request came, and what it found.
+pub struct Comes;
+
+impl Play<Actor, View> for Comes {
+    ghost then = { λ step me found next. BeganAs step.said found me.0 next.0 };
+}
+
+/// A load that is no event tells what was sealed by then.
+pub struct Looks;
+
+impl Play<Actor, View> for Looks {
+    ghost then = { λ step me found next. Looked me.0 next.0 };
+}
+
+impl Shared {
+    /// A request comes to the pass's worker, which has none, and makes its first step: a load of its
+    /// tenant's door, whose bits these are. An exchange of 0 for 0 never changes a word, and tells which
+    /// request it is.
+    pub fn begin(&self, pass: &mut Pass, actor: &Actor) -> u64
+        requires own { IsOf self.now pass.old }
+        requires may { MayCome pass.old.seat.me.0 pass.old.worker actor.now }
+        ensures own { IsOf self.now pass.new }
+        ensures worker { IsOfSameWorker pass.old pass.new }
+        ensures began { Began actor.now (Found result) pass.old.seat.me.0 pass.new.seat.me.0 }
+    {
+        let door = index_of(self.pool, At::Door(actor.tenant()));
+        self.table
+            .shared
+            .compare_exchange_with::<Comes>(&mut pass.seat, door, 0, 0, actor)
+    }
+
+    /// The bits of a word, by a load that is no step of a request.
+    pub fn figure(&self, pass: &mut Pass, at: At) -> u64
+        requires own { IsOf self.now pass.old }
+        requires there { has_place self.now.table.shared.key.world.value.config at ≡ true }
+        ensures own { IsOf self.now pass.new }
+        ensures worker { IsOfSameWorker pass.old pass.new }
+        ensures looked { Looked pass.old.seat.me.0 pass.new.seat.me.0 }
+    {
+        self.table
+            .shared
+            .load::<Looks>(&mut pass.seat, index_of(self.pool, at))
+    }
+}

@@ -1,0 +1,125 @@
+//! A table of a world in memory.
+ghost use Rattle.std.specs.Prelude.{◌≡◌, ◌<◌, All, [], List, IfOk, length};
+ghost use Rattle.mw_world.specs.Definition.Happenings.{Happening};
+ghost use Rattle.mw_world.specs.Definition.State.{State};
+ghost use Rattle.mw_rule.specs.Layout.{words_of};
+ghost use Rattle.mw_rule.specs.Rule.{Ties};
+ghost use Rattle.mw_simulator.specs.Running.{Stands};
+ghost use Rattle.mw_simulator.specs.Shows.{Shows};
+ghost use Rattle.mw_table.specs.Beginning.{first_view};
+ghost use Rattle.mw_table.specs.Dealt.{AreActors, IsDealt};
+ghost use Rattle.mw_table.specs.Places.{IsAt};
+
+use crate::origin::Origin;
+use crate::places::{has_place, place_at};
+use crate::shared::{Pass, Shared};
+use atomic_table::{Seat, Table};
+use mw_actor::Actor;
+use mw_rule::{Deals, View, index_of};
+use mw_simulator::World;
+use mw_words::At;
+use std::alloc::{AllocError, Global};
+use std::snapshot::Snapshot;
+
+impl Shared {
+    /// A table with the shared words of a world that a run from a new world has led to, a pass for each
+    /// worker, and the workers' requests. The only error is want of memory.
+    pub fn of_world(
+        alloc: Global,
+        world: &World,
+    ) -> Result<(Shared, Vec<Pass>, Vec<Option<Actor>>), AllocError>
+        requires { (before : List Happening) × Stands world.now before }
+        ensures table { IfOk result (λ made. made.0.table.shared.key.world.value ≡ world.now) }
+        ensures count { IfOk result (λ made. length made.1.items ≡ world.now.config.workers) }
+        ensures passes { IfOk result (λ made. All (IsDealt made.0 world.now) made.1.items) }
+        ensures actors { IfOk result (λ made. (state : State) → Shows world.now state → AreActors state world.now.config.workers made.2.items) }
+    {
+        let words = words_of_world(alloc, world)?;
+        let origin = Origin {
+            world: Snapshot::of(world),
+        };
+        let (table, seat) = Table::of_words(alloc, &words, &origin)?;
+        let shared = Shared {
+            table,
+            pool: world.config().pool,
+        };
+        let passes = shared.deal(alloc, seat, world)?;
+        let actors = actors_of(alloc, world)?;
+        Ok((shared, passes, actors))
+    }
+
+    /// Gives each worker a pass.
+    fn deal(
+        &self,
+        alloc: Global,
+        mut seat: Seat<Actor, View>,
+        world: &World,
+    ) -> Result<Vec<Pass>, AllocError>
+        requires table { seat.table_id ≡ self.now.table.shared.table_id }
+        requires world { self.now.table.shared.key.world.value ≡ world.now }
+        requires stands { (before : List Happening) × Stands world.now before }
+        requires first { seat.me ≡ (first_view world.now, []) }
+        ensures count { IfOk result (λ passes. length passes.items ≡ world.now.config.workers) }
+        ensures passes { IfOk result (λ passes. All (IsDealt self.now world.now) passes.items) }
+    {
+        let workers = world.config().workers;
+        let mut passes = Vec::with_capacity(alloc, usize::from(workers))?;
+        for worker in 0..workers {
+            let own = self.table.shared.split_seat::<Deals>(&mut seat);
+            let attempt = world.attempt(worker);
+            passes.push(Pass {
+                seat: own,
+                worker,
+                attempt,
+            })?;
+        }
+        Ok(passes)
+    }
+}
+
+/// The workers' requests.
+fn actors_of(alloc: Global, world: &World) -> Result<Vec<Option<Actor>>, AllocError>
+    ensures { IfOk result (λ actors. (state : State) → Shows world.now state → AreActors state world.now.config.workers actors.items) }
+{
+    let workers = world.config().workers;
+    let mut actors = Vec::with_capacity(alloc, usize::from(workers))?;
+    for worker in 0..workers {
+        let actor = match world.actor(worker) {
+            Some(actor) => Some(actor.copy()),
+            None => None,
+        };
+        actors.push(actor)?;
+    }
+    Ok(actors)
+}
+
+/// The bits of the table's words, by index.
+fn words_of_world(alloc: Global, world: &World) -> Result<Vec<u64>, AllocError>
+    ensures long { IfOk result (λ words. length words.items ≡ words_of world.now.config) }
+    ensures ties { IfOk result (λ words. (state : State) → Shows world.now state → Ties world.now.config state.cells words.items) }
+{
+    let config = world.config();
+    let past = At::Data {
+        tenant: config.tenants.len() as u8,
+        address: 0,
+    };
+    let count = index_of(config.pool, past);
+    let mut words = Vec::with_capacity(alloc, count)?;
+    for index in 0..count {
+        words.push(bits_at(world, index))?;
+    }
+    Ok(words)
+}
+
+/// The bits at an index. Where no shared word stands they are 0.
+fn bits_at(world: &World, index: usize) -> u64
+    requires { index < words_of world.now.config }
+    ensures { (state : State) → Shows world.now state → IsAt world.now.config state.cells index result }
+{
+    let at = place_at(world.config().pool, index);
+    if has_place(world.config(), at) {
+        world.word(at)
+    } else {
+        0
+    }
+}

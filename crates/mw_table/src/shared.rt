@@ -1,0 +1,46 @@
+//! The table, and the passes with which threads step on it.
+ghost use Rattle.std.specs.Prelude.{◌≡◌, [], ◌∷◌};
+ghost use Rattle.mw_world.specs.Definition.State.{IsConfig};
+ghost use Rattle.mw_rule.specs.Layout.{words_of};
+ghost use Rattle.mw_table.specs.Numbers.{numbers};
+
+use crate::origin::Origin;
+use atomic_table::{Seat, Table};
+use mw_actor::Actor;
+use mw_rule::{Tie, View};
+use std::alloc::Global;
+
+/// The shared words.
+#[derive(Drop)]
+pub struct Shared {
+    pub(crate) table: Table<Actor, View, Origin, Tie, Global>,
+    pub(crate) pool: u16,
+    ghost pool_is: { pool ≡ table.shared.key.world.value.config.pool },
+    ghost made: { IsConfig table.shared.key.world.value.config },
+    ghost long: { table.shared.table_id.words ≡ words_of table.shared.key.world.value.config },
+}
+
+/// The right to make the steps of one worker.
+#[derive(Drop)]
+pub struct Pass {
+    pub(crate) seat: Seat<Actor, View>,
+    pub(crate) worker: u8,
+    pub(crate) attempt: u64,
+    ghost numbered: { numbers seat.me.0 ≡ (worker, attempt) ∷ [] },
+}
+
+impl Pass {
+    /// The worker whose steps these are.
+    pub fn worker(&self) -> u8
+        ensures { result ≡ self.now.worker }
+    {
+        self.worker
+    }
+
+    /// The number of the worker's next attempt to hold a word.
+    pub fn attempt(&self) -> u64
+        ensures { result ≡ self.now.attempt }
+    {
+        self.attempt
+    }
+}

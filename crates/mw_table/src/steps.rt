@@ -1,0 +1,96 @@
+//! One step on one word, in each way in which a word is read or changed.
+ghost use Rattle.std.specs.Prelude.{◌≡◌, ◌==◌, cond, false};
+ghost use Rattle.mw_look.specs.declared.steps.Op.TheVariants.{Load as LoadBits, Change as ChangeBits};
+ghost use Rattle.mw_look.specs.declared.news.Got.TheVariants.{Word as Found, Won as GotWon, Lost as GotLost};
+ghost use Rattle.mw_rule.specs.Carrying.{Drives, Took};
+ghost use Rattle.mw_rule.specs.Ways.{way_of};
+ghost use Rattle.mw_rule.specs.declared.ways.Way.TheVariants as way;
+ghost use Rattle.mw_table.specs.Passes.{IsOf, IsOfSameWorker, is_plant};
+
+use crate::shared::{Pass, Shared};
+use atomic_table::Play;
+use mw_actor::Actor;
+use mw_look::Kind;
+use mw_rule::{View, index_of};
+use mw_words::At;
+
+/// A load or a fetch tells what it found.
+pub struct Finds;
+
+impl Play<Actor, View> for Finds {
+    ghost then = { λ step me found next. Took (Found found) me.0 next.0 };
+}
+
+/// An exchange tells whether it won.
+pub struct Exchanges;
+
+impl Play<Actor, View> for Exchanges {
+    ghost then = { λ step me found next. Took (cond (found == step.first) GotWon GotLost) me.0 next.0 };
+}
+
+/// A store tells that it was made.
+pub struct Stores;
+
+impl Play<Actor, View> for Stores {
+    ghost then = { λ step me found next. Took GotWon me.0 next.0 };
+}
+
+impl Shared {
+    /// The bits of a word.
+    pub fn load(&self, pass: &mut Pass, at: At) -> u64
+        requires own { IsOf self.now pass.old }
+        requires next { Drives pass.old.seat.me.0 pass.old.worker (LoadBits at) }
+        ensures own { IsOf self.now pass.new }
+        ensures worker { IsOfSameWorker pass.old pass.new }
+        ensures took { Took (Found result) pass.old.seat.me.0 pass.new.seat.me.0 }
+    {
+        self.table
+            .shared
+            .load::<Finds>(&mut pass.seat, index_of(self.pool, at))
+    }
+
+    /// Exchanges a word for another if it is what is expected. Whether it was.
+    pub(crate) fn exchange(&self, pass: &mut Pass, kind: Kind, at: At, from: u64, to: u64) -> bool
+        requires own { IsOf self.now pass.old }
+        requires way { way_of kind ≡ way.Exchange }
+        requires plain { is_plant (ChangeBits kind at from to) ≡ false }
+        requires next { Drives pass.old.seat.me.0 pass.old.worker (ChangeBits kind at from to) }
+        ensures own { IsOf self.now pass.new }
+        ensures worker { IsOfSameWorker pass.old pass.new }
+        ensures took { Took (cond result GotWon GotLost) pass.old.seat.me.0 pass.new.seat.me.0 }
+    {
+        let found = self
+            .table
+            .shared
+            .compare_exchange::<Exchanges>(&mut pass.seat, index_of(self.pool, at), from, to);
+        found == from
+    }
+
+    /// Stores a word.
+    pub(crate) fn store(&self, pass: &mut Pass, kind: Kind, at: At, to: u64)
+        requires own { IsOf self.now pass.old }
+        requires way { way_of kind ≡ way.Store }
+        requires next { Drives pass.old.seat.me.0 pass.old.worker (ChangeBits kind at 0 to) }
+        ensures own { IsOf self.now pass.new }
+        ensures worker { IsOfSameWorker pass.old pass.new }
+        ensures took { Took GotWon pass.old.seat.me.0 pass.new.seat.me.0 }
+    {
+        self.table
+            .shared
+            .store::<Stores>(&mut pass.seat, index_of(self.pool, at), to)
+    }
+
+    /// Subtracts from a word. The bits that it had.
+    pub(crate) fn subtract(&self, pass: &mut Pass, kind: Kind, at: At, number: u64) -> u64
+        requires own { IsOf self.now pass.old }
+        requires way { way_of kind ≡ way.Sub number }
+        requires next { Drives pass.old.seat.me.0 pass.old.worker (ChangeBits kind at 0 0) }
+        ensures own { IsOf self.now pass.new }
+        ensures worker { IsOfSameWorker pass.old pass.new }
+        ensures took { Took (Found result) pass.old.seat.me.0 pass.new.seat.me.0 }
+    {
+        self.table
+            .shared
+            .fetch_sub::<Finds>(&mut pass.seat, index_of(self.pool, at), number)
+    }
+}
