@@ -94,7 +94,7 @@ pub struct View {
     pub seen: LinkedList<LinkedList<Sealed>>,
     /// The same, as another thread told it.
     pub told: LinkedList<LinkedList<Sealed>>,
-    /// The requests that were finished.
+    /// The requests that were finished, as far as they were noted.
     pub mine: LinkedList<Finished>,
     /// Whether all this was given to another thread. What is left tells nothing.
     pub is_spent: bool,
