@@ -1,5 +1,5 @@
 -- What threads know may be looked at, cut in two and put together, and the rule is kept; and it holds of a table that is made of a world.
-use Rattle.std.specs.Prelude.{ℕ, zero, suc, ◌+◌, ◌≡◌, ◌≢◌, ◌≤◌, ◌<◌, ◌==◌, List, [], ◌∷◌, ◌++◌, length, slice_index, slice_set, Option, Some, None}
+use Rattle.std.specs.Prelude.{true, ℕ, zero, suc, ◌+◌, ◌≡◌, ◌≢◌, ◌≤◌, ◌<◌, ◌==◌, List, [], ◌∷◌, ◌++◌, length, slice_index, slice_set, Option, Some, None}
 use Rattle.std.proofs.Common.{refl, sym, ap, subst, ◌∙◌, append-nil, ◌⊎◌, inl, inr, arith}
 use Rattle.std.proofs.lemmas.Bool.Decides.{nat_tests}
 use Rattle.std.proofs.lemmas.List.{set-get_or}
@@ -7,9 +7,13 @@ use mathlib.Core.Option.{some, some-injective, some-ne-none}
 use lib.ListN.{get_elem?}
 use Rattle.atomic_table.specs.Table.{State as Table, keeps}
 use Rattle.atomic_table.proofs.Lists.{at_set, at_snoc}
+use Rattle.mw_words.specs.declared.places.At.{At}
+use Rattle.mw_look.specs.Places.{pack}
 use Rattle.mw_actor.specs.Acting.{Acting}
 use Rattle.mw_world.specs.declared.config.Config.{Config}
 use Rattle.mw_world.specs.Claim.Headline.{IsPlayed}
+use Rattle.mw_world.specs.Definition.Cells.{read}
+use Rattle.mw_world.specs.Definition.Extent.{has_place}
 use Rattle.mw_world.specs.Definition.Happenings.{Happening}
 use Rattle.mw_world.specs.Definition.State.{State, Opening, Seat, tenants_of}
 use Rattle.mw_law_runs.proofs.Numbers.{same_or_other}
@@ -17,10 +21,12 @@ use Rattle.mw_law_store.specs.History.{IsBeginning}
 use Rattle.mw_law_store.specs.Moments.{SealedChange}
 use Rattle.mw_rule.specs.declared.views.Reins.{Reins}
 use Rattle.mw_rule.specs.declared.views.View.{View}
+use Rattle.mw_rule.specs.Carrying.{StoodThere}
+use Rattle.mw_rule.specs.Layout.{index_of}
 use Rattle.mw_rule.specs.Dealing.{dealt, head_of, hears, left_over, maker, note, reins_from, reins_of, rest_of, spent}
 use Rattle.mw_rule.specs.Laws.{DealsKeepTheRule, HearingKeepsTheRule, LooksKeepTheRule, NotesKeepTheRule, StartsUnderTheRule}
 use Rattle.mw_rule.specs.Rule.{Each, Fits, Holds, IsSpent, Tied, Ties, has, times, total, weight}
-use Rattle.mw_rule.specs.Seen.{HasBegunFor, sealed_of, seen_at}
+use Rattle.mw_rule.specs.Seen.{Gave, HasBegunFor, opening_at, sealed_of, seen_at}
 use Rattle.mw_rule.proofs.Totals.{total_set, total_more}
 use Rattle.mw_rule.proofs.Viewing.{all_seen, live_fits, sees, sees_on}
 
@@ -36,6 +42,19 @@ other_views config begun s now tied same fits alone = record {
   ties = subst (Ties config tied.state.cells) (sym same) tied.ties;
   fits = fits;
   alone = alone;
+}
+
+-- what stands at an index, told by the configuration that the thread knows
+stood_there : (config : Config) (openings : ℕ → Opening) (events : List Happening) (state : State) (view : View) (index bits : ℕ) → view.config ≡ config → IsPlayed config openings events state
+    → ((tenant : ℕ) → tenant < tenants_of config → Gave openings state tenant (opening_at view.openings tenant))
+    → ((at : At) → has_place config at ≡ true → index_of config.pool at ≡ index → bits ≡ pack at (read state.cells at)) → StoodThere view index bits
+stood_there config openings events state view index bits same played gave is = record {
+  openings = openings;
+  events = events;
+  state = state;
+  played = subst (λ (one : Config). IsPlayed one openings events state) (sym same) played;
+  gave = subst (λ (one : Config). (tenant : ℕ) → tenant < tenants_of one → Gave openings state tenant (opening_at view.openings tenant)) (sym same) gave;
+  same_bits = subst (λ (one : Config). (at : At) → has_place one at ≡ true → index_of one.pool at ≡ index → bits ≡ pack at (read state.cells at)) (sym same) is;
 }
 
 pub looks_keep : (config : Config) (begun : (ℕ → Opening) → List Happening → Type 0) → LooksKeepTheRule config begun
@@ -54,7 +73,7 @@ looks_keep config begun slots id index me make live makes s tied homes at low =
             | inl here ↦ inr (subst (Fits config openings tied.state tied.events) here.1 new_fits)
             | inr else ↦ tied.fits other view else.1
           ]) (λ worker. let sums = total_set (has worker) s.views id me.0 new at in let all = tied.alone worker in omega (arith, sums, all)),
-      record { goes_on = sees_on config sealed me.0 me.0.reins fits.same_config fits.seen fits.told; same_reins = refl; same_mine = refl },
+      record { goes_on = sees_on config sealed me.0 me.0.reins fits.same_config fits.seen fits.told; stood = stood_there config tied.past.openings (tied.past.before ++ tied.events) tied.state new index (slice_index s.words index) fits.same_config tied.past.played fits.gave (λ at there is. sym (ap (slice_index s.words) is) ∙ tied.ties at there); same_reins = refl; same_mine = refl },
     )
 
 -- A thread's knowledge is cut in two parts that fit where it fits, and have its reins together.

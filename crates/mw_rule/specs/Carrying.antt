@@ -1,25 +1,31 @@
 -- What a step asks of the thread that makes it, and what it tells the thread.
 use Rattle.std.specs.Prelude.{ℕ, ◌≡◌, ◌≤◌, ◌<◌, true, List, [], ◌∷◌, ◌++◌, map, length, Option, Some, None}
+use Rattle.mw_words.specs.declared.places.At.{At}
 use Rattle.mw_words.specs.declared.replies.Reply.{Reply}
 use Rattle.mw_words.specs.Change.{is_well_formed}
 use Rattle.mw_look.specs.declared.news.Got.{Got}
 use Rattle.mw_look.specs.declared.steps.Op.{Op}
 use Rattle.mw_look.specs.News.{news_of}
+use Rattle.mw_look.specs.Places.{pack}
 use Rattle.mw_look.specs.Steps.{op_of, place, place_of}
 use Rattle.mw_actor.specs.Acting.{Acting, first}
 use Rattle.mw_actor.specs.Asks.{asks}
 use Rattle.mw_actor.specs.Program.{replied, tells}
 use Rattle.mw_world.specs.declared.config.Config.{Config}
+use Rattle.mw_world.specs.Claim.Headline.{IsPlayed}
 use Rattle.mw_world.specs.Definition.Calls.{called_at}
+use Rattle.mw_world.specs.Definition.Cells.{read}
 use Rattle.mw_world.specs.Definition.Extent.{has_place}
-use Rattle.mw_world.specs.Definition.State.{tenant_at, tenants_of}
+use Rattle.mw_world.specs.Definition.Happenings.{Happening}
+use Rattle.mw_world.specs.Definition.State.{State, Opening, tenant_at, tenants_of}
 use Rattle.mw_world.specs.Definition.Turns.{may_make, next_attempt}
 use Rattle.mw_law_store.specs.Moments.{SealedChange}
 use Rattle.mw_rule.specs.declared.views.Deed.TheVariants.{Came, Stepped, Handed}
 use Rattle.mw_rule.specs.declared.views.Reins.{Reins}
 use Rattle.mw_rule.specs.declared.views.View.{View}
+use Rattle.mw_rule.specs.Layout.{index_of}
 use Rattle.mw_rule.specs.Rule.{Each}
-use Rattle.mw_rule.specs.Seen.{ComeFirst, opening_at, seen_at}
+use Rattle.mw_rule.specs.Seen.{ComeFirst, Gave, opening_at, seen_at}
 
 -- The reins once their worker's request stands so. Where it has its reply, that is handed out, and the worker has no request.
 abbrev pub settled_as : Reins → Acting → Option Reply → Reins
@@ -91,9 +97,19 @@ pub record GoesOn (old new : View) : Type 0 where
   pub seen : Precede (tenants_of old.config) old.seen new.seen
   pub told : Precede (tenants_of old.config) old.told new.seen
 
--- A load that is no event: the thread has seen what was sealed.
-pub record Looked (old new : View) : Type 0 where
+-- These bits stand at an index of the table, in a world after some run whose latest start gave the tenants what the thread knows of it.
+pub record StoodThere (view : View) (index bits : ℕ) : Type 0 where
+  pub openings : ℕ → Opening
+  pub events : List Happening
+  pub state : State
+  pub played : IsPlayed view.config openings events state
+  pub gave : (tenant : ℕ) → tenant < tenants_of view.config → Gave openings state tenant (opening_at view.openings tenant)
+  pub same_bits : (at : At) → has_place view.config at ≡ true → index_of view.config.pool at ≡ index → bits ≡ pack at (read state.cells at)
+
+-- A load that is no event, of these bits at this index. What the thread saw before, and what it was told, comes first of what it has seen now.
+pub record Looked (index bits : ℕ) (old new : View) : Type 0 where
   pub goes_on : GoesOn old new
+  pub stood : StoodThere new index bits
   pub same_reins : new.reins ≡ old.reins
   pub same_mine : new.mine ≡ old.mine
 
@@ -112,7 +128,7 @@ pub record Began (actor : Acting) (got : Got) (old new : View) : Type 0 where
   pub reins : new.reins ≡ map (λ one. told got (comes actor request begun one)) old.reins
   pub ready : Each (IsReady new.config) new.reins
 
--- The thread carries this request for a worker, which did this since the table was made; or the request was finished.
+-- The thread carries this request for a worker, with these reins; or the request was finished.
 pub record Carries (view : View) (worker attempt : ℕ) (actor : Acting) (reins : Reins) : Type 0 where
   pub own : reins.worker ≡ worker
   pub same_attempt : reins.attempt ≡ attempt

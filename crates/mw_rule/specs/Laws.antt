@@ -37,10 +37,10 @@ module _ (config : Config) (begun : (ℕ → Opening) → List Happening → Typ
   FirstStepsKeepTheRule = (slots id worker : ℕ) (me : Me Acting View) (actor : Acting) (make : ℕ → ℕ) → MayCome me.0 worker actor → ((bits : ℕ) → make bits ≡ bits)
       → Allows (Tied config begun) slots id me (index_of config.pool (AtDoor actor.tenant)) make (λ bits next. Began actor (Bits bits) me.0 next.0)
 
-  -- A load that is no event keeps it.
+  -- A load that is no event keeps it, and tells what stood there.
   abbrev pub LooksKeepTheRule : Type 0
   LooksKeepTheRule = (slots id index : ℕ) (me : Me Acting View) (make : ℕ → ℕ) → IsLive me.0 → ((bits : ℕ) → make bits ≡ bits)
-      → Allows (Tied config begun) slots id me index make (λ bits next. Looked me.0 next.0)
+      → Allows (Tied config begun) slots id me index make (λ bits next. Looked index bits me.0 next.0)
 
   -- Reins may be given to a new thread, and so may a note of what was seen; and a thread may be told what a note says.
   abbrev pub DealsKeepTheRule : Type 0

@@ -17,8 +17,9 @@ pub fn tables_start_under_the_rule<B: Begins>()
 {}
 
 /// A step of a request that a thread carries keeps the rule, and so does the first step of a request, with
-/// which it comes: each is one event of the world's run, or with a request's first step its coming and with
-/// its last one its reply. A load that is no event keeps it too.
+/// which it comes. The thread's record of what its worker did gains just that: one event, or with a request's
+/// first step its coming before it and with its last one the reply after it. A load that is no event keeps the
+/// rule too, and tells what stood there. That the run goes on from the run before is not told.
 pub fn steps_keep_the_rule<B: Begins>()
     ensures steps { (key : B) → StepsKeepTheRule (B.config key) (B.begun key) }
     ensures first { (key : B) → FirstStepsKeepTheRule (B.config key) (B.begun key) }

@@ -94,7 +94,7 @@ live view (one ∷ rest) worker attempt are is = inr (one, rest, are)
 
 -- a load that is no event
 pub look_asks : (shared : Shared) (pass : Pass) (at : At) (index : ℕ) → IsOf shared pass → has_place pass.seat.me.0.config at ≡ true → index ≡ index_of shared.pool at
-    → Asks shared pass index (λ bits. bits) (λ bits next. Looked pass.seat.me.0 next.0)
+    → Asks shared pass index (λ bits. bits) (λ bits next. Looked index bits pass.seat.me.0 next.0)
 look_asks shared pass at index own there is =
     let world = shared.table.shared.key.world.value in (
       own.table,

@@ -3,6 +3,7 @@ ghost use Rattle.std.specs.Prelude.{◌≡◌, true};
 ghost use Rattle.mw_look.specs.declared.news.Got.TheVariants.{Word as Found};
 ghost use Rattle.mw_world.specs.Definition.Extent.{has_place};
 ghost use Rattle.mw_rule.specs.Carrying.{Began, Looked, MayCome};
+ghost use Rattle.mw_rule.specs.Layout as layout;
 ghost use Rattle.mw_table.specs.Passes.{IsOf, IsOfSameWorker};
 ghost use Rattle.mw_table.specs.Said.{BeganAs};
 
@@ -19,17 +20,17 @@ impl Play<Actor, View> for Comes {
     ghost then = { λ step me found next. BeganAs step.said found me.0 next.0 };
 }
 
-/// A load that is no event tells what was sealed by then.
+/// A load that is no event tells what stood there.
 pub struct Looks;
 
 impl Play<Actor, View> for Looks {
-    ghost then = { λ step me found next. Looked me.0 next.0 };
+    ghost then = { λ step me found next. Looked step.word found me.0 next.0 };
 }
 
 impl Shared {
     /// A request comes to the pass's worker, which has none, and makes its first step: a load of its
-    /// tenant's door, whose bits these are. An exchange of 0 for 0 never changes a word, and tells which
-    /// request it is.
+    /// tenant's door, whose bits these are. An exchange of 0 for 0 never changes a word, and announces
+    /// the request.
     pub fn begin(&self, pass: &mut Pass, actor: &Actor) -> u64
         requires own { IsOf self.now pass.old }
         requires may { MayCome pass.old.seat.me.0 pass.old.worker actor.now }
@@ -43,13 +44,14 @@ impl Shared {
             .compare_exchange_with::<Comes>(&mut pass.seat, door, 0, 0, actor)
     }
 
-    /// The bits of a word, by a load that is no step of a request.
+    /// The bits of a word, by a load that is no step of a request: they stand there in a world after some run
+    /// with which the table may have begun as the pass knows it.
     pub fn figure(&self, pass: &mut Pass, at: At) -> u64
         requires own { IsOf self.now pass.old }
         requires there { has_place self.now.table.shared.key.world.value.config at ≡ true }
         ensures own { IsOf self.now pass.new }
         ensures worker { IsOfSameWorker pass.old pass.new }
-        ensures looked { Looked pass.old.seat.me.0 pass.new.seat.me.0 }
+        ensures looked { Looked (layout.index_of self.now.pool at) result pass.old.seat.me.0 pass.new.seat.me.0 }
     {
         self.table
             .shared

@@ -3,8 +3,9 @@
 //!
 //! Between any two steps the words, and what the threads know, are those of the world after some run
 //! (`mw_rule`). A thread steps with a [`Pass`], which carries the right to make the steps of one worker. Each
-//! call of [`Shared`] is one step: it asks that it is the next step of the request that the pass carries, and
-//! adds that step to the run.
+//! call of [`Shared`] but `figure` is one step of a request: it asks that it is the next one of the request
+//! that the pass carries, or its first, with which it comes; and where the reply stands after it, the reply is
+//! handed out.
 #![tactic(auto)]
 
 mod begins;
