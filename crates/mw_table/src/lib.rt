@@ -15,6 +15,8 @@ mod origin;
 mod places;
 mod shared;
 mod steps;
+#[cfg(test)]
+mod tests;
 
 pub use origin::Origin;
 pub use shared::{Pass, Shared};
