@@ -2,6 +2,7 @@
 //! replies.
 #![tactic(auto)]
 
+mod lines;
 mod player;
 mod replaying;
 

@@ -1,17 +1,22 @@
 //! Plays the lines of a schedule on a world.
-ghost use Rattle.std.specs.Prelude.{◌≡◌};
-ghost use Rattle.mw_world.specs.Definition.State.{IsConfig};
+ghost use Rattle.std.specs.Prelude.{◌≡◌, ◌∷◌, [], IfOk, OnErr, Some, None};
+ghost use Rattle.mw_world.specs.Definition.State.{IsConfig, State};
+ghost use Rattle.mw_world.specs.declared.events.Event.{Event as EventModel};
+ghost use Rattle.mw_simulator.specs.Running.{Stands};
+ghost use Rattle.mw_simulator.specs.Shows.{Shows};
+ghost use Rattle.mw_player.specs.Playing.{AreTurns, IsSame, IsTextOf, Obeys, Plays};
+ghost use Rattle.mw_player.specs.Printed as spec;
+ghost use Rattle.mw_player.specs.Printed.{text_of, claims_of};
 
+use crate::lines::{claim_line, reply_line, write_whole};
 use mw_actor::Actor;
-use mw_line::Say;
 use mw_look::{Kind, Op};
 use mw_schedule::{Command, StepKind};
 use mw_simulator::{World, WorldFault};
-use mw_words::{At, Gate, Reply};
+use mw_words::{At, Gate};
 use mw_world::{Config, Event, Outcome};
 use std::alloc::{AllocError, Global};
-use std::io::{self, Write};
-use std::str;
+use std::io::Write;
 
 /// The most steps that a worker makes for one line.
 const MOST_STEPS: u32 = 10_000;
@@ -41,83 +46,73 @@ impl From<WorldFault> for Halt {
     }
 }
 
-impl From<io::Error> for Halt {
-    fn from(_: io::Error) -> Self {
-        Halt::Output
-    }
-}
-
-/// A claim that is won.
-#[derive(Clone, Copy)]
-struct Claim {
-    slot: u8,
-    seq: u64,
-    tenant: u8,
-}
-
-/// A world that schedules are played on. It writes each reply that is handed out to `out`, and each
+/// A world that schedules are played on. It writes each reply that is handed out, and each
 /// claim that is won if it is to tell them.
 #[derive(Drop)]
-pub struct Player<'a, W> {
+pub struct Player {
     world: World,
     alloc: Global,
     tells_claims: bool,
-    out: &'a mut W,
 }
 
-impl<'a, W: Write> Player<'a, W> {
+impl Player {
     /// A player on a new world.
     ///
     /// # Errors
     ///
     /// Memory was refused.
-    pub fn new(
-        alloc: Global,
-        config: Config,
-        tells_claims: bool,
-        out: &'a mut W,
-    ) -> Result<Self, AllocError>
+    pub fn new(alloc: Global, config: Config, tells_claims: bool) -> Result<Self, AllocError>
         requires { IsConfig config }
+        ensures config { IfOk result (λ player. player.world.config ≡ config) }
+        ensures claims { IfOk result (λ player. player.tells_claims ≡ tells_claims) }
+        ensures stands { IfOk result (λ player. Stands player.world []) }
     {
         let world = World::new(alloc, config)?;
         Ok(Player {
             world,
             alloc,
             tells_claims,
-            out,
         })
     }
 
-    /// Plays a line. Where it halts, the steps before stay made.
-    pub fn obey(&mut self, command: Command) -> Result<(), Halt> {
+    /// Plays a line, and writes to `out` what is told of it. Where it halts, the steps before stay made.
+    pub fn obey<W: Write>(&mut self, command: Command, out: &mut W) -> Result<(), Halt>
+        ensures same { IsSame self.old self.new }
+        ensures plays { Plays self.old self.new (W.contents out.old) (W.contents out.new) (Obeys command) result }
+    {
         match command {
-            Command::Come(worker, tenant, job) => self.happen(Event::Come(worker, tenant, job)),
-            Command::Step(worker) => self.step(worker),
-            Command::File(worker, outcome) => self.happen(Event::File(worker, outcome)),
-            Command::Before(worker, kind) => self.go_before(worker, kind, MOST_STEPS),
-            Command::To(worker, kind) => {
-                self.go_before(worker, kind, MOST_STEPS - 1)?;
-                self.go(worker)
+            Command::Come(worker, tenant, job) => {
+                self.happen(Event::Come(worker, tenant, job), &[], out)
             }
-            Command::End(worker) => self.go_to_end(worker),
-            Command::Restart(stops) => self.happen(Event::Restart(stops)),
+            Command::Step(worker) => self.step(worker, out),
+            Command::File(worker, outcome) => self.happen(Event::File(worker, outcome), &[], out),
+            Command::Before(worker, kind) => self.go_before(worker, kind, MOST_STEPS, out),
+            Command::To(worker, kind) => self.go_to(worker, kind, out),
+            Command::End(worker) => self.go_to_end(worker, out),
+            Command::Restart(stops) => self.happen(Event::Restart(stops), &[], out),
         }
-    }
-
-    /// Gives the output all that was written.
-    pub fn finish(&mut self) -> Result<(), Halt> {
-        self.out.flush()?;
-        Ok(())
     }
 
     /// The worker makes steps, at most so many, until its next one is of this kind. Where it halts, the
     /// steps before stay made.
-    pub fn go_before(&mut self, worker: u8, kind: StepKind, most: u32) -> Result<(), Halt> {
+    pub fn go_before<W: Write>(
+        &mut self,
+        worker: u8,
+        kind: StepKind,
+        most: u32,
+        out: &mut W,
+    ) -> Result<(), Halt>
+        ensures same { IsSame self.old self.new }
+        ensures plays { Plays self.old self.new (W.contents out.old) (W.contents out.new) (AreTurns worker) result }
+    {
         for _ in 0..most {
             if self.next_kind(worker)? == kind {
                 return Ok(());
             }
-            self.go(worker)?;
+            match self.go(worker, out) {
+                Ok(()) => {}
+                Err(halt) => return Err(halt),
+            }
         }
         if self.next_kind(worker)? == kind {
             Ok(())
@@ -126,22 +121,54 @@ impl<'a, W: Write> Player<'a, W> {
         }
     }
 
+    // The worker makes steps until it has made one of this kind.
+    fn go_to<W: Write>(&mut self, worker: u8, kind: StepKind, out: &mut W) -> Result<(), Halt>
+        ensures same { IsSame self.old self.new }
+        ensures plays { Plays self.old self.new (W.contents out.old) (W.contents out.new) (AreTurns worker) result }
+    {
+        match self.go_before(worker, kind, MOST_STEPS - 1, out) {
+            Ok(()) => self.go(worker, out),
+            Err(halt) => Err(halt),
+        }
+    }
+
     // The worker makes steps until its reply stands, and hands it out.
-    fn go_to_end(&mut self, worker: u8) -> Result<(), Halt> {
+    fn go_to_end<W: Write>(&mut self, worker: u8, out: &mut W) -> Result<(), Halt>
+        ensures same { IsSame self.old self.new }
+        ensures plays { Plays self.old self.new (W.contents out.old) (W.contents out.new) (Obeys (Command.End worker)) result }
+    {
+        match self.go_to_reply(worker, out) {
+            Ok(()) => self.hand_out(worker, out),
+            Err(halt) => Err(halt),
+        }
+    }
+
+    // The worker makes steps, at most so many as it makes for one line, until its reply stands.
+    fn go_to_reply<W: Write>(&mut self, worker: u8, out: &mut W) -> Result<(), Halt>
+        ensures same { IsSame self.old self.new }
+        ensures plays { Plays self.old self.new (W.contents out.old) (W.contents out.new) (AreTurns worker) result }
+    {
         for _ in 0..MOST_STEPS {
             if self.actor(worker)?.reply().is_some() {
-                break;
+                return Ok(());
             }
-            self.go(worker)?;
+            match self.go(worker, out) {
+                Ok(()) => {}
+                Err(halt) => return Err(halt),
+            }
         }
-        self.hand_out(worker)
+        Ok(())
     }
 
     // The worker makes its next step. If that is a call on its file, no device call fails.
-    fn go(&mut self, worker: u8) -> Result<(), Halt> {
-        match self.next_kind(worker)? {
-            StepKind::File(_) => self.happen(Event::File(worker, Outcome::Good)),
-            StepKind::Load | StepKind::Change(_) => self.step(worker),
+    fn go<W: Write>(&mut self, worker: u8, out: &mut W) -> Result<(), Halt>
+        ensures same { IsSame self.old self.new }
+        ensures plays { Plays self.old self.new (W.contents out.old) (W.contents out.new) (AreTurns worker) result }
+    {
+        match self.next_kind(worker) {
+            Ok(StepKind::File(_)) => { self.happen(Event::File(worker, Outcome::Good), &[], out) }
+            Ok(StepKind::Load | StepKind::Change(_)) => self.step(worker, out),
+            Err(halt) => Err(halt),
         }
     }
 
@@ -155,89 +182,135 @@ impl<'a, W: Write> Player<'a, W> {
     }
 
     // The worker makes its next step, which is no call on a file.
-    fn step(&mut self, worker: u8) -> Result<(), Halt> {
-        let claim = self.next_claim(worker);
-        self.happen(Event::Step(worker))?;
-        match claim {
-            Some(claim) if self.tells_claims => self.tell_claim(claim),
-            _ => Ok(()),
+    fn step<W: Write>(&mut self, worker: u8, out: &mut W) -> Result<(), Halt>
+        ensures same { IsSame self.old self.new }
+        ensures plays { Plays self.old self.new (W.contents out.old) (W.contents out.new) (λ events. events ≡ EventModel.Step worker ∷ []) result }
+    {
+        match self.line_of_step(worker) {
+            Ok(line) => self.happen(Event::Step(worker), &line, out),
+            Err(AllocError) => Err(Halt::Memory),
         }
     }
 
-    // The claim that the worker's next step wins, if it is one: the gate is as the step expects it.
-    fn next_claim(&self, worker: u8) -> Option<Claim> {
-        let actor = self.actor(worker).ok()?;
-        let Op::Change {
-            kind: Kind::Claim,
-            at: At::Gate(slot),
-            from,
-            ..
-        } = actor.ask()
-        else {
-            return None;
-        };
-        let gate = Gate::unpack(from)?;
-        let claim = Claim {
-            slot,
-            seq: gate.seq,
-            tenant: actor.tenant(),
-        };
-        (self.gate(slot)? == from).then_some(claim)
+    // What is told of the worker's next step: the claim that it wins, if it is one and claims are told.
+    fn line_of_step(&self, worker: u8) -> Result<Vec<u8>, AllocError>
+        ensures { IfOk result (λ line. IsTextOf self.now.tells_claims self.now.world (EventModel.Step worker) line.items) }
+    {
+        if !self.tells_claims {
+            return Ok(Vec::new(self.alloc));
+        }
+        match self.actor(worker) {
+            Ok(actor) => self.line_of_claim(actor),
+            Err(_) => Ok(Vec::new(self.alloc)),
+        }
     }
 
-    fn tell_claim(&mut self, claim: Claim) -> Result<(), Halt> {
-        let Claim { slot, seq, tenant } = claim;
-        let name = name_in(self.world.config(), tenant);
-        writeln!(self.out, "claim {slot} {seq} {name}")?;
-        Ok(())
+    // The line of the claim that a request's next step wins, if it is one.
+    fn line_of_claim(&self, actor: &Actor) -> Result<Vec<u8>, AllocError>
+        ensures { IfOk result (λ line. (state : State) → Shows self.now.world state → line.items ≡ text_of self.now.world.config (claims_of self.now.world.config state (Some actor.now))) }
+    {
+        match claimed_by(actor.ask()) {
+            Some((slot, expected)) => self.line_of_gate(actor.tenant(), slot, expected),
+            None => Ok(Vec::new(self.alloc)),
+        }
+    }
+
+    // The line of the claim of a slot, if it is won: the gate is as it is expected to be.
+    fn line_of_gate(&self, tenant: u8, slot: u8, expected: u64) -> Result<Vec<u8>, AllocError>
+        ensures { IfOk result (λ line. (state : State) → Shows self.now.world state → line.items ≡ text_of self.now.world.config (spec.won_by self.now.world.config state.cells tenant (Some (slot, expected)))) }
+    {
+        let config = self.world.config();
+        if u16::from(slot) >= config.pool || self.world.word(At::Gate(slot)) != expected {
+            return Ok(Vec::new(self.alloc));
+        }
+        match Gate::unpack(expected) {
+            Some(gate) => claim_line(self.alloc, config, slot, gate.seq, tenant),
+            None => Ok(Vec::new(self.alloc)),
+        }
     }
 
     // The worker hands out its reply, which stands.
-    fn hand_out(&mut self, worker: u8) -> Result<(), Halt> {
+    fn hand_out<W: Write>(&mut self, worker: u8, out: &mut W) -> Result<(), Halt>
+        ensures same { IsSame self.old self.new }
+        ensures plays { Plays self.old self.new (W.contents out.old) (W.contents out.new) (λ events. events ≡ EventModel.Hand worker ∷ []) result }
+    {
+        match self.line_of_reply(worker) {
+            Ok(line) => self.happen(Event::Hand(worker), &line, out),
+            Err(halt) => Err(halt),
+        }
+    }
+
+    // The line of a worker's reply, which stands.
+    fn line_of_reply(&self, worker: u8) -> Result<Vec<u8>, Halt>
+        ensures { IfOk result (λ line. IsTextOf self.now.tells_claims self.now.world (EventModel.Hand worker) line.items) }
+    {
         let actor = self.actor(worker)?;
-        let tenant = actor.tenant();
         let Some(reply) = actor.reply() else {
             return Err(Halt::DidNotArrive);
         };
-        self.happen(Event::Hand(worker))?;
-        self.tell_reply(worker, tenant, reply)
+        match reply_line(
+            self.alloc,
+            self.world.config(),
+            worker,
+            actor.tenant(),
+            reply,
+        ) {
+            Ok(line) => Ok(line),
+            Err(AllocError) => Err(Halt::Memory),
+        }
     }
 
-    fn tell_reply(&mut self, worker: u8, tenant: u8, reply: Reply) -> Result<(), Halt> {
-        let name = name_in(self.world.config(), tenant);
-        write!(self.out, "{worker} {name} ")?;
-        self.out.write_all(&Say::Store(reply).text())?;
-        Ok(())
-    }
-
-    fn happen(&mut self, event: Event) -> Result<(), Halt> {
+    // An event happens, of which this text is told.
+    fn happen<W: Write>(&mut self, event: Event, text: &[u8], out: &mut W) -> Result<(), Halt>
+        requires { IsTextOf self.old.tells_claims self.old.world event text.now }
+        ensures same { IsSame self.old self.new }
+        ensures plays { Plays self.old self.new (W.contents out.old) (W.contents out.new) (λ events. events ≡ event ∷ []) result }
+    {
         match self.world.step(event) {
-            Ok(()) => Ok(()),
+            Ok(()) => write_whole(out, text),
             Err(fault) => Err(Halt::from(fault)),
         }
     }
 
     // The request of a worker. None of a worker that isn't there, or has no request, can go on.
-    fn actor(&self, worker: u8) -> Result<&Actor, Halt> {
+    fn actor(&self, worker: u8) -> Result<&Actor, Halt>
+        ensures request { IfOk result (λ actor. (state : State) → Shows self.now.world state → (state.seats worker).actor ≡ Some actor.now) }
+        ensures none { OnErr result ((state : State) → Shows self.now.world state → (state.seats worker).actor ≡ None) }
+    {
         if worker < self.world.config().workers {
-            self.world.actor(worker).ok_or(Halt::NotEnabled)
+            match self.world.actor(worker) {
+                Some(actor) => Ok(actor),
+                None => Err(Halt::NotEnabled),
+            }
         } else {
             Err(Halt::NotEnabled)
         }
     }
+}
 
-    fn gate(&self, slot: u8) -> Option<u64> {
-        if u16::from(slot) < self.world.config().pool {
-            Some(self.world.word(At::Gate(slot)))
-        } else {
-            None
-        }
+// The slot that a step is to claim, with the bits that it expects in the gate.
+fn claimed_by(op: Op) -> Option<(u8, u64)>
+    ensures { result ≡ spec.claimed_by op }
+{
+    match op {
+        Op::Change { kind, at, from, .. } if kind == Kind::Claim => gate_at(at, from),
+        Op::Change { .. } | Op::Load(_) | Op::File { .. } => None,
     }
 }
 
-fn name_in(config: &Config, tenant: u8) -> &str {
-    match config.tenants.get(usize::from(tenant)) {
-        Some(tenant) => str::from_utf8(&tenant.name).unwrap_or("?"),
-        None => "?",
+// The gate at a place, with the bits that an exchange expects there.
+fn gate_at(at: At, expected: u64) -> Option<(u8, u64)>
+    ensures { result ≡ spec.gate_at at expected }
+{
+    match at {
+        At::Gate(slot) => Some((slot, expected)),
+        At::Door(_)
+        | At::Row(_)
+        | At::Data { .. }
+        | At::Status(_)
+        | At::Count(_)
+        | At::Addr { .. }
+        | At::Expected { .. }
+        | At::New { .. } => None,
     }
 }

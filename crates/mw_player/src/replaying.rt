@@ -1,9 +1,14 @@
 //! `mwreplay`: plays a schedule.
+ghost use Rattle.std.specs.Prelude.{◌≡◌, IfOk};
+ghost use Rattle.std.specs.Io.KnownBytes.{Keeps};
+ghost use Rattle.mw_schedule.specs.Playing.{IsSchedule};
+ghost use Rattle.mw_player.specs.Playing.{IsSame, ObeysAll, Plays};
+ghost use Rattle.mw_player.specs.Replayed.{PrintsAll, Replays, fault_at, halt_of, status_after, status_of};
 
 use crate::player::{Halt, Player};
 use clap::error::ErrorKind;
 use clap::{Arg, ArgAction, Command};
-use mw_schedule::{ScheduleFault, read_schedule};
+use mw_schedule::{Schedule, ScheduleFault, ScheduleLine, read_schedule};
 use std::alloc::{AllocError, Global};
 use std::fs::File;
 use std::io::{self, Read, Write};
@@ -41,7 +46,9 @@ enum ReplayFault {
 
 impl ReplayFault {
     /// Why the line with this number was not played.
-    fn at(number: u64, halt: Halt) -> Self {
+    fn at(number: u64, halt: Halt) -> Self
+        ensures { result ≡ fault_at number halt }
+    {
         match halt {
             Halt::NotEnabled => ReplayFault::NotEnabled(number),
             Halt::LastNumber => ReplayFault::LastNumber(number),
@@ -52,7 +59,9 @@ impl ReplayFault {
     }
 
     /// The exit status that tells it.
-    fn status(&self) -> u8 {
+    fn status(&self) -> u8
+        ensures { result ≡ status_of self.now }
+    {
         match self {
             ReplayFault::CannotRead | ReplayFault::Memory | ReplayFault::Output => 1,
             ReplayFault::Args(_) | ReplayFault::Wrong(_) => 2,
@@ -131,14 +140,18 @@ pub fn replay<R: AllocGlobal, I: Read, O: Write, E: Write>(
     trace: bool,
     out: &mut O,
     err: &mut E,
-) -> u8 {
+) -> u8
+    ensures { Replays trace (O.contents out.old) (O.contents out.new) result }
+{
     match play(rt.alloc(), input, trace, out) {
         Ok(()) => 0,
         Err(fault) => tell(&fault, err),
     }
 }
 
-fn tell<E: Write>(fault: &ReplayFault, err: &mut E) -> u8 {
+fn tell<E: Write>(fault: &ReplayFault, err: &mut E) -> u8
+    ensures { result ≡ status_of fault.now }
+{
     let _ = match fault {
         // The text that clap makes ends with a line feed.
         ReplayFault::Args(fault) => write!(err, "{fault}"),
@@ -187,18 +200,79 @@ fn play<I: Read, O: Write>(
     input: &mut I,
     trace: bool,
     out: &mut O,
-) -> Result<(), ReplayFault> {
+) -> Result<(), ReplayFault>
+    ensures { Replays trace (O.contents out.old) (O.contents out.new) (status_after result) }
+{
+    match read(alloc, input) {
+        Ok(schedule) => play_schedule(alloc, schedule, trace, out),
+        Err(fault) => Err(fault),
+    }
+}
+
+// The schedule that `input` gives, which is read to its end.
+fn read<I: Read>(alloc: Global, input: &mut I) -> Result<Schedule, ReplayFault>
+    ensures { IfOk result IsSchedule }
+{
     let mut text = Vec::new(alloc);
     input.read_to_end(&mut text)?;
-    let schedule = read_schedule(alloc, &text)?;
-    let mut player = Player::new(alloc, schedule.config, trace, out)?;
-    for line in schedule.lines {
-        if let Err(halt) = player.obey(line.command) {
-            return Err(ReplayFault::at(line.number, halt));
-        }
+    Ok(read_schedule(alloc, &text)?)
+}
+
+// Plays a schedule on a world of its own.
+fn play_schedule<O: Write>(
+    alloc: Global,
+    schedule: Schedule,
+    trace: bool,
+    out: &mut O,
+) -> Result<(), ReplayFault>
+    requires { IsSchedule schedule }
+    ensures { Replays trace (O.contents out.old) (O.contents out.new) (status_after result) }
+{
+    let Schedule { config, lines } = schedule;
+    match Player::new(alloc, config, trace) {
+        Ok(player) => play_on(player, lines, out),
+        Err(AllocError) => Err(ReplayFault::Memory),
     }
-    if player.finish().is_err() {
-        return Err(ReplayFault::Output);
+}
+
+// Plays the lines of a schedule on a new world, and has the output take all that was written.
+fn play_on<O: Write>(
+    mut player: Player,
+    lines: Vec<ScheduleLine>,
+    out: &mut O,
+) -> Result<(), ReplayFault>
+    ensures { PrintsAll player lines.items (O.contents out.old) (O.contents out.new) (status_after result) }
+{
+    match play_lines(&mut player, lines, out) {
+        Ok(()) => flush(out),
+        Err((number, halt)) => Err(ReplayFault::at(number, halt)),
+    }
+}
+
+// Has the output take all that was written.
+fn flush<O: Write>(out: &mut O) -> Result<(), ReplayFault>
+    ensures { Keeps (O.contents out.old) (O.contents out.new) }
+{
+    match out.flush() {
+        Ok(()) => Ok(()),
+        Err(_) => Err(ReplayFault::Output),
+    }
+}
+
+// Plays lines one after the other. The error tells the number of the line that was not played.
+fn play_lines<O: Write>(
+    player: &mut Player,
+    lines: Vec<ScheduleLine>,
+    out: &mut O,
+) -> Result<(), (u64, Halt)>
+    ensures same { IsSame player.old player.new }
+    ensures plays { Plays player.old player.new (O.contents out.old) (O.contents out.new) (ObeysAll lines.items) (halt_of result) }
+{
+    for line in lines {
+        match player.obey(line.command, out) {
+            Ok(()) => {}
+            Err(halt) => return Err((line.number, halt)),
+        }
     }
     Ok(())
 }

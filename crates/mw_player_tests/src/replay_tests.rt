@@ -198,15 +198,15 @@ fn replies_before_a_halt_stay(rt: HostRuntime) -> Result<(), Fail> {
 }
 
 /// A player that has played the schedule of this text.
-fn player_of<'a, R: Abort + AllocGlobal, W: Write>(
+fn player_of<R: Abort + AllocGlobal, W: Write>(
     rt: &R,
     text: &[u8],
-    out: &'a mut W,
-) -> Result<Player<'a, W>, Fail> {
+    out: &mut W,
+) -> Result<Player, Fail> {
     let schedule = read_schedule(rt.alloc(), text).expect(rt, "a schedule");
-    let mut player = Player::new(rt.alloc(), schedule.config, false, out)?;
+    let mut player = Player::new(rt.alloc(), schedule.config, false)?;
     for line in schedule.lines {
-        assert_eq!(rt; player.obey(line.command), Ok(()));
+        assert_eq!(rt; player.obey(line.command, out), Ok(()));
     }
     Ok(player)
 }
@@ -217,10 +217,10 @@ fn steps_are_counted(rt: HostRuntime) -> Result<(), Fail> {
     let mut out = Vec::new(rt.alloc());
     let mut player = player_of(&rt, text, &mut out)?;
     let admits = StepKind::Change(Kind::Admit);
-    assert_eq!(rt; player.go_before(0, admits, 0), Err(Halt::DidNotArrive));
-    assert_eq!(rt; player.go_before(0, admits, 1), Ok(()));
-    assert_eq!(rt; player.go_before(0, admits, 0), Ok(()));
-    assert_eq!(rt; player.obey(Command::To(0, admits)), Ok(()));
+    assert_eq!(rt; player.go_before(0, admits, 0, &mut out), Err(Halt::DidNotArrive));
+    assert_eq!(rt; player.go_before(0, admits, 1, &mut out), Ok(()));
+    assert_eq!(rt; player.go_before(0, admits, 0, &mut out), Ok(()));
+    assert_eq!(rt; player.obey(Command::To(0, admits), &mut out), Ok(()));
     Ok(())
 }
 

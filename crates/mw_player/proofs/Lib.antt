@@ -1,0 +1,5 @@
+pub mod GoingOn
+pub mod Served
+pub mod Telling
+pub mod ToldLines
+pub mod Writing

@@ -1,0 +1,10 @@
+use Rattle.std.proofs.Common.{length}
+use Rattle.mw_player.proofs.Writing.{Sending}
+use Rattle.mw_player.proofs.lines.write_whole.Given as goal
+
+-- what was sent of the text, and the rest
+abbrev pub invariant-loop-rest : goal.invariant-loop-rest
+invariant-loop-rest g l = Sending (g.W.Write.contents l.initial.out) (g.W.Write.contents l.out) l.text l.rest
+
+abbrev pub decreases-loop-rest : goal.decreases-loop-rest
+decreases-loop-rest g l = length l.rest

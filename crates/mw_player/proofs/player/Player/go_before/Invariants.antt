@@ -1,0 +1,10 @@
+use Rattle.std.proofs.Common.{Ok}
+use Rattle.mw_player.specs.Playing.{AreTurns, IsSame, Plays}
+use Rattle.mw_player.proofs.player.Player.go_before.Given as goal
+
+-- the worker has made turns, and nothing else has happened
+abbrev pub invariant-loop : goal.invariant-loop
+invariant-loop g l = record {
+  same : IsSame l.initial.self l.self;
+  plays : Plays l.initial.self l.self (g.W.Write.contents l.initial.out) (g.W.Write.contents l.out) (AreTurns l.worker) (Ok tt);
+}

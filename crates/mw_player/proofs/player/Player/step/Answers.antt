@@ -1,0 +1,9 @@
+use Rattle.std.proofs.Common.{◌≡◌, ◌∷◌, [], Err}
+use Rattle.mw_world.specs.declared.events.Event.TheVariants.{Step}
+use Rattle.mw_player.specs.declared.player.Halt.TheVariants.{Memory}
+use Rattle.mw_player.proofs.GoingOn.{plays_nothing}
+use Rattle.mw_player.proofs.player.Player.step.Goals as goal
+
+pub returns-in-Err-clause-plays : goal.returns-in-Err-clause-plays
+returns-in-Err-clause-plays g c =
+    plays_nothing c.args.self.now (g.W.Write.contents c.args.out.now) (λ events. events ≡ Step c.args.worker ∷ []) (Err Memory) tt
