@@ -217,7 +217,10 @@ fn steps_are_counted(rt: HostRuntime) -> Result<(), Fail> {
     let mut out = Vec::new(rt.alloc());
     let mut player = player_of(&rt, text, &mut out)?;
     let admits = StepKind::Change(Kind::Admit);
-    assert_eq!(rt; player.go_before(0, admits, 0, &mut out), Err(Halt::DidNotArrive));
+    assert_eq!(rt;
+        player.go_before(0, admits, 0, &mut out),
+        Err(Halt::DidNotArrive)
+    );
     assert_eq!(rt; player.go_before(0, admits, 1, &mut out), Ok(()));
     assert_eq!(rt; player.go_before(0, admits, 0, &mut out), Ok(()));
     assert_eq!(rt; player.obey(Command::To(0, admits), &mut out), Ok(()));
