@@ -35,22 +35,22 @@ use Rattle.mw_world.specs.Definition.Extent.{has_slot}
 use Rattle.mw_world.specs.Definition.Noting.{marked, noted, poised, seated}
 use Rattle.mw_world.specs.Definition.State.{State, Account, Seat, tenants_of}
 use Rattle.mw_world.specs.Definition.Turns.{Made, goes_on, moved, next_attempt}
-use Rattle.mw_simulator.specs.declared.accounts.Account.{Account as AccountInMemory}
+use Rattle.mw_world_memory.specs.declared.accounts.Account.{Account as AccountInMemory}
 use Rattle.mw_simulator.specs.declared.world.calls.Ended.{Ended}
 use Rattle.mw_simulator.specs.declared.world.World.{World}
-use Rattle.mw_simulator.specs.Bits.{bits_at}
+use Rattle.mw_world_memory.specs.Bits.{bits_at}
 use Rattle.mw_simulator.specs.Ending.{called as called_then, Closed, Closes, IsBookOf, SameButFiles, cells_closed, note_closed, ended, is_good, faulted, skipped, refused, makes_none}
-use Rattle.mw_simulator.specs.declared.claims.Claims.{Claims}
-use Rattle.mw_simulator.specs.Claims.{Recalls}
-use Rattle.mw_simulator.specs.Lines.{HasRoomForLine}
-use Rattle.mw_simulator.specs.Making.{Makes, is_step_there}
+use Rattle.mw_world_memory.specs.declared.claims.Claims.{Claims}
+use Rattle.mw_world_memory.specs.Claims.{Recalls}
+use Rattle.mw_world_memory.specs.Lines.{HasRoomForLine}
+use Rattle.mw_world_memory.specs.Making.{Makes, is_step_there}
 use Rattle.mw_simulator.specs.Shows.{Leads, Shows}
 use Rattle.mw_simulator.specs.Stepping.{HasRoom, told, with_cells, with_file}
-use Rattle.mw_simulator.specs.Ties.{Tie}
+use Rattle.mw_world_memory.specs.Ties.{Tie}
 use Rattle.mw_simulator.proofs.Entering.{IsHome, ShowsAccounts, ShowsSeats, set_keeps_at, ShowsOne, accounts_set, element, recelled, upd_here, upd_else}
 use Rattle.mw_simulator.proofs.Frames.{upd_again}
-use Rattle.mw_simulator.proofs.MadeSteps.{status_is}
-use Rattle.mw_simulator.proofs.Tying.{write_fits}
+use Rattle.mw_world_memory.proofs.MadeSteps.{status_is}
+use Rattle.mw_world_memory.proofs.Tying.{write_fits}
 
 below : (m n : ℕ) → m < n → nat_lt m n ≡ true
 below m n lt = grind (arith, nat_tests, lt)

@@ -23,7 +23,7 @@ use Rattle.mw_world.specs.Definition.Extent.{has_slot}
 use Rattle.mw_world.specs.Definition.Restarts.{doubt_if, doubt_then, may_be_cut, may_interrupt, stopped_at, stopped_call, under_way}
 use Rattle.mw_world.specs.Definition.State.{State, tenant_at}
 use Rattle.mw_world.specs.Definition.Turns.{Made}
-use Rattle.mw_simulator.specs.declared.accounts.Account.{Account as AccountInMemory}
+use Rattle.mw_world_memory.specs.declared.accounts.Account.{Account as AccountInMemory}
 use Rattle.mw_simulator.specs.declared.world.World.{World}
 use Rattle.mw_simulator.specs.Crashes.{IsCrashSafe, stop_in_call}
 use Rattle.mw_simulator.specs.Ending.{IsStarted, TouchesFile}

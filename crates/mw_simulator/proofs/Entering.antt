@@ -20,17 +20,17 @@ use Rattle.mw_world.specs.Definition.Noting.{more, noted, marked, seated, poised
 use Rattle.mw_world.specs.Definition.Requests.{came, gave}
 use Rattle.mw_world.specs.Definition.Turns.{goes_on}
 use Rattle.mw_world.specs.Definition.World.{asked, begun}
-use Rattle.mw_simulator.specs.declared.accounts.Account.{Account as AccountInMemory}
-use Rattle.mw_simulator.specs.declared.claims.Claims.{Claims}
-use Rattle.mw_simulator.specs.declared.lines.Lines.{Lines}
-use Rattle.mw_simulator.specs.declared.seats.Seat.{Seat as SeatInMemory}
+use Rattle.mw_world_memory.specs.declared.accounts.Account.{Account as AccountInMemory}
+use Rattle.mw_world_memory.specs.declared.claims.Claims.{Claims}
+use Rattle.mw_world_memory.specs.declared.lines.Lines.{Lines}
+use Rattle.mw_world_memory.specs.declared.seats.Seat.{Seat as SeatInMemory}
 use Rattle.mw_simulator.specs.declared.world.World.{World}
-use Rattle.mw_simulator.specs.Claims.{HasRoomForNote, Recalls}
-use Rattle.mw_simulator.specs.Lines.{HasRoomForLine, SameLines}
-use Rattle.mw_simulator.specs.Seats.{seat_of}
+use Rattle.mw_world_memory.specs.Claims.{HasRoomForNote, Recalls}
+use Rattle.mw_world_memory.specs.Lines.{HasRoomForLine, SameLines}
+use Rattle.mw_world_memory.specs.Seats.{seat_of}
 use Rattle.mw_simulator.specs.Shows.{Shows, ShowsAccount}
 use Rattle.mw_simulator.specs.Stepping.{HasRoom, entered}
-use Rattle.mw_simulator.specs.Ties.{Tie}
+use Rattle.mw_world_memory.specs.Ties.{Tie}
 use Rattle.mw_simulator.proofs.Frames.{set_here, set_else}
 
 -- the parts of a world in memory are those of this world

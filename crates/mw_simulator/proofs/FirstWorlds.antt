@@ -13,16 +13,16 @@ use Rattle.mw_world_file.specs.Giving.{IsGiven}
 use Rattle.mw_world.specs.declared.config.Config.{Config}
 use Rattle.mw_world.specs.Definition.History.{no_history}
 use Rattle.mw_world.specs.Definition.State.{Account, account_at, first_openings, first_cells, idle_seat, no_tenant, started, tenant_at, tenants_of}
-use Rattle.mw_simulator.specs.declared.accounts.Account.{Account as AccountInMemory}
-use Rattle.mw_simulator.specs.declared.seats.Seat.{Seat}
+use Rattle.mw_world_memory.specs.declared.accounts.Account.{Account as AccountInMemory}
+use Rattle.mw_world_memory.specs.declared.seats.Seat.{Seat}
 use Rattle.mw_simulator.specs.declared.world.World.{World}
-use Rattle.mw_simulator.specs.Claims.{Recalls}
-use Rattle.mw_simulator.specs.Openings.{AreOpenings, Gave, Openings, opening_at}
-use Rattle.mw_simulator.specs.Seats.{seat_of}
+use Rattle.mw_world_memory.specs.Claims.{Recalls}
+use Rattle.mw_world_memory.specs.Openings.{AreOpenings, Gave, Openings, opening_at}
+use Rattle.mw_world_memory.specs.Seats.{seat_of}
 use Rattle.mw_simulator.specs.Shows.{Shows, ShowsAccount}
 use Rattle.mw_simulator.specs.Starts.{AreFresh, AreGiven, AreIdle, AreTenants, Each, EachOf, HaveWords}
-use Rattle.mw_simulator.specs.Ties.{Tie}
-use Rattle.mw_simulator.proofs.FirstBits.{first_cells_fit}
+use Rattle.mw_world_memory.specs.Ties.{Tie}
+use Rattle.mw_world_memory.proofs.FirstBits.{first_cells_fit}
 
 pub each_none : {A : Type 0} (P : ℕ → A → Type 0) → Each P []
 each_none {A} P index x is = absurd (cc)

@@ -14,7 +14,7 @@ use Rattle.mw_lone.specs.Store.{entries_in_doubt}
 use Rattle.mw_world.specs.Claim.Headline.{EveryRunServesAlone}
 use Rattle.mw_world.specs.Definition.Restarts.{interrupted_request, under_way}
 use Rattle.mw_world.specs.Definition.State.{tenants_of}
-use Rattle.mw_simulator.specs.declared.accounts.Account.{Account as AccountInMemory}
+use Rattle.mw_world_memory.specs.declared.accounts.Account.{Account as AccountInMemory}
 use Rattle.mw_simulator.specs.Crashes.{IsCrashSafe, stop_in_call}
 use Rattle.mw_simulator.specs.Images.{EveryImageAtRestIsOfStore, EveryImageInACallIsOfStore}
 

@@ -2,14 +2,12 @@ pub mod Calling
 pub mod Coming
 pub mod Crashes
 pub mod Entering
-pub mod FirstBits
 pub mod FirstWorlds
 pub mod Frames
 pub mod GoingOn
 pub mod Halting
 pub mod Holding
 pub mod Images
-pub mod MadeSteps
 pub mod OpenedImages
 pub mod Reopened
 pub mod Restarted
@@ -17,5 +15,4 @@ pub mod Serving
 pub mod ShownAccounts
 pub mod SoundBooks
 pub mod Turning
-pub mod Tying
 pub mod Unchanged

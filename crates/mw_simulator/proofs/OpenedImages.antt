@@ -18,7 +18,7 @@ use Rattle.mw_world.specs.Claim.Headline.{EveryRunServesAlone, IsRun, LeavesStor
 use Rattle.mw_world.specs.Definition.Happenings.{Found, Happening}
 use Rattle.mw_world.specs.Definition.Restarts.{UnderWay, doubt_then, found_of, interrupted_request, is_sealed_then, may_all_be_found, may_be_found, may_fail, may_find, may_interrupt, opened_file, restarted, under_way}
 use Rattle.mw_world.specs.Definition.State.{Opening, State, store_of, tenants_of}
-use Rattle.mw_simulator.specs.declared.accounts.Account.{Account as AccountInMemory}
+use Rattle.mw_world_memory.specs.declared.accounts.Account.{Account as AccountInMemory}
 use Rattle.mw_simulator.specs.declared.world.World.{World}
 use Rattle.mw_simulator.specs.Images.{EveryImageInAStartIsOfStore, EveryImageIsOfStore, IsLeftInStart}
 use Rattle.mw_simulator.specs.Running.{Started, Steps, outage_of}

@@ -13,7 +13,7 @@ use Rattle.mw_world.specs.declared.config.Config.{Config}
 use Rattle.mw_world.specs.declared.events.Stop.{Stop}
 use Rattle.mw_world.specs.Definition.Restarts.{doubt_then, interrupted_request, is_sealed_then, may_fail, may_find, may_interrupt, takes, under_way}
 use Rattle.mw_world.specs.Definition.State.{State, marks_in, tenant_at}
-use Rattle.mw_simulator.specs.declared.accounts.Account.{Account as AccountInMemory}
+use Rattle.mw_world_memory.specs.declared.accounts.Account.{Account as AccountInMemory}
 use Rattle.mw_simulator.specs.declared.world.halts.Halt.{Halt}
 use Rattle.mw_simulator.specs.declared.world.World.{World}
 use Rattle.mw_simulator.specs.Running.{IsFoundBy, Outage, outage_of}

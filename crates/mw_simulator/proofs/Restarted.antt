@@ -15,14 +15,14 @@ use Rattle.mw_world.specs.Definition.Happenings.{Found}
 use Rattle.mw_world.specs.Definition.History.{no_history}
 use Rattle.mw_world.specs.Definition.Restarts.{found_of, may_all_be_found, may_be_found, nothing_found, opened_file, reopened, restart, restarted, under_way}
 use Rattle.mw_world.specs.Definition.State.{Account, State, first_cells, started, tenant_at, tenants_of}
-use Rattle.mw_simulator.specs.declared.accounts.Account.{Account as AccountInMemory}
+use Rattle.mw_world_memory.specs.declared.accounts.Account.{Account as AccountInMemory}
 use Rattle.mw_simulator.specs.declared.world.World.{World}
-use Rattle.mw_simulator.specs.Claims.{Recalls}
+use Rattle.mw_world_memory.specs.Claims.{Recalls}
 use Rattle.mw_simulator.specs.Running.{IsOpenedBy, Started, are_named, outage_of}
 use Rattle.mw_simulator.specs.Shows.{Shows, ShowsAccount}
 use Rattle.mw_simulator.specs.Starts.{AreIdle, HaveWords}
 use Rattle.mw_simulator.specs.Stops.{AreReopened, IsReopened}
-use Rattle.mw_simulator.specs.Ties.{Tie}
+use Rattle.mw_world_memory.specs.Ties.{Tie}
 use Rattle.mw_simulator.proofs.FirstWorlds.{AreShown, have_words, shows_start, zeros_are_words}
 
 pub none_is : {A : Type 0} (o : Option A) (b : Bool) → is_some o ≡ not b → b ≡ is_none o

@@ -5,9 +5,9 @@ use Rattle.std.specs.Coded.{Coded-set, coded_ℕ}
 use Rattle.mw_world_file.specs.SoundBooks.{sound_by}
 use Rattle.mw_world.specs.declared.config.Config.{Config}
 use Rattle.mw_world.specs.Definition.State.{tenant_at, tenants_of}
-use Rattle.mw_simulator.specs.declared.accounts.Account.{Account as AccountInMemory}
+use Rattle.mw_world_memory.specs.declared.accounts.Account.{Account as AccountInMemory}
 use Rattle.mw_simulator.specs.Starts.{AreFresh, AreTenants}
-use Rattle.mw_simulator.specs.TenantBooks.{AreSound}
+use Rattle.mw_world_memory.specs.TenantBooks.{AreSound}
 use Rattle.mw_simulator.proofs.FirstWorlds.{first_accounts, fresh_shown}
 
 -- each has as many words as its tenant

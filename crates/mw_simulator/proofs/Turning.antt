@@ -21,11 +21,11 @@ use Rattle.mw_world.specs.Definition.Changes.{Shape, Exchange, Store, Fetch, sha
 use Rattle.mw_world.specs.Definition.Notes.{note_of}
 use Rattle.mw_world.specs.Definition.State.{State}
 use Rattle.mw_world.specs.Definition.Turns.{may_make, turn, turned, moved, made_of}
-use Rattle.mw_simulator.specs.declared.seats.Seat.{Seat as SeatInMemory}
+use Rattle.mw_world_memory.specs.declared.seats.Seat.{Seat as SeatInMemory}
 use Rattle.mw_simulator.specs.declared.world.World.{World}
-use Rattle.mw_simulator.specs.BitPlaces.{HasPlacesOf}
-use Rattle.mw_simulator.specs.Bits.{Bits}
-use Rattle.mw_simulator.specs.Making.{is_step_there, cells_after, news_after}
+use Rattle.mw_world_memory.specs.BitPlaces.{HasPlacesOf}
+use Rattle.mw_world_memory.specs.Bits.{Bits}
+use Rattle.mw_world_memory.specs.Making.{is_step_there, cells_after, news_after}
 use Rattle.mw_simulator.specs.Shows.{Shows}
 use Rattle.mw_simulator.specs.Stepping.{with_cells, entered, attempt_after, told, meaning}
 use Rattle.mw_simulator.proofs.Entering.{element}

@@ -3,11 +3,11 @@ use Rattle.std.specs.Prelude.{ℕ, ◌≡◌, ◌<◌, List, length, slice_get, 
 use Rattle.std.specs.Option.{option_map}
 use Rattle.std.proofs.Common.{refl, sym, ap, ◌∙◌, inl, inr}
 use Rattle.std.proofs.lemmas.Bool.{cases_eq}
-use Rattle.mw_simulator.specs.declared.accounts.Account.{Account as AccountInMemory}
-use Rattle.mw_simulator.specs.declared.lines.Lines.{Lines}
+use Rattle.mw_world_memory.specs.declared.accounts.Account.{Account as AccountInMemory}
+use Rattle.mw_world_memory.specs.declared.lines.Lines.{Lines}
 use Rattle.mw_simulator.specs.declared.world.World.{World}
-use Rattle.mw_simulator.specs.Claims.{SameClaims}
-use Rattle.mw_simulator.specs.Lines.{SameLines}
+use Rattle.mw_world_memory.specs.Claims.{SameClaims}
+use Rattle.mw_world_memory.specs.Lines.{SameLines}
 use Rattle.mw_simulator.specs.Staying.{IsUnchanged, Kept, SameBooks, SameBooksBut, book_at, kept_at, kept_of}
 use Rattle.mw_simulator.proofs.Entering.{element}
 use Rattle.mw_simulator.proofs.Frames.{set_here, set_else}

@@ -17,7 +17,7 @@ use Rattle.mw_world.specs.Definition.Happenings.{Happening}
 use Rattle.mw_world.specs.Definition.Restarts.{interrupted_request, is_sealed_then, may_find, may_interrupt, under_way}
 use Rattle.mw_world.specs.Definition.State.{Opening, State, store_of}
 use Rattle.mw_world.specs.Claim.Headline.{IsRun}
-use Rattle.mw_simulator.specs.declared.accounts.Account.{Account as AccountInMemory}
+use Rattle.mw_world_memory.specs.declared.accounts.Account.{Account as AccountInMemory}
 use Rattle.mw_simulator.specs.declared.world.World.{World}
 use Rattle.mw_simulator.specs.Crashes.{stop_in_call}
 use Rattle.mw_simulator.specs.Running.{Steps, outage_of}

@@ -17,7 +17,7 @@ use Rattle.mw_world.specs.Definition.Restarts.{UnderWay, doubt_then, found_of, i
 use Rattle.mw_world.specs.Definition.State.{State, new_world, tenants_of}
 use Rattle.mw_world.specs.Definition.Turns.{turn}
 use Rattle.mw_world.specs.Definition.World.{come, hand, step, run}
-use Rattle.mw_simulator.specs.declared.accounts.Account.{Account as AccountInMemory}
+use Rattle.mw_world_memory.specs.declared.accounts.Account.{Account as AccountInMemory}
 use Rattle.mw_simulator.specs.declared.faults.WorldFault.{WorldFault}
 use Rattle.mw_simulator.specs.declared.faults.WorldFault.TheVariants.{NotEnabled, LastNumber, Memory}
 use Rattle.mw_simulator.specs.declared.world.World.{World}

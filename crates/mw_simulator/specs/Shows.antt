@@ -4,15 +4,15 @@ use Rattle.mw_actor.specs.Acting.{Acting}
 use Rattle.mw_world_file.specs.Books.{Shows as ShowsFile, quota_of}
 use Rattle.mw_world.specs.Definition.State.{State, Account, tenant_at, tenants_of}
 use Rattle.mw_world.specs.Definition.Cells.{AllFit}
-use Rattle.mw_simulator.specs.declared.accounts.Account.{Account as AccountInMemory}
+use Rattle.mw_world_memory.specs.declared.accounts.Account.{Account as AccountInMemory}
 use Rattle.mw_simulator.specs.declared.faults.TheConstants.{MOST_REQUESTS}
 use Rattle.mw_simulator.specs.declared.faults.WorldFault.{WorldFault}
 use Rattle.mw_simulator.specs.declared.faults.WorldFault.TheVariants.{NotEnabled, LastNumber, Memory}
-use Rattle.mw_simulator.specs.declared.seats.Seat.{Seat as SeatInMemory}
+use Rattle.mw_world_memory.specs.declared.seats.Seat.{Seat as SeatInMemory}
 use Rattle.mw_simulator.specs.declared.world.World.{World}
-use Rattle.mw_simulator.specs.Claims.{Recalls}
-use Rattle.mw_simulator.specs.Seats.{seat_of}
-use Rattle.mw_simulator.specs.Ties.{Tie}
+use Rattle.mw_world_memory.specs.Claims.{Recalls}
+use Rattle.mw_world_memory.specs.Seats.{seat_of}
+use Rattle.mw_world_memory.specs.Ties.{Tie}
 
 -- A tenant in memory, which has so many words, is this tenant. Whether its file opened at the last start isn't kept in memory:
 -- it is told by the run alone.

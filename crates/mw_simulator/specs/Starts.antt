@@ -5,10 +5,10 @@ use Rattle.mw_world_file.specs.Giving.{IsGiven}
 use Rattle.mw_world.specs.declared.config.Config.{Config}
 use Rattle.mw_world.specs.declared.config.Tenant.{Tenant}
 use Rattle.mw_world.specs.Definition.State.{Account, idle_seat, tenant_at, tenants_of}
-use Rattle.mw_simulator.specs.declared.accounts.Account.{Account as AccountInMemory}
-use Rattle.mw_simulator.specs.declared.seats.Seat.{Seat as SeatInMemory}
-use Rattle.mw_simulator.specs.Openings.{Openings}
-use Rattle.mw_simulator.specs.Seats.{seat_of}
+use Rattle.mw_world_memory.specs.declared.accounts.Account.{Account as AccountInMemory}
+use Rattle.mw_world_memory.specs.declared.seats.Seat.{Seat as SeatInMemory}
+use Rattle.mw_world_memory.specs.Openings.{Openings}
+use Rattle.mw_world_memory.specs.Seats.{seat_of}
 use Rattle.mw_simulator.specs.Shows.{ShowsAccount}
 
 -- each element of a list is so, by its index

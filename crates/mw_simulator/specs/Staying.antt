@@ -6,9 +6,9 @@ use Rattle.mw_actor.specs.Acting.{Acting}
 use Rattle.mw_world_file.specs.declared.kept.Book.{Book}
 use Rattle.mw_world.specs.declared.events.Event.{Event}
 use Rattle.mw_world.specs.declared.events.Event.TheVariants.{Come as IsCome, Step as IsStep, File as IsFile, Hand as IsHand, Restart as IsRestart}
-use Rattle.mw_simulator.specs.declared.accounts.Account.{Account as AccountInMemory}
+use Rattle.mw_world_memory.specs.declared.accounts.Account.{Account as AccountInMemory}
 use Rattle.mw_simulator.specs.declared.world.World.{World}
-use Rattle.mw_simulator.specs.Claims.{SameClaims}
+use Rattle.mw_world_memory.specs.Claims.{SameClaims}
 
 -- What there is of a tenant in memory, but for the room that is kept for further marks.
 pub record Kept : Type 0 where

@@ -14,10 +14,10 @@ use Rattle.mw_world.specs.Definition.Notes.{note_of}
 use Rattle.mw_world.specs.Definition.Noting.{noted, marked, seated, poised}
 use Rattle.mw_world.specs.Definition.State.{State, tenant_at, tenants_of}
 use Rattle.mw_world.specs.Definition.Turns.{goes_on, next_attempt}
-use Rattle.mw_simulator.specs.declared.accounts.Account.{Account as AccountInMemory}
-use Rattle.mw_simulator.specs.declared.claims.Claims.{Claims}
-use Rattle.mw_simulator.specs.Claims.{HasRoomForNote}
-use Rattle.mw_simulator.specs.Lines.{HasRoomForLine}
+use Rattle.mw_world_memory.specs.declared.accounts.Account.{Account as AccountInMemory}
+use Rattle.mw_world_memory.specs.declared.claims.Claims.{Claims}
+use Rattle.mw_world_memory.specs.Claims.{HasRoomForNote}
+use Rattle.mw_world_memory.specs.Lines.{HasRoomForLine}
 
 -- There is room in memory for what one step of a tenant's request may mean.
 pub record HasRoom (claims : Claims) (accounts : List AccountInMemory) (tenant : ℕ) : Type 0 where

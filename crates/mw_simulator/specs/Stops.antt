@@ -15,7 +15,7 @@ use Rattle.mw_world.specs.Definition.Calls.{Called}
 use Rattle.mw_world.specs.Definition.Happenings.{Found}
 use Rattle.mw_world.specs.Definition.Restarts.{UnderWay, doubt_then, interrupted_request, is_sealed_then, may_be_found, may_interrupt, reopened, stopped_call, under_way}
 use Rattle.mw_world.specs.Definition.State.{State, tenant_at}
-use Rattle.mw_simulator.specs.declared.accounts.Account.{Account as AccountInMemory}
+use Rattle.mw_world_memory.specs.declared.accounts.Account.{Account as AccountInMemory}
 use Rattle.mw_simulator.specs.declared.world.halts.Halt.{Halt}
 use Rattle.mw_simulator.specs.declared.world.World.{World}
 use Rattle.mw_simulator.specs.Running.{CannotStop, IsOpenedBy, Outage, made_in, outage_of}

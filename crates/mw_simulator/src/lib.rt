@@ -10,14 +10,8 @@
 //! `Stepping` and `Ending` a step and a call, `Starts`, `Openings` and `Stops` starts.
 #![tactic(auto)]
 
-mod accounts;
-mod cells;
-mod claims;
 mod faults;
 mod laws;
-mod lines;
-mod notes;
-mod seats;
 mod world;
 
 pub use faults::{MOST_REQUESTS, WorldFault};

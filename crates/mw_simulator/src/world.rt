@@ -1,14 +1,11 @@
 //! A world in memory.
 ghost use Rattle.std.specs.Prelude.{◌≡◌, length};
 ghost use Rattle.mw_world.specs.Definition.State.{IsConfig};
-ghost use Rattle.mw_simulator.specs.BitPlaces.{HasPlacesOf};
-ghost use Rattle.mw_simulator.specs.TenantBooks.{AreSound};
+ghost use Rattle.mw_world_memory.specs.BitPlaces.{HasPlacesOf};
+ghost use Rattle.mw_world_memory.specs.TenantBooks.{AreSound};
 
-use crate::accounts::Account;
-use crate::cells::Cells;
-use crate::claims::Claims;
-use crate::seats::Seat;
 use mw_world::Config;
+use mw_world_memory::{Account, Cells, Claims, Seat};
 use std::alloc::Global;
 
 mod calls;

@@ -22,7 +22,7 @@ use Rattle.mw_world.specs.Definition.State.{Account, State, marks_in, tenants_of
 use Rattle.mw_world.specs.Definition.Turns.{Made, made_of, may_make, moved, turn, turned}
 use Rattle.mw_world.specs.Definition.World.{asked, hand, handed, may_come, run, step}
 use Rattle.mw_law_moves.proofs.Stepping.{if_some}
-use Rattle.mw_simulator.proofs.MadeSteps.{done_is}
+use Rattle.mw_world_memory.proofs.MadeSteps.{done_is}
 use Rattle.mw_table.specs.Beginning.{up_after}
 
 -- so is told of an account

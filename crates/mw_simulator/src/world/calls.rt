@@ -11,7 +11,7 @@ ghost use Rattle.mw_world.specs.declared.events.Event.TheVariants.{File as FileE
 ghost use Rattle.mw_world.specs.Definition.Calls as calls;
 ghost use Rattle.mw_world.specs.Definition.Extent.{has_slot};
 ghost use Rattle.mw_world.specs.Definition.State.{State, tenant_at};
-ghost use Rattle.mw_simulator.specs.declared.accounts.Account.{Account};
+ghost use Rattle.mw_world_memory.specs.declared.accounts.Account.{Account};
 ghost use Rattle.mw_simulator.specs.Crashes.{CrashesDoNoHarm};
 ghost use Rattle.mw_simulator.specs.Ending as ending;
 ghost use Rattle.mw_simulator.specs.Shows.{Ends, Shows};

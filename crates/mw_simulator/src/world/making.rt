@@ -2,22 +2,18 @@
 ghost use Rattle.std.specs.Prelude.{◌≡◌, ℕ, ◌≤◌, [], All, Bool, IfOk, List};
 ghost use Rattle.mw_world.specs.Definition.State as spec;
 ghost use Rattle.mw_world.specs.Definition.State.{IsConfig};
-ghost use Rattle.mw_simulator.specs.BitPlaces.{HasPlacesOf};
+ghost use Rattle.mw_world_memory.specs.BitPlaces.{HasPlacesOf};
 ghost use Rattle.mw_simulator.specs.Holding.{Holds};
 ghost use Rattle.mw_simulator.specs.Running.{Stands};
 ghost use Rattle.mw_simulator.specs.Serving.{Serves};
 ghost use Rattle.mw_simulator.specs.Starts.{AreFresh, AreGiven, AreIdle, AreTenants, HaveWords, IsFresh};
-ghost use Rattle.mw_simulator.specs.Ties.{Tie};
+ghost use Rattle.mw_world_memory.specs.Ties.{Tie};
 
-use crate::accounts::Account;
-use crate::cells::Cells;
-use crate::claims::Claims;
-use crate::lines::Lines;
-use crate::seats::Seat;
 use crate::world::World;
 use mw_words::{MAX_QUOTA, MAX_WORDS};
 use mw_world::{Config, Tenant};
 use mw_world_file::Book;
+use mw_world_memory::{Account, Cells, Claims, Lines, Seat};
 use std::alloc::{AllocError, Global};
 
 impl World {

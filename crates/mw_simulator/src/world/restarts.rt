@@ -8,16 +8,15 @@ ghost use Rattle.mw_simulator.specs.Running.{Restarts};
 ghost use Rattle.mw_simulator.specs.Shows.{Shows};
 ghost use Rattle.mw_simulator.specs.Staying.{IsUnchanged};
 ghost use Rattle.mw_simulator.specs.Stops.{AllReopen, Reopens};
-ghost use Rattle.mw_simulator.specs.TenantBooks.{AreSound};
+ghost use Rattle.mw_world_memory.specs.TenantBooks.{AreSound};
 
-use crate::accounts::Account;
 use crate::faults::WorldFault;
-use crate::lines::Lines;
 use crate::world::World;
 use crate::world::making::{first_cells, idle_seats};
 use mw_lone::Mark;
 use mw_world::{Interrupted, Stop};
 use mw_world_file::BookFault;
+use mw_world_memory::{Account, Lines};
 
 impl World {
     /// All stops, and starts again.

@@ -6,7 +6,7 @@ ghost use Rattle.mw_world.specs.Definition.Happenings.{Happening};
 ghost use Rattle.mw_world.specs.Definition.State.{State, marks_of};
 ghost use Rattle.mw_look.specs.Places.{pack};
 ghost use Rattle.mw_world.specs.Definition.Cells.{read};
-ghost use Rattle.mw_simulator.specs.Bits.{bits_at};
+ghost use Rattle.mw_world_memory.specs.Bits.{bits_at};
 ghost use Rattle.mw_simulator.specs.Crashes.{CrashesDoNoHarm};
 ghost use Rattle.mw_simulator.specs.Holding.{Holds};
 ghost use Rattle.mw_simulator.specs.Running.{Happens, Runs, RunsBySteps, Stands, StandsAfter};

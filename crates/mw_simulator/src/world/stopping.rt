@@ -6,7 +6,6 @@ ghost use Rattle.mw_simulator.specs.Ending.{called_of};
 ghost use Rattle.mw_simulator.specs.Shows.{Shows};
 ghost use Rattle.mw_simulator.specs.Stops as spec;
 
-use crate::accounts::Account;
 use crate::world::World;
 use crate::world::calls::{Called, called_at, entries_of, is_formed, starts_from};
 use crate::world::halts::Halt;
@@ -14,6 +13,7 @@ use mw_actor::Actor;
 use mw_look::Call;
 use mw_world::Interrupted;
 use mw_world_file::Cut;
+use mw_world_memory::Account;
 
 impl World {
     /// What was under way on a tenant's file, or `None` where that can't have been.

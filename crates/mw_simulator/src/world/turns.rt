@@ -15,13 +15,13 @@ ghost use Rattle.mw_simulator.specs.Staying.{IsUnchanged, SameBooks, served_by};
 ghost use Rattle.mw_simulator.specs.Stepping as stepping;
 
 use crate::faults::{MOST_REQUESTS, WorldFault};
-use crate::notes::note_of;
 use crate::world::World;
 use mw_actor::{Actor, Point};
 use mw_lone::Mark;
 use mw_look::{Got, News, Told};
 use mw_words::{At, Job};
 use mw_world::Note;
+use mw_world_memory::note_of;
 use std::alloc::AllocError;
 
 impl World {

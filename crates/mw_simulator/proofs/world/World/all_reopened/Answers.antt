@@ -2,11 +2,11 @@ use Rattle.std.proofs.Common.{◌≡◌, ℕ, ap, length, get_or, subst, sym, �
 use Rattle.std.proofs.lemmas.List.{length_push}
 use Rattle.mw_world_file.specs.SoundBooks.{HasSound}
 use Rattle.mw_world.specs.Definition.State.{State, tenant_at}
-use Rattle.mw_simulator.specs.declared.accounts.Account.{Account}
+use Rattle.mw_world_memory.specs.declared.accounts.Account.{Account}
 use Rattle.mw_simulator.specs.Running.{outage_of}
 use Rattle.mw_simulator.specs.Shows.{Shows}
 use Rattle.mw_simulator.specs.Stops.{AreReopened, IsReopened}
-use Rattle.mw_simulator.specs.TenantBooks.{AreSound}
+use Rattle.mw_world_memory.specs.TenantBooks.{AreSound}
 use Rattle.mw_simulator.proofs.Reopened.{one_refused}
 use Rattle.mw_simulator.proofs.FirstWorlds.{each_more, each_none, each_of_more}
 use Rattle.mw_simulator.proofs.world.World.all_reopened.Goals as goal

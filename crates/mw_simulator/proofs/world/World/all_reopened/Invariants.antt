@@ -1,6 +1,6 @@
 use Rattle.std.proofs.Common.{◌≡◌, length}
 use Rattle.mw_simulator.specs.Stops.{AreReopened}
-use Rattle.mw_simulator.specs.TenantBooks.{AreSound}
+use Rattle.mw_world_memory.specs.TenantBooks.{AreSound}
 use Rattle.mw_simulator.proofs.world.World.all_reopened.Given as goal
 
 abbrev pub invariant-loop-tenant : goal.invariant-loop-tenant

@@ -5,10 +5,10 @@ use Rattle.mw_look.specs.Steps.{place_of}
 use Rattle.mw_actor.specs.Asks.{asks}
 use Rattle.mw_actor.specs.Program.{replied}
 use Rattle.mw_world.specs.Definition.Turns.{turned}
-use Rattle.mw_simulator.specs.Making.{cells_after}
+use Rattle.mw_world_memory.specs.Making.{cells_after}
 use Rattle.mw_simulator.specs.Shows.{Shows}
 use Rattle.mw_simulator.specs.Stepping.{with_cells}
-use Rattle.mw_simulator.specs.Ties.{Tie}
+use Rattle.mw_world_memory.specs.Ties.{Tie}
 use Rattle.mw_simulator.proofs.Entering.{recelled}
 use Rattle.mw_simulator.proofs.Turning.{made_there, no_such_place, place_is, turned_is, turns}
 use Rattle.mw_simulator.proofs.world.World.turn.Goals as goal

@@ -1,10 +1,10 @@
 use Rattle.std.proofs.Common.{ℕ, List, Bool, subst, sym}
 use Rattle.std.proofs.lemmas.Result.{IfOk-weaker}
 use Rattle.mw_world.specs.Definition.State as spec
-use Rattle.mw_simulator.specs.Bits.{Bits}
-use Rattle.mw_simulator.specs.Openings.{AreOpenings, Gave}
+use Rattle.mw_world_memory.specs.Bits.{Bits}
+use Rattle.mw_world_memory.specs.Openings.{AreOpenings, Gave}
 use Rattle.mw_simulator.specs.Starts.{HaveWords}
-use Rattle.mw_simulator.specs.Ties.{Tie}
+use Rattle.mw_world_memory.specs.Ties.{Tie}
 use Rattle.mw_simulator.proofs.FirstWorlds.{all_gave, are_openings}
 use Rattle.mw_simulator.proofs.world.making.first_cells.Goals as goal
 

@@ -1,0 +1,3 @@
+pub mod FirstBits
+pub mod MadeSteps
+pub mod Tying

@@ -1,0 +1,9 @@
+pub mod BitPlaces
+pub mod Bits
+pub mod Claims
+pub mod Lines
+pub mod Making
+pub mod Openings
+pub mod Seats
+pub mod TenantBooks
+pub mod Ties

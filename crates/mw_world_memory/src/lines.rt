@@ -1,0 +1,199 @@
+//! The marks of a tenant.
+ghost use Rattle.std.specs.Prelude.{◌≡◌, [], ◌∷◌, ◌++◌, Option, Some, IfOk, OnOk, length, slice_set};
+ghost use Rattle.mw_world.specs.Definition.History.{History};
+ghost use Rattle.mw_world.specs.Definition.Noting.{late_unless, marked, more, more_unless};
+ghost use Rattle.mw_world.specs.Definition.State.{marks_in};
+ghost use Rattle.mw_world_memory.specs.Claims.{Recalls};
+ghost use Rattle.mw_world_memory.specs.Lines.{HasRoomForLine, SameLines};
+ghost use Rattle.mw_world_memory.specs.Seats.{seat_of};
+
+use crate::claims::Claims;
+use crate::seats::Seat;
+use mw_lone::Mark;
+use mw_world::Note;
+use std::alloc::{AllocError, Global};
+
+/// What happened to a tenant: the marks up to and with the last start, and those since, some of which are
+/// places that were kept and hold none.
+#[derive(Debug, Drop)]
+pub struct Lines {
+    closed: Vec<Mark>,
+    lines: Vec<Option<Mark>>,
+}
+
+impl Lines {
+    /// Nothing has happened.
+    pub fn new(alloc: Global) -> Lines
+        ensures closed { result.closed.items ≡ [] }
+        ensures lines { result.lines.items ≡ [] }
+    {
+        Lines {
+            closed: Vec::new(alloc),
+            lines: Vec::new(alloc),
+        }
+    }
+
+    /// Makes room for one line more. Where there is no memory for it, the marks stay as they are.
+    pub fn reserve(&mut self) -> Result<(), AllocError>
+        ensures room { OnOk result (HasRoomForLine self.new) }
+        ensures same { SameLines self.old self.new }
+    {
+        self.lines.reserve(1)
+    }
+
+    /// How many lines there are since the last start.
+    pub fn len(&self) -> usize
+        ensures { result ≡ length self.now.lines.items }
+    {
+        self.lines.len()
+    }
+
+    /// One line more: a mark, or a place that is kept for one. There is room for it.
+    pub fn more(&mut self, line: Option<Mark>)
+        requires { HasRoomForLine self.old }
+        ensures closed { self.new.closed ≡ self.old.closed }
+        ensures lines { self.new.lines.items ≡ more self.old.lines.items line }
+    {
+        let _ = self.lines.push(line);
+    }
+
+    /// Takes in what a step means that a worker made, before which so much was known of the claims. There
+    /// is room for one line more.
+    pub fn mark(&mut self, note: Note, seat: &Seat, claims: &Claims)
+        requires { HasRoomForLine self.old }
+        ensures closed { self.new.closed ≡ self.old.closed }
+        ensures lines { (past : History) → Recalls claims.now past → self.new.lines.items ≡ marked note (seat_of seat.now) past self.old.lines.items }
+    {
+        match note {
+            Note::Admitted => self.more(Some(Mark::Admit(seat.request))),
+            Note::FoundBusy => self.more(Some(Mark::Busy(seat.request))),
+            Note::FoundFault => self.more(Some(Mark::GiveUp(seat.request))),
+            Note::Looked => self.more(Some(Mark::Look(seat.request))),
+            Note::Kept => self.more(None),
+            Note::LookedBefore => self.late(seat.kept, Mark::Look(seat.request)),
+            Note::Refused { target, entry, .. } => self.late_unless(
+                claims.is_spoiled(target),
+                seat.kept,
+                Mark::Miss(claims.request(target), entry),
+            ),
+            Note::Lowered => self.more(Some(Mark::Retire(seat.retiring))),
+            Note::GaveUp {
+                own,
+                says_fault: true,
+            } => self.more_unless(claims.is_spoiled(own), Mark::GiveUp(seat.request)),
+            Note::SealedIt(target) => self.more(Some(Mark::Seal(claims.request(target)))),
+            Note::FailedToSeal(target) => self.more(Some(Mark::SealFail(claims.request(target)))),
+            Note::FailedFile => self.more(Some(Mark::FileFail)),
+            _ => {}
+        }
+    }
+
+    // A mark more, unless the reply was decided for its request before.
+    fn more_unless(&mut self, is_spoiled: bool, mark: Mark)
+        requires { HasRoomForLine self.old }
+        ensures closed { self.new.closed ≡ self.old.closed }
+        ensures lines { self.new.lines.items ≡ more_unless is_spoiled self.old.lines.items mark }
+    {
+        if !is_spoiled {
+            self.more(Some(mark));
+        }
+    }
+
+    // A mark at the place that was kept for it, unless the reply was decided for its request before.
+    fn late_unless(&mut self, is_spoiled: bool, kept: usize, mark: Mark)
+        ensures closed { self.new.closed ≡ self.old.closed }
+        ensures lines { self.new.lines.items ≡ late_unless is_spoiled self.old.lines.items kept mark }
+    {
+        if !is_spoiled {
+            self.late(kept, mark);
+        }
+    }
+
+    // A mark at the place that was kept for it. Past the last line there is no place.
+    fn late(&mut self, kept: usize, mark: Mark)
+        ensures closed { self.new.closed ≡ self.old.closed }
+        ensures lines { self.new.lines.items ≡ slice_set self.old.lines.items kept (Some mark) }
+    {
+        if kept < self.lines.len() {
+            self.lines[kept] = Some(mark);
+        }
+    }
+
+    /// The marks so far.
+    pub fn marks(&self, alloc: Global) -> Result<Vec<Mark>, AllocError>
+        ensures { IfOk result (λ marks. marks.items ≡ self.now.closed.items ++ marks_in self.now.lines.items) }
+    {
+        let mut marks = Vec::new(alloc);
+        copy_closed(&self.closed, &mut marks)?;
+        copy_lines(&self.lines, &mut marks)?;
+        Ok(marks)
+    }
+
+    /// The marks so far, and this one.
+    pub fn closed_with(&self, alloc: Global, last: Mark) -> Result<Vec<Mark>, AllocError>
+        ensures { IfOk result (λ marks. marks.items ≡ self.now.closed.items ++ marks_in self.now.lines.items ++ last ∷ []) }
+    {
+        let mut marks = self.marks(alloc)?;
+        marks.push(last)?;
+        Ok(marks)
+    }
+
+    /// All stopped and started again: these are the marks up to and with that start.
+    pub fn reopen(&mut self, closed: Vec<Mark>)
+        ensures closed { self.new.closed ≡ closed }
+        ensures lines { self.new.lines.items ≡ [] }
+    {
+        self.closed = closed;
+        self.lines.clear();
+    }
+}
+
+// Adds copies of these marks.
+fn copy_closed(closed: &[Mark], marks: &mut Vec<Mark>) -> Result<(), AllocError>
+    ensures { OnOk result (marks.new.items ≡ marks.old.items ++ closed.now) }
+{
+    for mark in closed {
+        marks.push(copy(mark))?;
+    }
+    Ok(())
+}
+
+// Adds copies of the marks among these lines.
+fn copy_lines(lines: &[Option<Mark>], marks: &mut Vec<Mark>) -> Result<(), AllocError>
+    ensures { OnOk result (marks.new.items ≡ marks.old.items ++ marks_in lines.now) }
+{
+    for line in lines {
+        if let Some(mark) = line {
+            marks.push(copy(mark))?;
+        }
+    }
+    Ok(())
+}
+
+// An equal mark.
+fn copy(mark: &Mark) -> Mark
+    ensures { result ≡ mark.now }
+{
+    match mark {
+        Mark::Ask(request, job) => Mark::Ask(*request, job.copy()),
+        Mark::Admit(request) => Mark::Admit(*request),
+        Mark::Busy(request) => Mark::Busy(*request),
+        Mark::Look(request) => Mark::Look(*request),
+        Mark::Miss(request, entry) => Mark::Miss(*request, *entry),
+        Mark::Seal(request) => Mark::Seal(*request),
+        Mark::SealFail(request) => Mark::SealFail(*request),
+        Mark::FileFail => Mark::FileFail,
+        Mark::GiveUp(request) => Mark::GiveUp(*request),
+        Mark::Retire(request) => Mark::Retire(*request),
+        Mark::Reply(request) => Mark::Reply(*request),
+        Mark::Restart {
+            interrupted,
+            take,
+            opened,
+        } => Mark::Restart {
+            interrupted: *interrupted,
+            take: *take,
+            opened: *opened,
+        },
+    }
+}
