@@ -109,9 +109,9 @@ pub fn marks_are_own()
     ensures counted { FaultsAreCounted }
 {}
 
-/// Every run in which there are numbers left serves each tenant as its store alone would; runs that agree on
-/// a tenant's marks hand out the same replies to it; and its file's words hold each change that was
-/// acknowledged.
+/// Every run in which there are numbers left serves each tenant as its store alone would; runs in which a
+/// tenant began alike, and that agree on its marks, hand out the same replies to it; and its file's words hold
+/// each change that was acknowledged.
 pub fn every_run_serves_alone()
     ensures alone { EveryRunServesAlone }
     ensures equal { EqualMarksHaveEqualReplies }

@@ -10,7 +10,7 @@ pub struct Tenant {
     pub name: Name,
     /// How many words it has, 1 to `MAX_WORDS`.
     pub words: u16,
-    /// How many slots it may use at a time, 1 to `MAX_QUOTA`. Its file has as many places for changes.
+    /// How many slots it may use at a time, 1 to `MAX_QUOTA`. A new file has as many places for changes.
     pub quota: u8,
 }
 

@@ -116,7 +116,7 @@ EveryRunServesAlone = (config : Config) (openings : ℕ → Opening) (events : L
     → tenant < tenants_of config → IsServedAlone config openings events state tenant
 
 -- Runs of two worlds, which may have nothing else in common, hand out the same replies to two tenants that began alike, with the same words and the same
--- quota, and that have the same marks.
+-- quota and their files open or not alike, and that have the same marks.
 abbrev pub EqualMarksHaveEqualReplies : Type 0
 EqualMarksHaveEqualReplies = (config other : Config) (openings starts : ℕ → Opening) (events others : List Happening) (state there : State) (tenant its : ℕ)
     → IsRun config openings events state → IsRun other starts others there → tenant < tenants_of config → its < tenants_of other
