@@ -21,6 +21,20 @@ impl<D: Disk> TenantFile<D> {
     ghost use Rattle.mw_file.specs.File.{states_of, words_of, disk_of, Ends};
     ghost use Rattle.mw_file.specs.Keeps.{ContentsStay, ChangeIsSealed};
 
+    /// How many words the file has.
+    pub fn words(&self) -> u16
+        ensures { result ≡ words_of self.now }
+    {
+        self.words
+    }
+
+    /// How far each place is, in order of number.
+    pub fn states(&self) -> &[PlaceState]
+        ensures { result.now ≡ states_of self.now }
+    {
+        &self.states
+    }
+
     /// How many places the file has.
     pub fn places(&self) -> u16
         ensures { result ≡ length (states_of self.now) }

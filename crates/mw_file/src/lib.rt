@@ -27,6 +27,3 @@ pub use laws::{
 pub use opening::OpenFault;
 pub use place_states::{PlaceState, Stage, Writes};
 pub use tenant_file::{FileFault, Place, TenantFile};
-
-#[cfg(test)]
-mod tests;

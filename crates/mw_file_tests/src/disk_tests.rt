@@ -3,6 +3,7 @@ use std::cell::Cell;
 use std::fs::{Metadata, OpenFile, OpenOptions};
 use std::io::ErrorKind;
 use std::os::unix::fs::FileExt;
+use std::process::Abort;
 use std::test::Fail;
 use std::{env, fs, io, process};
 
@@ -21,19 +22,24 @@ fn four_bytes(disk: &mut MemDisk) -> Result<[u8; 4], DiskFault> {
     Ok(out)
 }
 
+/// Calls on a disk of the bytes 1 to 4, of which the second and the sixth fail.
+fn call_by_script<R: Abort>(rt: &R, disk: &mut MemDisk) {
+    assert_eq!(rt; disk.len(), Ok(4));
+    assert_eq!(rt; disk.sync(), Err(DiskFault));
+    assert_eq!(rt; disk.write_at(1, &[9, 9]), Ok(()));
+    assert_eq!(rt; four_bytes(disk), Ok([1, 9, 9, 4]));
+    // The gap has zeros.
+    assert_eq!(rt; disk.write_at(6, &[7]), Ok(()));
+    assert_eq!(rt; disk.write_at(4, &[8, 8]), Err(DiskFault));
+}
+
 #[test]
 fn a_disk_in_memory_fails_where_its_script_says(rt: HostRuntime) -> Result<(), Fail> {
     let alloc = rt.alloc();
     let bytes = vec![in alloc; 1, 2, 3, 4]?;
     let script = vec![in alloc; 2, 6]?;
     let mut disk = MemDisk::new(alloc, bytes, script)?;
-    assert_eq!(rt; disk.len(), Ok(4));
-    assert_eq!(rt; disk.sync(), Err(DiskFault));
-    assert_eq!(rt; disk.write_at(1, &[9, 9]), Ok(()));
-    assert_eq!(rt; four_bytes(&mut disk), Ok([1, 9, 9, 4]));
-    // The gap has zeros.
-    assert_eq!(rt; disk.write_at(6, &[7]), Ok(()));
-    assert_eq!(rt; disk.write_at(4, &[8, 8]), Err(DiskFault));
+    call_by_script(&rt, &mut disk);
     assert_eq!(rt; (disk.faults(), disk.refused()), (2, 0));
     for (torn, left) in [
         (&[] as &[u8], [1, 9, 9, 4, 0, 0, 7]),

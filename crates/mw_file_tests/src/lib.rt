@@ -1,8 +1,12 @@
-//! Tests of the disks and of the file's layout. They stand apart from the crates that they test, so that
+//! Tests of the disks, of the file's layout and of a tenant's file. They stand apart from the crates that they test, so that
 //! those are proved once.
 #![tactic(auto)]
 
 #[cfg(test)]
 mod disk_tests;
+#[cfg(test)]
+mod file_tests;
+#[cfg(test)]
+mod memory_tests;
 #[cfg(test)]
 mod record_tests;

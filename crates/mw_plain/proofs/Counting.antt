@@ -22,21 +22,16 @@ used_first {D} (suc n) (p ∷ parts) =
     let quotas = sum_by-cons (λ (p : Part D). p.quota) p parts in
     omega (arith, rest, p.within, used, quotas)
 
-few_first : {X : Type 0} (n : ℕ) (xs : List X) → length (take n xs) ≤ length xs
-few_first zero xs = omega arith
-few_first (suc n) [] = omega arith
-few_first (suc n) (x ∷ xs) = let rest = few_first n xs in omega (arith, rest)
-
 each_within : {D : Type 0} (parts : List (Part D)) → All IsWithinLimits (map figures_of parts)
 each_within [] = All-nil IsWithinLimits
 each_within (p ∷ parts) =
     All-cons IsWithinLimits (figures_of p) (map figures_of parts) (record { words = p.few_words; quota = p.few_slots; used = omega (arith, p.within, p.few_slots) }) (each_within parts)
 
--- the figures of the first tenants keep the limits
-pub within_limits : {D : Type 0} (n pool used : ℕ) (parts : List (Part D)) (told : List TenantFigures) → told ≡ map figures_of (take n parts) → length parts ≤ MAX_TENANTS → pool ≤ MAX_POOL
+-- the figures of all tenants keep the limits
+pub within_limits : {D : Type 0} (pool used : ℕ) (parts : List (Part D)) (told : List TenantFigures) → told ≡ map figures_of parts → length parts ≤ MAX_TENANTS → pool ≤ MAX_POOL
     → AreWithinLimits told (pool - used)
-within_limits n pool used parts told is few small = record {
-  few = let count : length told ≡ length (take n parts) = ap length is ∙ length-map (take n parts) figures_of in let first = few_first n parts in omega (arith, count, first, few);
-  each = subst (All IsWithinLimits) (sym is) (each_within (take n parts));
+within_limits pool used parts told is few small = record {
+  few = let count : length told ≡ length parts = ap length is ∙ length-map parts figures_of in omega (arith, count, few);
+  each = subst (All IsWithinLimits) (sym is) (each_within parts);
   free = omega (arith, small);
 }

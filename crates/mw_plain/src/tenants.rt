@@ -1,5 +1,5 @@
 //! The calls on the store of all tenants.
-ghost use Rattle.std.specs.Prelude.{◌≡◌, ◌<◌, ◌-◌, map, IsTrue, IfOk, OnErr};
+ghost use Rattle.std.specs.Prelude.{◌≡◌, ◌<◌, ◌≤◌, ◌-◌, map, IsTrue, IfOk, OnErr};
 ghost use Rattle.mw_report.specs.Table.{AreWithinLimits};
 ghost use Rattle.mw_words.specs.Change.{is_well_formed};
 
@@ -8,8 +8,8 @@ use crate::plain::Plain;
 use crate::tickets::{Start, Task, Ticket};
 use arrayvec::ArrayVec;
 use mw_disk::Disk;
-use mw_report::Figures;
-use mw_words::{Job, Reply};
+use mw_report::{Figures, TenantFigures};
+use mw_words::{Job, MAX_TENANTS, Reply};
 use std::alloc::{AllocError, Global};
 
 impl<D: Disk> Plain<D> {
@@ -107,15 +107,31 @@ impl<D: Disk> Plain<D> {
         ensures each { result.tenants.items ≡ map figures_of self.now.parts.items }
         ensures free { result.pool_free ≡ self.now.pool - used_by self.now.parts.items }
     {
+        Figures {
+            tenants: self.each_figures(),
+            pool_free: self.pool - self.used(),
+        }
+    }
+
+    fn each_figures(&self) -> ArrayVec<TenantFigures, MAX_TENANTS>
+        ensures { result.items ≡ map figures_of self.now.parts.items }
+    {
         let mut tenants = ArrayVec::new();
+        for part in &self.parts {
+            tenants.push(part.figures());
+        }
+        tenants
+    }
+
+    /// How many slots all tenants use.
+    fn used(&self) -> u16
+        ensures sum { result ≡ used_by self.now.parts.items }
+        ensures within { result ≤ self.now.pool }
+    {
         let mut used: u16 = 0;
         for part in &self.parts {
             used += u16::from(part.used());
-            tenants.push(part.figures());
         }
-        Figures {
-            tenants,
-            pool_free: self.pool - used,
-        }
+        used
     }
 }

@@ -1,19 +1,7 @@
-use Rattle.std.proofs.Common.{arith}
-use Rattle.mw_plain.proofs.Counting.{used_first, within_limits}
+use Rattle.mw_plain.proofs.Counting.{within_limits}
 use Rattle.mw_plain.proofs.plain.Plain.figures.Goals as goal
-
-pub overflow_add-used : goal.overflow_add-used
-overflow_add-used g c =
-    let few = used_first c.loop-part.part-index c.args.self.now.parts.items in
-    let part = c.part-item.result in
-    omega (arith, few, c.loop-part.invariant.counted, c.args.self.now.shared, c.args.self.now.small, c.from-used.ensures, c.used.ensures, part.within, part.few_slots)
-
-pub overflow_sub-result : goal.overflow_sub-result
-overflow_sub-result g c =
-    let few = used_first c.loop-part.part-index c.args.self.now.parts.items in
-    omega (arith, few, c.loop-part.invariant.counted, c.args.self.now.shared)
 
 pub returns-clause-within : goal.returns-clause-within
 returns-clause-within g c =
     let plain = c.args.self.now in
-    within_limits c.loop-part.part-index plain.pool c.loop-part.used plain.parts.items c.loop-part.tenants.items c.loop-part.invariant.told plain.few plain.small
+    within_limits plain.pool c.used.result plain.parts.items c.each_figures.result.items c.each_figures.ensures plain.few plain.small

@@ -1,11 +1,9 @@
 use Rattle.std.proofs.Common.{◌≡◌, take, map}
-use Rattle.mw_plain.specs.Quotas.{used_by}
 use Rattle.mw_plain.specs.Report.{figures_of}
-use Rattle.mw_plain.proofs.plain.Plain.figures.Given as goal
+use Rattle.mw_plain.proofs.plain.Plain.each_figures.Given as goal
 
--- the tenants so far are told, and their slots counted
+-- the tenants so far are told
 abbrev pub invariant-loop-part : goal.invariant-loop-part
 invariant-loop-part g l = record {
-  counted : l.used ≡ used_by (take l.part-index l.self.parts.items);
   told : l.tenants.items ≡ map figures_of (take l.part-index l.self.parts.items);
 }

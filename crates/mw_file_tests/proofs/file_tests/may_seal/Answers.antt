@@ -4,7 +4,7 @@ use Rattle.mw_file.specs.declared.place_states.PlaceState.{PlaceState}
 use Rattle.mw_file.specs.declared.place_states.Stage.TheVariants.{Free, Sealed}
 use Rattle.mw_file.specs.PlaceStates.{stage_of, commit_writes}
 use Rattle.mw_file.proofs.Recalled.{none_sealed}
-use Rattle.mw_file.proofs.tests.may_seal.Goals as goal
+use Rattle.mw_file_tests.proofs.file_tests.may_seal.Goals as goal
 
 past : (states : List PlaceState) (place : ℕ) → length states ≤ place → stage_of states place ≡ Free
 past [] place le = refl

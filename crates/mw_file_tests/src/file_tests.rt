@@ -2,11 +2,12 @@ ghost use Rattle.std.specs.Prelude.{◌≡◌, ◌≤◌, ◌==◌, true};
 ghost use Rattle.mw_words.specs.declared.limits.TheConstants.{MAX_PLACES, MAX_WORDS};
 ghost use Rattle.mw_file.specs.PlaceStates.{MaySeal, commit_writes, stage_of};
 
-use super::*;
 use mw_disk::{Disk, DiskFault, MemDisk};
+use mw_file::*;
 use mw_record::{header, size};
 use mw_words::{Entries, Entry, is_change};
 use std::alloc::{AllocError, Global};
+use std::process::Abort;
 use std::test::Fail;
 
 /// Four bytes that a crash leaves, over and over, in what was not synced: none are given, all are
@@ -20,7 +21,7 @@ const TORN: [&[u8]; 5] = [
 ];
 
 /// The bytes of a new file, all of whose words are 0.
-fn new_bytes(alloc: Global, words: u16, places: u16) -> Result<Vec<u8>, AllocError>
+pub(crate) fn new_bytes(alloc: Global, words: u16, places: u16) -> Result<Vec<u8>, AllocError>
     requires some_word { 1 ≤ words }
     requires words_fit { words ≤ MAX_WORDS }
     requires some_place { 1 ≤ places }
@@ -34,7 +35,7 @@ fn new_bytes(alloc: Global, words: u16, places: u16) -> Result<Vec<u8>, AllocErr
 }
 
 /// A disk of these bytes.
-fn disk_with(alloc: Global, bytes: &[u8]) -> Result<MemDisk, AllocError> {
+pub(crate) fn disk_with(alloc: Global, bytes: &[u8]) -> Result<MemDisk, AllocError> {
     MemDisk::new(alloc, bytes.to_vec(alloc)?, Vec::new(alloc))
 }
 
@@ -62,13 +63,13 @@ fn troubled(
     Ok(disk)
 }
 
-/// What a crash of a disk leaves, with these torn bytes over and over, longer than any one write.
-fn crash(alloc: Global, disk: &MemDisk, torn: &[u8]) -> Result<Vec<u8>, AllocError> {
+/// These torn bytes over and over, longer than any one write.
+fn over_and_over(alloc: Global, torn: &[u8]) -> Result<Vec<u8>, AllocError> {
     let mut bytes = Vec::new(alloc);
     for _ in 0..50 {
         bytes.extend_from_slice(torn)?;
     }
-    disk.crash(&bytes)
+    Ok(bytes)
 }
 
 /// How an opening ends, and the disk then.
@@ -92,7 +93,7 @@ fn words_of(alloc: Global, bytes: &[u8]) -> Result<Option<Vec<u64>>, AllocError>
 }
 
 /// The file on a disk, if it opens.
-fn opened(alloc: Global, disk: MemDisk) -> Option<TenantFile<MemDisk>> {
+pub(crate) fn opened(alloc: Global, disk: MemDisk) -> Option<TenantFile<MemDisk>> {
     match TenantFile::open(alloc, disk) {
         Ok(opened) => {
             let (file, _) = opened;
@@ -146,7 +147,7 @@ fn may_seal(states: &[PlaceState], place: Place) -> bool
 
 /// Prepares a change, if there is a place and the file has its words.
 fn prepare(file: &mut TenantFile<MemDisk>, entries: &Entries) -> Option<Result<Place, FileFault>> {
-    if file.has_place() && is_change(entries, file.words as usize) {
+    if file.has_place() && is_change(entries, usize::from(file.words())) {
         Some(file.prepare(entries))
     } else {
         None
@@ -155,7 +156,7 @@ fn prepare(file: &mut TenantFile<MemDisk>, entries: &Entries) -> Option<Result<P
 
 /// Seals a change, if it is prepared and none is sealed.
 fn seal(file: &mut TenantFile<MemDisk>, place: Place) -> Option<Result<(), FileFault>> {
-    if may_seal(&file.states, place) {
+    if may_seal(file.states(), place) {
         Some(file.seal(place))
     } else {
         None
@@ -164,7 +165,7 @@ fn seal(file: &mut TenantFile<MemDisk>, place: Place) -> Option<Result<(), FileF
 
 /// Settles a change, if it is sealed.
 fn settle(file: &mut TenantFile<MemDisk>, place: Place) -> Option<Result<(), FileFault>> {
-    if is_at(&file.states, place, Stage::Sealed) {
+    if is_at(file.states(), place, Stage::Sealed) {
         Some(file.settle(place))
     } else {
         None
@@ -173,7 +174,7 @@ fn settle(file: &mut TenantFile<MemDisk>, place: Place) -> Option<Result<(), Fil
 
 /// Cancels a change, if it is prepared.
 fn cancel(file: &mut TenantFile<MemDisk>, place: Place) -> Option<()> {
-    if is_at(&file.states, place, Stage::Prepared) {
+    if is_at(file.states(), place, Stage::Prepared) {
         Some(file.cancel(place))
     } else {
         None
@@ -381,13 +382,13 @@ fn troubled_file(
 
 /// What a file answers to prepare, seal and settle of a change in its first place, of which each is
 /// asked where it may be.
-type Answers = (
+pub(crate) type Answers = (
     Option<Result<Place, FileFault>>,
     Option<Result<(), FileFault>>,
     Option<Result<(), FileFault>>,
 );
 
-fn answers(file: &mut TenantFile<MemDisk>) -> Answers {
+pub(crate) fn answers(file: &mut TenantFile<MemDisk>) -> Answers {
     let prepared = prepare(file, &both());
     let sealed = seal(file, Place(0));
     let settled = settle(file, Place(0));
@@ -395,7 +396,7 @@ fn answers(file: &mut TenantFile<MemDisk>) -> Answers {
 }
 
 /// The answers of a file whose device has trouble after so many calls, and those that come then.
-fn answers_to(calls: u8, places: u16) -> (Answers, Answers) {
+pub(crate) fn answers_to(calls: u8, places: u16) -> (Answers, Answers) {
     let (first, well) = (Some(Ok(Place(0))), Some(Ok(())));
     let (fault, failed) = (Some(Err(FileFault::Disk)), Some(Err(FileFault::Failed)));
     let next = if places == 1 {
@@ -427,36 +428,68 @@ fn is_sealed(calls: u8, trouble: Trouble, torn: &[u8]) -> bool {
     }
 }
 
+/// The words that a crash leaves, with these torn bytes, if the file opens then.
+pub(crate) fn words_left(
+    alloc: Global,
+    file: &TenantFile<MemDisk>,
+    torn: &[u8],
+) -> Result<Option<Vec<u64>>, AllocError> {
+    words_of(alloc, &file.crash(torn)?)
+}
+
+/// How many device calls of a file have failed.
+fn faults_of(alloc: Global, file: &TenantFile<MemDisk>) -> Result<u64, AllocError> {
+    Ok(file.copy(alloc)?.into_disk().faults())
+}
+
+/// The words that a crash with these torn bytes leaves where the device had trouble after so many calls.
+fn words_after(calls: u8, trouble: Trouble, torn: &[u8]) -> [u64; 2] {
+    if is_sealed(calls, trouble, torn) {
+        [1, 2]
+    } else {
+        [0, 0]
+    }
+}
+
+/// What a file answers whose device has trouble after so many calls, twice, and what crashes leave then.
+fn crash_in_a_call<R: Abort + AllocGlobal>(
+    rt: &R,
+    calls: u8,
+    trouble: Trouble,
+    places: u16,
+) -> Result<(), Fail>
+    requires some_place { 1 ≤ places }
+    requires places_fit { places ≤ MAX_PLACES }
+{
+    let alloc = rt.alloc();
+    let mut file = troubled_file(alloc, places, calls, trouble)?.ok_or("the file opens")?;
+    let (first, again) = answers_to(calls, places);
+    let faults = if calls < 9 { 1 } else { 0 };
+    let at = (calls, trouble, places);
+    assert_eq!(rt;
+        (answers(&mut file), faults_of(alloc, &file)?),
+        (first, faults),
+        "{at:?}"
+    );
+    assert_eq!(rt;
+        (answers(&mut file), faults_of(alloc, &file)?),
+        (again, 1),
+        "{at:?}"
+    );
+    for torn in TORN {
+        let found = words_left(alloc, &file, &over_and_over(alloc, torn)?)?;
+        let wanted = words_after(calls, trouble, torn);
+        assert_eq!(rt; found.as_deref(), Some(wanted.as_slice()), "{at:?}");
+    }
+    Ok(())
+}
+
 #[test]
 fn a_crash_in_each_call(rt: HostRuntime) -> Result<(), Fail> {
-    let alloc = rt.alloc();
     for calls in 0..=9 {
         for trouble in [Trouble::Once, Trouble::Stop] {
             for places in [1, 2] {
-                let file = troubled_file(alloc, places, calls, trouble)?;
-                let mut file = file.ok_or("the file opens")?;
-                let (first, again) = answers_to(calls, places);
-                let faults = if calls < 9 { 1 } else { 0 };
-                let at = (calls, trouble, places);
-                assert_eq!(rt;
-                    (answers(&mut file), file.disk.faults()),
-                    (first, faults),
-                    "{at:?}"
-                );
-                assert_eq!(rt;
-                    (answers(&mut file), file.disk.faults()),
-                    (again, 1),
-                    "{at:?}"
-                );
-                for torn in TORN {
-                    let found = words_of(alloc, &crash(alloc, &file.disk, torn)?)?;
-                    let wanted = if is_sealed(calls, trouble, torn) {
-                        [1, 2]
-                    } else {
-                        [0, 0]
-                    };
-                    assert_eq!(rt; found.as_deref(), Some(wanted.as_slice()), "{at:?}");
-                }
+                crash_in_a_call(&rt, calls, trouble, places)?;
             }
         }
     }
@@ -466,7 +499,7 @@ fn a_crash_in_each_call(rt: HostRuntime) -> Result<(), Fail> {
 /// Adds what crashes of this disk leave.
 fn add_crashes(alloc: Global, disk: &MemDisk, images: &mut Vec<Vec<u8>>) -> Result<(), AllocError> {
     for torn in TORN {
-        images.push(crash(alloc, disk, torn)?)?;
+        images.push(disk.crash(&over_and_over(alloc, torn)?)?)?;
     }
     Ok(())
 }
@@ -483,17 +516,24 @@ fn left_by_openings(alloc: Global, bytes: &[u8]) -> Result<Vec<Vec<u8>>, AllocEr
     Ok(images)
 }
 
-#[test]
-fn opening_sweep(rt: HostRuntime) -> Result<(), Fail> {
+/// What a crash leaves of a file whose change is sealed, if that goes well: the device stops before
+/// settle's first call.
+fn sealed_image(alloc: Global) -> Result<Option<Vec<u8>>, AllocError> {
+    let Some(mut file) = troubled_file(alloc, 1, 4, Trouble::Stop)? else {
+        return Ok(None);
+    };
+    if answers(&mut file) != answers_to(4, 1).0 {
+        return Ok(None);
+    }
+    Ok(Some(file.crash(&[])?))
+}
+
+/// How openings of a sealed file's bytes end, each with trouble at another call.
+fn open_with_trouble<R: Abort + AllocGlobal>(rt: &R, image: &[u8]) -> Result<(), Fail> {
     let alloc = rt.alloc();
-    // The change is sealed, and the device stops before settle's first call.
-    let mut file = troubled_file(alloc, 1, 4, Trouble::Stop)?.ok_or("the file opens")?;
-    let (answered, _) = answers_to(4, 1);
-    assert_eq!(rt; answers(&mut file), answered);
-    let image = file.crash(&[])?;
     for calls in 0..=7 {
         for trouble in [Trouble::Once, Trouble::Stop] {
-            let (ended, disk) = opening(alloc, troubled(alloc, &image, calls, trouble)?);
+            let (ended, disk) = opening(alloc, troubled(alloc, image, calls, trouble)?);
             let wanted = if calls < 7 {
                 (Err(OpenFault::Disk), 1)
             } else {
@@ -502,89 +542,26 @@ fn opening_sweep(rt: HostRuntime) -> Result<(), Fail> {
             assert_eq!(rt; (ended, disk.faults()), wanted, "after {calls} calls");
         }
     }
+    Ok(())
+}
+
+/// A file with these bytes opens, and has the words of the sealed change.
+fn has_the_change<R: Abort + AllocGlobal>(rt: &R, bytes: &[u8]) -> Result<(), Fail> {
+    let found = words_of(rt.alloc(), bytes)?;
+    assert_eq!(rt; found.as_deref(), Some([1, 2].as_slice()));
+    Ok(())
+}
+
+#[test]
+fn opening_sweep(rt: HostRuntime) -> Result<(), Fail> {
+    let alloc = rt.alloc();
+    let image = sealed_image(alloc)?.ok_or("the change is sealed")?;
+    open_with_trouble(&rt, &image)?;
     for first in left_by_openings(alloc, &image)? {
-        let found = words_of(alloc, &first)?;
-        assert_eq!(rt; found.as_deref(), Some([1, 2].as_slice()));
+        has_the_change(&rt, &first)?;
         for second in left_by_openings(alloc, &first)? {
-            let found = words_of(alloc, &second)?;
-            assert_eq!(rt; found.as_deref(), Some([1, 2].as_slice()));
+            has_the_change(&rt, &second)?;
         }
     }
-    Ok(())
-}
-
-/// A new file of two words and one place, if it opens.
-fn new_file(alloc: Global) -> Result<Option<TenantFile<MemDisk>>, AllocError> {
-    let bytes = new_bytes(alloc, 2, 1)?;
-    Ok(opened(alloc, disk_with(alloc, &bytes)?))
-}
-
-/// The answers of a file on whose device all goes well.
-fn all_well() -> Answers {
-    (Some(Ok(Place(0))), Some(Ok(())), Some(Ok(())))
-}
-
-/// The words that a crash leaves, with these torn bytes, if the file opens then.
-fn words_left(
-    alloc: Global,
-    file: &TenantFile<MemDisk>,
-    torn: &[u8],
-) -> Result<Option<Vec<u64>>, AllocError> {
-    words_of(alloc, &file.crash(torn)?)
-}
-
-#[test]
-fn a_copy_goes_its_own_way(rt: HostRuntime) -> Result<(), Fail> {
-    let alloc = rt.alloc();
-    let file = new_file(alloc)?.ok_or("the file opens")?;
-    let mut copy = file.copy(alloc)?;
-    assert_eq!(rt; answers(&mut copy), all_well());
-    let (own, other) = (
-        words_left(alloc, &copy, &[])?,
-        words_left(alloc, &file, &[])?,
-    );
-    assert_eq!(rt; own.as_deref(), Some([1, 2].as_slice()));
-    assert_eq!(rt; other.as_deref(), Some([0, 0].as_slice()));
-    assert_eq!(rt; file.crash(&[])?, new_bytes(alloc, 2, 1)?);
-    Ok(())
-}
-
-#[test]
-fn the_call_that_is_told_to_fails(rt: HostRuntime) -> Result<(), Fail> {
-    let alloc = rt.alloc();
-    let mut file = new_file(alloc)?.ok_or("the file opens")?;
-    // The third call is seal's write of the commit byte.
-    file.fail_next(3)?;
-    assert_eq!(rt; answers(&mut file), answers_to(2, 1).0);
-    for (torn, words) in [([].as_slice(), [0, 0]), ([0xa5].as_slice(), [1, 2])] {
-        let left = words_left(alloc, &file, torn)?;
-        assert_eq!(rt; left.as_deref(), Some(words.as_slice()));
-    }
-    Ok(())
-}
-
-#[test]
-fn the_earlier_of_two_stops_counts(rt: HostRuntime) -> Result<(), Fail> {
-    let alloc = rt.alloc();
-    let mut file = new_file(alloc)?.ok_or("the file opens")?;
-    file.stop_next(3);
-    file.stop_next(5);
-    assert_eq!(rt; answers(&mut file), answers_to(3, 1).0);
-    for (torn, words) in [([].as_slice(), [1, 2]), ([0].as_slice(), [0, 0])] {
-        let left = words_left(alloc, &file, torn)?;
-        assert_eq!(rt; left.as_deref(), Some(words.as_slice()));
-    }
-    Ok(())
-}
-
-#[test]
-fn a_call_that_is_refused_memory_fails(rt: HostRuntime) -> Result<(), Fail> {
-    let alloc = rt.alloc();
-    let file = new_file(alloc)?.ok_or("the file opens")?;
-    let mut refused = file.copy(alloc)?;
-    // There is not so much memory. The next calls go well.
-    assert_eq!(rt; refused.disk.write_at(1 << 63, &[1]), Err(DiskFault));
-    assert_eq!(rt; (refused.refused(), file.refused()), (1, 0));
-    assert_eq!(rt; answers(&mut refused), all_well());
     Ok(())
 }

@@ -1,6 +1,6 @@
 use Rattle.std.proofs.Common.{◌≡◌, take}
 use Rattle.mw_file.specs.PlaceStates.{commit_writes}
-use Rattle.mw_file.proofs.tests.none_sealed.Given as goal
+use Rattle.mw_file_tests.proofs.file_tests.none_sealed.Given as goal
 
 -- no place so far is sealed
 abbrev pub invariant-loop-state : goal.invariant-loop-state
