@@ -1,21 +1,19 @@
 -- How a player goes on, one thing after the other.
-use Rattle.std.specs.Prelude.{ℕ, ◌≡◌, ◌++◌, Bool, List, [], ◌∷◌, Option, Some, None, Result, Ok, Err, OnOk}
-use Rattle.std.specs.List.{flat_map}
+use Rattle.std.specs.Prelude.{ℕ, ◌≡◌, ◌++◌, Bool, List, [], ◌∷◌, Option, Result, Ok, Err, OnOk}
 use Rattle.std.proofs.Common.{refl, sym, ap, subst, ◌∙◌, append_assoc, append-nil}
 use Rattle.mw_world.specs.declared.config.Config.{Config}
 use Rattle.mw_world.specs.declared.events.Event.{Event}
 use Rattle.mw_world.specs.declared.events.Event.TheVariants.{Come, Step, File, Hand, Restart}
 use Rattle.mw_world.specs.Definition.Happenings.{Happening}
-use Rattle.mw_world.specs.Definition.State.{State, new_world}
+use Rattle.mw_world.specs.Definition.State.{new_world}
 use Rattle.mw_simulator.specs.declared.world.World.{World}
-use Rattle.mw_simulator.specs.Running.{AllTell, GoesOn as WorldGoesOn, Stands, Tells}
-use Rattle.mw_simulator.specs.Shows.{Shows}
+use Rattle.mw_simulator.specs.Running.{AllTell, GoesOn as WorldGoesOn, Stands}
 use Rattle.mw_schedule.specs.declared.schedule.Command.TheVariants.{End}
 use Rattle.mw_schedule.specs.declared.schedule.ScheduleLine.{ScheduleLine}
 use Rattle.mw_player.specs.declared.player.Halt.{Halt}
 use Rattle.mw_player.specs.declared.player.Player.{Player}
 use Rattle.mw_player.specs.Playing.{GoesOn, IsSame, IsTextOf, Plays, Writes, AreTurns, IsTurn, Obeys, ObeysAll}
-use Rattle.mw_player.specs.Printed.{Told, line_of, text_of, told_from, told_in, told_of}
+use Rattle.mw_player.specs.Printed.{Told, line_of, text_of, told_in, told_of}
 use Rattle.mw_player.proofs.Telling.{told_last}
 use Rattle.mw_player.proofs.Writing.{no_rest, writes_nothing, writes_then}
 

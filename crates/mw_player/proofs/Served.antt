@@ -1,7 +1,7 @@
 -- What is printed of a schedule: the replies among it are, tenant by tenant, those of the tenant's store alone.
 use Rattle.std.specs.Prelude.{ℕ, ◌≡◌, ◌≢◌, ◌<◌, ◌++◌, Bool, List, [], Option, Some, None, Result, Ok, Err, OnOk}
 use Rattle.std.specs.Io.KnownBytes.{Appends, Keeps}
-use Rattle.std.proofs.Common.{refl, sym, ap, subst, ◌∙◌, append-nil, arith}
+use Rattle.std.proofs.Common.{inl, inr, refl, sym, ap, subst, ◌∙◌, append-nil, arith}
 use Rattle.mw_world.specs.declared.config.Config.{Config}
 use Rattle.mw_world.specs.Claim.Headline.{IsPlayed, IsRun, IsServedAlone}
 use Rattle.mw_world.specs.Definition.State.{first_openings, new_world, tenants_of}
@@ -20,7 +20,7 @@ use Rattle.mw_player.specs.declared.replaying.ReplayFault.{ReplayFault}
 use Rattle.mw_player.specs.declared.replaying.ReplayFault.TheVariants as fault
 use Rattle.mw_player.specs.Playing.{GoesOn, IsRest, IsSame, ObeysAll, Plays}
 use Rattle.mw_player.specs.Printed.{text_of, told_in}
-use Rattle.mw_player.specs.Replayed.{Printed, PrintsAll, fault_at, status_of}
+use Rattle.mw_player.specs.Replayed.{MayPrint, Printed, PrintsAll, Replays, fault_at, status_of}
 use Rattle.mw_player.proofs.Telling.{replies_told}
 use Rattle.mw_player.proofs.Writing.{appends_then, keeps_appends}
 
@@ -28,15 +28,13 @@ use Rattle.mw_player.proofs.Writing.{appends_then, keeps_appends}
 pub printed : (claims : Bool) (config : Config) (a b c : Option (List ℕ)) (world : World) (schedule : Schedule) (result : Result (Unit {0}) Halt) (status : ℕ)
     → IsSchedule schedule → config ≡ schedule.config → world.config ≡ schedule.config → (status ≡ 0 → (P : Type 0) → OnOk result P → P)
     → (status ≢ 1 → (rest : List ℕ) → IsRest result rest → rest ≡ []) → Keeps b c
-    → GoesOn claims config a b world [] (ObeysAll schedule.lines.items) result → Printed claims a c status
+    → GoesOn claims config a b world [] (ObeysAll schedule.lines.items) result → Printed claims schedule a c status
 printed claims config a b c world schedule result status is_schedule same same_world ended whole keeps goes =
     let runs : run schedule.config (new_world schedule.config) goes.more ≡ Some goes.stands.state =
     subst (λ (one : Config). run one (new_world one) goes.more ≡ Some goes.stands.state) same_world goes.stands.runs in
     let played : IsPlayed schedule.config (first_openings schedule.config) goes.more goes.stands.state =
     record { made = is_schedule.config; starts = new_worlds_start schedule.config is_schedule.config; runs = runs } in
     record {
-      schedule = schedule;
-      is_schedule = is_schedule;
       happened = goes.more;
       state = goes.stands.state;
       played = played;
@@ -82,7 +80,7 @@ halted_whole number halt.Output other rest is = absurd (other refl)
 printed_so : (old new : Player) (a b c : Option (List ℕ)) (schedule : Schedule) (lines : List ScheduleLine) (result : Result (Unit {0}) Halt) (status : ℕ)
     → (status ≡ 0 → (P : Type 0) → OnOk result P → P) → (status ≢ 1 → (rest : List ℕ) → IsRest result rest → rest ≡ [])
     → IsSame old new → Plays old new a b (ObeysAll lines) result → Keeps b c
-    → IsSchedule schedule → lines ≡ schedule.lines.items → old.world.config ≡ schedule.config → Stands old.world [] → Printed old.tells_claims a c status
+    → IsSchedule schedule → lines ≡ schedule.lines.items → old.world.config ≡ schedule.config → Stands old.world [] → Printed old.tells_claims schedule a c status
 printed_so old new a b c schedule lines result status ended whole same plays keeps is_schedule same_lines same_config stands =
     printed old.tells_claims old.world.config a b c new.world schedule result status is_schedule same_config (same.config ∙ same_config) ended whole keeps
     (subst (λ all. GoesOn old.tells_claims old.world.config a b new.world [] (ObeysAll all) result) same_lines (plays [] stands))
@@ -97,6 +95,11 @@ prints_whole old new a b c lines x status same plays keeps schedule =
 pub prints_halted : (old new : Player) (a b : Option (List ℕ)) (lines : List ScheduleLine) (number : ℕ) (one : Halt) (told : ReplayFault)
     → told ≡ fault_at number one → IsSame old new → Plays old new a b (ObeysAll lines) (Err one) → PrintsAll old lines a b (status_of told)
 prints_halted old new a b lines number one told is same plays schedule is_schedule same_lines same_config stands =
-    subst (λ (other : ReplayFault). Printed old.tells_claims a b (status_of other)) (sym is)
+    subst (λ (other : ReplayFault). Printed old.tells_claims schedule a b (status_of other)) (sym is)
     (printed_so old new a b b schedule lines (Err one) (status_of (fault_at number one)) (λ good. absurd (no_good_fault (fault_at number one) good))
     (halted_whole number one) same plays (keeps_same b) is_schedule same_lines same_config stands)
+
+-- So some schedule was played, or none.
+pub may_print : (claims : Bool) (schedule : Schedule) (a b : Option (List ℕ)) (status : ℕ) → IsSchedule schedule → MayPrint claims schedule a b status → Replays claims a b status
+may_print claims schedule a b status is_schedule (inl is) = inl (schedule, is_schedule, is)
+may_print claims schedule a b status is_schedule (inr none) = inr none

@@ -1,7 +1,7 @@
 -- The line of what is told of an event.
-use Rattle.std.specs.Prelude.{ℕ, ◌≡◌, ◌<◌, ◌==◌, ◌&&◌, ◌++◌, Bool, true, false, if◌then◌else◌, nat_lt, List, [], ◌∷◌, Option, Some, None, Result, Ok, Err, IfOk}
+use Rattle.std.specs.Prelude.{ℕ, ◌≡◌, ◌<◌, ◌==◌, ◌&&◌, Bool, true, if◌then◌else◌, nat_lt, List, [], ◌∷◌, Option, Some, None, Result, Ok, Err, IfOk}
 use Rattle.std.specs.Option.{option_map, option_to_list}
-use Rattle.std.proofs.Common.{refl, sym, ap, subst, ◌∙◌, append-nil, arith}
+use Rattle.std.proofs.Common.{sym, ap, ◌∙◌, append-nil, arith}
 use Rattle.std.proofs.lemmas.Bool.Decides.{nat_tests}
 use Rattle.std.proofs.lemmas.Option.{same_Some}
 use Rattle.mw_words.specs.declared.gates.Gate.{Gate}
@@ -16,7 +16,7 @@ use Rattle.mw_world.specs.Definition.Happenings.{Happening, Hand}
 use Rattle.mw_world.specs.Definition.State.{State}
 use Rattle.mw_simulator.specs.declared.world.World.{World}
 use Rattle.mw_simulator.specs.Shows.{Shows}
-use Rattle.mw_player.specs.Printed.{Told, Claimed, Replied, line_of, replies_of, text_of, told_of, won_by}
+use Rattle.mw_player.specs.Printed.{Claimed, Replied, line_of, replies_of, text_of, told_of, won_by}
 
 -- the line of a reply that stands
 pub reply_told : (claims : Bool) (config shown : Config) (state : State) (happening : Happening) (worker tenant : ℕ) (actor : Acting) (reply : Reply) (line : List ℕ)

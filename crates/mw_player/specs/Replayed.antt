@@ -49,9 +49,7 @@ status_after (Err fault) = status_of fault
 
 -- A schedule was played, to its end or up to where that failed. What was written is the text of what is told of the run, and at status 1 a beginning
 -- of it.
-pub record Printed (claims : Bool) (before now : Option (List ℕ)) (status : ℕ) : Type 0 where
-  pub schedule : Schedule
-  pub is_schedule : IsSchedule schedule
+pub record Printed (claims : Bool) (schedule : Schedule) (before now : Option (List ℕ)) (status : ℕ) : Type 0 where
   -- what happened to the world, and what the lines of the schedule say
   pub happened : List Happening
   pub state : State
@@ -71,11 +69,15 @@ pub record Printed (claims : Bool) (before now : Option (List ℕ)) (status : �
   pub alone : (tenant : ℕ) → tenant < tenants_of schedule.config → IsRun schedule.config (first_openings schedule.config) happened state
       → IsServedAlone schedule.config (first_openings schedule.config) happened state tenant
 
+-- The schedule was played, or it was not and nothing was written.
+abbrev pub MayPrint : Bool → Schedule → Option (List ℕ) → Option (List ℕ) → ℕ → Type 0
+MayPrint claims schedule before now status = Printed claims schedule before now status ⊎ (Keeps before now × (status ≢ 0))
+
 -- A schedule was played, or none was and nothing was written.
 abbrev pub Replays : Bool → Option (List ℕ) → Option (List ℕ) → ℕ → Type 0
-Replays claims before now status = Printed claims before now status ⊎ (Keeps before now × (status ≢ 0))
+Replays claims before now status = ((schedule : Schedule) × IsSchedule schedule × Printed claims schedule before now status) ⊎ (Keeps before now × (status ≢ 0))
 
 -- Where the world of a player is a new one of a schedule, the lines of that schedule were played.
 abbrev pub PrintsAll : Player → List ScheduleLine → Option (List ℕ) → Option (List ℕ) → ℕ → Type 0
 PrintsAll player lines before now status = (schedule : Schedule) → IsSchedule schedule → lines ≡ schedule.lines.items → player.world.config ≡ schedule.config
-    → Stands player.world [] → Printed player.tells_claims before now status
+    → Stands player.world [] → Printed player.tells_claims schedule before now status

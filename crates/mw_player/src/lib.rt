@@ -7,4 +7,4 @@ mod player;
 mod replaying;
 
 pub use player::{Halt, Player};
-pub use replaying::{replay, replay_args};
+pub use replaying::{replay, replay_args, replay_file, replay_schedule};

@@ -3,7 +3,7 @@ ghost use Rattle.std.specs.Prelude.{◌≡◌, IfOk};
 ghost use Rattle.std.specs.Io.KnownBytes.{Keeps};
 ghost use Rattle.mw_schedule.specs.Playing.{IsSchedule};
 ghost use Rattle.mw_player.specs.Playing.{IsSame, ObeysAll, Plays};
-ghost use Rattle.mw_player.specs.Replayed.{PrintsAll, Replays, fault_at, halt_of, status_after, status_of};
+ghost use Rattle.mw_player.specs.Replayed.{MayPrint, PrintsAll, Replays, fault_at, halt_of, status_after, status_of};
 
 use crate::player::{Halt, Player};
 use clap::error::ErrorKind;
@@ -105,19 +105,21 @@ impl From<io::Error> for ReplayFault {
     }
 }
 
-/// Plays the schedule that the command line `args`, the program's own name first, names:
-/// `mwreplay [--trace] FILE`, as [`replay`] does.
+/// Plays the schedule in the file that the command line `args` names, by [`replay_file`]. The program's
+/// own name comes first: `mwreplay [--trace] FILE`. Where help is asked for, `out` gets its text.
 ///
-/// Gives the exit status: that of [`replay`]; 1 where the file can't be opened; 2 for a wrong command
-/// line. What went wrong is written to `err`.
+/// Gives the exit status: that of [`replay_file`]; 2 for a wrong command line; 1 where memory was
+/// refused before the file was opened. For help it is 0, or 1 where `out` failed. What went wrong is
+/// written to `err`. What is played of a file is in the contract of [`replay_file`]; which command line
+/// asks for what is in none.
 pub fn replay_args<R: Files + AllocGlobal, O: Write, E: Write>(
     rt: &R,
     args: &[String],
     out: &mut O,
     err: &mut E,
 ) -> u8 {
-    match play_file(rt, args, out) {
-        Ok(()) => 0,
+    match ask(rt.alloc(), args) {
+        Ok(Asked { path, trace }) => replay_file(rt, path, trace, out, err),
         Err(ReplayFault::Args(fault)) if !fault.use_stderr() => {
             u8::from(write!(out, "{fault}").is_err())
         }
@@ -125,10 +127,32 @@ pub fn replay_args<R: Files + AllocGlobal, O: Write, E: Write>(
     }
 }
 
+/// Plays the schedule that the file at `path` has, as [`replay`] does, whose contract this one has.
+///
+/// Gives the exit status: that of [`replay`]; and 1 where the file can't be opened, of which nothing is
+/// written to `out`. What went wrong is written to `err`.
+pub fn replay_file<R: Files + AllocGlobal, O: Write, E: Write>(
+    rt: &R,
+    path: &str,
+    trace: bool,
+    out: &mut O,
+    err: &mut E,
+) -> u8
+    ensures { Replays trace (O.contents out.old) (O.contents out.new) result }
+{
+    match File::open(rt, path) {
+        Ok(mut file) => replay(rt, &mut file, trace, out, err),
+        Err(fault) => tell(&ReplayFault::from(fault), err),
+    }
+}
+
 /// Plays the schedule that `input` gives, which is read to its end first, on a world of its own. Each
 /// reply that is handed out is written to `out` as `W NAME REPLY`: the worker, the tenant, and what the
 /// tenant is answered. With `trace` each claim of a slot that is won is written there as
 /// `claim SLOT SEQ NAME`.
+///
+/// Its contract speaks of some schedule. That it is the one that was read is how this is written: it
+/// hands what it read to [`replay_schedule`], whose contract names the schedule that is given.
 ///
 /// Gives the exit status: 0 where it was played to its end; 1 where `input` or `out` failed or memory
 /// was refused; 2 where the schedule has a wrong line, and then nothing is played; 3 where what a line
@@ -143,7 +167,28 @@ pub fn replay<R: AllocGlobal, I: Read, O: Write, E: Write>(
 ) -> u8
     ensures { Replays trace (O.contents out.old) (O.contents out.new) result }
 {
-    match play(rt.alloc(), input, trace, out) {
+    match read(rt.alloc(), input) {
+        Ok(schedule) => replay_schedule(rt, schedule, trace, out, err),
+        Err(fault) => tell(&fault, err),
+    }
+}
+
+/// Plays `schedule`, as [`replay`] does with the one that it reads: what is written to `out` is told of
+/// a run that this very schedule has, or nothing is written and the status isn't 0.
+///
+/// Gives the exit status: 0 where it was played to its end; 1 where `out` failed or memory was refused;
+/// 3, 4 and 5 as [`replay`] says. What went wrong is written to `err`.
+pub fn replay_schedule<R: AllocGlobal, O: Write, E: Write>(
+    rt: &R,
+    schedule: Schedule,
+    trace: bool,
+    out: &mut O,
+    err: &mut E,
+) -> u8
+    requires { IsSchedule schedule }
+    ensures { MayPrint trace schedule (O.contents out.old) (O.contents out.new) result }
+{
+    match play_schedule(rt.alloc(), schedule, trace, out) {
         Ok(()) => 0,
         Err(fault) => tell(&fault, err),
     }
@@ -161,17 +206,21 @@ fn tell<E: Write>(fault: &ReplayFault, err: &mut E) -> u8
     fault.status()
 }
 
-fn play_file<R: Files + AllocGlobal, O: Write>(
-    rt: &R,
-    args: &[String],
-    out: &mut O,
-) -> Result<(), ReplayFault> {
-    let matches = command(rt.alloc())?.try_get_matches_from(args)?;
+// What a command line asks for.
+struct Asked<'a> {
+    path: &'a str,
+    trace: bool,
+}
+
+fn ask<'a>(alloc: Global, args: &'a [String]) -> Result<Asked<'a>, ReplayFault> {
+    let matches = command(alloc)?.try_get_matches_from(args)?;
     let Some(path) = matches.get_str("FILE") else {
         return Err(ReplayFault::CannotRead);
     };
-    let mut file = File::open(rt, path)?;
-    play(rt.alloc(), &mut file, matches.get_flag("trace"), out)
+    Ok(Asked {
+        path,
+        trace: matches.get_flag("trace"),
+    })
 }
 
 fn command<'a>(alloc: Global) -> Result<Command<'a>, clap::Error> {
@@ -195,20 +244,6 @@ fn schedule_path<'a>(alloc: Global) -> Arg<'a> {
         .help("the schedule to play")
 }
 
-fn play<I: Read, O: Write>(
-    alloc: Global,
-    input: &mut I,
-    trace: bool,
-    out: &mut O,
-) -> Result<(), ReplayFault>
-    ensures { Replays trace (O.contents out.old) (O.contents out.new) (status_after result) }
-{
-    match read(alloc, input) {
-        Ok(schedule) => play_schedule(alloc, schedule, trace, out),
-        Err(fault) => Err(fault),
-    }
-}
-
 // The schedule that `input` gives, which is read to its end.
 fn read<I: Read>(alloc: Global, input: &mut I) -> Result<Schedule, ReplayFault>
     ensures { IfOk result IsSchedule }
@@ -226,7 +261,7 @@ fn play_schedule<O: Write>(
     out: &mut O,
 ) -> Result<(), ReplayFault>
     requires { IsSchedule schedule }
-    ensures { Replays trace (O.contents out.old) (O.contents out.new) (status_after result) }
+    ensures { MayPrint trace schedule (O.contents out.old) (O.contents out.new) (status_after result) }
 {
     let Schedule { config, lines } = schedule;
     match Player::new(alloc, config, trace) {

@@ -1,4 +1,4 @@
-use Rattle.std.proofs.Common.{◌≡◌, ◌<◌, sym, subst, ◌∙◌}
+use Rattle.std.proofs.Common.{◌<◌, sym, subst, ◌∙◌}
 use Rattle.mw_world.specs.declared.config.Config.{Config}
 use Rattle.mw_player.proofs.ToldLines.{claim_told, no_gate}
 use Rattle.mw_player.proofs.player.Player.line_of_gate.Goals as goal
