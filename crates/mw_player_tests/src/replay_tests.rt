@@ -6,7 +6,7 @@ use crate::line_tests::{
 use crate::mistake_tests::of_mistakes;
 use crate::schedule_tests::{CLAIM_LOST, SLOT_RECYCLED, of_files, of_late_workers, of_requests};
 use mw_look::Kind;
-use mw_player::{Halt, Player, replay, replay_args};
+use mw_player::{Halt, Player, replay, replay_args, replay_schedule};
 use mw_schedule::{Command, StepKind, read_schedule};
 use std::alloc::{AllocError, Global};
 use std::io::{self, ErrorKind, Read, Write};
@@ -194,6 +194,20 @@ fn replies_before_a_halt_stay(rt: HostRuntime) -> Result<(), Fail> {
         played.is(3, "0 t VAL 0\n", "line 7 not enabled\n"),
         "{played:?}"
     );
+    Ok(())
+}
+
+#[test]
+fn a_given_schedule_is_played(rt: HostRuntime) -> Result<(), Fail> {
+    let text = b"pool 1\nworkers 1\ntenant t 1 1\ncome 0 t CAS 0:0:1\nend 0\n";
+    let Ok(schedule) = read_schedule(rt.alloc(), text) else {
+        panic!(rt; "a schedule");
+    };
+    let mut out = Vec::new(rt.alloc());
+    let mut err = Vec::new(rt.alloc());
+    let status = replay_schedule(&rt, schedule, false, &mut out, &mut err);
+    let played = Played::new(status, out, err)?;
+    assert!(rt; played.is(0, "0 t YES\n", ""), "{played:?}");
     Ok(())
 }
 
