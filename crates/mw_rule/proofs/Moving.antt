@@ -28,6 +28,7 @@ use Rattle.mw_world.specs.Definition.State.{Opening, tenant_at, tenants_of}
 use Rattle.mw_world.specs.Definition.Turns.{may_make}
 use Rattle.mw_law_store.specs.History.{IsBeginning}
 use Rattle.mw_law_store.specs.Moments.{SealedChange}
+use Rattle.mw_law_store.specs.OverCalls.{sealed_of}
 use Rattle.mw_law_runs.proofs.Lawful.{runs_are_lawful}
 use Rattle.mw_rule.specs.declared.views.Reins.{Reins}
 use Rattle.mw_rule.specs.declared.views.View.{View}
@@ -35,7 +36,7 @@ use Rattle.mw_rule.specs.Carrying.{Took, comes, told, told_as}
 use Rattle.mw_rule.specs.Laws.{FirstStepsKeepTheRule, StepsKeepTheRule}
 use Rattle.mw_rule.specs.Layout.{index_of}
 use Rattle.mw_rule.specs.Rule.{Each, Fits, Holds, Tied, Ties}
-use Rattle.mw_rule.specs.Seen.{sealed_of, seen_at}
+use Rattle.mw_rule.specs.Seen.{seen_at}
 use Rattle.mw_rule.specs.Ways.{finds, made_of_bits}
 use Rattle.mw_rule.proofs.Keeping.{ties_on}
 use Rattle.mw_rule.proofs.Leading.{played_on, stays_there}

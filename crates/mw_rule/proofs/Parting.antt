@@ -19,6 +19,8 @@ use Rattle.mw_world.specs.Definition.State.{State, Opening, Seat, tenants_of}
 use Rattle.mw_law_runs.proofs.Numbers.{same_or_other}
 use Rattle.mw_law_store.specs.History.{IsBeginning}
 use Rattle.mw_law_store.specs.Moments.{SealedChange}
+use Rattle.mw_law_store.specs.OverCalls.{sealed_of}
+use Rattle.mw_law_store.proofs.OverCalls.{requests_have_begun}
 use Rattle.mw_rule.specs.declared.views.Reins.{Reins}
 use Rattle.mw_rule.specs.declared.views.View.{View}
 use Rattle.mw_rule.specs.Carrying.{StoodThere}
@@ -26,7 +28,7 @@ use Rattle.mw_rule.specs.Layout.{index_of}
 use Rattle.mw_rule.specs.Dealing.{dealt, head_of, hears, left_over, maker, note, reins_from, reins_of, rest_of, spent}
 use Rattle.mw_rule.specs.Laws.{DealsKeepTheRule, HearingKeepsTheRule, LooksKeepTheRule, NotesKeepTheRule, StartsUnderTheRule}
 use Rattle.mw_rule.specs.Rule.{Each, Fits, Holds, IsSpent, Tied, Ties, has, times, total, weight}
-use Rattle.mw_rule.specs.Seen.{Gave, HasBegunFor, opening_at, sealed_of, seen_at}
+use Rattle.mw_rule.specs.Seen.{Gave, HasBegunFor, opening_at, seen_at}
 use Rattle.mw_rule.proofs.Totals.{total_set, total_more}
 use Rattle.mw_rule.proofs.Viewing.{all_seen, live_fits, sees, sees_on}
 
@@ -152,20 +154,23 @@ hearing_keeps config begun id other view its live its_live none s tied at apart 
     let all = tied.alone worker in omega (arith, first, second, all))
 
 -- The first thread has the reins of each worker once.
-module _ (config : Config) (openings : ℕ → Opening) (state : State) (seats : ℕ → Seat) (same : (worker : ℕ) → worker < config.workers → seats worker ≡ state.seats worker) where
+module _ (config : Config) (openings : ℕ → Opening) (before : List Happening) (state : State) (played : IsPlayed config openings before state) (seats : ℕ → Seat)
+    (same : (worker : ℕ) → worker < config.workers → seats worker ≡ state.seats worker) where
+  begun_before : (worker : ℕ) (actor : Option Acting) → (state.seats worker).actor ≡ actor → HasBegunFor openings state worker 0 actor
+  begun_before worker None sits = tt
+  begun_before worker (Some actor) sits = let begun = requests_have_begun config openings before state worker actor played sits in record { sealed = begun.0; no_fewer = omega arith; came = begun.1 }
+
   one_holds : (worker : ℕ) → worker < config.workers → Holds config openings state [] (reins_of worker (seats worker))
-  one_holds worker low = record {
-    there = low;
-    actor = ap (λ (seat : Seat). seat.actor) (sym (same worker low));
-    attempt = ap (λ (seat : Seat). seat.attempt) (sym (same worker low));
-    request = ap (λ (seat : Seat). seat.request) (sym (same worker low));
-    made = refl;
-    begun = by (seats worker).actor;
-  }
-    where
-      by : (actor : Option Acting) → HasBegunFor openings state (seats worker).request 0 actor
-      by None = tt
-      by (Some actor) = inl refl
+  one_holds worker low =
+      let sits = ap (λ (seat : Seat). seat.actor) (sym (same worker low)) in
+      record {
+        there = low;
+        actor = sits;
+        attempt = ap (λ (seat : Seat). seat.attempt) (sym (same worker low));
+        request = ap (λ (seat : Seat). seat.request) (sym (same worker low));
+        made = refl;
+        begun = begun_before worker (seats worker).actor sits;
+      }
 
   all_hold : (first left : ℕ) → first + left ≤ config.workers → Each (Holds config openings state []) (reins_from seats first left)
   all_hold first zero most = tt
@@ -202,7 +207,7 @@ starts config begun openings before state given seats words began played gave sa
     let all_fit : Fits config openings state [] (maker config given seats) = record {
       same_config = refl;
       gave = gave;
-      reins = all_hold config openings state seats same 0 config.workers (omega arith);
+      reins = all_hold config openings before state played seats same 0 config.workers (omega arith);
       seen = nothing_first (tenants_of config) (sealed_of openings state);
       told = nothing_first (tenants_of config) (sealed_of openings state);
     } in

@@ -1,13 +1,14 @@
 -- The events of one worker by its request: it comes, makes a step, and hands out its reply.
 use Rattle.std.specs.Prelude.{ℕ, ◌≡◌, ◌≢◌, ◌<◌, ◌==◌, ◌&&◌, not, Bool, true, false, if◌then◌else◌, List, [], ◌∷◌, ◌++◌, length, is_some, is_none, nat_lt, Option, Some, None}
 use Rattle.std.specs.Option.{option_and_then}
-use Rattle.std.proofs.Common.{refl, sym, ap, subst, ◌∙◌, append_assoc, inr, arith}
+use Rattle.std.proofs.Common.{refl, sym, ap, subst, ◌∙◌, append_assoc, arith}
 use Rattle.std.proofs.lemmas.Bool.Decides.{nat_tests}
+use Rattle.std.proofs.lemmas.Option.{option_and_then_some}
 use Rattle.mw_words.specs.declared.replies.Reply.{Reply}
 use Rattle.mw_words.specs.declared.jobs.Job.{Job}
 use Rattle.mw_words.specs.Change.{is_well_formed}
 use Rattle.mw_lone.specs.declared.marks.Mark.{Mark}
-use Rattle.mw_lone.specs.declared.marks.Mark.TheVariants.{Ask, Reply as HandOut}
+use Rattle.mw_lone.specs.declared.marks.Mark.TheVariants.{Reply as HandOut}
 use Rattle.mw_look.specs.declared.news.Got.{Got}
 use Rattle.mw_look.specs.News.{news_of}
 use Rattle.mw_look.specs.Steps.{place}
@@ -23,20 +24,19 @@ use Rattle.mw_world.specs.Definition.Cells.{Cells}
 use Rattle.mw_world.specs.Definition.Happenings.{Happening, Come, Step, Hand}
 use Rattle.mw_world.specs.Definition.History.{History}
 use Rattle.mw_world.specs.Definition.Noting.{more, seated}
-use Rattle.mw_world.specs.Definition.State.{State, Account, Opening, Seat, tenant_at, tenants_of}
+use Rattle.mw_world.specs.Definition.State.{State, Opening, Seat, tenant_at, tenants_of}
 use Rattle.mw_world.specs.Definition.Turns.{may_make, made_of, moved, next_attempt, turn, turned}
-use Rattle.mw_world.specs.Definition.World.{begun, asked, hand, handed, may_come, run}
+use Rattle.mw_world.specs.Definition.World.{begun, asked, hand, handed, may_come, run, step}
 use Rattle.mw_law_knowledge.proofs.Deeds.Keeping.{upd_here, upd_else}
-use Rattle.mw_law_store.specs.Followed.{start_of}
-use Rattle.mw_law_store.specs.Moments.{Moment, after_marks, first_moment, moment_at, moment_of}
-use Rattle.mw_law_store.proofs.Momenting.{got_last, moment_all, moment_before}
+use Rattle.mw_law_store.specs.OverCalls.{sealed_of}
+use Rattle.mw_law_store.proofs.OverCalls.{requests_begin, requests_stay_begun}
 use Rattle.mw_rule.specs.declared.views.Deed.{Deed}
 use Rattle.mw_rule.specs.declared.views.Deed.TheVariants.{Came, Stepped, Handed}
 use Rattle.mw_rule.specs.declared.views.Reins.{Reins}
 use Rattle.mw_rule.specs.Carrying.{comes, settled, settled_as, told_as, told_of}
 use Rattle.mw_rule.specs.Rule.{Holds, deed_if, made_by}
-use Rattle.mw_rule.specs.Seen.{HasBegun, HasBegunFor, sealed_of}
-use Rattle.mw_rule.proofs.Leading.{Leads, begun_for_on, leads_on, made_on, one_gift}
+use Rattle.mw_rule.specs.Seen.{CameAfter, HasBegunFor}
+use Rattle.mw_rule.proofs.Leading.{Leads, leads_on, made_on, one_gift}
 use Rattle.mw_rule.proofs.Words.{cells_after, done_is, news_after}
 
 itself : (n : ℕ) → (n == n) ≡ true
@@ -70,6 +70,10 @@ same_request (note.GaveUp own fault) past lines seat = refl
 same_request (note.SealedIt target) past lines seat = refl
 same_request (note.FailedToSeal target) past lines seat = refl
 same_request note.FailedFile past lines seat = refl
+
+-- a run of one event is its step
+one_event : (config : Config) (state next : State) (event : Happening) → run config state (event ∷ []) ≡ Some next → step config state event ≡ Some next
+one_event config state next event runs = option_and_then_some (λ one. run config one []) (step config state event) next runs (λ after at on. at ∙ on)
 
 -- What is reached by a worker's events, and what holds of its reins then.
 pub record Reached (config : Config) (openings : ℕ → Opening) (old : State) (worker : ℕ) (events : List Happening) (reins : Reins) (cells : Cells) : Type 0 where
@@ -129,15 +133,22 @@ module _ (config : Config) (openings : ℕ → Opening) (before : List Happening
         let sits = holds.actor ∙ carries in
         let after = after_step state reins.worker actor in
         let own = upd_here state.seats reins.worker _ in
+        let now : (after.seats reins.worker).actor ≡ Some (told_of got reins.attempt actor) =
+        ap (λ (seat : Seat). seat.actor) own ∙ (λ i. Some (tells actor (sym told i) (next_attempt actor.point (holds.attempt i)))) in
+        let begun : CameAfter openings state reins.worker actor reins.begun = subst (HasBegunFor openings state reins.worker reins.begun) carries holds.begun in
         record {
           there = holds.there;
-          actor = ap (λ (seat : Seat). seat.actor) own ∙ (λ i. Some (tells actor (sym told i) (next_attempt actor.point (holds.attempt i))));
+          actor = now;
           attempt = ap (λ (seat : Seat). seat.attempt) own ∙ ap (next_attempt actor.point) holds.attempt;
           request = ap (λ (seat : Seat). seat.request) own ∙ same_request _ _ _ (state.seats reins.worker) ∙ holds.request;
           made = made_on reins.worker events (Step reins.worker ∷ []) ∙ ap (λ made. made_by reins.worker events ++ made) (own_deed reins.worker Stepped)
               ∙ ap (λ made. made ++ Stepped ∷ []) holds.made;
-          begun = begun_for_on config openings before state played reins.worker after (Step reins.worker ∷ []) (step_leads reins.worker actor sits running there) reins.worker reins.request reins.begun (Some actor) sits
-              (subst (HasBegunFor openings state reins.request reins.begun) carries holds.begun);
+          begun = record {
+            sealed = begun.sealed;
+            no_fewer = begun.no_fewer;
+            came = (requests_stay_begun config openings before state after (Step reins.worker) reins.worker actor (told_of got reins.attempt actor) begun.sealed played begun.came tt
+                (one_event config state after (Step reins.worker) (step_happens reins.worker actor sits running there)) now).1;
+          };
         }
 
 -- A reply is handed out.
@@ -217,17 +228,6 @@ module _ (config : Config) (openings : ℕ → Opening) (state : State) (events 
     gifts = λ other. one_gift state.accounts tenant _ (record { quota = refl; is_up = refl }) other;
   }
 
-  came_with : (account : Account) → account ≡ asked (state.accounts tenant) job
-      → HasBegun (after_marks (first_moment (openings tenant).words) account.closed) account.lines (state.accounts tenant).asked (length (sealed_of openings state tenant))
-  came_with account is =
-      let old = state.accounts tenant in
-      let start = start_of openings state tenant in
-      let line : Option Mark = Some (Ask old.asked job) in
-      let same : moment_at start (more old.lines line) (length old.lines) ≡ moment_of start old.lines = moment_before start old.lines line (length old.lines) (omega arith) ∙ moment_all start old.lines in
-      let long = ap (λ (now : Moment). length now.sealed) same in
-      subst (λ (one : Account). HasBegun (after_marks (first_moment (openings tenant).words) one.closed) one.lines old.asked (length (sealed_of openings state tenant))) (sym is)
-      (inr (record { line = length old.lines; job = job; came = got_last old.lines line; sealed = omega (arith, long) }))
-
   pub come_holds : Holds config openings (after_come config state reins.worker tenant job) (events ++ Come reins.worker tenant job ∷ [])
       (comes (first reins.worker tenant (state.accounts tenant).quota config.pool job) (state.accounts tenant).asked (length (sealed_of openings state tenant)) reins)
   come_holds =
@@ -238,5 +238,10 @@ module _ (config : Config) (openings : ℕ → Opening) (state : State) (events 
         attempt = ap (λ (seat : Seat). seat.attempt) own ∙ holds.attempt;
         request = ap (λ (seat : Seat). seat.request) own;
         made = made_on reins.worker events (Come reins.worker tenant job ∷ []) ∙ ap (λ made. made_by reins.worker events ++ made) (own_deed reins.worker Came) ∙ ap (λ made. made ++ Came ∷ []) holds.made;
-        begun = came_with (upd state.accounts tenant (asked (state.accounts tenant) job) tenant) (upd_here state.accounts tenant (asked (state.accounts tenant) job));
+        begun = record {
+          sealed = length (sealed_of openings state tenant);
+          no_fewer = omega arith;
+          came = requests_begin config openings state (after_come config state reins.worker tenant job) reins.worker tenant job
+              (one_event config state (after_come config state reins.worker tenant job) (Come reins.worker tenant job) come_leads.runs);
+        };
       }

@@ -18,12 +18,13 @@ use Rattle.mw_world.specs.Definition.Turns.{next_attempt}
 use Rattle.mw_law_runs.proofs.Lawful.{runs_are_lawful}
 use Rattle.mw_law_store.specs.History.{IsBeginning}
 use Rattle.mw_law_store.specs.Moments.{SealedChange}
+use Rattle.mw_law_store.specs.OverCalls.{sealed_of}
 use Rattle.mw_rule.specs.declared.views.Deed.TheVariants.{Stepped}
 use Rattle.mw_rule.specs.declared.views.Reins.{Reins}
 use Rattle.mw_rule.specs.declared.views.View.{View}
 use Rattle.mw_rule.specs.Carrying.{GoesOn, IsReady, IsReadyFor, settled_as, told, told_as, told_of}
 use Rattle.mw_rule.specs.Rule.{Each, Fits, Holds, IsLive, IsSpent, Tied, Ties, has, times, weight}
-use Rattle.mw_rule.specs.Seen.{ComeFirst, all_of, opening_at, sealed_of, seen_at}
+use Rattle.mw_rule.specs.Seen.{ComeFirst, all_of, opening_at, seen_at}
 use Rattle.mw_rule.proofs.Keeping.{keep}
 use Rattle.mw_rule.proofs.Leading.{begins_itself, gave_on, played_on, seen_on}
 use Rattle.mw_rule.proofs.Stepping.{Reached}

@@ -13,12 +13,13 @@ use Rattle.mw_world.specs.Definition.Extent.{has_place}
 use Rattle.mw_world.specs.Definition.Happenings.{Happening, Come, Step, File, Hand, Restart}
 use Rattle.mw_world.specs.Definition.State.{State, Opening, tenants_of}
 use Rattle.mw_law_store.specs.History.{AreNoStarts}
+use Rattle.mw_law_store.specs.OverCalls.{sealed_of}
 use Rattle.mw_rule.specs.declared.views.Deed.{Deed}
 use Rattle.mw_rule.specs.declared.views.Deed.TheVariants.{Came, Stepped, Called, Handed}
 use Rattle.mw_rule.specs.declared.views.Reins.{Reins}
 use Rattle.mw_rule.specs.declared.views.View.{View}
 use Rattle.mw_rule.specs.Layout.{index_of, words_of}
-use Rattle.mw_rule.specs.Seen.{ComeFirst, Gave, HasBegunFor, opening_at, sealed_of}
+use Rattle.mw_rule.specs.Seen.{ComeFirst, Gave, HasBegunFor, opening_at}
 
 -- At each place that is there stands in the table what stands there in the world, in bits.
 abbrev pub Ties : Config → Cells → List ℕ → Type 0
@@ -76,7 +77,7 @@ pub record Holds (config : Config) (openings : ℕ → Opening) (state : State) 
   pub attempt : (state.seats reins.worker).attempt ≡ reins.attempt
   pub request : (state.seats reins.worker).request ≡ reins.request
   pub made : made_by reins.worker events ≡ reins.made
-  pub begun : HasBegunFor openings state reins.request reins.begun reins.actor
+  pub begun : HasBegunFor openings state reins.worker reins.begun reins.actor
 
 -- What a thread knows is so.
 pub record Fits (config : Config) (openings : ℕ → Opening) (state : State) (events : List Happening) (view : View) : Type 0 where
