@@ -160,6 +160,7 @@ module _ (config : Config) (openings : ℕ → Opening) (before : List Happening
       reins = each_apart (Holds config openings old events) (Holds config openings new (events ++ more)) worker view.reins none others_hold fits.reins;
       seen = seen_on view.seen fits.seen;
       told = seen_on view.told fits.told;
+      right = fits.right;
     }
 
 abbrev pub past_on : (config : Config) (begun : (ℕ → Opening) → List Happening → Type 0) (old new : State) (events more : List Happening) (worker : ℕ) → Past config begun old events → Leads config old worker new more

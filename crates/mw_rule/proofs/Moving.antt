@@ -99,7 +99,7 @@ steps_keep config begun slots id worker me op make drives makes s tied homes at 
       keeps,
       tt,
       moved.tied,
-      subst (λ (one : Op). Took (finds one (slice_index s.words (index_of config.pool (place_of op)))) me.0 moved.view) drives.is (record { goes_on = moved.goes_on; reins = moved.reins; ready = moved.ready }),
+      subst (λ (one : Op). Took (finds one (slice_index s.words (index_of config.pool (place_of op)))) me.0 moved.view) drives.is (record { goes_on = moved.goes_on; right = moved.right; reins = moved.reins; ready = moved.ready }),
     )
 
 -- A request begins with a load of its tenant's door.
@@ -191,6 +191,7 @@ first_steps_keep config begun slots id worker me actor make may makes s tied hom
       moved.tied,
       record {
         goes_on = moved.goes_on;
+        right = moved.right;
         request = (tied.state.accounts actor.tenant).asked;
         begun = length (sealed_of tied.past.openings tied.state actor.tenant);
         no_fewer = no_shorter (seen_at me.0.seen actor.tenant) (sealed_of tied.past.openings tied.state actor.tenant) (fits.seen actor.tenant there);

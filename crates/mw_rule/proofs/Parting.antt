@@ -29,8 +29,9 @@ use Rattle.mw_rule.specs.Dealing.{dealt, head_of, hears, left_over, maker, note,
 use Rattle.mw_rule.specs.Laws.{DealsKeepTheRule, HearingKeepsTheRule, LooksKeepTheRule, NotesKeepTheRule, StartsUnderTheRule}
 use Rattle.mw_rule.specs.Rule.{Each, Fits, Holds, IsSpent, Tied, Ties, has, times, total, weight}
 use Rattle.mw_rule.specs.Seen.{Gave, HasBegunFor, opening_at, seen_at}
+use Rattle.mw_rule.proofs.Righting.{mine_in, nothing_right, sees_right}
 use Rattle.mw_rule.proofs.Totals.{total_set, total_more}
-use Rattle.mw_rule.proofs.Viewing.{all_seen, live_fits, sees, sees_on}
+use Rattle.mw_rule.proofs.Viewing.{all_at, all_seen, live_fits, sees, sees_on}
 
 -- the rule of the same words where threads know other things of the same world
 other_views : (config : Config) (begun : (ℕ → Opening) → List Happening → Type 0) (s now : Table Acting View) (tied : Tied config begun s) → now.words ≡ s.words
@@ -65,7 +66,11 @@ looks_keep config begun slots id index me make live makes s tied homes at low =
     let sealed = sealed_of openings tied.state in
     let fits = live_fits config openings tied.state tied.events me.0 live (tied.fits id me.0 at) in
     let new = sees config sealed me.0 me.0.reins in
-    let new_fits : Fits config openings tied.state tied.events new = record { same_config = fits.same_config; gave = fits.gave; reins = fits.reins; seen = all_seen sealed (tenants_of config); told = fits.told } in
+    let before = tied.past.before ++ tied.events in
+    let right = sees_right config openings tied.state new fits.same_config fits.gave before tied.past.played (all_at sealed (tenants_of config))
+    (mine_in config openings tied.state me.0 fits.same_config fits.gave fits.seen me.0.mine fits.right.mine) in
+    let new_fits : Fits config openings tied.state tied.events new =
+    record { same_config = fits.same_config; gave = fits.gave; reins = fits.reins; seen = all_seen sealed (tenants_of config); told = fits.told; right = right } in
     let words : slice_set s.words index (make (slice_index s.words index)) ≡ s.words = ap (slice_set s.words index) (makes (slice_index s.words index)) ∙ set-get_or s.words index 0 in (
       new,
       keeps,
@@ -75,7 +80,14 @@ looks_keep config begun slots id index me make live makes s tied homes at low =
             | inl here ↦ inr (subst (Fits config openings tied.state tied.events) here.1 new_fits)
             | inr else ↦ tied.fits other view else.1
           ]) (λ worker. let sums = total_set (has worker) s.views id me.0 new at in let all = tied.alone worker in omega (arith, sums, all)),
-      record { goes_on = sees_on config sealed me.0 me.0.reins fits.same_config fits.seen fits.told; stood = stood_there config tied.past.openings (tied.past.before ++ tied.events) tied.state new index (slice_index s.words index) fits.same_config tied.past.played fits.gave (λ at there is. sym (ap (slice_index s.words) is) ∙ tied.ties at there); same_reins = refl; same_mine = refl },
+      record {
+        goes_on = sees_on config sealed me.0 me.0.reins fits.same_config fits.seen fits.told;
+        stood = stood_there config openings before tied.state new index (slice_index s.words index) fits.same_config tied.past.played fits.gave
+            (λ at there is. sym (ap (slice_index s.words) is) ∙ tied.ties at there);
+        right = right;
+        same_reins = refl;
+        same_mine = refl;
+      },
     )
 
 -- A thread's knowledge is cut in two parts that fit where it fits, and have its reins together.
@@ -117,15 +129,15 @@ pub deals_keep : (config : Config) (begun : (ℕ → Opening) → List Happening
 deals_keep config begun id view = parts_keep config begun id view (left_over view) (dealt view) (λ openings state events fit. elim fit [
   | inl gone ↦ (inl (record { flag = gone.flag; no_reins = ap rest_of gone.no_reins }), inl (record { flag = gone.flag; no_reins = ap head_of gone.no_reins }))
   | inr fits ↦ (
-    inr (record { same_config = fits.same_config; gave = fits.gave; reins = each_rest (Holds config openings state events) view.reins fits.reins; seen = fits.seen; told = fits.told }),
-    inr (record { same_config = fits.same_config; gave = fits.gave; reins = each_head (Holds config openings state events) view.reins fits.reins; seen = fits.seen; told = fits.told }),
+    inr (record { same_config = fits.same_config; gave = fits.gave; reins = each_rest (Holds config openings state events) view.reins fits.reins; seen = fits.seen; told = fits.told; right = record { changes = fits.right.changes; mine = fits.right.mine } }),
+    inr (record { same_config = fits.same_config; gave = fits.gave; reins = each_head (Holds config openings state events) view.reins fits.reins; seen = fits.seen; told = fits.told; right = record { changes = fits.right.changes; mine = tt } }),
   )
 ]) (λ worker. heads_and_rests worker view.reins)
 
 pub notes_keep : (config : Config) (begun : (ℕ → Opening) → List Happening → Type 0) → NotesKeepTheRule config begun
 notes_keep config begun id view = parts_keep config begun id view view (note view) (λ openings state events fit. elim fit [
   | inl gone ↦ (inl gone, inl (record { flag = gone.flag; no_reins = refl }))
-  | inr fits ↦ (inr fits, inr (record { same_config = fits.same_config; gave = fits.gave; reins = tt; seen = fits.seen; told = fits.told }))
+  | inr fits ↦ (inr fits, inr (record { same_config = fits.same_config; gave = fits.gave; reins = tt; seen = fits.seen; told = fits.told; right = record { changes = fits.right.changes; mine = tt } }))
 ]) (λ worker. omega arith)
 
 pub hearing_keeps : (config : Config) (begun : (ℕ → Opening) → List Happening → Type 0) → HearingKeepsTheRule config begun
@@ -139,7 +151,7 @@ hearing_keeps config begun id other view its live its_live none s tied at apart 
     ] in
     let its_fits = live_fits config openings tied.state tied.events its its_live (tied.fits other its was) in
     let new_fits : Fits config openings tied.state tied.events (hears view its) =
-    record { same_config = fits.same_config; gave = fits.gave; reins = fits.reins; seen = fits.seen; told = its_fits.seen } in
+    record { same_config = fits.same_config; gave = fits.gave; reins = fits.reins; seen = fits.seen; told = its_fits.seen; right = record { changes = fits.right.changes; mine = fits.right.mine } } in
     other_views config begun s (record { words = s.words; homes = s.homes; views = slice_set (slice_set s.views id (hears view its)) other spent }) tied refl
     (λ third one is. elim (at_set (slice_set s.views id (hears view its)) other third spent one is) [
       | inl here ↦ inl (subst IsSpent here.1 (record { flag = refl; no_reins = refl }))
@@ -210,6 +222,7 @@ starts config begun openings before state given seats words began played gave sa
       reins = all_hold config openings before state played seats same 0 config.workers (omega arith);
       seen = nothing_first (tenants_of config) (sealed_of openings state);
       told = nothing_first (tenants_of config) (sealed_of openings state);
+      right = record { changes = λ tenant low. nothing_right (opening_at given tenant).words; mine = tt };
     } in
     record {
       state = state;

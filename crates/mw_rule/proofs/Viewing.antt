@@ -23,10 +23,11 @@ use Rattle.mw_rule.specs.declared.views.Deed.TheVariants.{Stepped}
 use Rattle.mw_rule.specs.declared.views.Reins.{Reins}
 use Rattle.mw_rule.specs.declared.views.View.{View}
 use Rattle.mw_rule.specs.Carrying.{GoesOn, IsReady, IsReadyFor, settled_as, told, told_as, told_of}
-use Rattle.mw_rule.specs.Rule.{Each, Fits, Holds, IsLive, IsSpent, Tied, Ties, has, times, weight}
+use Rattle.mw_rule.specs.Rule.{Each, Fits, Holds, IsLive, IsRight, IsSpent, Tied, Ties, has, times, weight}
 use Rattle.mw_rule.specs.Seen.{ComeFirst, all_of, opening_at, seen_at}
 use Rattle.mw_rule.proofs.Keeping.{keep}
 use Rattle.mw_rule.proofs.Leading.{begins_itself, gave_on, played_on, seen_on}
+use Rattle.mw_rule.proofs.Righting.{mine_in, sees_right}
 use Rattle.mw_rule.proofs.Stepping.{Reached}
 use Rattle.mw_rule.proofs.Totals.{own_once}
 
@@ -125,6 +126,7 @@ pub record Moved (config : Config) (begun : (ℕ → Opening) → List Happening
   pub view : View
   pub tied : Tied config begun (record { words = slice_set s.words index bits; homes = s.homes; views = slice_set s.views id view })
   pub goes_on : GoesOn old view
+  pub right : IsRight view
   pub reins : view.reins ≡ map f old.reins
   pub ready : Each (IsReady view.config) view.reins
 
@@ -139,18 +141,24 @@ moves config begun s tied id index bits old reins f cells at only fits same reac
     let later = played_on config openings before tied.state tied.past.played reins.worker reached.after reached.more reached.leads in
     let seen = seen_on config openings before tied.state tied.past.played reins.worker reached.after reached.more reached.leads in
     let own : has reins.worker old ≡ 1 = ap (times reins.worker) only ∙ own_once reins.worker reins refl in
+    let gave = λ (tenant : ℕ) (low : tenant < tenants_of config).
+    gave_on config openings before tied.state tied.past.played reins.worker reached.after reached.more reached.leads tenant low (opening_at old.openings tenant) (fits.gave tenant low) in
+    let right = sees_right config openings reached.after new fits.same_config gave (before ++ reached.more) later (all_at sealed (tenants_of config))
+    (mine_in config openings reached.after old fits.same_config gave (seen old.seen fits.seen) old.mine fits.right.mine) in
     let new_fits : Fits config openings reached.after (tied.events ++ reached.more) new = record {
       same_config = fits.same_config;
-      gave = λ tenant low. gave_on config openings before tied.state tied.past.played reins.worker reached.after reached.more reached.leads tenant low (opening_at old.openings tenant) (fits.gave tenant low);
+      gave = gave;
       reins = subst (λ all. Each (Holds config openings reached.after (tied.events ++ reached.more)) (map f all)) (sym only) (reached.holds, tt);
       seen = all_seen sealed (tenants_of config);
       told = seen old.told fits.told;
+      right = right;
     } in
     record {
       view = new;
       tied = keep config begun s tied id index bits reins.worker old new reached.after reached.more at (omega (arith, own)) (λ one. times_map f same one old.reins) reached.leads new_fits
           (subst (λ all. Ties config all (slice_set s.words index bits)) (sym reached.same_cells) ties);
       goes_on = sees_on config sealed old (map f old.reins) fits.same_config (seen old.seen fits.seen) (seen old.told fits.told);
+      right = right;
       reins = refl;
       ready = subst (λ (one : Config). Each (IsReady one) (map f old.reins)) (sym fits.same_config)
           (subst (λ all. Each (IsReady config) (map f all)) (sym only) (ready_of config openings (before ++ reached.more) (tied.events ++ reached.more) reached.after (f reins) later reached.holds, tt));

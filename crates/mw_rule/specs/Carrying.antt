@@ -24,7 +24,7 @@ use Rattle.mw_rule.specs.declared.views.Deed.TheVariants.{Came, Stepped, Handed}
 use Rattle.mw_rule.specs.declared.views.Reins.{Reins}
 use Rattle.mw_rule.specs.declared.views.View.{View}
 use Rattle.mw_rule.specs.Layout.{index_of}
-use Rattle.mw_rule.specs.Rule.{Each}
+use Rattle.mw_rule.specs.Rule.{Each, IsRight}
 use Rattle.mw_rule.specs.Seen.{ComeFirst, Gave, opening_at, seen_at}
 
 -- The reins once their worker's request stands so. Where it has its reply, that is handed out, and the worker has no request.
@@ -110,18 +110,21 @@ pub record StoodThere (view : View) (index bits : ℕ) : Type 0 where
 pub record Looked (index bits : ℕ) (old new : View) : Type 0 where
   pub goes_on : GoesOn old new
   pub stood : StoodThere new index bits
+  pub right : IsRight new
   pub same_reins : new.reins ≡ old.reins
   pub same_mine : new.mine ≡ old.mine
 
 -- A step of the thread's worker, which found this.
 pub record Took (got : Got) (old new : View) : Type 0 where
   pub goes_on : GoesOn old new
+  pub right : IsRight new
   pub reins : new.reins ≡ map (told got) old.reins
   pub ready : Each (IsReady new.config) new.reins
 
 -- A request came, and made its first step, which found this. No less was sealed than the thread had seen.
 pub record Began (actor : Acting) (got : Got) (old new : View) : Type 0 where
   pub goes_on : GoesOn old new
+  pub right : IsRight new
   pub request : ℕ
   pub begun : ℕ
   pub no_fewer : length (seen_at old.seen actor.tenant) ≤ begun

@@ -1,0 +1,74 @@
+-- What a thread knows is right, and stays so where more is sealed.
+use Rattle.std.specs.Prelude.{ℕ, ◌≡◌, ◌≤◌, ◌<◌, List, [], ◌∷◌, ◌++◌, length, slice_get, Some}
+use Rattle.std.proofs.Common.{sym, ap, subst, arith}
+use Rattle.std.proofs.lemmas.List.{length-append}
+use Rattle.std.proofs.lemmas.Option.{none-some}
+use Rattle.mw_world.specs.declared.config.Config.{Config}
+use Rattle.mw_world.specs.Claim.Headline.{IsPlayed}
+use Rattle.mw_world.specs.Definition.Happenings.{Happening}
+use Rattle.mw_world.specs.Definition.State.{State, Opening, tenants_of}
+use Rattle.mw_law_store.specs.History.{IsBeginning}
+use Rattle.mw_law_store.specs.Moments.{SealedChange}
+use Rattle.mw_law_store.specs.OverCalls.{IsRightAt, sealed_of, words_at_start}
+use Rattle.mw_law_store.proofs.OverCalls.{sealed_are_right}
+use Rattle.mw_law_store.proofs.SealedLists.{places_stay_right}
+use Rattle.mw_rule.specs.declared.views.Finished.{Finished}
+use Rattle.mw_rule.specs.declared.views.View.{View}
+use Rattle.mw_rule.specs.Rule.{AreRight, Each, IsFinished, IsRight, IsRightAmong, words_given}
+use Rattle.mw_rule.specs.Seen.{ComeFirst, Gave, opening_at, seen_at}
+use Rattle.mw_rule.proofs.Leading.{begins_itself}
+
+pub each_on : {A : Type 0} (P Q : A → Type 0) → ((one : A) → P one → Q one) → (all : List A) → Each P all → Each Q all
+each_on P Q goes [] holds = tt
+each_on P Q goes (one ∷ rest) holds = (goes one holds.0, each_on P Q goes rest holds.1)
+
+pub each_more : {A : Type 0} (P : A → Type 0) (all more : List A) → Each P all → Each P more → Each P (all ++ more)
+each_more P [] more first rest = rest
+each_more P (one ∷ all) more first rest = (first.0, each_more P all more first.1 rest)
+
+-- Where each tenant's words are the same and more is sealed after the others, a request is as right.
+pub right_on : (tenants : ℕ) (words now : ℕ → List ℕ) (sealed after : ℕ → List SealedChange) → ((tenant : ℕ) → tenant < tenants → words tenant ≡ now tenant)
+    → ((tenant : ℕ) → tenant < tenants → IsBeginning (sealed tenant) (after tenant)) → (one : Finished) → IsRightAmong tenants words sealed one → IsRightAmong tenants now after one
+right_on tenants words now sealed after same begins one right =
+    let first = begins one.tenant right.there in
+    let long = ap (λ (changes : List SealedChange). length changes) first.parted in
+    let within = right.within in
+    let stays = places_stay_right (words one.tenant) (sealed one.tenant) first.rest one.place one.request one.job one.reply within right.right in
+    record {
+      there = right.there;
+      within = omega (arith, long, length-append (sealed one.tenant) first.rest, within);
+      right = subst (λ (start : List ℕ). IsRightAt start (after one.tenant) one.place one.request one.job one.reply) (same one.tenant right.there)
+          (subst (λ (all : List SealedChange). IsRightAt (words one.tenant) all one.place one.request one.job one.reply) (sym first.parted) stays);
+    }
+
+-- A thread that knows what a start gave, and saw changes that come first of those of a world.
+module _ (config : Config) (openings : ℕ → Opening) (state : State) (view : View) (same : view.config ≡ config)
+    (gave : (tenant : ℕ) → tenant < tenants_of config → Gave openings state tenant (opening_at view.openings tenant)) where
+  -- a request is right in the world
+  abbrev pub IsRightIn : Finished → Type 0
+  IsRightIn one = IsRightAmong (tenants_of config) (words_at_start openings state) (sealed_of openings state) one
+
+  -- what is right by what the thread saw is right in the world
+  pub mine_in : ComeFirst (tenants_of config) view.seen (sealed_of openings state) → (mine : List Finished) → Each (IsFinished view) mine → Each IsRightIn mine
+  mine_in seen mine right = each_on (IsFinished view) IsRightIn (λ one so.
+      right_on (tenants_of config) (words_given view) (words_at_start openings state) (seen_at view.seen) (sealed_of openings state) (λ tenant low. sym (gave tenant low).words) seen one
+      (subst (λ (c : Config). IsRightAmong (tenants_of c) (words_given view) (seen_at view.seen) one) same so)) mine right
+
+  -- what is right in the world is so by what a thread saw that saw all
+  pub sees_right : (events : List Happening) → IsPlayed config openings events state → ((tenant : ℕ) → tenant < tenants_of config → seen_at view.seen tenant ≡ sealed_of openings state tenant)
+      → Each IsRightIn view.mine → IsRight view
+  sees_right events played all mine = record {
+    changes = λ tenant low.
+        let there = subst (λ (c : Config). tenant < tenants_of c) same low in
+        let right = sealed_are_right config openings events state tenant played there in
+        subst (λ (words : List ℕ). AreRight words (seen_at view.seen tenant)) (gave tenant there).words
+        (subst (AreRight (words_at_start openings state tenant)) (sym (all tenant there)) (record { fit = right.fit; once = right.once }));
+    mine = each_on IsRightIn (IsFinished view) (λ one so.
+        subst (λ (c : Config). IsRightAmong (tenants_of c) (words_given view) (seen_at view.seen) one) (sym same)
+        (right_on (tenants_of config) (words_at_start openings state) (words_given view) (sealed_of openings state) (seen_at view.seen) (λ tenant low. (gave tenant low).words)
+        (λ tenant low. subst (IsBeginning (sealed_of openings state tenant)) (sym (all tenant low)) (begins_itself (sealed_of openings state tenant))) one so)) view.mine mine;
+  }
+
+-- nothing that was seen is right
+pub nothing_right : (words : List ℕ) → AreRight words []
+nothing_right words = record { fit = λ place one at. absurd (none-some one at); once = λ place other one another at its same. absurd (none-some one at) }
