@@ -65,7 +65,7 @@ looks_keep config begun slots id index me make live makes s tied homes at low =
     let openings = tied.past.openings in
     let sealed = sealed_of openings tied.state in
     let fits = live_fits config openings tied.state tied.events me.0 live (tied.fits id me.0 at) in
-    let new = sees config sealed me.0 me.0.reins in
+    let new = sees config sealed me.0 me.0.reins me.0.mine in
     let before = tied.past.before ++ tied.events in
     let right = sees_right config openings tied.state new fits.same_config fits.gave before tied.past.played (all_at sealed (tenants_of config))
     (mine_in config openings tied.state me.0 fits.same_config fits.gave fits.seen me.0.mine fits.right.mine) in
@@ -81,7 +81,7 @@ looks_keep config begun slots id index me make live makes s tied homes at low =
             | inr else ↦ tied.fits other view else.1
           ]) (λ worker. let sums = total_set (has worker) s.views id me.0 new at in let all = tied.alone worker in omega (arith, sums, all)),
       record {
-        goes_on = sees_on config sealed me.0 me.0.reins fits.same_config fits.seen fits.told;
+        goes_on = sees_on config sealed me.0 me.0.reins me.0.mine fits.same_config fits.seen fits.told;
         stood = stood_there config openings before tied.state new index (slice_index s.words index) fits.same_config tied.past.played fits.gave
             (λ at there is. sym (ap (slice_index s.words) is) ∙ tied.ties at there);
         right = right;

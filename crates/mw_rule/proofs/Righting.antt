@@ -1,5 +1,5 @@
 -- What a thread knows is right, and stays so where more is sealed.
-use Rattle.std.specs.Prelude.{ℕ, ◌≡◌, ◌≤◌, ◌<◌, List, [], ◌∷◌, ◌++◌, length, slice_get, Some}
+use Rattle.std.specs.Prelude.{ℕ, ◌≡◌, ◌<◌, List, [], ◌∷◌, ◌++◌, length}
 use Rattle.std.proofs.Common.{sym, ap, subst, arith}
 use Rattle.std.proofs.lemmas.List.{length-append}
 use Rattle.std.proofs.lemmas.Option.{none-some}
@@ -41,29 +41,29 @@ right_on tenants words now sealed after same begins one right =
           (subst (λ (all : List SealedChange). IsRightAt (words one.tenant) all one.place one.request one.job one.reply) (sym first.parted) stays);
     }
 
+-- a request is right in a world
+abbrev pub IsRightIn : Config → (ℕ → Opening) → State → Finished → Type 0
+IsRightIn config openings state one = IsRightAmong (tenants_of config) (words_at_start openings state) (sealed_of openings state) one
+
 -- A thread that knows what a start gave, and saw changes that come first of those of a world.
 module _ (config : Config) (openings : ℕ → Opening) (state : State) (view : View) (same : view.config ≡ config)
     (gave : (tenant : ℕ) → tenant < tenants_of config → Gave openings state tenant (opening_at view.openings tenant)) where
-  -- a request is right in the world
-  abbrev pub IsRightIn : Finished → Type 0
-  IsRightIn one = IsRightAmong (tenants_of config) (words_at_start openings state) (sealed_of openings state) one
-
   -- what is right by what the thread saw is right in the world
-  pub mine_in : ComeFirst (tenants_of config) view.seen (sealed_of openings state) → (mine : List Finished) → Each (IsFinished view) mine → Each IsRightIn mine
-  mine_in seen mine right = each_on (IsFinished view) IsRightIn (λ one so.
+  pub mine_in : ComeFirst (tenants_of config) view.seen (sealed_of openings state) → (mine : List Finished) → Each (IsFinished view) mine → Each (IsRightIn config openings state) mine
+  mine_in seen mine right = each_on (IsFinished view) (IsRightIn config openings state) (λ one so.
       right_on (tenants_of config) (words_given view) (words_at_start openings state) (seen_at view.seen) (sealed_of openings state) (λ tenant low. sym (gave tenant low).words) seen one
       (subst (λ (c : Config). IsRightAmong (tenants_of c) (words_given view) (seen_at view.seen) one) same so)) mine right
 
   -- what is right in the world is so by what a thread saw that saw all
   pub sees_right : (events : List Happening) → IsPlayed config openings events state → ((tenant : ℕ) → tenant < tenants_of config → seen_at view.seen tenant ≡ sealed_of openings state tenant)
-      → Each IsRightIn view.mine → IsRight view
+      → Each (IsRightIn config openings state) view.mine → IsRight view
   sees_right events played all mine = record {
     changes = λ tenant low.
         let there = subst (λ (c : Config). tenant < tenants_of c) same low in
         let right = sealed_are_right config openings events state tenant played there in
         subst (λ (words : List ℕ). AreRight words (seen_at view.seen tenant)) (gave tenant there).words
         (subst (AreRight (words_at_start openings state tenant)) (sym (all tenant there)) (record { fit = right.fit; once = right.once }));
-    mine = each_on IsRightIn (IsFinished view) (λ one so.
+    mine = each_on (IsRightIn config openings state) (IsFinished view) (λ one so.
         subst (λ (c : Config). IsRightAmong (tenants_of c) (words_given view) (seen_at view.seen) one) (sym same)
         (right_on (tenants_of config) (words_at_start openings state) (words_given view) (sealed_of openings state) (seen_at view.seen) (λ tenant low. (gave tenant low).words)
         (λ tenant low. subst (IsBeginning (sealed_of openings state tenant)) (sym (all tenant low)) (begins_itself (sealed_of openings state tenant))) one so)) view.mine mine;
