@@ -5,7 +5,7 @@ use Rattle.std.proofs.lemmas.Bool.Decides.{nat_tests}
 use Rattle.std.proofs.lemmas.List.{set-get_or}
 use mathlib.Core.Option.{some, some-injective, some-ne-none}
 use lib.ListN.{get_elem?}
-use Rattle.atomic_table.specs.Table.{State as Table, keeps}
+use Rattle.atomic_table.specs.Table.{State as Table, Joins, keeps}
 use Rattle.atomic_table.proofs.Lists.{at_set, at_snoc}
 use Rattle.mw_words.specs.declared.places.At.{At}
 use Rattle.mw_look.specs.Places.{pack}
@@ -25,11 +25,11 @@ use Rattle.mw_rule.specs.declared.views.Reins.{Reins}
 use Rattle.mw_rule.specs.declared.views.View.{View}
 use Rattle.mw_rule.specs.Carrying.{StoodThere}
 use Rattle.mw_rule.specs.Layout.{index_of}
-use Rattle.mw_rule.specs.Dealing.{dealt, head_of, hears, left_over, maker, note, reins_from, reins_of, rest_of, spent}
-use Rattle.mw_rule.specs.Laws.{DealsKeepTheRule, HearingKeepsTheRule, LooksKeepTheRule, NotesKeepTheRule, StartsUnderTheRule}
-use Rattle.mw_rule.specs.Rule.{Each, Fits, Holds, IsSpent, Tied, Ties, has, times, total, weight}
+use Rattle.mw_rule.specs.Dealing.{dealt, head_of, hears, left_over, maker, meets, note, reins_from, reins_of, rest_of, spent}
+use Rattle.mw_rule.specs.Laws.{DealsKeepTheRule, HearingKeepsTheRule, LooksKeepTheRule, MeetingKeepsTheRule, NotesKeepTheRule, StartsUnderTheRule}
+use Rattle.mw_rule.specs.Rule.{Each, Fits, Holds, IsLive, IsSpent, Tied, Ties, has, times, total, weight}
 use Rattle.mw_rule.specs.Seen.{Gave, HasBegunFor, opening_at, seen_at}
-use Rattle.mw_rule.proofs.Righting.{mine_in, nothing_right, sees_right}
+use Rattle.mw_rule.proofs.Righting.{dealt_right, hears_right, left_right, meets_right, mine_in, note_right, nothing_right, sees_right}
 use Rattle.mw_rule.proofs.Totals.{total_set, total_more}
 use Rattle.mw_rule.proofs.Viewing.{all_at, all_seen, live_fits, sees, sees_on}
 
@@ -129,41 +129,66 @@ pub deals_keep : (config : Config) (begun : (ℕ → Opening) → List Happening
 deals_keep config begun id view = parts_keep config begun id view (left_over view) (dealt view) (λ openings state events fit. elim fit [
   | inl gone ↦ (inl (record { flag = gone.flag; no_reins = ap rest_of gone.no_reins }), inl (record { flag = gone.flag; no_reins = ap head_of gone.no_reins }))
   | inr fits ↦ (
-    inr (record { same_config = fits.same_config; gave = fits.gave; reins = each_rest (Holds config openings state events) view.reins fits.reins; seen = fits.seen; told = fits.told; right = record { changes = fits.right.changes; mine = fits.right.mine } }),
-    inr (record { same_config = fits.same_config; gave = fits.gave; reins = each_head (Holds config openings state events) view.reins fits.reins; seen = fits.seen; told = fits.told; right = record { changes = fits.right.changes; mine = tt } }),
+    inr (record { same_config = fits.same_config; gave = fits.gave; reins = each_rest (Holds config openings state events) view.reins fits.reins; seen = fits.seen; told = fits.told; right = left_right view fits.right }),
+    inr (record { same_config = fits.same_config; gave = fits.gave; reins = each_head (Holds config openings state events) view.reins fits.reins; seen = fits.seen; told = fits.told; right = dealt_right view fits.right }),
   )
 ]) (λ worker. heads_and_rests worker view.reins)
 
 pub notes_keep : (config : Config) (begun : (ℕ → Opening) → List Happening → Type 0) → NotesKeepTheRule config begun
 notes_keep config begun id view = parts_keep config begun id view view (note view) (λ openings state events fit. elim fit [
   | inl gone ↦ (inl gone, inl (record { flag = gone.flag; no_reins = refl }))
-  | inr fits ↦ (inr fits, inr (record { same_config = fits.same_config; gave = fits.gave; reins = tt; seen = fits.seen; told = fits.told; right = record { changes = fits.right.changes; mine = tt } }))
+  | inr fits ↦ (inr fits, inr (record { same_config = fits.same_config; gave = fits.gave; reins = tt; seen = fits.seen; told = fits.told; right = note_right view fits.right }))
 ]) (λ worker. omega arith)
 
-pub hearing_keeps : (config : Config) (begun : (ℕ → Opening) → List Happening → Type 0) → HearingKeepsTheRule config begun
-hearing_keeps config begun id other view its live its_live none s tied at apart its_at =
+-- Two threads' knowledge becomes one that fits where both fit, and has no reins but theirs.
+joins_keep : (config : Config) (begun : (ℕ → Opening) → List Happening → Type 0) (id other : ℕ) (view its both : View) → IsLive view → IsLive its
+    → ((openings : ℕ → Opening) (state : State) (events : List Happening) → Fits config openings state events view → Fits config openings state events its → Fits config openings state events both)
+    → ((worker : ℕ) → has worker both ≤ has worker view + has worker its) → Joins {S = Acting} (Tied config begun) id view other its both spent
+joins_keep config begun id other view its both live its_live fit sums s tied at apart its_at =
     let openings = tied.past.openings in
     let So : View → Type 0 = λ one. IsSpent one ⊎ Fits config openings tied.state tied.events one in
     let fits = live_fits config openings tied.state tied.events view live (tied.fits id view at) in
-    let was : get_elem? s.views other ≡ some its = elim (at_set s.views id other (hears view its) its its_at) [
+    let was : get_elem? s.views other ≡ some its = elim (at_set s.views id other both its its_at) [
       | inl here ↦ absurd (apart here.0)
       | inr else ↦ else.1
     ] in
     let its_fits = live_fits config openings tied.state tied.events its its_live (tied.fits other its was) in
-    let new_fits : Fits config openings tied.state tied.events (hears view its) =
-    record { same_config = fits.same_config; gave = fits.gave; reins = fits.reins; seen = fits.seen; told = its_fits.seen; right = record { changes = fits.right.changes; mine = fits.right.mine } } in
-    other_views config begun s (record { words = s.words; homes = s.homes; views = slice_set (slice_set s.views id (hears view its)) other spent }) tied refl
-    (λ third one is. elim (at_set (slice_set s.views id (hears view its)) other third spent one is) [
+    other_views config begun s (record { words = s.words; homes = s.homes; views = slice_set (slice_set s.views id both) other spent }) tied refl
+    (λ third one is. elim (at_set (slice_set s.views id both) other third spent one is) [
       | inl here ↦ inl (subst IsSpent here.1 (record { flag = refl; no_reins = refl }))
-      | inr else ↦ elim (at_set s.views id third (hears view its) one else.1) [
-        | inl there ↦ inr (subst (Fits config openings tied.state tied.events) there.1 new_fits)
+      | inr else ↦ elim (at_set s.views id third both one else.1) [
+        | inl there ↦ inr (subst (Fits config openings tied.state tied.events) there.1 (fit openings tied.state tied.events fits its_fits))
         | inr third_one ↦ tied.fits third one third_one.1
       ]
     ])
     (λ worker.
-    let first = total_set (has worker) s.views id view (hears view its) at in
-    let second = total_set (has worker) (slice_set s.views id (hears view its)) other its spent its_at in
-    let all = tied.alone worker in omega (arith, first, second, all))
+    let first = total_set (has worker) s.views id view both at in
+    let second = total_set (has worker) (slice_set s.views id both) other its spent its_at in
+    let few = sums worker in
+    let all = tied.alone worker in omega (arith, first, second, few, all))
+
+pub hearing_keeps : (config : Config) (begun : (ℕ → Opening) → List Happening → Type 0) → HearingKeepsTheRule config begun
+hearing_keeps config begun id other view its live its_live none = joins_keep config begun id other view its (hears view its) live its_live
+    (λ openings state events fits its_fits. record {
+      same_config = fits.same_config;
+      gave = fits.gave;
+      reins = fits.reins;
+      seen = fits.seen;
+      told = its_fits.seen;
+      right = hears_right view its fits.right;
+    }) (λ worker. omega arith)
+
+pub meeting_keeps : (config : Config) (begun : (ℕ → Opening) → List Happening → Type 0) → MeetingKeepsTheRule config begun
+meeting_keeps config begun id other view its live its_live none first = joins_keep config begun id other view its (meets view its) live its_live
+    (λ openings state events fits its_fits. record {
+      same_config = fits.same_config;
+      gave = fits.gave;
+      reins = fits.reins;
+      seen = its_fits.seen;
+      told = its_fits.seen;
+      right = meets_right view its (λ tenant low. let there = subst (λ (c : Config). tenant < tenants_of c) fits.same_config low in sym (its_fits.gave tenant there).words ∙ (fits.gave tenant there).words)
+          (its_fits.same_config ∙ sym fits.same_config) first fits.right its_fits.right;
+    }) (λ worker. omega arith)
 
 -- The first thread has the reins of each worker once.
 module _ (config : Config) (openings : ℕ → Opening) (before : List Happening) (state : State) (played : IsPlayed config openings before state) (seats : ℕ → Seat)

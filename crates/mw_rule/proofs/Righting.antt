@@ -1,6 +1,6 @@
 -- What a thread knows is right, and stays so where more is sealed.
 use Rattle.std.specs.Prelude.{ℕ, ◌≡◌, ◌<◌, List, [], ◌∷◌, ◌++◌, length}
-use Rattle.std.proofs.Common.{sym, ap, subst, arith}
+use Rattle.std.proofs.Common.{refl, sym, ap, subst, arith}
 use Rattle.std.proofs.lemmas.List.{length-append}
 use Rattle.std.proofs.lemmas.Option.{none-some}
 use Rattle.mw_world.specs.declared.config.Config.{Config}
@@ -14,6 +14,9 @@ use Rattle.mw_law_store.proofs.OverCalls.{sealed_are_right}
 use Rattle.mw_law_store.proofs.SealedLists.{places_stay_right}
 use Rattle.mw_rule.specs.declared.views.Finished.{Finished}
 use Rattle.mw_rule.specs.declared.views.View.{View}
+use Rattle.mw_rule.specs.Carrying.{Precede}
+use Rattle.mw_rule.specs.Dealing.{dealt, hears, left_over, meets, note}
+use Rattle.mw_rule.specs.Laws.{MeetingsAreRight, PartsAreRight}
 use Rattle.mw_rule.specs.Rule.{AreRight, Each, IsFinished, IsRight, IsRightAmong, words_given}
 use Rattle.mw_rule.specs.Seen.{ComeFirst, Gave, opening_at, seen_at}
 use Rattle.mw_rule.proofs.Leading.{begins_itself}
@@ -72,3 +75,33 @@ module _ (config : Config) (openings : ℕ → Opening) (state : State) (view : 
 -- nothing that was seen is right
 pub nothing_right : (words : List ℕ) → AreRight words []
 nothing_right words = record { fit = λ place one at. absurd (none-some one at); once = λ place other one another at its same. absurd (none-some one at) }
+
+-- Parts of what is right.
+pub left_right : (view : View) → IsRight view → IsRight (left_over view)
+left_right view right = record { changes = right.changes; mine = right.mine }
+
+pub dealt_right : (view : View) → IsRight view → IsRight (dealt view)
+dealt_right view right = record { changes = right.changes; mine = tt }
+
+pub note_right : (view : View) → IsRight view → IsRight (note view)
+note_right view right = record { changes = right.changes; mine = tt }
+
+pub hears_right : (view other : View) → IsRight view → IsRight (hears view other)
+hears_right view other right = record { changes = right.changes; mine = right.mine }
+
+pub parts_are_right : PartsAreRight
+parts_are_right view other right = (left_right view right, dealt_right view right, note_right view right, hears_right view other right)
+
+-- What another saw that saw no less.
+pub meets_right : (view its : View) → ((tenant : ℕ) → tenant < tenants_of view.config → words_given its tenant ≡ words_given view tenant) → its.config ≡ view.config
+    → Precede (tenants_of view.config) view.seen its.seen → IsRight view → IsRight its → IsRight (meets view its)
+meets_right view its same config first right its_right = record {
+  changes = λ tenant low.
+      subst (λ (words : List ℕ). AreRight words (seen_at its.seen tenant)) (same tenant low) (its_right.changes tenant (subst (λ (c : Config). tenant < tenants_of c) (sym config) low));
+  mine = each_on (IsFinished view) (IsFinished (meets view its)) (λ one so.
+      right_on (tenants_of view.config) (words_given view) (words_given view) (seen_at view.seen) (seen_at its.seen) (λ tenant low. refl) first one so) view.mine right.mine;
+}
+
+pub meetings_are_right : MeetingsAreRight
+meetings_are_right view its right its_right config openings first =
+    meets_right view its (λ tenant low. ap (λ (all : List Opening). (opening_at all tenant).words) openings) config first right its_right

@@ -1,5 +1,5 @@
 //! What holds of the rule: facts for proofs to cite. The functions do nothing.
-ghost use Rattle.mw_rule.specs.Laws.{DealsKeepTheRule, FirstStepsKeepTheRule, HearingKeepsTheRule, LooksKeepTheRule, NotesKeepTheRule, StartsUnderTheRule, StepsKeepTheRule};
+ghost use Rattle.mw_rule.specs.Laws.{DealsKeepTheRule, FirstStepsKeepTheRule, HearingKeepsTheRule, LooksKeepTheRule, MeetingKeepsTheRule, MeetingsAreRight, NotesKeepTheRule, PartsAreRight, StartsUnderTheRule, StepsKeepTheRule};
 ghost use Rattle.mw_rule.specs.Layout.{PlacesAreInTable, PlacesAreWithin, PlacesStandApart};
 
 use crate::rule::Begins;
@@ -28,9 +28,17 @@ pub fn steps_keep_the_rule<B: Begins>()
     ensures looks { (key : B) → LooksKeepTheRule (B.config key) (B.begun key) }
 {}
 
-/// Reins may be given to a new thread, and a note of what was seen; and a thread may be told what a note says.
+/// Reins may be given to a new thread, and a note of what was seen; and a thread may be told what a note says,
+/// or take it for its own where it saw no more.
 pub fn what_is_known_is_parted<B: Begins>()
     ensures deals { (key : B) → DealsKeepTheRule (B.config key) (B.begun key) }
     ensures notes { (key : B) → NotesKeepTheRule (B.config key) (B.begun key) }
     ensures hears { (key : B) → HearingKeepsTheRule (B.config key) (B.begun key) }
+    ensures meets { (key : B) → MeetingKeepsTheRule (B.config key) (B.begun key) }
+{}
+
+/// What a thread has seen and noted stays right where it is parted, and where two threads meet.
+pub fn knowledge_stays_right()
+    ensures parts { PartsAreRight }
+    ensures meetings { MeetingsAreRight }
 {}
