@@ -25,11 +25,11 @@ use Rattle.mw_rule.specs.declared.views.Reins.{Reins}
 use Rattle.mw_rule.specs.declared.views.View.{View}
 use Rattle.mw_rule.specs.Carrying.{StoodThere}
 use Rattle.mw_rule.specs.Layout.{index_of}
-use Rattle.mw_rule.specs.Dealing.{dealt, head_of, hears, left_over, maker, meets, note, reins_from, reins_of, rest_of, spent}
-use Rattle.mw_rule.specs.Laws.{DealsKeepTheRule, HearingKeepsTheRule, LooksKeepTheRule, MeetingKeepsTheRule, NotesKeepTheRule, StartsUnderTheRule}
+use Rattle.mw_rule.specs.Dealing.{dealt, head_of, hears, left_over, maker, meets, note, reins_from, reins_of, rest_of, spent, takes}
+use Rattle.mw_rule.specs.Laws.{DealsKeepTheRule, HearingKeepsTheRule, LooksKeepTheRule, MeetingKeepsTheRule, NotesKeepTheRule, StartsUnderTheRule, TakingKeepsTheRule}
 use Rattle.mw_rule.specs.Rule.{Each, Fits, Holds, IsLive, IsSpent, Tied, Ties, has, times, total, weight}
 use Rattle.mw_rule.specs.Seen.{Gave, HasBegunFor, opening_at, seen_at}
-use Rattle.mw_rule.proofs.Righting.{dealt_right, hears_right, left_right, meets_right, mine_in, note_right, nothing_right, sees_right}
+use Rattle.mw_rule.proofs.Righting.{dealt_right, hears_right, left_right, meets_right, mine_in, note_right, nothing_right, sees_right, takes_right}
 use Rattle.mw_rule.proofs.Totals.{total_set, total_more}
 use Rattle.mw_rule.proofs.Viewing.{all_at, all_seen, live_fits, sees, sees_on}
 
@@ -188,6 +188,17 @@ meeting_keeps config begun id other view its live its_live none first = joins_ke
       told = its_fits.seen;
       right = meets_right view its (λ tenant low. let there = subst (λ (c : Config). tenant < tenants_of c) fits.same_config low in sym (its_fits.gave tenant there).words ∙ (fits.gave tenant there).words)
           (its_fits.same_config ∙ sym fits.same_config) first fits.right its_fits.right;
+    }) (λ worker. omega arith)
+
+pub taking_keeps : (config : Config) (begun : (ℕ → Opening) → List Happening → Type 0) → TakingKeepsTheRule config begun
+taking_keeps config begun id other view its live its_live none = joins_keep config begun id other view its (takes view its) live its_live
+    (λ openings state events fits its_fits. record {
+      same_config = fits.same_config;
+      gave = fits.gave;
+      reins = its_fits.reins;
+      seen = fits.seen;
+      told = fits.told;
+      right = takes_right view its fits.right;
     }) (λ worker. omega arith)
 
 -- The first thread has the reins of each worker once.

@@ -15,7 +15,7 @@ use Rattle.mw_law_store.proofs.SealedLists.{places_stay_right}
 use Rattle.mw_rule.specs.declared.views.Finished.{Finished}
 use Rattle.mw_rule.specs.declared.views.View.{View}
 use Rattle.mw_rule.specs.Carrying.{Precede}
-use Rattle.mw_rule.specs.Dealing.{dealt, hears, left_over, meets, note}
+use Rattle.mw_rule.specs.Dealing.{dealt, hears, left_over, meets, note, takes}
 use Rattle.mw_rule.specs.Laws.{MeetingsAreRight, PartsAreRight}
 use Rattle.mw_rule.specs.Rule.{AreRight, Each, IsFinished, IsRight, IsRightAmong, words_given}
 use Rattle.mw_rule.specs.Seen.{ComeFirst, Gave, opening_at, seen_at}
@@ -89,8 +89,11 @@ note_right view right = record { changes = right.changes; mine = tt }
 pub hears_right : (view other : View) → IsRight view → IsRight (hears view other)
 hears_right view other right = record { changes = right.changes; mine = right.mine }
 
+pub takes_right : (view other : View) → IsRight view → IsRight (takes view other)
+takes_right view other right = record { changes = right.changes; mine = right.mine }
+
 pub parts_are_right : PartsAreRight
-parts_are_right view other right = (left_right view right, dealt_right view right, note_right view right, hears_right view other right)
+parts_are_right view other right = (left_right view right, dealt_right view right, note_right view right, hears_right view other right, takes_right view other right)
 
 -- What another saw that saw no less.
 pub meets_right : (view its : View) → ((tenant : ℕ) → tenant < tenants_of view.config → words_given its tenant ≡ words_given view tenant) → its.config ≡ view.config

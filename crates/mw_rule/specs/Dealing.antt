@@ -49,6 +49,10 @@ hears view other = record view { told = other.seen }
 abbrev pub meets : View → View → View
 meets view other = record view { seen = other.seen; told = other.seen }
 
+-- a thread that takes another's reins
+abbrev pub takes : View → View → View
+takes view other = record view { reins = other.reins }
+
 -- what is left of a thread that gave away all that it knew
 abbrev pub spent : View
 spent = record {

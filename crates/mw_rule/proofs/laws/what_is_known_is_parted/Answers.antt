@@ -1,4 +1,4 @@
-use Rattle.mw_rule.proofs.Parting.{deals_keep, hearing_keeps, meeting_keeps, notes_keep}
+use Rattle.mw_rule.proofs.Parting.{deals_keep, hearing_keeps, meeting_keeps, notes_keep, taking_keeps}
 use Rattle.mw_rule.proofs.laws.what_is_known_is_parted.Goals as goal
 
 pub returns-clause-deals : goal.returns-clause-deals
@@ -12,3 +12,6 @@ returns-clause-hears g c = λ key. hearing_keeps (g.B.Begins.config key) (g.B.Be
 
 pub returns-clause-meets : goal.returns-clause-meets
 returns-clause-meets g c = λ key. meeting_keeps (g.B.Begins.config key) (g.B.Begins.begun key)
+
+pub returns-clause-takes : goal.returns-clause-takes
+returns-clause-takes g c = λ key. taking_keeps (g.B.Begins.config key) (g.B.Begins.begun key)
