@@ -1,7 +1,7 @@
 -- The events of one worker by its request: it comes, makes a step, and hands out its reply.
 use Rattle.std.specs.Prelude.{ℕ, ◌≡◌, ◌≢◌, ◌<◌, ◌==◌, ◌&&◌, not, Bool, true, false, if◌then◌else◌, List, [], ◌∷◌, ◌++◌, length, is_some, is_none, nat_lt, Option, Some, None}
 use Rattle.std.specs.Option.{option_and_then}
-use Rattle.std.proofs.Common.{refl, sym, ap, subst, ◌∙◌, append_assoc, arith}
+use Rattle.std.proofs.Common.{refl, sym, ap, subst, ◌∙◌, append_assoc, append-nil, arith}
 use Rattle.std.proofs.lemmas.Bool.Decides.{nat_tests}
 use Rattle.std.proofs.lemmas.Option.{option_and_then_some}
 use Rattle.mw_words.specs.declared.replies.Reply.{Reply}
@@ -36,6 +36,7 @@ use Rattle.mw_rule.specs.declared.views.Deed.TheVariants.{Came, Stepped, Handed}
 use Rattle.mw_rule.specs.declared.views.Finished.{Finished}
 use Rattle.mw_rule.specs.declared.views.Reins.{Reins}
 use Rattle.mw_rule.specs.Carrying.{IsNoted, Notes, NotesAs, comes, settled, settled_as, told_as, told_of}
+use Rattle.mw_rule.specs.Continuing.{hand_out}
 use Rattle.mw_rule.specs.Rule.{Each, Holds, deed_if, made_by}
 use Rattle.mw_rule.specs.Seen.{CameAfter, HasBegunFor}
 use Rattle.mw_rule.proofs.Leading.{Leads, leads_on, made_on, one_gift, played_on, same_start, sealed_on, tenant_there}
@@ -78,10 +79,9 @@ same_request note.FailedFile past lines seat = refl
 one_event : (config : Config) (state next : State) (event : Happening) → run config state (event ∷ []) ≡ Some next → step config state event ≡ Some next
 one_event config state next event runs = option_and_then_some (λ one. run config one []) (step config state event) next runs (λ after at on. at ∙ on)
 
--- What is reached by a worker's events, what holds of its reins then, and which requests are noted that were finished by them.
-pub record Reached (config : Config) (openings : ℕ → Opening) (old : State) (worker : ℕ) (events : List Happening) (reins : Reins) (cells : Cells) (IsSo : List Finished → Type 0) : Type 0 where
+-- What is reached by these events of a worker, what holds of its reins then, and which requests are noted that were finished by them.
+pub record Reached (config : Config) (openings : ℕ → Opening) (old : State) (worker : ℕ) (events more : List Happening) (reins : Reins) (cells : Cells) (IsSo : List Finished → Type 0) : Type 0 where
   pub after : State
-  pub more : List Happening
   pub leads : Leads config old worker after more
   pub holds : Holds config openings after (events ++ more) reins
   pub same_cells : after.cells ≡ cells
@@ -214,15 +214,16 @@ module _ (config : Config) (openings : ℕ → Opening) (before : List Happening
 -- the reply is handed out, if it stands
 pub settles : (config : Config) (openings : ℕ → Opening) (before : List Happening) (old state : State) (played : IsPlayed config openings before state) (events more : List Happening) (reins : Reins) (next : Acting)
     → Leads config old reins.worker state more → Holds config openings state (events ++ more) (record reins { actor = Some next })
-    → Reached config openings old reins.worker events (settled reins next) state.cells (NotesAs next.tenant reins.request reins.begun next.job (replied next) [])
+    → Reached config openings old reins.worker events (more ++ hand_out reins.worker (replied next)) (settled reins next) state.cells (NotesAs next.tenant reins.request reins.begun next.job (replied next) [])
 settles config openings before old state played events more reins next leads holds = by (replied next) refl
   where
     by : (reply : Option Reply) → replied next ≡ reply
-        → Reached config openings old reins.worker events (settled_as reins next reply) state.cells (NotesAs next.tenant reins.request reins.begun next.job reply [])
-    by None stands = record { after = state; more = more; leads = leads; holds = holds; same_cells = refl; noted = []; right = tt; ends = refl }
+        → Reached config openings old reins.worker events (more ++ hand_out reins.worker reply) (settled_as reins next reply) state.cells (NotesAs next.tenant reins.request reins.begun next.job reply [])
+    by None stands =
+        subst (λ all. Reached config openings old reins.worker events all (settled_as reins next None) state.cells (NotesAs next.tenant reins.request reins.begun next.job None [])) (sym (append-nil more))
+        (record { after = state; leads = leads; holds = holds; same_cells = refl; noted = []; right = tt; ends = refl })
     by (Some reply) stands = record {
       after = after_hand state reins.worker next;
-      more = more ++ Hand reins.worker ∷ [];
       leads = leads_on config old state (after_hand state reins.worker next) reins.worker more (Hand reins.worker ∷ []) leads (hand_leads config openings state (events ++ more) reins next holds reply stands);
       holds = subst (λ all. Holds config openings (after_hand state reins.worker next) all (record reins { actor = None; made = reins.made ++ Handed ∷ [] })) (append_assoc events more (Hand reins.worker ∷ []))
           (hand_holds config openings state (events ++ more) reins next holds reply stands);
@@ -236,7 +237,7 @@ settles config openings before old state played events more reins next leads hol
 pub steps : (config : Config) (openings : ℕ → Opening) (before : List Happening) (old state : State) (played : IsPlayed config openings before state) (events some : List Happening) (reins : Reins) (actor : Acting)
     (got : Got) → Leads config old reins.worker state some → Holds config openings state (events ++ some) reins → reins.actor ≡ Some actor → replied actor ≡ None → may_make config (asks actor) ≡ true
     → news_of (place (asks actor)) got ≡ news_after (asks actor) state.cells
-    → Reached config openings old reins.worker events (told_as got reins (Some actor)) (cells_after (asks actor) state.cells) (Notes got reins actor [])
+    → Reached config openings old reins.worker events ((some ++ Step reins.worker ∷ []) ++ hand_out reins.worker (replied (told_of got reins.attempt actor))) (told_as got reins (Some actor)) (cells_after (asks actor) state.cells) (Notes got reins actor [])
 steps config openings before old state played events some reins actor got leads holds carries running there told =
     let after = after_step state reins.worker actor in
     let made = step_leads config openings before state played reins.worker actor (holds.actor ∙ carries) running there in

@@ -133,3 +133,10 @@ pub record Tied (config : Config) (begun : (ℕ → Opening) → List Happening 
   pub ties : Ties config state.cells s.words
   pub fits : (id : ℕ) (view : View) → get_elem? s.views id ≡ some view → IsSpent view ⊎ Fits config past.openings state events view
   pub alone : (worker : ℕ) → total (has worker) s.views ≤ 1
+
+-- The run behind a table goes on: the rule rests on the start and the run on which it rested, to which these events were added.
+pub record Continues (config : Config) (begun : (ℕ → Opening) → List Happening → Type 0) (s : Table Acting View) (tied : Tied config begun s) (more : List Happening) (next : Table Acting View) : Type 0 where
+  pub after : Tied config begun next
+  pub same_openings : after.past.openings ≡ tied.past.openings
+  pub same_before : after.past.before ≡ tied.past.before
+  pub events : after.events ≡ tied.events ++ more

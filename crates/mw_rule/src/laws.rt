@@ -1,4 +1,5 @@
 //! What holds of the rule: facts for proofs to cite. The functions do nothing.
+ghost use Rattle.mw_rule.specs.Continuing.{FirstStepsGoOn, JoinsGoOn, LooksGoOn, PartsGoOn, StepsGoOn};
 ghost use Rattle.mw_rule.specs.Laws.{DealsKeepTheRule, FirstStepsKeepTheRule, HearingKeepsTheRule, LooksKeepTheRule, MeetingKeepsTheRule, MeetingsAreRight, NotesKeepTheRule, PartsAreRight, StartsUnderTheRule, StepsKeepTheRule, TakingKeepsTheRule};
 ghost use Rattle.mw_rule.specs.Layout.{PlacesAreInTable, PlacesAreWithin, PlacesStandApart};
 
@@ -21,11 +22,23 @@ pub fn tables_start_under_the_rule<B: Begins>()
 /// first step its coming before it and with its last one the reply after it. With the reply the request is noted,
 /// at a place where the reply is right, no smaller than what was sealed when the request came; no other step notes
 /// any. A load that is no event keeps the rule too, and tells what stood there. Whatever a thread has seen and
-/// noted is right by itself. That the run goes on from the run before is not told.
+/// noted is right by itself.
 pub fn steps_keep_the_rule<B: Begins>()
     ensures steps { (key : B) → StepsKeepTheRule (B.config key) (B.begun key) }
     ensures first { (key : B) → FirstStepsKeepTheRule (B.config key) (B.begun key) }
     ensures looks { (key : B) → LooksKeepTheRule (B.config key) (B.begun key) }
+{}
+
+/// The run on which the rule rests goes on from the run before, from the same start: a step of a request adds its
+/// own event, and behind it that the reply is handed out, once it stands; a request's first step adds in front
+/// that the request came. A load that is no step adds none, nor does it when what threads know is parted or put
+/// together.
+pub fn the_run_goes_on<B: Begins>()
+    ensures steps { (key : B) → StepsGoOn (B.config key) (B.begun key) }
+    ensures first { (key : B) → FirstStepsGoOn (B.config key) (B.begun key) }
+    ensures looks { (key : B) → LooksGoOn (B.config key) (B.begun key) }
+    ensures parts { (key : B) → PartsGoOn (B.config key) (B.begun key) }
+    ensures joins { (key : B) → JoinsGoOn (B.config key) (B.begun key) }
 {}
 
 /// Reins may be given to a new thread, and a note of what was seen; and a thread may be told what a note says,
