@@ -1,3 +1,4 @@
+pub mod Calling
 pub mod Keeping
 pub mod Layouts
 pub mod Leading

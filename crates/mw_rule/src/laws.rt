@@ -1,4 +1,5 @@
 //! What holds of the rule: facts for proofs to cite. The functions do nothing.
+ghost use Rattle.mw_rule.specs.Calling.{CallsBegin, CallsEnd, CallsGoOn, CallsStand};
 ghost use Rattle.mw_rule.specs.Continuing.{FirstStepsGoOn, JoinsGoOn, LooksGoOn, PartsGoOn, StepsGoOn};
 ghost use Rattle.mw_rule.specs.Laws.{DealsKeepTheRule, FirstStepsKeepTheRule, HearingKeepsTheRule, LooksKeepTheRule, MeetingKeepsTheRule, MeetingsAreRight, NotesKeepTheRule, PartsAreRight, StartsUnderTheRule, StepsKeepTheRule, TakingKeepsTheRule};
 ghost use Rattle.mw_rule.specs.Layout.{PlacesAreInTable, PlacesAreWithin, PlacesStandApart};
@@ -55,4 +56,14 @@ pub fn what_is_known_is_parted<B: Begins>()
 pub fn knowledge_stays_right()
     ensures parts { PartsAreRight }
     ensures meetings { MeetingsAreRight }
+{}
+
+/// A whole call: from the request's first step on, over each further one and over loads that are no step, what the
+/// thread saw goes on and it notes nothing, until the reply is there. Then one request more is noted, and its
+/// reply is right at a place that is no smaller than what the thread had seen when the request came.
+pub fn calls_are_noted()
+    ensures begin { CallsBegin }
+    ensures go_on { CallsGoOn }
+    ensures stand { CallsStand }
+    ensures end { CallsEnd }
 {}
