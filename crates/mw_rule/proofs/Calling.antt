@@ -3,7 +3,6 @@ use Rattle.std.specs.Prelude.{ℕ, ◌≡◌, ◌≤◌, ◌<◌, List, [], ◌�
 use Rattle.std.proofs.Common.{refl, sym, ap, subst, ◌∙◌, arith}
 use Rattle.mw_words.specs.declared.jobs.Job.{Job}
 use Rattle.mw_words.specs.declared.replies.Reply.{Reply}
-use Rattle.mw_look.specs.declared.news.Got.{Got}
 use Rattle.mw_actor.specs.Acting.{Acting}
 use Rattle.mw_actor.specs.Program.{replied}
 use Rattle.mw_world.specs.declared.config.Config.{Config}
@@ -11,8 +10,8 @@ use Rattle.mw_world.specs.Definition.State.{tenants_of}
 use Rattle.mw_rule.specs.declared.views.Finished.{Finished}
 use Rattle.mw_rule.specs.declared.views.Reins.{Reins}
 use Rattle.mw_rule.specs.declared.views.View.{View}
-use Rattle.mw_rule.specs.Calling.{Answered, CallsBegin, CallsEnd, CallsGoOn, CallsStand, Serves, stepped}
-use Rattle.mw_rule.specs.Carrying.{GoesOn, Notes, NotesAs, comes, settled, settled_as, told, told_of}
+use Rattle.mw_rule.specs.Calling.{CallsBegin, CallsEnd, CallsGoOn, CallsStand}
+use Rattle.mw_rule.specs.Carrying.{GoesOn, NotesAs, comes, settled, settled_as, told, told_of}
 use Rattle.mw_rule.specs.Rule.{Each, IsFinished}
 use Rattle.mw_rule.specs.Seen.{seen_at}
 use Rattle.mw_rule.proofs.Leading.{begins_on}
