@@ -1,8 +1,10 @@
+pub mod Calling
 pub mod Keeping
 pub mod Layouts
 pub mod Leading
 pub mod Moving
 pub mod Parting
+pub mod Righting
 pub mod Stepping
 pub mod Totals
 pub mod Viewing

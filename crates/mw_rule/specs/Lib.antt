@@ -1,4 +1,6 @@
+pub mod Calling
 pub mod Carrying
+pub mod Continuing
 pub mod Dealing
 pub mod Layout
 pub mod Laws
