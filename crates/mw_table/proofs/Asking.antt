@@ -88,7 +88,7 @@ first_asks shared pass actor index make own may is same =
     )
 
 -- a pass has reins
-live : (view : View) (reins : List Reins) (worker attempt : ℕ) → view.reins ≡ reins → map number_of reins ≡ (worker, attempt) ∷ [] → IsLive view
+pub live : (view : View) (reins : List Reins) (worker attempt : ℕ) → view.reins ≡ reins → map number_of reins ≡ (worker, attempt) ∷ [] → IsLive view
 live view [] worker attempt are is = absurd (cc)
 live view (one ∷ rest) worker attempt are is = inr (one, rest, are)
 

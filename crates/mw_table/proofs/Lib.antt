@@ -1,4 +1,5 @@
 pub mod Asking
+pub mod Attempting
 pub mod Driving
 pub mod Finding
 pub mod Numbering
