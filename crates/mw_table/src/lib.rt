@@ -17,6 +17,7 @@ mod shared;
 mod steps;
 #[cfg(test)]
 mod tests;
+mod turns;
 
 pub use origin::Origin;
 pub use shared::{Pass, Shared};
