@@ -4,4 +4,5 @@ pub mod Dealt
 pub mod Numbers
 pub mod Passes
 pub mod Places
+pub mod Resting
 pub mod Said

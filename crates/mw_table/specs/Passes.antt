@@ -15,6 +15,13 @@ pub record IsOf (shared : Shared) (pass : Pass) : Type 0 where
 abbrev pub IsOfSameWorker : Pass → Pass → Type 0
 IsOfSameWorker old new = new.worker ≡ old.worker
 
+-- The pass is idle, and else as it was.
+pub record IsRested (old new : Pass) : Type 0 where
+  pub idle : new.idle ≡ true
+  pub same_seat : new.seat ≡ old.seat
+  pub same_worker : new.worker ≡ old.worker
+  pub same_attempt : new.attempt ≡ old.attempt
+
 -- the step is an attempt to hold a word, which has a number of its own
 abbrev pub is_plant : Op → Bool
 is_plant (ChangeBits PlantKind at from to) = true

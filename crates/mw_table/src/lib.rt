@@ -12,6 +12,7 @@ mod begins;
 mod calls;
 mod making;
 mod origin;
+mod passes;
 mod places;
 mod shared;
 mod steps;

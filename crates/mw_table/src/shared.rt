@@ -1,8 +1,9 @@
 //! The table, and the passes with which threads step on it.
-ghost use Rattle.std.specs.Prelude.{◌≡◌, [], ◌∷◌};
+ghost use Rattle.std.specs.Prelude.{◌≡◌, true, [], ◌∷◌};
 ghost use Rattle.mw_world.specs.Definition.State.{IsConfig};
 ghost use Rattle.mw_rule.specs.Layout.{words_of};
 ghost use Rattle.mw_table.specs.Numbers.{numbers};
+ghost use Rattle.mw_table.specs.Resting.{IsAtRest};
 
 use crate::origin::Origin;
 use atomic_table::{Seat, Table};
@@ -26,21 +27,7 @@ pub struct Pass {
     pub(crate) seat: Seat<Actor, View>,
     pub(crate) worker: u8,
     pub(crate) attempt: u64,
+    pub(crate) idle: bool,
     ghost numbered: { numbers seat.me.0 ≡ (worker, attempt) ∷ [] },
-}
-
-impl Pass {
-    /// The worker whose steps these are.
-    pub fn worker(&self) -> u8
-        ensures { result ≡ self.now.worker }
-    {
-        self.worker
-    }
-
-    /// The number of the worker's next attempt to hold a word.
-    pub fn attempt(&self) -> u64
-        ensures { result ≡ self.now.attempt }
-    {
-        self.attempt
-    }
+    ghost rests: { idle ≡ true → IsAtRest seat.me.0 },
 }
