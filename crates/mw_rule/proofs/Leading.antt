@@ -10,21 +10,22 @@ use Rattle.mw_world_file.specs.Maps.{upd}
 use Rattle.mw_world.specs.declared.config.Config.{Config}
 use Rattle.mw_world.specs.Claim.Headline.{IsPlayed}
 use Rattle.mw_world.specs.Definition.Happenings.{Happening}
-use Rattle.mw_world.specs.Definition.State.{State, Account, Opening, tenants_of, world_at}
+use Rattle.mw_world.specs.Definition.State.{State, Account, Opening, Seat, tenants_of, world_at}
 use Rattle.mw_world.specs.Definition.World.{step, run}
 use Rattle.mw_law_knowledge.proofs.Deeds.Keeping.{upd_here, upd_else}
 use Rattle.mw_law_runs.proofs.Numbers.{same_or_other}
 use Rattle.mw_law_runs.proofs.Running.{runs_are_sound}
 use Rattle.mw_law_store.specs.Followed.{start_of}
 use Rattle.mw_law_store.specs.History.{AreNoStarts, IsBeginning, SealsHaveGoneOn}
-use Rattle.mw_law_store.specs.Moments.{Moment, SealedChange, first_moment, after_marks, moment_of}
+use Rattle.mw_law_store.specs.Moments.{Moment, SealedChange, first_moment, after_marks, moment_at, moment_of}
+use Rattle.mw_law_store.specs.OverCalls.{HasBegun, sealed_of}
 use Rattle.mw_law_store.proofs.Histories as histories
 use Rattle.mw_law_store.proofs.Momenting.{got_within}
 use Rattle.mw_law_store.proofs.Running.{events_are_followed, runs_are_followed}
 use Rattle.mw_rule.specs.declared.views.Reins.{Reins}
 use Rattle.mw_rule.specs.declared.views.View.{View}
 use Rattle.mw_rule.specs.Rule.{Fits, Holds, Past, deed_of, made_by, times}
-use Rattle.mw_rule.specs.Seen.{CameAfter, ComeFirst, Gave, HasBegun, HasBegunFor, opening_at, sealed_of, seen_at}
+use Rattle.mw_rule.specs.Seen.{ComeFirst, Gave, HasBegunFor, opening_at, seen_at}
 use Rattle.mw_rule.proofs.Totals.{each_apart}
 
 -- what a start gave a tenant stays
@@ -88,6 +89,11 @@ begins_on first between all one two = record {
 pub begins_itself : (all : List SealedChange) → IsBeginning all all
 begins_itself all = record { rest = []; parted = sym (append-nil all) }
 
+-- the tenant of a request is there
+pub tenant_there : (config : Config) (openings : ℕ → Opening) (events : List Happening) (state : State) → IsPlayed config openings events state → (worker : ℕ) (actor : Acting)
+    → (state.seats worker).actor ≡ Some actor → actor.tenant < tenants_of config
+tenant_there config openings events state played worker actor sits = ((runs_are_sound config openings events state played).0.counts.seats worker actor sits).tenant
+
 -- What a run's further events leave.
 module _ (config : Config) (openings : ℕ → Opening) (before : List Happening) (old : State) (played : IsPlayed config openings before old)
     (worker : ℕ) (new : State) (more : List Happening) (leads : Leads config old worker new more) where
@@ -111,26 +117,27 @@ module _ (config : Config) (openings : ℕ → Opening) (before : List Happening
       is_up = (leads.gifts tenant).is_up ∙ gave.is_up;
     }
 
-    pub begun_on : (request begun : ℕ) → HasBegun (start_of openings old tenant) (old.accounts tenant).lines request begun → HasBegun (start_of openings new tenant) (new.accounts tenant).lines request begun
-    begun_on request begun has = elim has [
-      | inl none ↦ inl none
-      | inr came ↦
-          let within = got_within (old.accounts tenant).lines (Some (Ask request came.job)) came.line came.came in
-          let stays = ap (λ (changes : List SealedChange). length changes) (gone.1.before came.line (omega (arith, within))) in
-          let sealed = came.sealed in
-          inr (subst (λ (start : Moment). CameAfter start (new.accounts tenant).lines request begun) (sym same_start)
-          (record { line = came.line; job = came.job; came = gone.1.marks came.line (Ask request came.job) came.came; sealed = omega (arith, stays, sealed) }))
-    ]
-
   pub seen_on : (seen : List (List SealedChange)) → ComeFirst (tenants_of config) seen (sealed_of openings old) → ComeFirst (tenants_of config) seen (sealed_of openings new)
   seen_on seen first tenant low = begins_on (seen_at seen tenant) (sealed_of openings old tenant) (sealed_of openings new tenant) (first tenant low) (sealed_on tenant low)
 
-  tenant_there : (one : ℕ) (actor : Acting) → (old.seats one).actor ≡ Some actor → actor.tenant < tenants_of config
-  tenant_there one actor sits = ((runs_are_sound config openings before old played).0.counts.seats one actor sits).tenant
+  -- a request that its worker still has came when it came
+  begun_on : (one : ℕ) (actor : Acting) (begun : ℕ) → new.seats one ≡ old.seats one → HasBegun openings old one actor begun → HasBegun openings new one actor begun
+  begun_on one actor begun same has =
+      let low = tenant_there config openings before old played one actor has.sits in
+      let on = (gone actor.tenant low).1 in
+      let ask = Ask (old.seats one).request actor.job in
+      let within = got_within (old.accounts actor.tenant).lines (Some ask) has.ask has.came in
+      record {
+        sits = ap (λ (seat : Seat). seat.actor) same ∙ has.sits;
+        ask = has.ask;
+        came = on.marks has.ask ask has.came ∙ ap (λ (seat : Seat). Some (Some (Ask seat.request actor.job))) (sym same);
+        sealed = ap (λ (start : Moment). length (moment_at start (new.accounts actor.tenant).lines has.ask).sealed) (same_start actor.tenant low)
+            ∙ ap (λ (changes : List SealedChange). length changes) (on.before has.ask (omega (arith, within))) ∙ has.sealed;
+      }
 
-  pub begun_for_on : (one request begun : ℕ) (actor : Option Acting) → (old.seats one).actor ≡ actor → HasBegunFor openings old request begun actor → HasBegunFor openings new request begun actor
-  begun_for_on one request begun None sits has = tt
-  begun_for_on one request begun (Some actor) sits has = begun_on actor.tenant (tenant_there one actor sits) request begun has
+  begun_for_on : (one begun : ℕ) (actor : Option Acting) → new.seats one ≡ old.seats one → HasBegunFor openings old one begun actor → HasBegunFor openings new one begun actor
+  begun_for_on one begun None same has = tt
+  begun_for_on one begun (Some actor) same has = record { sealed = has.sealed; no_fewer = has.no_fewer; came = begun_on one actor has.sealed same has.came }
 
   module _ (events : List Happening) where
     others_hold : (reins : Reins) → reins.worker ≢ worker → Holds config openings old events reins → Holds config openings new (events ++ more) reins
@@ -142,7 +149,7 @@ module _ (config : Config) (openings : ℕ → Opening) (before : List Happening
           attempt = ap (λ seat. seat.attempt) same ∙ holds.attempt;
           request = ap (λ seat. seat.request) same ∙ holds.request;
           made = made_on reins.worker events more ∙ ap (λ made. made_by reins.worker events ++ made) (leads.quiet reins.worker apart) ∙ append-nil (made_by reins.worker events) ∙ holds.made;
-          begun = begun_for_on reins.worker reins.request reins.begun reins.actor holds.actor holds.begun;
+          begun = begun_for_on reins.worker reins.begun reins.actor same holds.begun;
         }
 
     -- what a thread knows that has no reins of the worker
@@ -153,6 +160,7 @@ module _ (config : Config) (openings : ℕ → Opening) (before : List Happening
       reins = each_apart (Holds config openings old events) (Holds config openings new (events ++ more)) worker view.reins none others_hold fits.reins;
       seen = seen_on view.seen fits.seen;
       told = seen_on view.told fits.told;
+      right = fits.right;
     }
 
 abbrev pub past_on : (config : Config) (begun : (ℕ → Opening) → List Happening → Type 0) (old new : State) (events more : List Happening) (worker : ℕ) → Past config begun old events → Leads config old worker new more

@@ -3,6 +3,7 @@ pub mod Layouts
 pub mod Leading
 pub mod Moving
 pub mod Parting
+pub mod Righting
 pub mod Stepping
 pub mod Totals
 pub mod Viewing

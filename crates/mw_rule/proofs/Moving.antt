@@ -1,15 +1,18 @@
 -- The steps of requests keep the rule, a request's first step too.
-use Rattle.std.specs.Prelude.{ℕ, ◌≡◌, ◌≤◌, ◌<◌, true, false, List, [], ◌∷◌, ◌++◌, length, slice_index, slice_set, Some, None}
+use Rattle.std.specs.Prelude.{ℕ, ◌≡◌, ◌≤◌, ◌<◌, true, false, List, [], ◌∷◌, ◌++◌, length, slice_index, slice_set, Option, Some, None}
 use Rattle.std.proofs.Common.{refl, sym, ap, subst, ◌∙◌, append-nil, inr, arith}
 use Rattle.std.proofs.lemmas.Bool.Decides.{nat_tests}
 use Rattle.std.proofs.lemmas.List.{length-append}
+use Rattle.std.proofs.lemmas.Option.{same_Some}
 use mathlib.Core.Option.{some}
 use lib.ListN.{get_elem?}
 use Rattle.atomic_table.specs.Table.{State as Table, keeps}
 use Rattle.mw_words.specs.declared.jobs.Job.{Job}
 use Rattle.mw_words.specs.declared.jobs.Job.TheVariants.{Get, Cas}
 use Rattle.mw_words.specs.declared.places.At.TheVariants.{Door as AtDoor}
+use Rattle.mw_words.specs.declared.replies.Reply.{Reply}
 use Rattle.mw_words.specs.Change.{is_well_formed}
+use Rattle.mw_look.specs.declared.news.Got.{Got}
 use Rattle.mw_look.specs.declared.news.Got.TheVariants.{Word as Bits}
 use Rattle.mw_look.specs.declared.steps.Op.{Op}
 use Rattle.mw_look.specs.News.{news_of, news_of_bits}
@@ -28,14 +31,17 @@ use Rattle.mw_world.specs.Definition.State.{Opening, tenant_at, tenants_of}
 use Rattle.mw_world.specs.Definition.Turns.{may_make}
 use Rattle.mw_law_store.specs.History.{IsBeginning}
 use Rattle.mw_law_store.specs.Moments.{SealedChange}
+use Rattle.mw_law_store.specs.OverCalls.{sealed_of}
 use Rattle.mw_law_runs.proofs.Lawful.{runs_are_lawful}
+use Rattle.mw_rule.specs.declared.views.Finished.{Finished}
 use Rattle.mw_rule.specs.declared.views.Reins.{Reins}
 use Rattle.mw_rule.specs.declared.views.View.{View}
-use Rattle.mw_rule.specs.Carrying.{Took, comes, told, told_as}
+use Rattle.mw_rule.specs.Carrying.{Notes, NotesAs, Took, comes, told, told_as, told_of}
+use Rattle.mw_rule.specs.Continuing.{FirstStepsGoOn, StepsGoOn, events_of}
 use Rattle.mw_rule.specs.Laws.{FirstStepsKeepTheRule, StepsKeepTheRule}
 use Rattle.mw_rule.specs.Layout.{index_of}
-use Rattle.mw_rule.specs.Rule.{Each, Fits, Holds, Tied, Ties}
-use Rattle.mw_rule.specs.Seen.{sealed_of, seen_at}
+use Rattle.mw_rule.specs.Rule.{Continues, Each, Fits, Holds, Tied, Ties}
+use Rattle.mw_rule.specs.Seen.{seen_at}
 use Rattle.mw_rule.specs.Ways.{finds, made_of_bits}
 use Rattle.mw_rule.proofs.Keeping.{ties_on}
 use Rattle.mw_rule.proofs.Leading.{played_on, stays_there}
@@ -64,7 +70,7 @@ module _ (config : Config) (begun : (ℕ → Opening) → List Happening → Typ
   module _ (actor : Acting) (carries : reins.actor ≡ Some actor) (running : replied actor ≡ None) (no_call : called_at actor.point ≡ None) (make : ℕ → ℕ)
       (makes : (bits : ℕ) → make bits ≡ made_of_bits (op_of (asks actor)) bits) where
     step_moves : (index : ℕ) → index ≡ index_of config.pool (place (asks actor))
-        → Moved config begun s id index (make (slice_index s.words index)) old (told (finds (op_of (asks actor)) (slice_index s.words index)))
+        → Moved config begun s tied (events_of reins.worker (finds (op_of (asks actor)) (slice_index s.words index)) reins.attempt actor) id index (make (slice_index s.words index)) old (told (finds (op_of (asks actor)) (slice_index s.words index))) (Notes (finds (op_of (asks actor)) (slice_index s.words index)) reins actor [])
     step_moves index is =
         let state = tied.state in
         let openings = tied.past.openings in
@@ -85,21 +91,53 @@ module _ (config : Config) (begun : (ℕ → Opening) → List Happening → Typ
         (ties_on config state.cells (cells_after step state.cells) s.words (place step) (make bits) tied.past.played.made there tied.long tied.ties made (λ other apart. step_other step state.cells other apart)) in
         let reached = steps config openings before state state tied.past.played tied.events [] reins actor (finds (op_of step) bits) (stays_there config state reins.worker)
         (subst (λ all. Holds config openings state all reins) (sym (append-nil tied.events)) its_holds) carries running may told_so in
-        moves config begun s tied id index (make bits) old reins (told (finds (op_of step) bits)) (cells_after step state.cells) at only its_fits (told_worker (finds (op_of step) bits))
-        (subst (λ one. Reached config openings state reins.worker tied.events one (cells_after step state.cells)) (ap (told_as (finds (op_of step) bits) reins) (sym carries)) reached) ties
+        moves config begun s tied (events_of reins.worker (finds (op_of step) bits) reins.attempt actor) id index (make bits) old reins (told (finds (op_of step) bits)) (cells_after step state.cells) (Notes (finds (op_of step) bits) reins actor []) at only its_fits (told_worker (finds (op_of step) bits))
+        (subst (λ one. Reached config openings state reins.worker tied.events (events_of reins.worker (finds (op_of step) bits) reins.attempt actor) one (cells_after step state.cells) (Notes (finds (op_of step) bits) reins actor [])) (ap (told_as (finds (op_of step) bits) reins) (sym carries)) reached) ties
+
+-- What is noted is noted behind what was.
+notes_behind : (tenant request begun : ℕ) (job : Job) (reply : Option Reply) (old more : List Finished) → NotesAs tenant request begun job reply [] more → NotesAs tenant request begun job reply old (old ++ more)
+notes_behind tenant request begun job None old more none = ap (λ (all : List Finished). old ++ all) none ∙ append-nil old
+notes_behind tenant request begun job (Some reply) old more one = record { place = one.place; no_smaller = one.no_smaller; noted = ap (λ (all : List Finished). old ++ all) one.noted }
+
+same_one : (reins other : Reins) → reins ∷ [] ≡ other ∷ [] → reins ≡ other
+same_one reins other e = cc
+
+-- So it is said of whichever reins and request are the thread's.
+notes_so : (got : Got) (reins other : Reins) (actor another : Acting) (old new : View) (more : List Finished) → old.reins ≡ reins ∷ [] → old.reins ≡ other ∷ [] → reins.actor ≡ Some actor → other.actor ≡ Some another
+    → new.mine ≡ old.mine ++ more → Notes got reins actor [] more → Notes got other another old.mine new.mine
+notes_so got reins other actor another old new more only its carries having mine noted =
+    let same = same_one reins other (sym only ∙ its) in
+    let it = same_Some actor another (sym carries ∙ ap (λ (one : Reins). one.actor) same ∙ having) in
+    subst (λ (one : Reins). Notes got one another old.mine new.mine) same
+    (subst (λ (one : Acting). Notes got reins one old.mine new.mine) it
+    (subst (λ (all : List Finished). Notes got reins actor old.mine all) (sym mine)
+    (notes_behind actor.tenant reins.request reins.begun actor.job (replied (told_of got reins.attempt actor)) old.mine more noted)))
+
+pub steps_on : (config : Config) (begun : (ℕ → Opening) → List Happening → Type 0) → StepsGoOn config begun
+steps_on config begun id worker view op make drives makes s tied at =
+    let step = asks drives.actor in
+    let index = index_of config.pool (place_of op) in
+    let found = slice_index s.words index in
+    let is : index ≡ index_of config.pool (place step) = ap (λ (one : Op). index_of config.pool (place_of one)) (sym drives.is) ∙ ap (index_of config.pool) (place_of_bits step) in
+    let moved = step_moves config begun s tied id view at drives.reins drives.has.only drives.actor drives.carries drives.running drives.no_call make
+    (subst (λ (one : Op). (bits : ℕ) → make bits ≡ made_of_bits one bits) (sym drives.is) makes) index is in
+    record {
+      new = moved.view;
+      is_told = subst (λ (one : Op). Took (finds one found) view moved.view) drives.is (record {
+        goes_on = moved.goes_on;
+        right = moved.right;
+        reins = moved.reins;
+        ready = moved.ready;
+        ends = λ reins actor only carries.
+            notes_so (finds (op_of step) found) drives.reins reins drives.actor actor view moved.view moved.noted drives.has.only only drives.carries carries moved.mine moved.ends;
+      });
+      run = subst (λ (more : List Happening). Continues config begun s tied more (record { words = slice_set s.words index (make found); homes = s.homes; views = slice_set s.views id moved.view }))
+          (λ i. events_of (drives.has.own i) (finds (drives.is i) found) drives.reins.attempt drives.actor) moved.run;
+    }
 
 pub steps_keep : (config : Config) (begun : (ℕ → Opening) → List Happening → Type 0) → StepsKeepTheRule config begun
 steps_keep config begun slots id worker me op make drives makes s tied homes at low =
-    let step = asks drives.actor in
-    let is : index_of config.pool (place_of op) ≡ index_of config.pool (place step) = ap (λ (one : Op). index_of config.pool (place_of one)) (sym drives.is) ∙ ap (index_of config.pool) (place_of_bits step) in
-    let moved = step_moves config begun s tied id me.0 at drives.reins drives.has.only drives.actor drives.carries drives.running drives.no_call make
-    (subst (λ (one : Op). (bits : ℕ) → make bits ≡ made_of_bits one bits) (sym drives.is) makes) (index_of config.pool (place_of op)) is in (
-      moved.view,
-      keeps,
-      tt,
-      moved.tied,
-      subst (λ (one : Op). Took (finds one (slice_index s.words (index_of config.pool (place_of op)))) me.0 moved.view) drives.is (record { goes_on = moved.goes_on; reins = moved.reins; ready = moved.ready }),
-    )
+    let on = steps_on config begun id worker me.0 op make drives makes s tied at in (on.new, keeps, tt, on.run.after, on.is_told)
 
 -- A request begins with a load of its tenant's door.
 first_runs : (worker tenant quota pool : ℕ) (job : Job) → replied (first worker tenant quota pool job) ≡ None
@@ -132,7 +170,11 @@ module _ (config : Config) (begun : (ℕ → Opening) → List Happening → Typ
   abbrev index : ℕ
   index = index_of config.pool (AtDoor tenant)
 
-  first_reached : Reached config tied.past.openings tied.state reins.worker tied.events (told (Bits (slice_index s.words index)) (comes the_first number so_many reins)) tied.state.cells
+  abbrev begins_with : Acting → List Happening
+  begins_with actor = Come reins.worker tenant job ∷ events_of reins.worker (Bits (slice_index s.words index)) reins.attempt actor
+
+  first_reached : Reached config tied.past.openings tied.state reins.worker tied.events (begins_with the_first) (told (Bits (slice_index s.words index)) (comes the_first number so_many reins)) tied.state.cells
+      (Notes (Bits (slice_index s.words index)) (comes the_first number so_many reins) the_first [])
   unfolding the_first
   first_reached =
       let state = tied.state in
@@ -157,43 +199,57 @@ module _ (config : Config) (begun : (ℕ → Opening) → List Happening → Typ
       (ap (news_of_bits (AtDoor tenant)) seen ∙ packs_are_seen (AtDoor tenant) (read state.cells (AtDoor tenant)) (lawful.fit (AtDoor tenant))) in
       let reached = steps config openings (before ++ Come reins.worker tenant job ∷ []) state after played tied.events (Come reins.worker tenant job ∷ [])
       (comes actor number so_many reins) actor (Bits bits) leads came refl running may told_so in
-      subst (λ (cells : Cells). Reached config openings state reins.worker tied.events (told (Bits bits) (comes actor number so_many reins)) cells)
+      subst (λ (cells : Cells). Reached config openings state reins.worker tied.events (begins_with actor) (told (Bits bits) (comes actor number so_many reins)) cells (Notes (Bits bits) (comes actor number so_many reins) actor []))
       (ap (λ (step : Step). cells_after step state.cells) asks_so) reached
 
   first_moves : (actor : Acting) → actor ≡ the_first
-      → Moved config begun s id index (make (slice_index s.words index)) old (λ one. told (Bits (slice_index s.words index)) (comes actor number so_many one))
+      → Moved config begun s tied (begins_with actor) id index (make (slice_index s.words index)) old (λ one. told (Bits (slice_index s.words index)) (comes actor number so_many one))
+      (Notes (Bits (slice_index s.words index)) (comes actor number so_many reins) actor [])
   first_moves actor is =
       let bits = slice_index s.words index in
       let state = tied.state in
       let there : has_place config (AtDoor tenant) ≡ true = grind (arith, nat_tests, low) in
       let lawful = runs_are_lawful config tied.past.openings (tied.past.before ++ tied.events) state tied.past.played in
       let seen : pack (AtDoor tenant) (read state.cells (AtDoor tenant)) ≡ make bits = sym (tied.ties (AtDoor tenant) there) ∙ sym (makes bits) in
-      moves config begun s tied id index (make bits) old reins (λ one. told (Bits bits) (comes actor number so_many one)) state.cells at only (its_fits config begun s tied id old at reins only)
+      moves config begun s tied (begins_with actor) id index (make bits) old reins (λ one. told (Bits bits) (comes actor number so_many one)) state.cells (Notes (Bits bits) (comes actor number so_many reins) actor []) at only (its_fits config begun s tied id old at reins only)
       (λ one. told_worker (Bits bits) (comes actor number so_many one))
-      (subst (λ (a : Acting). Reached config tied.past.openings state reins.worker tied.events (told (Bits bits) (comes a number so_many reins)) state.cells) (sym is) first_reached)
+      (subst (λ (a : Acting). Reached config tied.past.openings state reins.worker tied.events (begins_with a) (told (Bits bits) (comes a number so_many reins)) state.cells (Notes (Bits bits) (comes a number so_many reins) a [])) (sym is) first_reached)
       (ties_on config state.cells state.cells s.words (AtDoor tenant) (make bits) tied.past.played.made there tied.long tied.ties seen (λ other apart. refl))
 
-pub first_steps_keep : (config : Config) (begun : (ℕ → Opening) → List Happening → Type 0) → FirstStepsKeepTheRule config begun
+pub first_steps_on : (config : Config) (begun : (ℕ → Opening) → List Happening → Type 0) → FirstStepsGoOn config begun
 unfolding the_first
-first_steps_keep config begun slots id worker me actor make may makes s tied homes at low =
-    let fits = its_fits config begun s tied id me.0 at may.reins may.has.only in
+first_steps_on config begun id worker view actor make may makes s tied at =
+    let fits = its_fits config begun s tied id view at may.reins may.has.only in
     let there : actor.tenant < tenants_of config = subst (λ (one : Config). actor.tenant < tenants_of one) fits.same_config may.tenant in
     let asks_well : is_well_formed (tenant_at config actor.tenant).words actor.job ≡ true =
     subst (λ (one : Config). is_well_formed (tenant_at one actor.tenant).words actor.job ≡ true) fits.same_config may.may_ask in
     let gave = fits.gave actor.tenant there in
     let is : actor ≡ first may.reins.worker actor.tenant (tied.state.accounts actor.tenant).quota config.pool actor.job =
     may.is ∙ (λ i. first (sym may.has.own i) actor.tenant (sym gave.quota i) (fits.same_config i).pool actor.job) in
-    let moved = first_moves config begun s tied id me.0 at may.reins may.has.only may.idle actor.tenant actor.job there asks_well make makes actor is in (
-      moved.view,
-      keeps,
-      tt,
-      moved.tied,
-      record {
+    let moved = first_moves config begun s tied id view at may.reins may.has.only may.idle actor.tenant actor.job there asks_well make makes actor is in
+    let number = (tied.state.accounts actor.tenant).asked in
+    let many = length (sealed_of tied.past.openings tied.state actor.tenant) in
+    let index = index_of config.pool (AtDoor actor.tenant) in
+    let bits = slice_index s.words index in
+    record {
+      new = moved.view;
+      is_told = record {
         goes_on = moved.goes_on;
-        request = (tied.state.accounts actor.tenant).asked;
-        begun = length (sealed_of tied.past.openings tied.state actor.tenant);
-        no_fewer = no_shorter (seen_at me.0.seen actor.tenant) (sealed_of tied.past.openings tied.state actor.tenant) (fits.seen actor.tenant there);
+        right = moved.right;
+        request = number;
+        begun = many;
+        no_fewer = no_shorter (seen_at view.seen actor.tenant) (sealed_of tied.past.openings tied.state actor.tenant) (fits.seen actor.tenant there);
         reins = moved.reins;
         ready = moved.ready;
-      },
-    )
+        ends = λ reins only.
+            subst (λ (one : Reins). Notes (Bits bits) (comes actor number many one) actor view.mine moved.view.mine) (same_one may.reins reins (sym may.has.only ∙ only))
+            (subst (λ (all : List Finished). Notes (Bits bits) (comes actor number many may.reins) actor view.mine all) (sym moved.mine)
+            (notes_behind actor.tenant number many actor.job (replied (told_of (Bits bits) may.reins.attempt actor)) view.mine moved.noted moved.ends));
+      };
+      run = subst (λ (n : ℕ). Continues config begun s tied (Come n actor.tenant actor.job ∷ events_of n (Bits bits) may.reins.attempt actor)
+          (record { words = slice_set s.words index (make bits); homes = s.homes; views = slice_set s.views id moved.view })) may.has.own moved.run;
+    }
+
+pub first_steps_keep : (config : Config) (begun : (ℕ → Opening) → List Happening → Type 0) → FirstStepsKeepTheRule config begun
+first_steps_keep config begun slots id worker me actor make may makes s tied homes at low =
+    let on = first_steps_on config begun id worker me.0 actor make may makes s tied at in (on.new, keeps, tt, on.run.after, on.is_told)

@@ -19,30 +19,37 @@ use Rattle.mw_world.specs.Definition.State.{State, Opening, Seat, tenants_of}
 use Rattle.mw_law_runs.proofs.Numbers.{same_or_other}
 use Rattle.mw_law_store.specs.History.{IsBeginning}
 use Rattle.mw_law_store.specs.Moments.{SealedChange}
+use Rattle.mw_law_store.specs.OverCalls.{sealed_of}
+use Rattle.mw_law_store.proofs.OverCalls.{requests_have_begun}
 use Rattle.mw_rule.specs.declared.views.Reins.{Reins}
 use Rattle.mw_rule.specs.declared.views.View.{View}
-use Rattle.mw_rule.specs.Carrying.{StoodThere}
+use Rattle.mw_rule.specs.Carrying.{Precede, StoodThere}
+use Rattle.mw_rule.specs.Continuing.{JoinsOn, LooksGoOn, PartsOn}
 use Rattle.mw_rule.specs.Layout.{index_of}
-use Rattle.mw_rule.specs.Dealing.{dealt, head_of, hears, left_over, maker, note, reins_from, reins_of, rest_of, spent}
-use Rattle.mw_rule.specs.Laws.{DealsKeepTheRule, HearingKeepsTheRule, LooksKeepTheRule, NotesKeepTheRule, StartsUnderTheRule}
-use Rattle.mw_rule.specs.Rule.{Each, Fits, Holds, IsSpent, Tied, Ties, has, times, total, weight}
-use Rattle.mw_rule.specs.Seen.{Gave, HasBegunFor, opening_at, sealed_of, seen_at}
+use Rattle.mw_rule.specs.Dealing.{dealt, head_of, hears, left_over, maker, meets, note, reins_from, reins_of, rest_of, spent, takes}
+use Rattle.mw_rule.specs.Laws.{DealsKeepTheRule, HearingKeepsTheRule, LooksKeepTheRule, MeetingKeepsTheRule, NotesKeepTheRule, StartsUnderTheRule, TakingKeepsTheRule}
+use Rattle.mw_rule.specs.Rule.{Continues, Each, Fits, Holds, IsLive, IsSpent, Tied, Ties, has, times, total, weight}
+use Rattle.mw_rule.specs.Seen.{Gave, HasBegunFor, opening_at, seen_at}
+use Rattle.mw_rule.proofs.Righting.{dealt_right, hears_right, left_right, meets_right, mine_in, note_right, nothing_right, sees_right, takes_right}
 use Rattle.mw_rule.proofs.Totals.{total_set, total_more}
-use Rattle.mw_rule.proofs.Viewing.{all_seen, live_fits, sees, sees_on}
+use Rattle.mw_rule.proofs.Viewing.{all_at, all_seen, live_fits, sees, sees_on}
 
 -- the rule of the same words where threads know other things of the same world
 other_views : (config : Config) (begun : (ℕ → Opening) → List Happening → Type 0) (s now : Table Acting View) (tied : Tied config begun s) → now.words ≡ s.words
     → ((id : ℕ) (view : View) → get_elem? now.views id ≡ some view → IsSpent view ⊎ Fits config tied.past.openings tied.state tied.events view) → ((worker : ℕ) → total (has worker) now.views ≤ 1)
-    → Tied config begun now
-other_views config begun s now tied same fits alone = record {
-  state = tied.state;
-  events = tied.events;
-  past = tied.past;
-  long = ap length same ∙ tied.long;
-  ties = subst (Ties config tied.state.cells) (sym same) tied.ties;
-  fits = fits;
-  alone = alone;
-}
+    → Continues config begun s tied [] now
+other_views config begun s now tied same fits alone = record { after = kept; same_openings = refl; same_before = refl; events = sym (append-nil tied.events) }
+  where
+    kept : Tied config begun now
+    kept = record {
+      state = tied.state;
+      events = tied.events;
+      past = tied.past;
+      long = ap length same ∙ tied.long;
+      ties = subst (Ties config tied.state.cells) (sym same) tied.ties;
+      fits = fits;
+      alone = alone;
+    }
 
 -- what stands at an index, told by the configuration that the thread knows
 stood_there : (config : Config) (openings : ℕ → Opening) (events : List Happening) (state : State) (view : View) (index bits : ℕ) → view.config ≡ config → IsPlayed config openings events state
@@ -57,32 +64,46 @@ stood_there config openings events state view index bits same played gave is = r
   same_bits = subst (λ (one : Config). (at : At) → has_place one at ≡ true → index_of one.pool at ≡ index → bits ≡ pack at (read state.cells at)) (sym same) is;
 }
 
-pub looks_keep : (config : Config) (begun : (ℕ → Opening) → List Happening → Type 0) → LooksKeepTheRule config begun
-looks_keep config begun slots id index me make live makes s tied homes at low =
+pub looks_on : (config : Config) (begun : (ℕ → Opening) → List Happening → Type 0) → LooksGoOn config begun
+looks_on config begun id index view make live makes s tied at =
     let openings = tied.past.openings in
     let sealed = sealed_of openings tied.state in
-    let fits = live_fits config openings tied.state tied.events me.0 live (tied.fits id me.0 at) in
-    let new = sees config sealed me.0 me.0.reins in
-    let new_fits : Fits config openings tied.state tied.events new = record { same_config = fits.same_config; gave = fits.gave; reins = fits.reins; seen = all_seen sealed (tenants_of config); told = fits.told } in
-    let words : slice_set s.words index (make (slice_index s.words index)) ≡ s.words = ap (slice_set s.words index) (makes (slice_index s.words index)) ∙ set-get_or s.words index 0 in (
-      new,
-      keeps,
-      tt,
-      other_views config begun s (record { words = slice_set s.words index (make (slice_index s.words index)); homes = s.homes; views = slice_set s.views id new }) tied words
-          (λ other view is. elim (at_set s.views id other new view is) [
+    let fits = live_fits config openings tied.state tied.events view live (tied.fits id view at) in
+    let new = sees config sealed view view.reins view.mine in
+    let before = tied.past.before ++ tied.events in
+    let right = sees_right config openings tied.state new fits.same_config fits.gave before tied.past.played (all_at sealed (tenants_of config))
+    (mine_in config openings tied.state view fits.same_config fits.gave fits.seen view.mine fits.right.mine) in
+    let new_fits : Fits config openings tied.state tied.events new =
+    record { same_config = fits.same_config; gave = fits.gave; reins = fits.reins; seen = all_seen sealed (tenants_of config); told = fits.told; right = right } in
+    let bits = slice_index s.words index in
+    let words : slice_set s.words index (make bits) ≡ s.words = ap (slice_set s.words index) (makes bits) ∙ set-get_or s.words index 0 in
+    record {
+      new = new;
+      is_told = record {
+        goes_on = sees_on config sealed view view.reins view.mine fits.same_config fits.seen fits.told;
+        stood = stood_there config openings before tied.state new index bits fits.same_config tied.past.played fits.gave (λ place there is. sym (ap (slice_index s.words) is) ∙ tied.ties place there);
+        right = right;
+        same_reins = refl;
+        same_mine = refl;
+      };
+      run = other_views config begun s (record { words = slice_set s.words index (make bits); homes = s.homes; views = slice_set s.views id new }) tied words
+          (λ other one is. elim (at_set s.views id other new one is) [
             | inl here ↦ inr (subst (Fits config openings tied.state tied.events) here.1 new_fits)
-            | inr else ↦ tied.fits other view else.1
-          ]) (λ worker. let sums = total_set (has worker) s.views id me.0 new at in let all = tied.alone worker in omega (arith, sums, all)),
-      record { goes_on = sees_on config sealed me.0 me.0.reins fits.same_config fits.seen fits.told; stood = stood_there config tied.past.openings (tied.past.before ++ tied.events) tied.state new index (slice_index s.words index) fits.same_config tied.past.played fits.gave (λ at there is. sym (ap (slice_index s.words) is) ∙ tied.ties at there); same_reins = refl; same_mine = refl },
-    )
+            | inr else ↦ tied.fits other one else.1
+          ]) (λ worker. let sums = total_set (has worker) s.views id view new at in let all = tied.alone worker in omega (arith, sums, all));
+    }
+
+pub looks_keep : (config : Config) (begun : (ℕ → Opening) → List Happening → Type 0) → LooksKeepTheRule config begun
+looks_keep config begun slots id index me make live makes s tied homes at low =
+    let on = looks_on config begun id index me.0 make live makes s tied at in (on.new, keeps, tt, on.run.after, on.is_told)
 
 -- A thread's knowledge is cut in two parts that fit where it fits, and have its reins together.
-parts_keep : (config : Config) (begun : (ℕ → Opening) → List Happening → Type 0) (id : ℕ) (view left right : View)
+parts_on : (config : Config) (begun : (ℕ → Opening) → List Happening → Type 0) (id : ℕ) (view left right : View)
     → ((openings : ℕ → Opening) (state : State) (events : List Happening) → IsSpent view ⊎ Fits config openings state events view
     → (IsSpent left ⊎ Fits config openings state events left) × (IsSpent right ⊎ Fits config openings state events right))
-    → ((worker : ℕ) → has worker left + has worker right ≡ has worker view) → (s : Table Acting View) → Tied config begun s → get_elem? s.views id ≡ some view
-    → Tied config begun (record { words = s.words; homes = s.homes; views = slice_set s.views id left ++ right ∷ [] })
-parts_keep config begun id view left right fit sums s tied at =
+    → ((worker : ℕ) → has worker left + has worker right ≡ has worker view) → (s : Table Acting View) (tied : Tied config begun s) → get_elem? s.views id ≡ some view
+    → Continues config begun s tied [] (record { words = s.words; homes = s.homes; views = slice_set s.views id left ++ right ∷ [] })
+parts_on config begun id view left right fit sums s tied at =
     let both = fit tied.past.openings tied.state tied.events (tied.fits id view at) in
     let So : View → Type 0 = λ one. IsSpent one ⊎ Fits config tied.past.openings tied.state tied.events one in
     other_views config begun s (record { words = s.words; homes = s.homes; views = slice_set s.views id left ++ right ∷ [] }) tied refl
@@ -111,61 +132,116 @@ each_rest : (P : Reins → Type 0) (all : List Reins) → Each P all → Each P 
 each_rest P [] holds = tt
 each_rest P (one ∷ rest) holds = holds.1
 
-pub deals_keep : (config : Config) (begun : (ℕ → Opening) → List Happening → Type 0) → DealsKeepTheRule config begun
-deals_keep config begun id view = parts_keep config begun id view (left_over view) (dealt view) (λ openings state events fit. elim fit [
+pub deals_on : (config : Config) (begun : (ℕ → Opening) → List Happening → Type 0) → PartsOn config begun left_over dealt
+deals_on config begun id view = parts_on config begun id view (left_over view) (dealt view) (λ openings state events fit. elim fit [
   | inl gone ↦ (inl (record { flag = gone.flag; no_reins = ap rest_of gone.no_reins }), inl (record { flag = gone.flag; no_reins = ap head_of gone.no_reins }))
   | inr fits ↦ (
-    inr (record { same_config = fits.same_config; gave = fits.gave; reins = each_rest (Holds config openings state events) view.reins fits.reins; seen = fits.seen; told = fits.told }),
-    inr (record { same_config = fits.same_config; gave = fits.gave; reins = each_head (Holds config openings state events) view.reins fits.reins; seen = fits.seen; told = fits.told }),
+    inr (record { same_config = fits.same_config; gave = fits.gave; reins = each_rest (Holds config openings state events) view.reins fits.reins; seen = fits.seen; told = fits.told; right = left_right view fits.right }),
+    inr (record { same_config = fits.same_config; gave = fits.gave; reins = each_head (Holds config openings state events) view.reins fits.reins; seen = fits.seen; told = fits.told; right = dealt_right view fits.right }),
   )
 ]) (λ worker. heads_and_rests worker view.reins)
 
-pub notes_keep : (config : Config) (begun : (ℕ → Opening) → List Happening → Type 0) → NotesKeepTheRule config begun
-notes_keep config begun id view = parts_keep config begun id view view (note view) (λ openings state events fit. elim fit [
+pub deals_keep : (config : Config) (begun : (ℕ → Opening) → List Happening → Type 0) → DealsKeepTheRule config begun
+deals_keep config begun id view s tied at = (deals_on config begun id view s tied at).after
+
+pub notes_on : (config : Config) (begun : (ℕ → Opening) → List Happening → Type 0) → PartsOn config begun (λ view. view) note
+notes_on config begun id view = parts_on config begun id view view (note view) (λ openings state events fit. elim fit [
   | inl gone ↦ (inl gone, inl (record { flag = gone.flag; no_reins = refl }))
-  | inr fits ↦ (inr fits, inr (record { same_config = fits.same_config; gave = fits.gave; reins = tt; seen = fits.seen; told = fits.told }))
+  | inr fits ↦ (inr fits, inr (record { same_config = fits.same_config; gave = fits.gave; reins = tt; seen = fits.seen; told = fits.told; right = note_right view fits.right }))
 ]) (λ worker. omega arith)
 
-pub hearing_keeps : (config : Config) (begun : (ℕ → Opening) → List Happening → Type 0) → HearingKeepsTheRule config begun
-hearing_keeps config begun id other view its live its_live none s tied at apart its_at =
+pub notes_keep : (config : Config) (begun : (ℕ → Opening) → List Happening → Type 0) → NotesKeepTheRule config begun
+notes_keep config begun id view s tied at = (notes_on config begun id view s tied at).after
+
+-- Two threads' knowledge becomes one that fits where both fit, and has no reins but theirs.
+joins_on : (config : Config) (begun : (ℕ → Opening) → List Happening → Type 0) (id other : ℕ) (view its both : View) → IsLive view → IsLive its
+    → ((openings : ℕ → Opening) (state : State) (events : List Happening) → Fits config openings state events view → Fits config openings state events its → Fits config openings state events both)
+    → ((worker : ℕ) → has worker both ≤ has worker view + has worker its) → (s : Table Acting View) (tied : Tied config begun s) → get_elem? s.views id ≡ some view → ¬ (other ≡ id)
+    → get_elem? (slice_set s.views id both) other ≡ some its → Continues config begun s tied [] (record { words = s.words; homes = s.homes; views = slice_set (slice_set s.views id both) other spent })
+joins_on config begun id other view its both live its_live fit sums s tied at apart its_at =
     let openings = tied.past.openings in
     let So : View → Type 0 = λ one. IsSpent one ⊎ Fits config openings tied.state tied.events one in
     let fits = live_fits config openings tied.state tied.events view live (tied.fits id view at) in
-    let was : get_elem? s.views other ≡ some its = elim (at_set s.views id other (hears view its) its its_at) [
+    let was : get_elem? s.views other ≡ some its = elim (at_set s.views id other both its its_at) [
       | inl here ↦ absurd (apart here.0)
       | inr else ↦ else.1
     ] in
     let its_fits = live_fits config openings tied.state tied.events its its_live (tied.fits other its was) in
-    let new_fits : Fits config openings tied.state tied.events (hears view its) =
-    record { same_config = fits.same_config; gave = fits.gave; reins = fits.reins; seen = fits.seen; told = its_fits.seen } in
-    other_views config begun s (record { words = s.words; homes = s.homes; views = slice_set (slice_set s.views id (hears view its)) other spent }) tied refl
-    (λ third one is. elim (at_set (slice_set s.views id (hears view its)) other third spent one is) [
+    other_views config begun s (record { words = s.words; homes = s.homes; views = slice_set (slice_set s.views id both) other spent }) tied refl
+    (λ third one is. elim (at_set (slice_set s.views id both) other third spent one is) [
       | inl here ↦ inl (subst IsSpent here.1 (record { flag = refl; no_reins = refl }))
-      | inr else ↦ elim (at_set s.views id third (hears view its) one else.1) [
-        | inl there ↦ inr (subst (Fits config openings tied.state tied.events) there.1 new_fits)
+      | inr else ↦ elim (at_set s.views id third both one else.1) [
+        | inl there ↦ inr (subst (Fits config openings tied.state tied.events) there.1 (fit openings tied.state tied.events fits its_fits))
         | inr third_one ↦ tied.fits third one third_one.1
       ]
     ])
     (λ worker.
-    let first = total_set (has worker) s.views id view (hears view its) at in
-    let second = total_set (has worker) (slice_set s.views id (hears view its)) other its spent its_at in
-    let all = tied.alone worker in omega (arith, first, second, all))
+    let first = total_set (has worker) s.views id view both at in
+    let second = total_set (has worker) (slice_set s.views id both) other its spent its_at in
+    let few = sums worker in
+    let all = tied.alone worker in omega (arith, first, second, few, all))
+
+pub hearing_on : (config : Config) (begun : (ℕ → Opening) → List Happening → Type 0) → JoinsOn config begun (λ view its. its.reins ≡ []) hears
+hearing_on config begun id other view its live its_live may = joins_on config begun id other view its (hears view its) live its_live
+    (λ openings state events fits its_fits. record {
+      same_config = fits.same_config;
+      gave = fits.gave;
+      reins = fits.reins;
+      seen = fits.seen;
+      told = its_fits.seen;
+      right = hears_right view its fits.right;
+    }) (λ worker. omega arith)
+
+pub meeting_on : (config : Config) (begun : (ℕ → Opening) → List Happening → Type 0) → JoinsOn config begun (λ view its. (its.reins ≡ []) × Precede (tenants_of view.config) view.seen its.seen) meets
+meeting_on config begun id other view its live its_live may = joins_on config begun id other view its (meets view its) live its_live
+    (λ openings state events fits its_fits. record {
+      same_config = fits.same_config;
+      gave = fits.gave;
+      reins = fits.reins;
+      seen = its_fits.seen;
+      told = its_fits.seen;
+      right = meets_right view its (λ tenant low. let there = subst (λ (c : Config). tenant < tenants_of c) fits.same_config low in sym (its_fits.gave tenant there).words ∙ (fits.gave tenant there).words)
+          (its_fits.same_config ∙ sym fits.same_config) may.1 fits.right its_fits.right;
+    }) (λ worker. omega arith)
+
+pub taking_on : (config : Config) (begun : (ℕ → Opening) → List Happening → Type 0) → JoinsOn config begun (λ view its. view.reins ≡ []) takes
+taking_on config begun id other view its live its_live may = joins_on config begun id other view its (takes view its) live its_live
+    (λ openings state events fits its_fits. record {
+      same_config = fits.same_config;
+      gave = fits.gave;
+      reins = its_fits.reins;
+      seen = fits.seen;
+      told = fits.told;
+      right = takes_right view its fits.right;
+    }) (λ worker. omega arith)
+
+pub hearing_keeps : (config : Config) (begun : (ℕ → Opening) → List Happening → Type 0) → HearingKeepsTheRule config begun
+hearing_keeps config begun id other view its live its_live none s tied at apart its_at = (hearing_on config begun id other view its live its_live none s tied at apart its_at).after
+
+pub meeting_keeps : (config : Config) (begun : (ℕ → Opening) → List Happening → Type 0) → MeetingKeepsTheRule config begun
+meeting_keeps config begun id other view its live its_live none first s tied at apart its_at = (meeting_on config begun id other view its live its_live (none, first) s tied at apart its_at).after
+
+pub taking_keeps : (config : Config) (begun : (ℕ → Opening) → List Happening → Type 0) → TakingKeepsTheRule config begun
+taking_keeps config begun id other view its live its_live none s tied at apart its_at = (taking_on config begun id other view its live its_live none s tied at apart its_at).after
 
 -- The first thread has the reins of each worker once.
-module _ (config : Config) (openings : ℕ → Opening) (state : State) (seats : ℕ → Seat) (same : (worker : ℕ) → worker < config.workers → seats worker ≡ state.seats worker) where
+module _ (config : Config) (openings : ℕ → Opening) (before : List Happening) (state : State) (played : IsPlayed config openings before state) (seats : ℕ → Seat)
+    (same : (worker : ℕ) → worker < config.workers → seats worker ≡ state.seats worker) where
+  begun_before : (worker : ℕ) (actor : Option Acting) → (state.seats worker).actor ≡ actor → HasBegunFor openings state worker 0 actor
+  begun_before worker None sits = tt
+  begun_before worker (Some actor) sits = let begun = requests_have_begun config openings before state worker actor played sits in record { sealed = begun.0; no_fewer = omega arith; came = begun.1 }
+
   one_holds : (worker : ℕ) → worker < config.workers → Holds config openings state [] (reins_of worker (seats worker))
-  one_holds worker low = record {
-    there = low;
-    actor = ap (λ (seat : Seat). seat.actor) (sym (same worker low));
-    attempt = ap (λ (seat : Seat). seat.attempt) (sym (same worker low));
-    request = ap (λ (seat : Seat). seat.request) (sym (same worker low));
-    made = refl;
-    begun = by (seats worker).actor;
-  }
-    where
-      by : (actor : Option Acting) → HasBegunFor openings state (seats worker).request 0 actor
-      by None = tt
-      by (Some actor) = inl refl
+  one_holds worker low =
+      let sits = ap (λ (seat : Seat). seat.actor) (sym (same worker low)) in
+      record {
+        there = low;
+        actor = sits;
+        attempt = ap (λ (seat : Seat). seat.attempt) (sym (same worker low));
+        request = ap (λ (seat : Seat). seat.request) (sym (same worker low));
+        made = refl;
+        begun = begun_before worker (seats worker).actor sits;
+      }
 
   all_hold : (first left : ℕ) → first + left ≤ config.workers → Each (Holds config openings state []) (reins_from seats first left)
   all_hold first zero most = tt
@@ -202,9 +278,10 @@ starts config begun openings before state given seats words began played gave sa
     let all_fit : Fits config openings state [] (maker config given seats) = record {
       same_config = refl;
       gave = gave;
-      reins = all_hold config openings state seats same 0 config.workers (omega arith);
+      reins = all_hold config openings before state played seats same 0 config.workers (omega arith);
       seen = nothing_first (tenants_of config) (sealed_of openings state);
       told = nothing_first (tenants_of config) (sealed_of openings state);
+      right = record { changes = λ tenant low. nothing_right (opening_at given tenant).words; mine = tt };
     } in
     record {
       state = state;

@@ -1,13 +1,14 @@
 -- The events of one worker by its request: it comes, makes a step, and hands out its reply.
 use Rattle.std.specs.Prelude.{ℕ, ◌≡◌, ◌≢◌, ◌<◌, ◌==◌, ◌&&◌, not, Bool, true, false, if◌then◌else◌, List, [], ◌∷◌, ◌++◌, length, is_some, is_none, nat_lt, Option, Some, None}
 use Rattle.std.specs.Option.{option_and_then}
-use Rattle.std.proofs.Common.{refl, sym, ap, subst, ◌∙◌, append_assoc, inr, arith}
+use Rattle.std.proofs.Common.{refl, sym, ap, subst, ◌∙◌, append_assoc, append-nil, arith}
 use Rattle.std.proofs.lemmas.Bool.Decides.{nat_tests}
+use Rattle.std.proofs.lemmas.Option.{option_and_then_some}
 use Rattle.mw_words.specs.declared.replies.Reply.{Reply}
 use Rattle.mw_words.specs.declared.jobs.Job.{Job}
 use Rattle.mw_words.specs.Change.{is_well_formed}
 use Rattle.mw_lone.specs.declared.marks.Mark.{Mark}
-use Rattle.mw_lone.specs.declared.marks.Mark.TheVariants.{Ask, Reply as HandOut}
+use Rattle.mw_lone.specs.declared.marks.Mark.TheVariants.{Reply as HandOut}
 use Rattle.mw_look.specs.declared.news.Got.{Got}
 use Rattle.mw_look.specs.News.{news_of}
 use Rattle.mw_look.specs.Steps.{place}
@@ -23,20 +24,23 @@ use Rattle.mw_world.specs.Definition.Cells.{Cells}
 use Rattle.mw_world.specs.Definition.Happenings.{Happening, Come, Step, Hand}
 use Rattle.mw_world.specs.Definition.History.{History}
 use Rattle.mw_world.specs.Definition.Noting.{more, seated}
-use Rattle.mw_world.specs.Definition.State.{State, Account, Opening, Seat, tenant_at, tenants_of}
+use Rattle.mw_world.specs.Definition.State.{State, Opening, Seat, tenant_at, tenants_of}
 use Rattle.mw_world.specs.Definition.Turns.{may_make, made_of, moved, next_attempt, turn, turned}
-use Rattle.mw_world.specs.Definition.World.{begun, asked, hand, handed, may_come, run}
+use Rattle.mw_world.specs.Definition.World.{begun, asked, hand, handed, may_come, run, step}
 use Rattle.mw_law_knowledge.proofs.Deeds.Keeping.{upd_here, upd_else}
-use Rattle.mw_law_store.specs.Followed.{start_of}
-use Rattle.mw_law_store.specs.Moments.{Moment, after_marks, first_moment, moment_at, moment_of}
-use Rattle.mw_law_store.proofs.Momenting.{got_last, moment_all, moment_before}
+use Rattle.mw_law_store.specs.Moments.{Moment}
+use Rattle.mw_law_store.specs.OverCalls.{IsRightAt, IsRightSince, sealed_of, words_at_start}
+use Rattle.mw_law_store.proofs.OverCalls.{replies_keep_their_place, requests_begin, requests_stay_begun}
 use Rattle.mw_rule.specs.declared.views.Deed.{Deed}
 use Rattle.mw_rule.specs.declared.views.Deed.TheVariants.{Came, Stepped, Handed}
+use Rattle.mw_rule.specs.declared.views.Finished.{Finished}
 use Rattle.mw_rule.specs.declared.views.Reins.{Reins}
-use Rattle.mw_rule.specs.Carrying.{comes, settled, settled_as, told_as, told_of}
-use Rattle.mw_rule.specs.Rule.{Holds, deed_if, made_by}
-use Rattle.mw_rule.specs.Seen.{HasBegun, HasBegunFor, sealed_of}
-use Rattle.mw_rule.proofs.Leading.{Leads, begun_for_on, leads_on, made_on, one_gift}
+use Rattle.mw_rule.specs.Carrying.{IsNoted, Notes, NotesAs, comes, settled, settled_as, told_as, told_of}
+use Rattle.mw_rule.specs.Continuing.{hand_out}
+use Rattle.mw_rule.specs.Rule.{Each, Holds, deed_if, made_by}
+use Rattle.mw_rule.specs.Seen.{CameAfter, HasBegunFor}
+use Rattle.mw_rule.proofs.Leading.{Leads, leads_on, made_on, one_gift, played_on, same_start, sealed_on, tenant_there}
+use Rattle.mw_rule.proofs.Righting.{IsRightIn, right_on}
 use Rattle.mw_rule.proofs.Words.{cells_after, done_is, news_after}
 
 itself : (n : ℕ) → (n == n) ≡ true
@@ -71,13 +75,19 @@ same_request (note.SealedIt target) past lines seat = refl
 same_request (note.FailedToSeal target) past lines seat = refl
 same_request note.FailedFile past lines seat = refl
 
--- What is reached by a worker's events, and what holds of its reins then.
-pub record Reached (config : Config) (openings : ℕ → Opening) (old : State) (worker : ℕ) (events : List Happening) (reins : Reins) (cells : Cells) : Type 0 where
+-- a run of one event is its step
+one_event : (config : Config) (state next : State) (event : Happening) → run config state (event ∷ []) ≡ Some next → step config state event ≡ Some next
+one_event config state next event runs = option_and_then_some (λ one. run config one []) (step config state event) next runs (λ after at on. at ∙ on)
+
+-- What is reached by these events of a worker, what holds of its reins then, and which requests are noted that were finished by them.
+pub record Reached (config : Config) (openings : ℕ → Opening) (old : State) (worker : ℕ) (events more : List Happening) (reins : Reins) (cells : Cells) (IsSo : List Finished → Type 0) : Type 0 where
   pub after : State
-  pub more : List Happening
   pub leads : Leads config old worker after more
   pub holds : Holds config openings after (events ++ more) reins
   pub same_cells : after.cells ≡ cells
+  pub noted : List Finished
+  pub right : Each (IsRightIn config openings after) noted
+  pub ends : IsSo noted
 
 -- The world after a step, after a reply is handed out, and after a request came.
 module _ (state : State) (worker : ℕ) (actor : Acting) where
@@ -129,15 +139,22 @@ module _ (config : Config) (openings : ℕ → Opening) (before : List Happening
         let sits = holds.actor ∙ carries in
         let after = after_step state reins.worker actor in
         let own = upd_here state.seats reins.worker _ in
+        let now : (after.seats reins.worker).actor ≡ Some (told_of got reins.attempt actor) =
+        ap (λ (seat : Seat). seat.actor) own ∙ (λ i. Some (tells actor (sym told i) (next_attempt actor.point (holds.attempt i)))) in
+        let begun : CameAfter openings state reins.worker actor reins.begun = subst (HasBegunFor openings state reins.worker reins.begun) carries holds.begun in
         record {
           there = holds.there;
-          actor = ap (λ (seat : Seat). seat.actor) own ∙ (λ i. Some (tells actor (sym told i) (next_attempt actor.point (holds.attempt i))));
+          actor = now;
           attempt = ap (λ (seat : Seat). seat.attempt) own ∙ ap (next_attempt actor.point) holds.attempt;
           request = ap (λ (seat : Seat). seat.request) own ∙ same_request _ _ _ (state.seats reins.worker) ∙ holds.request;
           made = made_on reins.worker events (Step reins.worker ∷ []) ∙ ap (λ made. made_by reins.worker events ++ made) (own_deed reins.worker Stepped)
               ∙ ap (λ made. made ++ Stepped ∷ []) holds.made;
-          begun = begun_for_on config openings before state played reins.worker after (Step reins.worker ∷ []) (step_leads reins.worker actor sits running there) reins.worker reins.request reins.begun (Some actor) sits
-              (subst (HasBegunFor openings state reins.request reins.begun) carries holds.begun);
+          begun = record {
+            sealed = begun.sealed;
+            no_fewer = begun.no_fewer;
+            came = (requests_stay_begun config openings before state after (Step reins.worker) reins.worker actor (told_of got reins.attempt actor) begun.sealed played begun.came tt
+                (one_event config state after (Step reins.worker) (step_happens reins.worker actor sits running there)) now).1;
+          };
         }
 
 -- A reply is handed out.
@@ -165,34 +182,70 @@ module _ (config : Config) (openings : ℕ → Opening) (state : State) (events 
         begun = tt;
       }
 
+-- A request that has its reply, at the place that it keeps; and it stays right where the reply is handed out.
+module _ (config : Config) (openings : ℕ → Opening) (before : List Happening) (state : State) (played : IsPlayed config openings before state) (events : List Happening) (reins : Reins) (next : Acting)
+    (holds : Holds config openings state events (record reins { actor = Some next })) (reply : Reply) (stands : replied next ≡ Some reply) where
+  since : IsRightSince holds.begun.sealed (words_at_start openings state next.tenant) (sealed_of openings state next.tenant) (state.seats reins.worker).request next.job reply
+  since = replies_keep_their_place config openings before state reins.worker next holds.begun.sealed reply played holds.begun.came stands
+
+  the_finished : Finished
+  the_finished = record { tenant = next.tenant; request = reins.request; job = next.job; reply = reply; place = since.place }
+
+  stands_right : IsRightIn config openings state the_finished
+  unfolding the_finished
+  stands_right = record {
+    there = tenant_there config openings before state played reins.worker next holds.actor;
+    within = since.within;
+    right = subst (λ (n : ℕ). IsRightAt (words_at_start openings state next.tenant) (sealed_of openings state next.tenant) since.place n next.job reply) holds.request since.right;
+  }
+
+  handed_right : IsRightIn config openings (after_hand state reins.worker next) the_finished
+  handed_right =
+      let after = after_hand state reins.worker next in
+      let leads = hand_leads config openings state events reins next holds reply stands in
+      right_on (tenants_of config) (words_at_start openings state) (words_at_start openings after) (sealed_of openings state) (sealed_of openings after)
+      (λ tenant low. ap (λ (start : Moment). start.words) (sym (same_start config openings before state played reins.worker after (Hand reins.worker ∷ []) leads tenant low)))
+      (λ tenant low. sealed_on config openings before state played reins.worker after (Hand reins.worker ∷ []) leads tenant low) the_finished stands_right
+
+  is_noted : IsNoted next.tenant reins.request reins.begun next.job reply [] (the_finished ∷ [])
+  unfolding the_finished
+  is_noted = let fewer = holds.begun.no_fewer in let later = since.no_smaller in record { place = since.place; no_smaller = omega (arith, fewer, later); noted = refl }
+
 -- the reply is handed out, if it stands
-pub settles : (config : Config) (openings : ℕ → Opening) (old state : State) (events more : List Happening) (reins : Reins) (next : Acting) → Leads config old reins.worker state more
-    → Holds config openings state (events ++ more) (record reins { actor = Some next }) → Reached config openings old reins.worker events (settled reins next) state.cells
-settles config openings old state events more reins next leads holds = by (replied next) refl
+pub settles : (config : Config) (openings : ℕ → Opening) (before : List Happening) (old state : State) (played : IsPlayed config openings before state) (events more : List Happening) (reins : Reins) (next : Acting)
+    → Leads config old reins.worker state more → Holds config openings state (events ++ more) (record reins { actor = Some next })
+    → Reached config openings old reins.worker events (more ++ hand_out reins.worker (replied next)) (settled reins next) state.cells (NotesAs next.tenant reins.request reins.begun next.job (replied next) [])
+settles config openings before old state played events more reins next leads holds = by (replied next) refl
   where
-    by : (reply : Option Reply) → replied next ≡ reply → Reached config openings old reins.worker events (settled_as reins next reply) state.cells
-    by None stands = record { after = state; more = more; leads = leads; holds = holds; same_cells = refl }
+    by : (reply : Option Reply) → replied next ≡ reply
+        → Reached config openings old reins.worker events (more ++ hand_out reins.worker reply) (settled_as reins next reply) state.cells (NotesAs next.tenant reins.request reins.begun next.job reply [])
+    by None stands =
+        subst (λ all. Reached config openings old reins.worker events all (settled_as reins next None) state.cells (NotesAs next.tenant reins.request reins.begun next.job None [])) (sym (append-nil more))
+        (record { after = state; leads = leads; holds = holds; same_cells = refl; noted = []; right = tt; ends = refl })
     by (Some reply) stands = record {
       after = after_hand state reins.worker next;
-      more = more ++ Hand reins.worker ∷ [];
       leads = leads_on config old state (after_hand state reins.worker next) reins.worker more (Hand reins.worker ∷ []) leads (hand_leads config openings state (events ++ more) reins next holds reply stands);
       holds = subst (λ all. Holds config openings (after_hand state reins.worker next) all (record reins { actor = None; made = reins.made ++ Handed ∷ [] })) (append_assoc events more (Hand reins.worker ∷ []))
           (hand_holds config openings state (events ++ more) reins next holds reply stands);
       same_cells = refl;
+      noted = the_finished config openings before state played (events ++ more) reins next holds reply stands ∷ [];
+      right = (handed_right config openings before state played (events ++ more) reins next holds reply stands, tt);
+      ends = is_noted config openings before state played (events ++ more) reins next holds reply stands;
     }
 
 -- A step, after which the reply is handed out, if it stands; behind what the worker did before.
 pub steps : (config : Config) (openings : ℕ → Opening) (before : List Happening) (old state : State) (played : IsPlayed config openings before state) (events some : List Happening) (reins : Reins) (actor : Acting)
     (got : Got) → Leads config old reins.worker state some → Holds config openings state (events ++ some) reins → reins.actor ≡ Some actor → replied actor ≡ None → may_make config (asks actor) ≡ true
     → news_of (place (asks actor)) got ≡ news_after (asks actor) state.cells
-    → Reached config openings old reins.worker events (told_as got reins (Some actor)) (cells_after (asks actor) state.cells)
+    → Reached config openings old reins.worker events ((some ++ Step reins.worker ∷ []) ++ hand_out reins.worker (replied (told_of got reins.attempt actor))) (told_as got reins (Some actor)) (cells_after (asks actor) state.cells) (Notes got reins actor [])
 steps config openings before old state played events some reins actor got leads holds carries running there told =
     let after = after_step state reins.worker actor in
-    settles config openings old after events (some ++ Step reins.worker ∷ []) (record reins { attempt = next_attempt actor.point reins.attempt; made = reins.made ++ Stepped ∷ [] }) (told_of got reins.attempt actor)
-    (leads_on config old state after reins.worker some (Step reins.worker ∷ []) leads (step_leads config openings before state played reins.worker actor (holds.actor ∙ carries) running there))
-    (subst
-    (λ all. Holds config openings after all (record reins { actor = Some (told_of got reins.attempt actor); attempt = next_attempt actor.point reins.attempt; made = reins.made ++ Stepped ∷ [] }))
-    (append_assoc events some (Step reins.worker ∷ []))
+    let made = step_leads config openings before state played reins.worker actor (holds.actor ∙ carries) running there in
+    let later = played_on config openings before state played reins.worker after (Step reins.worker ∷ []) made in
+    let held : Reins = record reins { attempt = next_attempt actor.point reins.attempt; made = reins.made ++ Stepped ∷ [] } in
+    settles config openings (before ++ Step reins.worker ∷ []) old after later events (some ++ Step reins.worker ∷ []) held (told_of got reins.attempt actor)
+    (leads_on config old state after reins.worker some (Step reins.worker ∷ []) leads made)
+    (subst (λ all. Holds config openings after all (record held { actor = Some (told_of got reins.attempt actor) })) (append_assoc events some (Step reins.worker ∷ []))
     (step_holds config openings before state played (events ++ some) reins actor carries holds got running there told))
 
 -- A request comes.
@@ -217,17 +270,6 @@ module _ (config : Config) (openings : ℕ → Opening) (state : State) (events 
     gifts = λ other. one_gift state.accounts tenant _ (record { quota = refl; is_up = refl }) other;
   }
 
-  came_with : (account : Account) → account ≡ asked (state.accounts tenant) job
-      → HasBegun (after_marks (first_moment (openings tenant).words) account.closed) account.lines (state.accounts tenant).asked (length (sealed_of openings state tenant))
-  came_with account is =
-      let old = state.accounts tenant in
-      let start = start_of openings state tenant in
-      let line : Option Mark = Some (Ask old.asked job) in
-      let same : moment_at start (more old.lines line) (length old.lines) ≡ moment_of start old.lines = moment_before start old.lines line (length old.lines) (omega arith) ∙ moment_all start old.lines in
-      let long = ap (λ (now : Moment). length now.sealed) same in
-      subst (λ (one : Account). HasBegun (after_marks (first_moment (openings tenant).words) one.closed) one.lines old.asked (length (sealed_of openings state tenant))) (sym is)
-      (inr (record { line = length old.lines; job = job; came = got_last old.lines line; sealed = omega (arith, long) }))
-
   pub come_holds : Holds config openings (after_come config state reins.worker tenant job) (events ++ Come reins.worker tenant job ∷ [])
       (comes (first reins.worker tenant (state.accounts tenant).quota config.pool job) (state.accounts tenant).asked (length (sealed_of openings state tenant)) reins)
   come_holds =
@@ -238,5 +280,10 @@ module _ (config : Config) (openings : ℕ → Opening) (state : State) (events 
         attempt = ap (λ (seat : Seat). seat.attempt) own ∙ holds.attempt;
         request = ap (λ (seat : Seat). seat.request) own;
         made = made_on reins.worker events (Come reins.worker tenant job ∷ []) ∙ ap (λ made. made_by reins.worker events ++ made) (own_deed reins.worker Came) ∙ ap (λ made. made ++ Came ∷ []) holds.made;
-        begun = came_with (upd state.accounts tenant (asked (state.accounts tenant) job) tenant) (upd_here state.accounts tenant (asked (state.accounts tenant) job));
+        begun = record {
+          sealed = length (sealed_of openings state tenant);
+          no_fewer = omega arith;
+          came = requests_begin config openings state (after_come config state reins.worker tenant job) reins.worker tenant job
+              (one_event config state (after_come config state reins.worker tenant job) (Come reins.worker tenant job) come_leads.runs);
+        };
       }

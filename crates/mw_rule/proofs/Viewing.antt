@@ -18,14 +18,17 @@ use Rattle.mw_world.specs.Definition.Turns.{next_attempt}
 use Rattle.mw_law_runs.proofs.Lawful.{runs_are_lawful}
 use Rattle.mw_law_store.specs.History.{IsBeginning}
 use Rattle.mw_law_store.specs.Moments.{SealedChange}
+use Rattle.mw_law_store.specs.OverCalls.{sealed_of}
 use Rattle.mw_rule.specs.declared.views.Deed.TheVariants.{Stepped}
+use Rattle.mw_rule.specs.declared.views.Finished.{Finished}
 use Rattle.mw_rule.specs.declared.views.Reins.{Reins}
 use Rattle.mw_rule.specs.declared.views.View.{View}
 use Rattle.mw_rule.specs.Carrying.{GoesOn, IsReady, IsReadyFor, settled_as, told, told_as, told_of}
-use Rattle.mw_rule.specs.Rule.{Each, Fits, Holds, IsLive, IsSpent, Tied, Ties, has, times, weight}
-use Rattle.mw_rule.specs.Seen.{ComeFirst, all_of, opening_at, sealed_of, seen_at}
+use Rattle.mw_rule.specs.Rule.{Continues, Each, Fits, Holds, IsLive, IsRight, IsSpent, Tied, Ties, has, times, weight}
+use Rattle.mw_rule.specs.Seen.{ComeFirst, all_of, opening_at, seen_at}
 use Rattle.mw_rule.proofs.Keeping.{keep}
 use Rattle.mw_rule.proofs.Leading.{begins_itself, gave_on, played_on, seen_on}
+use Rattle.mw_rule.proofs.Righting.{IsRightIn, each_more, mine_in, sees_right}
 use Rattle.mw_rule.proofs.Stepping.{Reached}
 use Rattle.mw_rule.proofs.Totals.{own_once}
 
@@ -61,14 +64,14 @@ all_at sealed (suc tenants) tenant low = elim (same_or_below tenant tenants (ome
       | inr below ↦ inr (omega (arith, below))
     ]
 
--- with these reins, all that was sealed was seen
-abbrev pub sees : Config → (ℕ → List SealedChange) → View → List Reins → View
-sees config sealed old reins = record old { reins = reins; seen = all_of sealed (tenants_of config) }
+-- with these reins, and with these requests noted, all that was sealed was seen
+abbrev pub sees : Config → (ℕ → List SealedChange) → View → List Reins → List Finished → View
+sees config sealed old reins mine = record old { reins = reins; seen = all_of sealed (tenants_of config); mine = mine }
 
 -- What was seen goes on.
-pub sees_on : (config : Config) (sealed : ℕ → List SealedChange) (old : View) (reins : List Reins) → old.config ≡ config → ComeFirst (tenants_of config) old.seen sealed → ComeFirst (tenants_of config) old.told sealed
-    → GoesOn old (sees config sealed old reins)
-sees_on config sealed old reins same seen told = record {
+pub sees_on : (config : Config) (sealed : ℕ → List SealedChange) (old : View) (reins : List Reins) (mine : List Finished) → old.config ≡ config → ComeFirst (tenants_of config) old.seen sealed → ComeFirst (tenants_of config) old.told sealed
+    → GoesOn old (sees config sealed old reins mine)
+sees_on config sealed old reins mine same seen told = record {
   same_config = refl;
   same_openings = refl;
   same_told = refl;
@@ -119,38 +122,54 @@ times_map : (f : Reins → Reins) → ((one : Reins) → (f one).worker ≡ one.
 times_map f same worker [] = refl
 times_map f same worker (one ∷ rest) = let first = ap (λ n. weight (n == worker)) (same one) in let more = times_map f same worker rest in omega (arith, first, more)
 
--- What a thread knows after its worker's events, and the rule of the table then.
-pub record Moved (config : Config) (begun : (ℕ → Opening) → List Happening → Type 0) (s : Table Acting View) (id index bits : ℕ) (old : View) (f : Reins → Reins) : Type 0 where
+-- What a thread knows after these events of its worker, and the rule of the table then.
+pub record Moved (config : Config) (begun : (ℕ → Opening) → List Happening → Type 0) (s : Table Acting View) (tied : Tied config begun s) (more : List Happening) (id index bits : ℕ) (old : View) (f : Reins → Reins)
+    (IsSo : List Finished → Type 0) : Type 0 where
   pub view : View
-  pub tied : Tied config begun (record { words = slice_set s.words index bits; homes = s.homes; views = slice_set s.views id view })
+  pub run : Continues config begun s tied more (record { words = slice_set s.words index bits; homes = s.homes; views = slice_set s.views id view })
   pub goes_on : GoesOn old view
+  pub right : IsRight view
   pub reins : view.reins ≡ map f old.reins
   pub ready : Each (IsReady view.config) view.reins
+  pub noted : List Finished
+  pub mine : view.mine ≡ old.mine ++ noted
+  pub ends : IsSo noted
 
-pub moves : (config : Config) (begun : (ℕ → Opening) → List Happening → Type 0) (s : Table Acting View) (tied : Tied config begun s) (id index bits : ℕ) (old : View) (reins : Reins) (f : Reins → Reins) (cells : Cells)
+pub moves : (config : Config) (begun : (ℕ → Opening) → List Happening → Type 0) (s : Table Acting View) (tied : Tied config begun s) (more : List Happening) (id index bits : ℕ) (old : View) (reins : Reins) (f : Reins → Reins) (cells : Cells)
+    (IsSo : List Finished → Type 0)
     → get_elem? s.views id ≡ some old → old.reins ≡ reins ∷ [] → Fits config tied.past.openings tied.state tied.events old → ((one : Reins) → (f one).worker ≡ one.worker)
-    → Reached config tied.past.openings tied.state reins.worker tied.events (f reins) cells → Ties config cells (slice_set s.words index bits) → Moved config begun s id index bits old f
-moves config begun s tied id index bits old reins f cells at only fits same reached ties =
+    → Reached config tied.past.openings tied.state reins.worker tied.events more (f reins) cells IsSo → Ties config cells (slice_set s.words index bits) → Moved config begun s tied more id index bits old f IsSo
+moves config begun s tied more id index bits old reins f cells IsSo at only fits same reached ties =
     let openings = tied.past.openings in
     let before = tied.past.before ++ tied.events in
     let sealed = sealed_of openings reached.after in
-    let new = sees config sealed old (map f old.reins) in
-    let later = played_on config openings before tied.state tied.past.played reins.worker reached.after reached.more reached.leads in
-    let seen = seen_on config openings before tied.state tied.past.played reins.worker reached.after reached.more reached.leads in
+    let new = sees config sealed old (map f old.reins) (old.mine ++ reached.noted) in
+    let later = played_on config openings before tied.state tied.past.played reins.worker reached.after more reached.leads in
+    let seen = seen_on config openings before tied.state tied.past.played reins.worker reached.after more reached.leads in
     let own : has reins.worker old ≡ 1 = ap (times reins.worker) only ∙ own_once reins.worker reins refl in
-    let new_fits : Fits config openings reached.after (tied.events ++ reached.more) new = record {
+    let gave = λ (tenant : ℕ) (low : tenant < tenants_of config).
+    gave_on config openings before tied.state tied.past.played reins.worker reached.after more reached.leads tenant low (opening_at old.openings tenant) (fits.gave tenant low) in
+    let right = sees_right config openings reached.after new fits.same_config gave (before ++ more) later (all_at sealed (tenants_of config))
+    (each_more (IsRightIn config openings reached.after) old.mine reached.noted
+    (mine_in config openings reached.after old fits.same_config gave (seen old.seen fits.seen) old.mine fits.right.mine) reached.right) in
+    let new_fits : Fits config openings reached.after (tied.events ++ more) new = record {
       same_config = fits.same_config;
-      gave = λ tenant low. gave_on config openings before tied.state tied.past.played reins.worker reached.after reached.more reached.leads tenant low (opening_at old.openings tenant) (fits.gave tenant low);
-      reins = subst (λ all. Each (Holds config openings reached.after (tied.events ++ reached.more)) (map f all)) (sym only) (reached.holds, tt);
+      gave = gave;
+      reins = subst (λ all. Each (Holds config openings reached.after (tied.events ++ more)) (map f all)) (sym only) (reached.holds, tt);
       seen = all_seen sealed (tenants_of config);
       told = seen old.told fits.told;
+      right = right;
     } in
     record {
       view = new;
-      tied = keep config begun s tied id index bits reins.worker old new reached.after reached.more at (omega (arith, own)) (λ one. times_map f same one old.reins) reached.leads new_fits
+      run = keep config begun s tied id index bits reins.worker old new reached.after more at (omega (arith, own)) (λ one. times_map f same one old.reins) reached.leads new_fits
           (subst (λ all. Ties config all (slice_set s.words index bits)) (sym reached.same_cells) ties);
-      goes_on = sees_on config sealed old (map f old.reins) fits.same_config (seen old.seen fits.seen) (seen old.told fits.told);
+      goes_on = sees_on config sealed old (map f old.reins) (old.mine ++ reached.noted) fits.same_config (seen old.seen fits.seen) (seen old.told fits.told);
+      right = right;
       reins = refl;
       ready = subst (λ (one : Config). Each (IsReady one) (map f old.reins)) (sym fits.same_config)
-          (subst (λ all. Each (IsReady config) (map f all)) (sym only) (ready_of config openings (before ++ reached.more) (tied.events ++ reached.more) reached.after (f reins) later reached.holds, tt));
+          (subst (λ all. Each (IsReady config) (map f all)) (sym only) (ready_of config openings (before ++ more) (tied.events ++ more) reached.after (f reins) later reached.holds, tt));
+      noted = reached.noted;
+      mine = refl;
+      ends = reached.ends;
     }

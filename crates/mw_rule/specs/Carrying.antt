@@ -1,5 +1,6 @@
 -- What a step asks of the thread that makes it, and what it tells the thread.
 use Rattle.std.specs.Prelude.{ℕ, ◌≡◌, ◌≤◌, ◌<◌, true, List, [], ◌∷◌, ◌++◌, map, length, Option, Some, None}
+use Rattle.mw_words.specs.declared.jobs.Job.{Job}
 use Rattle.mw_words.specs.declared.places.At.{At}
 use Rattle.mw_words.specs.declared.replies.Reply.{Reply}
 use Rattle.mw_words.specs.Change.{is_well_formed}
@@ -21,10 +22,11 @@ use Rattle.mw_world.specs.Definition.State.{State, Opening, tenant_at, tenants_o
 use Rattle.mw_world.specs.Definition.Turns.{may_make, next_attempt}
 use Rattle.mw_law_store.specs.Moments.{SealedChange}
 use Rattle.mw_rule.specs.declared.views.Deed.TheVariants.{Came, Stepped, Handed}
+use Rattle.mw_rule.specs.declared.views.Finished.{Finished}
 use Rattle.mw_rule.specs.declared.views.Reins.{Reins}
 use Rattle.mw_rule.specs.declared.views.View.{View}
 use Rattle.mw_rule.specs.Layout.{index_of}
-use Rattle.mw_rule.specs.Rule.{Each}
+use Rattle.mw_rule.specs.Rule.{Each, IsRight}
 use Rattle.mw_rule.specs.Seen.{ComeFirst, Gave, opening_at, seen_at}
 
 -- The reins once their worker's request stands so. Where it has its reply, that is handed out, and the worker has no request.
@@ -106,27 +108,54 @@ pub record StoodThere (view : View) (index bits : ℕ) : Type 0 where
   pub gave : (tenant : ℕ) → tenant < tenants_of view.config → Gave openings state tenant (opening_at view.openings tenant)
   pub same_bits : (at : At) → has_place view.config at ≡ true → index_of view.config.pool at ≡ index → bits ≡ pack at (read state.cells at)
 
+-- A request, of this number and for this job, has this reply: it is noted behind those that were noted before, at a place that is no smaller than what was sealed when it came.
+pub record IsNoted (tenant request begun : ℕ) (job : Job) (reply : Reply) (old new : List Finished) : Type 0 where
+  pub place : ℕ
+  pub no_smaller : begun ≤ place
+  pub noted : new ≡ old ++ record { tenant = tenant; request = request; job = job; reply = reply; place = place } ∷ []
+
+-- It is noted where it has its reply; else nothing is.
+abbrev pub NotesAs : (tenant request begun : ℕ) (job : Job) → Option Reply → List Finished → List Finished → Type 0
+NotesAs tenant request begun job None old new = new ≡ old
+NotesAs tenant request begun job (Some reply) old new = IsNoted tenant request begun job reply old new
+
+-- what is noted once the request of these reins was told what its step found
+abbrev pub Notes : Got → Reins → Acting → List Finished → List Finished → Type 0
+Notes got reins actor old new = NotesAs actor.tenant reins.request reins.begun actor.job (replied (told_of got reins.attempt actor)) old new
+
+-- So it is of the request that a thread carries, over a step of it; and of one that comes, over its first step.
+abbrev pub Ends : Got → View → View → Type 0
+Ends got old new = (reins : Reins) (actor : Acting) → old.reins ≡ reins ∷ [] → reins.actor ≡ Some actor → Notes got reins actor old.mine new.mine
+
+abbrev pub EndsAtOnce : Acting → ℕ → ℕ → Got → View → View → Type 0
+EndsAtOnce actor request begun got old new = (reins : Reins) → old.reins ≡ reins ∷ [] → Notes got (comes actor request begun reins) actor old.mine new.mine
+
 -- A load that is no event, of these bits at this index. What the thread saw before, and what it was told, comes first of what it has seen now.
 pub record Looked (index bits : ℕ) (old new : View) : Type 0 where
   pub goes_on : GoesOn old new
   pub stood : StoodThere new index bits
+  pub right : IsRight new
   pub same_reins : new.reins ≡ old.reins
   pub same_mine : new.mine ≡ old.mine
 
 -- A step of the thread's worker, which found this.
 pub record Took (got : Got) (old new : View) : Type 0 where
   pub goes_on : GoesOn old new
+  pub right : IsRight new
   pub reins : new.reins ≡ map (told got) old.reins
   pub ready : Each (IsReady new.config) new.reins
+  pub ends : Ends got old new
 
 -- A request came, and made its first step, which found this. No less was sealed than the thread had seen.
 pub record Began (actor : Acting) (got : Got) (old new : View) : Type 0 where
   pub goes_on : GoesOn old new
+  pub right : IsRight new
   pub request : ℕ
   pub begun : ℕ
   pub no_fewer : length (seen_at old.seen actor.tenant) ≤ begun
   pub reins : new.reins ≡ map (λ one. told got (comes actor request begun one)) old.reins
   pub ready : Each (IsReady new.config) new.reins
+  pub ends : EndsAtOnce actor request begun got old new
 
 -- The thread carries this request for a worker, with these reins; or the request was finished.
 pub record Carries (view : View) (worker attempt : ℕ) (actor : Acting) (reins : Reins) : Type 0 where

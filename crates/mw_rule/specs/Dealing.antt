@@ -45,6 +45,14 @@ note view = record view { reins = []; mine = [] }
 abbrev pub hears : View → View → View
 hears view other = record view { told = other.seen }
 
+-- a thread that takes what another's note says for what it saw itself
+abbrev pub meets : View → View → View
+meets view other = record view { seen = other.seen; told = other.seen }
+
+-- a thread that takes another's reins
+abbrev pub takes : View → View → View
+takes view other = record view { reins = other.reins }
+
 -- what is left of a thread that gave away all that it knew
 abbrev pub spent : View
 spent = record {

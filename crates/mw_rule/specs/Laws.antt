@@ -11,10 +11,10 @@ use Rattle.mw_world.specs.Claim.Headline.{IsPlayed}
 use Rattle.mw_world.specs.Definition.Happenings.{Happening}
 use Rattle.mw_world.specs.Definition.State.{State, Opening, Seat, tenants_of}
 use Rattle.mw_rule.specs.declared.views.View.{View}
-use Rattle.mw_rule.specs.Carrying.{Drives, MayCome, Took, Began, Looked}
-use Rattle.mw_rule.specs.Dealing.{maker, spent, dealt, left_over, note, hears}
+use Rattle.mw_rule.specs.Carrying.{Drives, MayCome, Took, Began, Looked, Precede}
+use Rattle.mw_rule.specs.Dealing.{maker, spent, dealt, left_over, note, hears, meets, takes}
 use Rattle.mw_rule.specs.Layout.{index_of, words_of}
-use Rattle.mw_rule.specs.Rule.{IsLive, Ties, Tied}
+use Rattle.mw_rule.specs.Rule.{IsLive, IsRight, Ties, Tied}
 use Rattle.mw_rule.specs.Seen.{Gave, opening_at}
 use Rattle.mw_rule.specs.Ways.{made_of_bits, finds}
 
@@ -51,3 +51,22 @@ module _ (config : Config) (begun : (ℕ → Opening) → List Happening → Typ
 
   abbrev pub HearingKeepsTheRule : Type 0
   HearingKeepsTheRule = (id other : ℕ) (view its : View) → IsLive view → IsLive its → its.reins ≡ [] → Joins {S = Acting} (Tied config begun) id view other its (hears view its) spent
+
+  -- A thread that saw no more than another's note says takes the note for what it saw itself. So two threads meet: one notes, the other is told and takes a look,
+  -- and notes what it saw; the first takes that, and both have seen the same.
+  abbrev pub MeetingKeepsTheRule : Type 0
+  MeetingKeepsTheRule = (id other : ℕ) (view its : View) → IsLive view → IsLive its → its.reins ≡ [] → Precede (tenants_of view.config) view.seen its.seen
+      → Joins {S = Acting} (Tied config begun) id view other its (meets view its) spent
+
+  -- A thread that has no reins takes another's, as those that it lent.
+  abbrev pub TakingKeepsTheRule : Type 0
+  TakingKeepsTheRule = (id other : ℕ) (view its : View) → IsLive view → IsLive its → view.reins ≡ [] → Joins {S = Acting} (Tied config begun) id view other its (takes view its) spent
+
+-- Of views alone.
+
+-- What is right of one thread's knowledge is right of its parts; and it is right of two that meet which know of one start.
+abbrev pub PartsAreRight : Type 0
+PartsAreRight = (view other : View) → IsRight view → IsRight (left_over view) × IsRight (dealt view) × IsRight (note view) × IsRight (hears view other) × IsRight (takes view other)
+
+abbrev pub MeetingsAreRight : Type 0
+MeetingsAreRight = (view its : View) → IsRight view → IsRight its → its.config ≡ view.config → its.openings ≡ view.openings → Precede (tenants_of view.config) view.seen its.seen → IsRight (meets view its)

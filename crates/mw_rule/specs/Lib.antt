@@ -1,4 +1,5 @@
 pub mod Carrying
+pub mod Continuing
 pub mod Dealing
 pub mod Layout
 pub mod Laws

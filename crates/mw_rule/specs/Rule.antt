@@ -1,9 +1,10 @@
 -- The rule: between any two steps the words in the table, and what the threads know, are those of the world after some run.
-use Rattle.std.specs.Prelude.{ℕ, ◌+◌, ◌≡◌, ◌≤◌, ◌<◌, ◌==◌, ◌⊎◌, Bool, true, false, cond, List, [], ◌∷◌, ◌++◌, length, slice_index}
+use Rattle.std.specs.Prelude.{ℕ, ◌+◌, ◌≡◌, ◌≤◌, ◌<◌, ◌==◌, ◌⊎◌, Bool, true, false, cond, List, [], ◌∷◌, ◌++◌, length, slice_get, slice_index, Some}
 use mathlib.Core.Option.{some}
 use lib.ListN.{get_elem?}
 use Rattle.atomic_table.specs.Table.{State as Table}
 use Rattle.mw_words.specs.declared.places.At.{At}
+use Rattle.mw_words.specs.Change.{fits}
 use Rattle.mw_look.specs.Places.{pack}
 use Rattle.mw_actor.specs.Acting.{Acting}
 use Rattle.mw_world.specs.declared.config.Config.{Config}
@@ -13,12 +14,15 @@ use Rattle.mw_world.specs.Definition.Extent.{has_place}
 use Rattle.mw_world.specs.Definition.Happenings.{Happening, Come, Step, File, Hand, Restart}
 use Rattle.mw_world.specs.Definition.State.{State, Opening, tenants_of}
 use Rattle.mw_law_store.specs.History.{AreNoStarts}
+use Rattle.mw_law_store.specs.Moments.{SealedChange}
+use Rattle.mw_law_store.specs.OverCalls.{IsRightAt, sealed_of, words_after}
 use Rattle.mw_rule.specs.declared.views.Deed.{Deed}
 use Rattle.mw_rule.specs.declared.views.Deed.TheVariants.{Came, Stepped, Called, Handed}
+use Rattle.mw_rule.specs.declared.views.Finished.{Finished}
 use Rattle.mw_rule.specs.declared.views.Reins.{Reins}
 use Rattle.mw_rule.specs.declared.views.View.{View}
 use Rattle.mw_rule.specs.Layout.{index_of, words_of}
-use Rattle.mw_rule.specs.Seen.{ComeFirst, Gave, HasBegunFor, opening_at, sealed_of}
+use Rattle.mw_rule.specs.Seen.{ComeFirst, Gave, HasBegunFor, opening_at, seen_at}
 
 -- At each place that is there stands in the table what stands there in the world, in bits.
 abbrev pub Ties : Config → Cells → List ℕ → Type 0
@@ -76,7 +80,31 @@ pub record Holds (config : Config) (openings : ℕ → Opening) (state : State) 
   pub attempt : (state.seats reins.worker).attempt ≡ reins.attempt
   pub request : (state.seats reins.worker).request ≡ reins.request
   pub made : made_by reins.worker events ≡ reins.made
-  pub begun : HasBegunFor openings state reins.request reins.begun reins.actor
+  pub begun : HasBegunFor openings state reins.worker reins.begun reins.actor
+
+-- Of a tenant: each of these changes fits the words after those before it, and no request has two.
+pub record AreRight (words : List ℕ) (sealed : List SealedChange) : Type 0 where
+  pub fit : (place : ℕ) (one : SealedChange) → slice_get sealed place ≡ Some one → fits (words_after words sealed place) one.entries ≡ true
+  pub once : (place other : ℕ) (one another : SealedChange) → slice_get sealed place ≡ Some one → slice_get sealed other ≡ Some another → one.request ≡ another.request → place ≡ other
+
+-- Of so many tenants, with these words at first and these changes: a request's place is within its tenant's changes, and its reply is right there.
+pub record IsRightAmong (tenants : ℕ) (words : ℕ → List ℕ) (sealed : ℕ → List SealedChange) (one : Finished) : Type 0 where
+  pub there : one.tenant < tenants
+  pub within : one.place ≤ length (sealed one.tenant)
+  pub right : IsRightAt (words one.tenant) (sealed one.tenant) one.place one.request one.job one.reply
+
+-- a tenant's words at the latest start, as a thread knows them
+abbrev pub words_given : View → ℕ → List ℕ
+words_given view tenant = (opening_at view.openings tenant).words
+
+-- A finished request is right among the changes that a thread has seen.
+abbrev pub IsFinished : View → Finished → Type 0
+IsFinished view one = IsRightAmong (tenants_of view.config) (words_given view) (seen_at view.seen) one
+
+-- What a thread knows is right by itself: the changes that it has seen, and each request that it noted.
+pub record IsRight (view : View) : Type 0 where
+  pub changes : (tenant : ℕ) → tenant < tenants_of view.config → AreRight (words_given view tenant) (seen_at view.seen tenant)
+  pub mine : Each (IsFinished view) view.mine
 
 -- What a thread knows is so.
 pub record Fits (config : Config) (openings : ℕ → Opening) (state : State) (events : List Happening) (view : View) : Type 0 where
@@ -85,6 +113,7 @@ pub record Fits (config : Config) (openings : ℕ → Opening) (state : State) (
   pub reins : Each (Holds config openings state events) view.reins
   pub seen : ComeFirst (tenants_of config) view.seen (sealed_of openings state)
   pub told : ComeFirst (tenants_of config) view.told (sealed_of openings state)
+  pub right : IsRight view
 
 -- A thread that has given all that it knew to another knows nothing, and has no reins.
 pub record IsSpent (view : View) : Type 0 where
@@ -104,3 +133,10 @@ pub record Tied (config : Config) (begun : (ℕ → Opening) → List Happening 
   pub ties : Ties config state.cells s.words
   pub fits : (id : ℕ) (view : View) → get_elem? s.views id ≡ some view → IsSpent view ⊎ Fits config past.openings state events view
   pub alone : (worker : ℕ) → total (has worker) s.views ≤ 1
+
+-- The run behind a table goes on: the rule rests on the start and the run on which it rested, to which these events were added.
+pub record Continues (config : Config) (begun : (ℕ → Opening) → List Happening → Type 0) (s : Table Acting View) (tied : Tied config begun s) (more : List Happening) (next : Table Acting View) : Type 0 where
+  pub after : Tied config begun next
+  pub same_openings : after.past.openings ≡ tied.past.openings
+  pub same_before : after.past.before ≡ tied.past.before
+  pub events : after.events ≡ tied.events ++ more

@@ -1,5 +1,6 @@
 //! What holds of the rule: facts for proofs to cite. The functions do nothing.
-ghost use Rattle.mw_rule.specs.Laws.{DealsKeepTheRule, FirstStepsKeepTheRule, HearingKeepsTheRule, LooksKeepTheRule, NotesKeepTheRule, StartsUnderTheRule, StepsKeepTheRule};
+ghost use Rattle.mw_rule.specs.Continuing.{FirstStepsGoOn, JoinsGoOn, LooksGoOn, PartsGoOn, StepsGoOn};
+ghost use Rattle.mw_rule.specs.Laws.{DealsKeepTheRule, FirstStepsKeepTheRule, HearingKeepsTheRule, LooksKeepTheRule, MeetingKeepsTheRule, MeetingsAreRight, NotesKeepTheRule, PartsAreRight, StartsUnderTheRule, StepsKeepTheRule, TakingKeepsTheRule};
 ghost use Rattle.mw_rule.specs.Layout.{PlacesAreInTable, PlacesAreWithin, PlacesStandApart};
 
 use crate::rule::Begins;
@@ -18,17 +19,40 @@ pub fn tables_start_under_the_rule<B: Begins>()
 
 /// A step of a request that a thread carries keeps the rule, and so does the first step of a request, with
 /// which it comes. The thread's record of what its worker did gains just that: one event, or with a request's
-/// first step its coming before it and with its last one the reply after it. A load that is no event keeps the
-/// rule too, and tells what stood there. That the run goes on from the run before is not told.
+/// first step its coming before it and with its last one the reply after it. With the reply the request is noted,
+/// at a place where the reply is right, no smaller than what was sealed when the request came; no other step notes
+/// any. A load that is no event keeps the rule too, and tells what stood there. Whatever a thread has seen and
+/// noted is right by itself.
 pub fn steps_keep_the_rule<B: Begins>()
     ensures steps { (key : B) → StepsKeepTheRule (B.config key) (B.begun key) }
     ensures first { (key : B) → FirstStepsKeepTheRule (B.config key) (B.begun key) }
     ensures looks { (key : B) → LooksKeepTheRule (B.config key) (B.begun key) }
 {}
 
-/// Reins may be given to a new thread, and a note of what was seen; and a thread may be told what a note says.
+/// The run on which the rule rests goes on from the run before, from the same start: a step of a request adds its
+/// own event, and behind it that the reply is handed out, once it stands; a request's first step adds in front
+/// that the request came. A load that is no step adds none, nor does it when what threads know is parted or put
+/// together.
+pub fn the_run_goes_on<B: Begins>()
+    ensures steps { (key : B) → StepsGoOn (B.config key) (B.begun key) }
+    ensures first { (key : B) → FirstStepsGoOn (B.config key) (B.begun key) }
+    ensures looks { (key : B) → LooksGoOn (B.config key) (B.begun key) }
+    ensures parts { (key : B) → PartsGoOn (B.config key) (B.begun key) }
+    ensures joins { (key : B) → JoinsGoOn (B.config key) (B.begun key) }
+{}
+
+/// Reins may be given to a new thread, and a note of what was seen; and a thread may be told what a note says,
+/// or take it for its own where it saw no more; and one that has no reins may take another's.
 pub fn what_is_known_is_parted<B: Begins>()
     ensures deals { (key : B) → DealsKeepTheRule (B.config key) (B.begun key) }
     ensures notes { (key : B) → NotesKeepTheRule (B.config key) (B.begun key) }
     ensures hears { (key : B) → HearingKeepsTheRule (B.config key) (B.begun key) }
+    ensures meets { (key : B) → MeetingKeepsTheRule (B.config key) (B.begun key) }
+    ensures takes { (key : B) → TakingKeepsTheRule (B.config key) (B.begun key) }
+{}
+
+/// What a thread has seen and noted stays right where it is parted, and where two threads meet.
+pub fn knowledge_stays_right()
+    ensures parts { PartsAreRight }
+    ensures meetings { MeetingsAreRight }
 {}

@@ -3,7 +3,7 @@ ghost use Rattle.std.specs.Prelude.{List, ℕ};
 ghost use Rattle.mw_world.specs.declared.config.Config.{Config};
 ghost use Rattle.mw_world.specs.Definition.Happenings.{Happening};
 ghost use Rattle.mw_world.specs.Definition.State.{Opening};
-ghost use Rattle.mw_rule.specs.Dealing.{dealt, hears, left_over, note, spent};
+ghost use Rattle.mw_rule.specs.Dealing.{dealt, hears, left_over, meets, note, spent, takes};
 ghost use Rattle.mw_rule.specs.Rule.{Tied};
 ghost use Rattle.mw_rule.specs.declared.views.View.{View};
 
@@ -55,6 +55,24 @@ pub struct Hears;
 
 impl Join<View> for Hears {
     ghost both = { hears };
+
+    ghost spent = { spent };
+}
+
+/// A thread takes what a note says for what it saw itself.
+pub struct Meets;
+
+impl Join<View> for Meets {
+    ghost both = { meets };
+
+    ghost spent = { spent };
+}
+
+/// A thread that has no reins takes another's, as those that it lent.
+pub struct Takes;
+
+impl Join<View> for Takes {
+    ghost both = { takes };
 
     ghost spent = { spent };
 }

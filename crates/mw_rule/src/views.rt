@@ -30,7 +30,8 @@ pub struct Reins {
     pub made: LinkedList<Deed>,
     /// The number of its latest request among its tenant's.
     pub request: u64,
-    /// So many of the tenant's changes, or more, were sealed when the request came.
+    /// So many of the tenant's changes, or more, were sealed when the request came. It is 0 of one that had come
+    /// before the table was made.
     pub begun: u64,
 }
 
@@ -78,7 +79,8 @@ pub struct Finished {
     pub job: Job,
     /// The reply.
     pub reply: Reply,
-    /// Its place: how many of the tenant's changes were sealed before it.
+    /// Its place: after so many of the tenant's changes the reply is right. It tells nothing where the reply rests on
+    /// no word, as that the tenant is busy.
     pub place: u64,
 }
 
@@ -94,7 +96,7 @@ pub struct View {
     pub seen: LinkedList<LinkedList<Sealed>>,
     /// The same, as another thread told it.
     pub told: LinkedList<LinkedList<Sealed>>,
-    /// The requests that were finished, as far as they were noted.
+    /// The requests that the thread finished, in order, each at its place among what was seen.
     pub mine: LinkedList<Finished>,
     /// Whether all this was given to another thread. What is left tells nothing.
     pub is_spent: bool,

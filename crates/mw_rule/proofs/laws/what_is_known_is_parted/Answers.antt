@@ -1,4 +1,4 @@
-use Rattle.mw_rule.proofs.Parting.{deals_keep, hearing_keeps, notes_keep}
+use Rattle.mw_rule.proofs.Parting.{deals_keep, hearing_keeps, meeting_keeps, notes_keep, taking_keeps}
 use Rattle.mw_rule.proofs.laws.what_is_known_is_parted.Goals as goal
 
 pub returns-clause-deals : goal.returns-clause-deals
@@ -9,3 +9,9 @@ returns-clause-notes g c = λ key. notes_keep (g.B.Begins.config key) (g.B.Begin
 
 pub returns-clause-hears : goal.returns-clause-hears
 returns-clause-hears g c = λ key. hearing_keeps (g.B.Begins.config key) (g.B.Begins.begun key)
+
+pub returns-clause-meets : goal.returns-clause-meets
+returns-clause-meets g c = λ key. meeting_keeps (g.B.Begins.config key) (g.B.Begins.begun key)
+
+pub returns-clause-takes : goal.returns-clause-takes
+returns-clause-takes g c = λ key. taking_keeps (g.B.Begins.config key) (g.B.Begins.begun key)

@@ -1,0 +1,110 @@
+-- What a thread knows is right, and stays so where more is sealed.
+use Rattle.std.specs.Prelude.{ℕ, ◌≡◌, ◌<◌, List, [], ◌∷◌, ◌++◌, length}
+use Rattle.std.proofs.Common.{refl, sym, ap, subst, arith}
+use Rattle.std.proofs.lemmas.List.{length-append}
+use Rattle.std.proofs.lemmas.Option.{none-some}
+use Rattle.mw_world.specs.declared.config.Config.{Config}
+use Rattle.mw_world.specs.Claim.Headline.{IsPlayed}
+use Rattle.mw_world.specs.Definition.Happenings.{Happening}
+use Rattle.mw_world.specs.Definition.State.{State, Opening, tenants_of}
+use Rattle.mw_law_store.specs.History.{IsBeginning}
+use Rattle.mw_law_store.specs.Moments.{SealedChange}
+use Rattle.mw_law_store.specs.OverCalls.{IsRightAt, sealed_of, words_at_start}
+use Rattle.mw_law_store.proofs.OverCalls.{sealed_are_right}
+use Rattle.mw_law_store.proofs.SealedLists.{places_stay_right}
+use Rattle.mw_rule.specs.declared.views.Finished.{Finished}
+use Rattle.mw_rule.specs.declared.views.View.{View}
+use Rattle.mw_rule.specs.Carrying.{Precede}
+use Rattle.mw_rule.specs.Dealing.{dealt, hears, left_over, meets, note, takes}
+use Rattle.mw_rule.specs.Laws.{MeetingsAreRight, PartsAreRight}
+use Rattle.mw_rule.specs.Rule.{AreRight, Each, IsFinished, IsRight, IsRightAmong, words_given}
+use Rattle.mw_rule.specs.Seen.{ComeFirst, Gave, opening_at, seen_at}
+use Rattle.mw_rule.proofs.Leading.{begins_itself}
+
+pub each_on : {A : Type 0} (P Q : A → Type 0) → ((one : A) → P one → Q one) → (all : List A) → Each P all → Each Q all
+each_on P Q goes [] holds = tt
+each_on P Q goes (one ∷ rest) holds = (goes one holds.0, each_on P Q goes rest holds.1)
+
+pub each_more : {A : Type 0} (P : A → Type 0) (all more : List A) → Each P all → Each P more → Each P (all ++ more)
+each_more P [] more first rest = rest
+each_more P (one ∷ all) more first rest = (first.0, each_more P all more first.1 rest)
+
+-- Where each tenant's words are the same and more is sealed after the others, a request is as right.
+pub right_on : (tenants : ℕ) (words now : ℕ → List ℕ) (sealed after : ℕ → List SealedChange) → ((tenant : ℕ) → tenant < tenants → words tenant ≡ now tenant)
+    → ((tenant : ℕ) → tenant < tenants → IsBeginning (sealed tenant) (after tenant)) → (one : Finished) → IsRightAmong tenants words sealed one → IsRightAmong tenants now after one
+right_on tenants words now sealed after same begins one right =
+    let first = begins one.tenant right.there in
+    let long = ap (λ (changes : List SealedChange). length changes) first.parted in
+    let within = right.within in
+    let stays = places_stay_right (words one.tenant) (sealed one.tenant) first.rest one.place one.request one.job one.reply within right.right in
+    record {
+      there = right.there;
+      within = omega (arith, long, length-append (sealed one.tenant) first.rest, within);
+      right = subst (λ (start : List ℕ). IsRightAt start (after one.tenant) one.place one.request one.job one.reply) (same one.tenant right.there)
+          (subst (λ (all : List SealedChange). IsRightAt (words one.tenant) all one.place one.request one.job one.reply) (sym first.parted) stays);
+    }
+
+-- a request is right in a world
+abbrev pub IsRightIn : Config → (ℕ → Opening) → State → Finished → Type 0
+IsRightIn config openings state one = IsRightAmong (tenants_of config) (words_at_start openings state) (sealed_of openings state) one
+
+-- A thread that knows what a start gave, and saw changes that come first of those of a world.
+module _ (config : Config) (openings : ℕ → Opening) (state : State) (view : View) (same : view.config ≡ config)
+    (gave : (tenant : ℕ) → tenant < tenants_of config → Gave openings state tenant (opening_at view.openings tenant)) where
+  -- what is right by what the thread saw is right in the world
+  pub mine_in : ComeFirst (tenants_of config) view.seen (sealed_of openings state) → (mine : List Finished) → Each (IsFinished view) mine → Each (IsRightIn config openings state) mine
+  mine_in seen mine right = each_on (IsFinished view) (IsRightIn config openings state) (λ one so.
+      right_on (tenants_of config) (words_given view) (words_at_start openings state) (seen_at view.seen) (sealed_of openings state) (λ tenant low. sym (gave tenant low).words) seen one
+      (subst (λ (c : Config). IsRightAmong (tenants_of c) (words_given view) (seen_at view.seen) one) same so)) mine right
+
+  -- what is right in the world is so by what a thread saw that saw all
+  pub sees_right : (events : List Happening) → IsPlayed config openings events state → ((tenant : ℕ) → tenant < tenants_of config → seen_at view.seen tenant ≡ sealed_of openings state tenant)
+      → Each (IsRightIn config openings state) view.mine → IsRight view
+  sees_right events played all mine = record {
+    changes = λ tenant low.
+        let there = subst (λ (c : Config). tenant < tenants_of c) same low in
+        let right = sealed_are_right config openings events state tenant played there in
+        subst (λ (words : List ℕ). AreRight words (seen_at view.seen tenant)) (gave tenant there).words
+        (subst (AreRight (words_at_start openings state tenant)) (sym (all tenant there)) (record { fit = right.fit; once = right.once }));
+    mine = each_on (IsRightIn config openings state) (IsFinished view) (λ one so.
+        subst (λ (c : Config). IsRightAmong (tenants_of c) (words_given view) (seen_at view.seen) one) (sym same)
+        (right_on (tenants_of config) (words_at_start openings state) (words_given view) (sealed_of openings state) (seen_at view.seen) (λ tenant low. (gave tenant low).words)
+        (λ tenant low. subst (IsBeginning (sealed_of openings state tenant)) (sym (all tenant low)) (begins_itself (sealed_of openings state tenant))) one so)) view.mine mine;
+  }
+
+-- nothing that was seen is right
+pub nothing_right : (words : List ℕ) → AreRight words []
+nothing_right words = record { fit = λ place one at. absurd (none-some one at); once = λ place other one another at its same. absurd (none-some one at) }
+
+-- Parts of what is right.
+pub left_right : (view : View) → IsRight view → IsRight (left_over view)
+left_right view right = record { changes = right.changes; mine = right.mine }
+
+pub dealt_right : (view : View) → IsRight view → IsRight (dealt view)
+dealt_right view right = record { changes = right.changes; mine = tt }
+
+pub note_right : (view : View) → IsRight view → IsRight (note view)
+note_right view right = record { changes = right.changes; mine = tt }
+
+pub hears_right : (view other : View) → IsRight view → IsRight (hears view other)
+hears_right view other right = record { changes = right.changes; mine = right.mine }
+
+pub takes_right : (view other : View) → IsRight view → IsRight (takes view other)
+takes_right view other right = record { changes = right.changes; mine = right.mine }
+
+pub parts_are_right : PartsAreRight
+parts_are_right view other right = (left_right view right, dealt_right view right, note_right view right, hears_right view other right, takes_right view other right)
+
+-- What another saw that saw no less.
+pub meets_right : (view its : View) → ((tenant : ℕ) → tenant < tenants_of view.config → words_given its tenant ≡ words_given view tenant) → its.config ≡ view.config
+    → Precede (tenants_of view.config) view.seen its.seen → IsRight view → IsRight its → IsRight (meets view its)
+meets_right view its same config first right its_right = record {
+  changes = λ tenant low.
+      subst (λ (words : List ℕ). AreRight words (seen_at its.seen tenant)) (same tenant low) (its_right.changes tenant (subst (λ (c : Config). tenant < tenants_of c) (sym config) low));
+  mine = each_on (IsFinished view) (IsFinished (meets view its)) (λ one so.
+      right_on (tenants_of view.config) (words_given view) (words_given view) (seen_at view.seen) (seen_at its.seen) (λ tenant low. refl) first one so) view.mine right.mine;
+}
+
+pub meetings_are_right : MeetingsAreRight
+meetings_are_right view its right its_right config openings first =
+    meets_right view its (λ tenant low. ap (λ (all : List Opening). (opening_at all tenant).words) openings) config first right its_right

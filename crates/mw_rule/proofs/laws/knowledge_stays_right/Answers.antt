@@ -1,0 +1,8 @@
+use Rattle.mw_rule.proofs.Righting.{meetings_are_right, parts_are_right}
+use Rattle.mw_rule.proofs.laws.knowledge_stays_right.Goals as goal
+
+pub returns-clause-parts : goal.returns-clause-parts
+returns-clause-parts c = parts_are_right
+
+pub returns-clause-meetings : goal.returns-clause-meetings
+returns-clause-meetings c = meetings_are_right

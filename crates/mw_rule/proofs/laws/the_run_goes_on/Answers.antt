@@ -1,0 +1,19 @@
+use Rattle.mw_rule.proofs.Moving.{first_steps_on, steps_on}
+use Rattle.mw_rule.proofs.Parting.{deals_on, hearing_on, looks_on, meeting_on, notes_on, taking_on}
+use Rattle.mw_rule.proofs.laws.the_run_goes_on.Goals as goal
+
+pub returns-clause-steps : goal.returns-clause-steps
+returns-clause-steps g c = λ key. steps_on (g.B.Begins.config key) (g.B.Begins.begun key)
+
+pub returns-clause-first : goal.returns-clause-first
+returns-clause-first g c = λ key. first_steps_on (g.B.Begins.config key) (g.B.Begins.begun key)
+
+pub returns-clause-looks : goal.returns-clause-looks
+returns-clause-looks g c = λ key. looks_on (g.B.Begins.config key) (g.B.Begins.begun key)
+
+pub returns-clause-parts : goal.returns-clause-parts
+returns-clause-parts g c = λ key. (deals_on (g.B.Begins.config key) (g.B.Begins.begun key), notes_on (g.B.Begins.config key) (g.B.Begins.begun key))
+
+pub returns-clause-joins : goal.returns-clause-joins
+returns-clause-joins g c = λ key.
+    let config = g.B.Begins.config key in let begun = g.B.Begins.begun key in (hearing_on config begun, meeting_on config begun, taking_on config begun)
