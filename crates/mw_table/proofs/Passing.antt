@@ -50,7 +50,11 @@ pub pass_dealt : (shared : Shared) (world : World) (before : List Happening) (pa
     → pass.seat.table_id ≡ shared.table.shared.table_id → pass.worker < world.config.workers → pass.seat.me.0 ≡ view_of world pass.worker → pass.idle ≡ is_none (seat_in world pass.worker).actor
     → IsDealt shared world pass
 pass_dealt shared world before pass stands same table low is idle = record {
-  own = record { table = table; config = ap (λ (view : View). view.config) is ∙ sym (ap (λ (one : World). one.config) same) };
+  own = record {
+    table = table;
+    config = ap (λ (view : View). view.config) is ∙ sym (ap (λ (one : World). one.config) same);
+    openings = ap (λ (view : View). view.openings) is ∙ sym (ap (λ (one : World). map opening_of one.accounts.items) same);
+  };
   there = low;
   view = is;
   idle = idle;

@@ -5,11 +5,13 @@ use Rattle.mw_look.specs.declared.steps.Op.{Op}
 use Rattle.mw_look.specs.declared.steps.Op.TheVariants.{Change as ChangeBits}
 use Rattle.mw_table.specs.declared.shared.Pass.{Pass}
 use Rattle.mw_table.specs.declared.shared.Shared.{Shared}
+use Rattle.mw_table.specs.Origins.{config_of, openings_of}
 
--- The pass is of this table.
+-- The pass is of this table, and knows what its world is made of, and what the latest start gave.
 pub record IsOf (shared : Shared) (pass : Pass) : Type 0 where
   pub table : pass.seat.table_id ≡ shared.table.shared.table_id
-  pub config : pass.seat.me.0.config ≡ shared.table.shared.key.world.value.config
+  pub config : pass.seat.me.0.config ≡ config_of shared.table.shared.key
+  pub openings : pass.seat.me.0.openings ≡ openings_of shared.table.shared.key
 
 -- The pass is still the same worker's.
 abbrev pub IsOfSameWorker : Pass → Pass → Type 0

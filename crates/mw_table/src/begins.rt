@@ -4,6 +4,7 @@ ghost use Rattle.mw_look.specs.declared.news.Got.TheVariants.{Word as Found};
 ghost use Rattle.mw_world.specs.Definition.Extent.{has_place};
 ghost use Rattle.mw_rule.specs.Carrying.{Began, Looked, MayCome};
 ghost use Rattle.mw_rule.specs.Layout as layout;
+ghost use Rattle.mw_table.specs.Origins.{config_of};
 ghost use Rattle.mw_table.specs.Passes.{IsOf, IsOfSameWorker};
 ghost use Rattle.mw_table.specs.Said.{BeganAs};
 
@@ -50,7 +51,7 @@ impl Shared {
     /// with which the table may have begun as the pass knows it.
     pub fn figure(&self, pass: &mut Pass, at: At) -> u64
         requires own { IsOf self.now pass.old }
-        requires there { has_place self.now.table.shared.key.world.value.config at ≡ true }
+        requires there { has_place (config_of self.now.table.shared.key) at ≡ true }
         ensures own { IsOf self.now pass.new }
         ensures worker { IsOfSameWorker pass.old pass.new }
         ensures idle { pass.new.idle ≡ pass.old.idle }

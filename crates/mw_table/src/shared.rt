@@ -3,6 +3,7 @@ ghost use Rattle.std.specs.Prelude.{◌≡◌, true, [], ◌∷◌};
 ghost use Rattle.mw_world.specs.Definition.State.{IsConfig};
 ghost use Rattle.mw_rule.specs.Layout.{words_of};
 ghost use Rattle.mw_table.specs.Numbers.{numbers};
+ghost use Rattle.mw_table.specs.Origins.{config_of};
 ghost use Rattle.mw_table.specs.Resting.{IsAtRest};
 
 use crate::origin::Origin;
@@ -16,9 +17,9 @@ use std::alloc::Global;
 pub struct Shared {
     pub(crate) table: Table<Actor, View, Origin, Tie, Global>,
     pub(crate) pool: u16,
-    ghost pool_is: { pool ≡ table.shared.key.world.value.config.pool },
-    ghost made: { IsConfig table.shared.key.world.value.config },
-    ghost long: { table.shared.table_id.words ≡ words_of table.shared.key.world.value.config },
+    ghost pool_is: { pool ≡ (config_of table.shared.key).pool },
+    ghost made: { IsConfig (config_of table.shared.key) },
+    ghost long: { table.shared.table_id.words ≡ words_of (config_of table.shared.key) },
 }
 
 /// The right to make the steps of one worker.
