@@ -23,6 +23,7 @@ use Rattle.mw_table.specs.declared.shared.Pass.{Pass}
 use Rattle.mw_table.specs.declared.shared.Shared.{Shared}
 use Rattle.mw_table.specs.Beginning.{LedTo}
 use Rattle.mw_table.specs.Numbers.{number_of}
+use Rattle.mw_table.specs.Origins.{config_of}
 use Rattle.mw_table.specs.Passes.{IsOf}
 use Rattle.mw_rule.proofs.Layouts.{places_in_table}
 use Rattle.mw_rule.proofs.Moving.{first_steps_keep, steps_keep}
@@ -45,9 +46,9 @@ allows_so holds slots id me index make one other says allows s so long at low = 
 
 -- a word that is there is in the table
 in_table : (shared : Shared) (pass : Pass) (at : At) (index : ℕ) → IsOf shared pass → has_place pass.seat.me.0.config at ≡ true → index ≡ index_of shared.pool at
-    → (index < shared.table.shared.table_id.words) × (index_of shared.table.shared.key.world.value.config.pool at ≡ index)
+    → (index < shared.table.shared.table_id.words) × (index_of (config_of shared.table.shared.key).pool at ≡ index)
 in_table shared pass at index own there is =
-    let config = shared.table.shared.key.world.value.config in
+    let config = config_of shared.table.shared.key in
     let here : index ≡ index_of config.pool at = is ∙ ap (λ (k : ℕ). index_of k at) shared.pool_is in
     let within = places_in_table config at shared.made (ap (λ (c : Config). has_place c at) (sym own.config) ∙ there) in
     let long = shared.long in (omega (arith, here, within, long), sym here)
@@ -88,7 +89,7 @@ first_asks shared pass actor index make own may is same =
     )
 
 -- a pass has reins
-live : (view : View) (reins : List Reins) (worker attempt : ℕ) → view.reins ≡ reins → map number_of reins ≡ (worker, attempt) ∷ [] → IsLive view
+pub live : (view : View) (reins : List Reins) (worker attempt : ℕ) → view.reins ≡ reins → map number_of reins ≡ (worker, attempt) ∷ [] → IsLive view
 live view [] worker attempt are is = absurd (cc)
 live view (one ∷ rest) worker attempt are is = inr (one, rest, are)
 

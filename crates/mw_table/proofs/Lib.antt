@@ -1,6 +1,9 @@
+pub mod Asked
 pub mod Asking
+pub mod Attempting
 pub mod Driving
 pub mod Finding
+pub mod Idling
 pub mod Numbering
 pub mod Opened
 pub mod Passing

@@ -33,7 +33,7 @@ pub settled_number : (reins : Reins) (actor : Acting) (reply : Option Reply) →
 settled_number reins actor None = refl
 settled_number reins actor (Some reply) = refl
 
-told_number : (got : Got) (reins : Reins) (actor : Acting) (having : Option Acting) → having ≡ Some actor → number_of (told_as got reins having) ≡ (reins.worker, next_attempt actor.point reins.attempt)
+pub told_number : (got : Got) (reins : Reins) (actor : Acting) (having : Option Acting) → having ≡ Some actor → number_of (told_as got reins having) ≡ (reins.worker, next_attempt actor.point reins.attempt)
 told_number got reins actor None is = absurd (cc)
 told_number got reins actor (Some one) is =
     settled_number (record reins { attempt = next_attempt one.point reins.attempt; made = _ }) (told_of got reins.attempt one) (replied (told_of got reins.attempt one))

@@ -1,5 +1,5 @@
 -- The passes are dealt one by one.
-use Rattle.std.specs.Prelude.{ℕ, suc, ◌≡◌, ◌<◌, ◌+◌, ◌-◌, List, [], ◌∷◌, ◌++◌, All, map, length}
+use Rattle.std.specs.Prelude.{ℕ, suc, ◌≡◌, ◌<◌, ◌+◌, ◌-◌, List, [], ◌∷◌, ◌++◌, All, map, length, Bool, true, false, not, is_none, is_some, MatchOption, Option, Some, None}
 use Rattle.std.proofs.Common.{sym, ap, subst, ◌∙◌, length-append, arith}
 use Rattle.std.proofs.lemmas.List.Elements.{All-push}
 use Rattle.atomic_table.specs.Table.{Me}
@@ -47,11 +47,17 @@ dealt_numbers world before worker attempt view stands low is attempts =
 
 -- a pass that is dealt
 pub pass_dealt : (shared : Shared) (world : World) (before : List Happening) (pass : Pass) → Stands world before → shared.table.shared.key.world.value ≡ world
-    → pass.seat.table_id ≡ shared.table.shared.table_id → pass.worker < world.config.workers → pass.seat.me.0 ≡ view_of world pass.worker → IsDealt shared world pass
-pass_dealt shared world before pass stands same table low is = record {
-  own = record { table = table; config = ap (λ (view : View). view.config) is ∙ sym (ap (λ (one : World). one.config) same) };
+    → pass.seat.table_id ≡ shared.table.shared.table_id → pass.worker < world.config.workers → pass.seat.me.0 ≡ view_of world pass.worker → pass.idle ≡ is_none (seat_in world pass.worker).actor
+    → IsDealt shared world pass
+pass_dealt shared world before pass stands same table low is idle = record {
+  own = record {
+    table = table;
+    config = ap (λ (view : View). view.config) is ∙ sym (ap (λ (one : World). one.config) same);
+    openings = ap (λ (view : View). view.openings) is ∙ sym (ap (λ (one : World). map opening_of one.accounts.items) same);
+  };
   there = low;
   view = is;
+  idle = idle;
   ready = subst (λ (view : View). Each (IsReady world.config) view.reins) (sym is) (ready world before pass.worker stands low, tt);
 }
 
@@ -61,3 +67,18 @@ more_dealt shared world old new pass is all one = subst (λ (passes : List Pass)
 
 pub one_more : (old new : List Pass) (pass : Pass) (count : ℕ) → new ≡ old ++ pass ∷ [] → length old ≡ count → length new ≡ count + 1
 one_more old new pass count is many = omega (arith, ap length is, length-append old (pass ∷ []), many)
+
+-- whether a worker of a world has no request
+pub is_idle : {A : Type 0} (world : World) (before : List Happening) (worker : ℕ) (now : A → Acting) (found : Option A) (test : Bool) → Stands world before → worker < world.config.workers
+    → ((state : State) → Shows world state → MatchOption found ((state.seats worker).actor ≡ None) (λ actor. (state.seats worker).actor ≡ Some (now actor)))
+    → is_some found ≡ not test → test ≡ is_none (seat_in world worker).actor
+is_idle world before worker now found test stands low tells tested =
+    by now found test (tells stands.state stands.shows) tested ∙ ap (λ (seat : Seat). is_none seat.actor) (sym (seats_same world stands.state worker stands.shows low))
+  where
+    by : {A : Type 0} (now : A → Acting) (one : Option A) (test : Bool)
+        → MatchOption one ((stands.state.seats worker).actor ≡ None) (λ actor. (stands.state.seats worker).actor ≡ Some (now actor)) → is_some one ≡ not test
+        → test ≡ is_none (stands.state.seats worker).actor
+    by now None true is tested = ap is_none (sym is)
+    by now None false is tested = absurd (cc)
+    by now (Some actor) true is tested = absurd (cc)
+    by now (Some actor) false is tested = ap is_none (sym is)

@@ -1,5 +1,5 @@
 -- The passes of a table that was made of a world in memory.
-use Rattle.std.specs.Prelude.{ℕ, ◌≡◌, ◌<◌, List, [], ◌∷◌, map, length, slice_index_or, Option, None}
+use Rattle.std.specs.Prelude.{ℕ, ◌≡◌, ◌<◌, List, [], ◌∷◌, map, length, slice_index_or, is_none, Option, None}
 use Rattle.mw_actor.specs.Acting.{Acting}
 use Rattle.mw_world.specs.Definition.State.{State}
 use Rattle.mw_rule.specs.declared.views.View.{View}
@@ -16,11 +16,12 @@ use Rattle.mw_table.specs.Passes.{IsOf}
 abbrev pub view_of : World → ℕ → View
 view_of world worker = knows world.config (map opening_of world.accounts.items) (reins_of worker (seat_in world worker) ∷ [])
 
--- A pass of the table, as it was made: it carries the request that its worker has in the world, if it has one, and the next step of that is at a place that is there.
+-- A pass of the table, as it was made: it carries the request that its worker has in the world, if it has one, and is idle else; and the next step of that is at a place that is there.
 pub record IsDealt (shared : Shared) (world : World) (pass : Pass) : Type 0 where
   pub own : IsOf shared pass
   pub there : pass.worker < world.config.workers
   pub view : pass.seat.me.0 ≡ view_of world pass.worker
+  pub idle : pass.idle ≡ is_none (seat_in world pass.worker).actor
   pub ready : Each (IsReady world.config) pass.seat.me.0.reins
 
 -- the requests of so many workers, by worker

@@ -5,15 +5,24 @@ use Rattle.mw_look.specs.declared.steps.Op.{Op}
 use Rattle.mw_look.specs.declared.steps.Op.TheVariants.{Change as ChangeBits}
 use Rattle.mw_table.specs.declared.shared.Pass.{Pass}
 use Rattle.mw_table.specs.declared.shared.Shared.{Shared}
+use Rattle.mw_table.specs.Origins.{config_of, openings_of}
 
--- The pass is of this table.
+-- The pass is of this table, and knows what its world is made of, and what the latest start gave.
 pub record IsOf (shared : Shared) (pass : Pass) : Type 0 where
   pub table : pass.seat.table_id ≡ shared.table.shared.table_id
-  pub config : pass.seat.me.0.config ≡ shared.table.shared.key.world.value.config
+  pub config : pass.seat.me.0.config ≡ config_of shared.table.shared.key
+  pub openings : pass.seat.me.0.openings ≡ openings_of shared.table.shared.key
 
 -- The pass is still the same worker's.
 abbrev pub IsOfSameWorker : Pass → Pass → Type 0
 IsOfSameWorker old new = new.worker ≡ old.worker
+
+-- The pass is idle, and else as it was.
+pub record IsRested (old new : Pass) : Type 0 where
+  pub idle : new.idle ≡ true
+  pub same_seat : new.seat ≡ old.seat
+  pub same_worker : new.worker ≡ old.worker
+  pub same_attempt : new.attempt ≡ old.attempt
 
 -- the step is an attempt to hold a word, which has a number of its own
 abbrev pub is_plant : Op → Bool

@@ -1,9 +1,10 @@
 //! The first step of a request, and loads that are no step of one.
-ghost use Rattle.std.specs.Prelude.{◌≡◌, true};
+ghost use Rattle.std.specs.Prelude.{◌≡◌, true, false};
 ghost use Rattle.mw_look.specs.declared.news.Got.TheVariants.{Word as Found};
 ghost use Rattle.mw_world.specs.Definition.Extent.{has_place};
 ghost use Rattle.mw_rule.specs.Carrying.{Began, Looked, MayCome};
 ghost use Rattle.mw_rule.specs.Layout as layout;
+ghost use Rattle.mw_table.specs.Origins.{config_of};
 ghost use Rattle.mw_table.specs.Passes.{IsOf, IsOfSameWorker};
 ghost use Rattle.mw_table.specs.Said.{BeganAs};
 
@@ -29,16 +30,18 @@ impl Play<Actor, View> for Looks {
 
 impl Shared {
     /// A request comes to the pass's worker, which has none, and makes its first step: a load of its
-    /// tenant's door, whose bits these are. An exchange of 0 for 0 never changes a word, and announces
+    /// tenant's door, whose bits these are. The pass isn't idle then. An exchange of 0 for 0 never changes a word, and announces
     /// the request.
     pub fn begin(&self, pass: &mut Pass, actor: &Actor) -> u64
         requires own { IsOf self.now pass.old }
         requires may { MayCome pass.old.seat.me.0 pass.old.worker actor.now }
         ensures own { IsOf self.now pass.new }
         ensures worker { IsOfSameWorker pass.old pass.new }
+        ensures busy { pass.new.idle ≡ false }
         ensures began { Began actor.now (Found result) pass.old.seat.me.0 pass.new.seat.me.0 }
     {
         let door = index_of(self.pool, At::Door(actor.tenant()));
+        pass.idle = false;
         self.table
             .shared
             .compare_exchange_with::<Comes>(&mut pass.seat, door, 0, 0, actor)
@@ -48,9 +51,10 @@ impl Shared {
     /// with which the table may have begun as the pass knows it.
     pub fn figure(&self, pass: &mut Pass, at: At) -> u64
         requires own { IsOf self.now pass.old }
-        requires there { has_place self.now.table.shared.key.world.value.config at ≡ true }
+        requires there { has_place (config_of self.now.table.shared.key) at ≡ true }
         ensures own { IsOf self.now pass.new }
         ensures worker { IsOfSameWorker pass.old pass.new }
+        ensures idle { pass.new.idle ≡ pass.old.idle }
         ensures looked { Looked (layout.index_of self.now.pool at) result pass.old.seat.me.0 pass.new.seat.me.0 }
     {
         self.table

@@ -1,7 +1,8 @@
 //! One call for each kind of step.
-ghost use Rattle.std.specs.Prelude.{◌≡◌, cond};
+ghost use Rattle.std.specs.Prelude.{◌≡◌, ◌+◌, cond};
 ghost use Rattle.mw_words.specs.declared.places.At.TheVariants.{Door as AtDoor, Gate as AtGate, Row as AtRow, Status as AtStatus};
 ghost use Rattle.mw_words.specs.declared.statuses.Status.TheVariants as status;
+ghost use Rattle.mw_words.specs.declared.words.Word.TheVariants as word;
 ghost use Rattle.mw_words.specs.Patterns.{IsDoorInRange, IsGateInRange, IsRowInRange, IsStatusInRange, IsWordInRange, packed_door, packed_gate, packed_row, packed_status, packed_word};
 ghost use Rattle.mw_look.specs.declared.steps.Kind.TheVariants as kind;
 ghost use Rattle.mw_look.specs.declared.steps.Op.TheVariants.{Change as ChangeBits};
@@ -107,6 +108,25 @@ impl Shared {
     {
         let at = At::Row(pass.worker);
         self.store(pass, Kind::Row, at, row.pack())
+    }
+
+    /// A tenant's word stands as the worker's next attempt to hold it, if it has the expected value. Won or
+    /// lost, the attempt's number is used up.
+    pub fn plant(&self, pass: &mut Pass, at: At, expected: u64) -> bool
+        requires own { IsOf self.now pass.old }
+        requires from { IsWordInRange (word.Plain expected) }
+        requires to { IsWordInRange (word.Planted pass.old.worker pass.old.attempt) }
+        requires next { Drives pass.old.seat.me.0 pass.old.worker (ChangeBits kind.Plant at (packed_word (word.Plain expected)) (packed_word (word.Planted pass.old.worker pass.old.attempt))) }
+        ensures own { IsOf self.now pass.new }
+        ensures worker { IsOfSameWorker pass.old pass.new }
+        ensures attempt { pass.new.attempt ≡ pass.old.attempt + 1 }
+        ensures took { Took (cond result GotWon GotLost) pass.old.seat.me.0 pass.new.seat.me.0 }
+    {
+        let attempt = Word::Planted {
+            worker: pass.worker,
+            attempt: pass.attempt,
+        };
+        self.attempt(pass, at, Word::Plain(expected).pack(), attempt.pack())
     }
 
     /// An attempt holds a tenant's word, or puts its value back, if it still stands there.

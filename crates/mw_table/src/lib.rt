@@ -12,11 +12,13 @@ mod begins;
 mod calls;
 mod making;
 mod origin;
+mod passes;
 mod places;
 mod shared;
 mod steps;
 #[cfg(test)]
 mod tests;
+mod turns;
 
 pub use origin::Origin;
 pub use shared::{Pass, Shared};

@@ -67,10 +67,12 @@ impl Shared {
         for worker in 0..workers {
             let own = self.table.shared.split_seat::<Deals>(&mut seat);
             let attempt = world.attempt(worker);
+            let idle = world.actor(worker).is_none();
             passes.push(Pass {
                 seat: own,
                 worker,
                 attempt,
+                idle,
             })?;
         }
         Ok(passes)

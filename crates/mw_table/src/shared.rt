@@ -1,8 +1,10 @@
 //! The table, and the passes with which threads step on it.
-ghost use Rattle.std.specs.Prelude.{◌≡◌, [], ◌∷◌};
+ghost use Rattle.std.specs.Prelude.{◌≡◌, true, [], ◌∷◌};
 ghost use Rattle.mw_world.specs.Definition.State.{IsConfig};
 ghost use Rattle.mw_rule.specs.Layout.{words_of};
 ghost use Rattle.mw_table.specs.Numbers.{numbers};
+ghost use Rattle.mw_table.specs.Origins.{config_of};
+ghost use Rattle.mw_table.specs.Resting.{IsAtRest};
 
 use crate::origin::Origin;
 use atomic_table::{Seat, Table};
@@ -15,9 +17,9 @@ use std::alloc::Global;
 pub struct Shared {
     pub(crate) table: Table<Actor, View, Origin, Tie, Global>,
     pub(crate) pool: u16,
-    ghost pool_is: { pool ≡ table.shared.key.world.value.config.pool },
-    ghost made: { IsConfig table.shared.key.world.value.config },
-    ghost long: { table.shared.table_id.words ≡ words_of table.shared.key.world.value.config },
+    ghost pool_is: { pool ≡ (config_of table.shared.key).pool },
+    ghost made: { IsConfig (config_of table.shared.key) },
+    ghost long: { table.shared.table_id.words ≡ words_of (config_of table.shared.key) },
 }
 
 /// The right to make the steps of one worker.
@@ -26,21 +28,7 @@ pub struct Pass {
     pub(crate) seat: Seat<Actor, View>,
     pub(crate) worker: u8,
     pub(crate) attempt: u64,
+    pub(crate) idle: bool,
     ghost numbered: { numbers seat.me.0 ≡ (worker, attempt) ∷ [] },
-}
-
-impl Pass {
-    /// The worker whose steps these are.
-    pub fn worker(&self) -> u8
-        ensures { result ≡ self.now.worker }
-    {
-        self.worker
-    }
-
-    /// The number of the worker's next attempt to hold a word.
-    pub fn attempt(&self) -> u64
-        ensures { result ≡ self.now.attempt }
-    {
-        self.attempt
-    }
+    ghost rests: { idle ≡ true → IsAtRest seat.me.0 },
 }

@@ -1,10 +1,12 @@
 //! One step on one word, in each way in which a word is read or changed.
-ghost use Rattle.std.specs.Prelude.{◌≡◌, ◌==◌, cond, false};
+ghost use Rattle.std.specs.Prelude.{◌≡◌, ◌+◌, ◌==◌, cond, false};
+ghost use Rattle.mw_look.specs.declared.steps.Kind.TheVariants as kind;
 ghost use Rattle.mw_look.specs.declared.steps.Op.TheVariants.{Load as LoadBits, Change as ChangeBits};
 ghost use Rattle.mw_look.specs.declared.news.Got.TheVariants.{Word as Found, Won as GotWon, Lost as GotLost};
 ghost use Rattle.mw_rule.specs.Carrying.{Drives, Took};
 ghost use Rattle.mw_rule.specs.Ways.{way_of};
 ghost use Rattle.mw_rule.specs.declared.ways.Way.TheVariants as way;
+ghost use Rattle.mw_table.specs.Numbers.{AreNumbered};
 ghost use Rattle.mw_table.specs.Passes.{IsOf, IsOfSameWorker, is_plant};
 
 use crate::shared::{Pass, Shared};
@@ -26,6 +28,13 @@ pub struct Exchanges;
 
 impl Play<Actor, View> for Exchanges {
     ghost then = { λ step me found next. Took (cond (found == step.first) GotWon GotLost) me.0 next.0 };
+}
+
+/// An attempt to hold a word tells whether it won, and which number it had.
+pub struct Attempts;
+
+impl Play<Actor, View> for Attempts {
+    ghost then = { λ step me found next. Took (cond (found == step.first) GotWon GotLost) me.0 next.0 × AreNumbered me.0 };
 }
 
 /// A store tells that it was made.
@@ -64,6 +73,24 @@ impl Shared {
             .shared
             .compare_exchange::<Exchanges>(&mut pass.seat, index_of(self.pool, at), from, to);
         found == from
+    }
+
+    /// Exchanges a word for an attempt to hold it if it is what is expected. Whether it was. The attempt
+    /// has the worker's next number, which is used up by it, won or lost.
+    pub(crate) fn attempt(&self, pass: &mut Pass, at: At, from: u64, to: u64) -> bool
+        requires own { IsOf self.now pass.old }
+        requires next { Drives pass.old.seat.me.0 pass.old.worker (ChangeBits kind.Plant at from to) }
+        ensures own { IsOf self.now pass.new }
+        ensures worker { IsOfSameWorker pass.old pass.new }
+        ensures attempt { pass.new.attempt ≡ pass.old.attempt + 1 }
+        ensures took { Took (cond result GotWon GotLost) pass.old.seat.me.0 pass.new.seat.me.0 }
+    {
+        let stood = self
+            .table
+            .shared
+            .compare_exchange::<Attempts>(&mut pass.seat, index_of(self.pool, at), from, to);
+        pass.attempt += 1;
+        stood == from
     }
 
     /// Stores a word.

@@ -38,6 +38,7 @@ fn a_new_world_in_a_table(rt: HostRuntime) -> Result<(), Fail> {
         };
         assert_eq!(rt; shared.figure(&mut pass, At::Door(0)), door.pack());
         assert_eq!(rt; shared.figure(&mut pass, At::Gate(0)), 0);
+        assert!(rt; pass.idle());
     }
     Ok(())
 }

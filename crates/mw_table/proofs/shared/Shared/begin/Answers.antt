@@ -18,4 +18,5 @@ invariant_of-pass c = record {
       numbers_begin c.args.actor.now (Found c.compare_exchange_with.result) c.args.pass.now.worker c.args.pass.now.seat.me.0 c.compare_exchange_with.new.seat.me.0
       c.requires.may c.compare_exchange_with.ensures.2
       ∙ c.args.pass.now.numbered;
+  rests = λ idle. absurd (cc);
 }

@@ -1,8 +1,10 @@
-use Rattle.std.proofs.Common.{◌<◌, ◌∙◌, ap, arith}
+use Rattle.std.proofs.Common.{◌<◌, ◌∙◌, ap, sym, arith, Bor}
+use Rattle.mw_actor.specs.Acting.{Acting}
 use Rattle.mw_world.specs.declared.config.Config.{Config}
 use Rattle.mw_table.specs.Beginning.{LedTo}
 use Rattle.mw_rule.proofs.Parting.{deals_keep}
-use Rattle.mw_table.proofs.Passing.{dealt_numbers, dealt_view, left_next, more_dealt, one_more, pass_dealt}
+use Rattle.mw_table.proofs.Idling.{rests_first}
+use Rattle.mw_table.proofs.Passing.{dealt_numbers, dealt_view, is_idle, left_next, more_dealt, one_more, pass_dealt}
 use Rattle.mw_table.proofs.shared.Shared.deal.Goals as goal
 
 pub split_seat-own-requires : goal.split_seat-own-requires
@@ -22,7 +24,8 @@ loop-worker-preserved c =
       dealt =
           more_dealt c.args.self.now world c.loop-worker.passes.items c.push.new.self.items _ c.in_ok-push.ensures.items c.loop-worker.invariant.dealt
           (pass_dealt c.args.self.now world c.requires.stands.0 _ c.requires.stands.1 c.requires.world (c.split_seat-own.ensures.3 ∙ c.loop-worker.invariant.same_table) low
-          (dealt_view world c.loop-worker.worker c.loop-worker.seat.me c.split_seat-own.result.me low c.loop-worker.invariant.left c.split_seat-own.ensures.4));
+          (dealt_view world c.loop-worker.worker c.loop-worker.seat.me c.split_seat-own.result.me low c.loop-worker.invariant.left c.split_seat-own.ensures.4)
+          (is_idle world c.requires.stands.0 c.loop-worker.worker (λ (actor : Bor Acting). actor.now) c.actor.result c.is_none-idle.result c.requires.stands.1 low c.actor.ensures c.is_none-idle.ensures));
     }
 
 pub invariant_of-push : goal.invariant_of-push
@@ -34,4 +37,9 @@ invariant_of-push c =
       numbered =
           dealt_numbers world c.requires.stands.0 c.loop-worker.worker c.attempt-attempt.result c.split_seat-own.result.me.0 c.requires.stands.1 low
           (dealt_view world c.loop-worker.worker c.loop-worker.seat.me c.split_seat-own.result.me low c.loop-worker.invariant.left c.split_seat-own.ensures.4) c.attempt-attempt.ensures;
+      rests = λ idle.
+          rests_first world c.loop-worker.worker c.split_seat-own.result.me.0
+          (dealt_view world c.loop-worker.worker c.loop-worker.seat.me c.split_seat-own.result.me low c.loop-worker.invariant.left c.split_seat-own.ensures.4)
+          (sym (is_idle world c.requires.stands.0 c.loop-worker.worker (λ (actor : Bor Acting). actor.now) c.actor.result c.is_none-idle.result c.requires.stands.1 low c.actor.ensures c.is_none-idle.ensures)
+          ∙ idle);
     }

@@ -4,6 +4,7 @@ use Rattle.mw_look.specs.declared.steps.Op.TheVariants.{Change as ChangeBits}
 use Rattle.mw_look.specs.declared.news.Got.TheVariants.{Won as GotWon, Lost as GotLost}
 use Rattle.mw_rule.specs.Ways.{made_by_way, got_by_way}
 use Rattle.mw_rule.specs.declared.ways.Way.{Way}
+use Rattle.mw_table.proofs.Idling.{busy}
 use Rattle.mw_table.proofs.Numbering.{numbers_stay}
 use Rattle.mw_table.proofs.Asking.{step_asks}
 use Rattle.mw_table.proofs.shared.Shared.exchange.Goals as goal
@@ -20,4 +21,5 @@ invariant_of-pass c = record {
       numbers_stay (ChangeBits c.args.kind c.args.at c.args.from c.args.to) (cond (c.compare_exchange-found.result == c.args.from) GotWon GotLost) c.args.pass.now.worker
       c.args.pass.now.seat.me.0 c.compare_exchange-found.new.seat.me.0 c.requires.plain c.requires.next c.compare_exchange-found.ensures.2
       ∙ c.args.pass.now.numbered;
+  rests = λ idle. absurd (busy c.args.pass.now.seat.me.0 c.args.pass.now.worker (ChangeBits c.args.kind c.args.at c.args.from c.args.to) c.requires.next (c.args.pass.now.rests idle));
 }

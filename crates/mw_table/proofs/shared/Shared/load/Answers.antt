@@ -1,6 +1,7 @@
 use Rattle.std.proofs.Common.{ℕ, refl, ◌∙◌}
 use Rattle.mw_look.specs.declared.steps.Op.TheVariants.{Load as LoadBits}
 use Rattle.mw_look.specs.declared.news.Got.TheVariants.{Word as Found}
+use Rattle.mw_table.proofs.Idling.{busy}
 use Rattle.mw_table.proofs.Numbering.{numbers_stay}
 use Rattle.mw_table.proofs.Asking.{step_asks}
 use Rattle.mw_table.proofs.shared.Shared.load.Goals as goal
@@ -13,4 +14,5 @@ invariant_of-pass c = record {
   numbered =
       numbers_stay (LoadBits c.args.at) (Found c.load.result) c.args.pass.now.worker c.args.pass.now.seat.me.0 c.load.new.seat.me.0 refl c.requires.next c.load.ensures.2
       ∙ c.args.pass.now.numbered;
+  rests = λ idle. absurd (busy c.args.pass.now.seat.me.0 c.args.pass.now.worker (LoadBits c.args.at) c.requires.next (c.args.pass.now.rests idle));
 }

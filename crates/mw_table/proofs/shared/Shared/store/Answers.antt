@@ -3,6 +3,7 @@ use Rattle.mw_look.specs.declared.steps.Op.TheVariants.{Change as ChangeBits}
 use Rattle.mw_look.specs.declared.news.Got.TheVariants.{Won as GotWon}
 use Rattle.mw_rule.specs.Ways.{made_by_way, got_by_way}
 use Rattle.mw_rule.specs.declared.ways.Way.{Way}
+use Rattle.mw_table.proofs.Idling.{busy}
 use Rattle.mw_table.proofs.Numbering.{numbers_stay, plain_store}
 use Rattle.mw_table.proofs.Asking.{step_asks}
 use Rattle.mw_table.proofs.shared.Shared.store.Goals as goal
@@ -19,4 +20,5 @@ invariant_of-pass c = record {
       numbers_stay (ChangeBits c.args.kind c.args.at 0 c.args.to) GotWon c.args.pass.now.worker c.args.pass.now.seat.me.0 c.store.new.seat.me.0
       (plain_store c.args.kind c.args.at 0 c.args.to c.requires.way) c.requires.next c.store.ensures.2
       ∙ c.args.pass.now.numbered;
+  rests = λ idle. absurd (busy c.args.pass.now.seat.me.0 c.args.pass.now.worker (ChangeBits c.args.kind c.args.at 0 c.args.to) c.requires.next (c.args.pass.now.rests idle));
 }

@@ -3,6 +3,7 @@ use Rattle.mw_look.specs.declared.steps.Op.TheVariants.{Change as ChangeBits}
 use Rattle.mw_look.specs.declared.news.Got.TheVariants.{Word as Found}
 use Rattle.mw_rule.specs.Ways.{made_by_way, got_by_way}
 use Rattle.mw_rule.specs.declared.ways.Way.{Way}
+use Rattle.mw_table.proofs.Idling.{busy}
 use Rattle.mw_table.proofs.Numbering.{numbers_stay, plain_fetch}
 use Rattle.mw_table.proofs.Asking.{step_asks}
 use Rattle.mw_table.proofs.shared.Shared.subtract.Goals as goal
@@ -19,4 +20,5 @@ invariant_of-pass c = record {
       numbers_stay (ChangeBits c.args.kind c.args.at 0 0) (Found c.fetch_sub.result) c.args.pass.now.worker c.args.pass.now.seat.me.0 c.fetch_sub.new.seat.me.0
       (plain_fetch c.args.kind c.args.at 0 0 c.args.number c.requires.way) c.requires.next c.fetch_sub.ensures.2
       ∙ c.args.pass.now.numbered;
+  rests = λ idle. absurd (busy c.args.pass.now.seat.me.0 c.args.pass.now.worker (ChangeBits c.args.kind c.args.at 0 0) c.requires.next (c.args.pass.now.rests idle));
 }
