@@ -1,0 +1,121 @@
+-- How a step that was made ends a call.
+use Rattle.std.specs.Prelude.{ℕ, ◌≡◌, true, false, List, [], ◌∷◌, ◌++◌, map, Option, Some, None, is_some}
+use Rattle.std.proofs.Common.{refl, sym, ap, subst, ◌∙◌}
+use Rattle.mw_words.specs.declared.replies.Reply.{Reply}
+use Rattle.mw_look.specs.declared.news.Got.{Got}
+use Rattle.mw_look.specs.News.{news_of}
+use Rattle.mw_look.specs.declared.steps.Call.{Call}
+use Rattle.mw_look.specs.declared.steps.Op.{Op}
+use Rattle.mw_look.specs.declared.steps.Op.TheVariants.{Load as LoadBits, Change as ChangeBits, File as FileCall}
+use Rattle.mw_look.specs.Steps.{op_of, place}
+use Rattle.mw_look.specs.Program.{asks_at as read_asks_at}
+use Rattle.mw_look.specs.declared.points.Point.{Point as LookPoint}
+use Rattle.mw_look.specs.declared.points.Point.TheVariants.{Pin, Unpin, FreeSlot, LowerDoor}
+use Rattle.mw_actor.specs.declared.points.Point.{Point}
+use Rattle.mw_actor.specs.declared.points.Point.TheVariants.{Read, Prepare, Seal, Settle, Cancel}
+use Rattle.mw_actor.specs.Acting.{Acting}
+use Rattle.mw_actor.specs.Asks.{asks, asks_at}
+use Rattle.mw_actor.specs.Program.{replied, tells}
+use Rattle.mw_world.specs.Definition.Calls.{Called, called_at}
+use Rattle.mw_world.specs.Definition.Turns.{next_attempt}
+use Rattle.mw_rule.specs.declared.views.Deed.TheVariants.{Stepped}
+use Rattle.mw_rule.specs.declared.views.Reins.{Reins}
+use Rattle.mw_rule.specs.Carrying.{Began, IsReady, IsReadyFor, MayCome, Took, comes, settled, settled_as, told}
+use Rattle.mw_rule.specs.Rule.{Each}
+use Rattle.mw_table.specs.declared.shared.Pass.{Pass}
+use Rattle.mw_table.specs.Carried.{IsCarried}
+use Rattle.mw_table.specs.Numbers.{number_of}
+use Rattle.mw_table.proofs.Driving.{is_file}
+use Rattle.mw_table.proofs.Numbering.{settled_number}
+use Rattle.mw_core.specs.declared.calls.Advance.{Advance}
+use Rattle.mw_core.specs.declared.calls.Advance.TheVariants.{NeedsFile, Finished}
+use Rattle.mw_core.specs.Advancing.{Advances, Ends, IsTold, answer_of}
+
+-- a read makes no call on a file
+read_calls_none : (tenant address : ℕ) (point : LookPoint) → is_file (op_of (read_asks_at tenant address point)) ≡ false
+read_calls_none tenant address (Pin trail from to) = refl
+read_calls_none tenant address (Unpin slot seq after) = refl
+read_calls_none tenant address (FreeSlot slot seq after) = refl
+read_calls_none tenant address (LowerDoor after) = refl
+read_calls_none tenant address point = refl
+
+-- where the step is a call on a file, the request has come to one
+call_there : (actor : Acting) (point : Point) → is_file (op_of (asks_at actor point)) ≡ true → (called : Called) × (called_at point ≡ Some called)
+call_there actor (Prepare own) is = (_, refl)
+call_there actor (Seal task) is = (_, refl)
+call_there actor (Settle task) is = (_, refl)
+call_there actor (Cancel task) is = (_, refl)
+call_there actor (Read look) is = let none = read_calls_none look.tenant look.address look.point in absurd (cc)
+call_there actor point is = absurd (cc)
+
+no_call_there : (actor : Acting) (point : Point) → is_file (op_of (asks_at actor point)) ≡ false → called_at point ≡ None
+no_call_there actor (Prepare own) is = absurd (cc)
+no_call_there actor (Seal task) is = absurd (cc)
+no_call_there actor (Settle task) is = absurd (cc)
+no_call_there actor (Cancel task) is = absurd (cc)
+no_call_there actor point is = refl
+
+-- a reply stood before
+pub stood_before : (pass : Pass) (actor : Acting) → is_some (replied actor) ≡ true → Advances pass pass actor actor Finished
+stood_before pass actor stands = by_reply (replied actor) stands
+  where
+    by_reply : (reply : Option Reply) → is_some reply ≡ true → Ends pass pass actor actor Finished reply (called_at actor.point)
+    by_reply None is = absurd (cc)
+    by_reply (Some reply) is = (refl, record { same_pass = refl; same_request = refl })
+
+none_of : (reply : Option Reply) → is_some reply ≡ false → reply ≡ None
+none_of None is = refl
+none_of (Some reply) is = absurd (cc)
+
+pub runs_still : (actor : Acting) → is_some (replied actor) ≡ false → replied actor ≡ None
+runs_still actor is = none_of (replied actor) is
+
+-- a call on a file is next
+pub file_next : (pass : Pass) (actor : Acting) → replied actor ≡ None → is_file (op_of (asks actor)) ≡ true → Advances pass pass actor actor NeedsFile
+file_next pass actor running is =
+    let there = call_there actor actor.point is in
+    subst (λ (reply : Option Reply). Ends pass pass actor actor NeedsFile reply (called_at actor.point)) (sym running)
+    (subst (λ (called : Option Called). Ends pass pass actor actor NeedsFile None called) (sym there.1) (refl, record { same_pass = refl; same_request = refl }))
+
+-- a step was made
+pub step_made : (old new : Pass) (actor next : Acting) (got : Got) (result : Advance) → replied actor ≡ None → is_file (op_of (asks actor)) ≡ false → Took got old.seat.me.0 new.seat.me.0
+    → IsTold new actor next got → result ≡ answer_of (replied next) → Advances old new actor next result
+step_made old new actor next got result running plain took told is =
+    subst (λ (reply : Option Reply). Ends old new actor next result reply (called_at actor.point)) (sym running)
+    (subst (λ (called : Option Called). Ends old new actor next result None called) (sym (no_call_there actor actor.point plain)) (is, record { got = got; took = took; told = told }))
+
+abbrev second_of : List (ℕ × ℕ) → ℕ
+second_of [] = 0
+second_of (one ∷ rest) = one.1
+
+running_so : (reins : Reins) (actor : Acting) → replied actor ≡ None → settled reins actor ≡ record reins { actor = Some actor }
+running_so reins actor running = ap (settled_as reins actor) running
+
+-- the pass carries the request that has come
+pub carried_first : (old new : Pass) (actor : Acting) (got : Got) → MayCome old.seat.me.0 old.worker actor → new.worker ≡ old.worker → Began actor got old.seat.me.0 new.seat.me.0
+    → IsCarried new (tells actor (news_of (place (asks actor)) got) new.attempt)
+carried_first old new actor got may same began =
+    let reins = comes actor began.request began.begun may.reins in
+    let news = news_of (place (asks actor)) got in
+    let next = next_attempt actor.point reins.attempt in
+    let after : Reins = record reins { attempt = next; made = reins.made ++ Stepped ∷ [] } in
+    let has : new.seat.me.0.reins ≡ settled after (tells actor news next) ∷ [] =
+    began.reins ∙ ap (map (λ (one : Reins). told got (comes actor began.request began.begun one))) may.has.only in
+    let tagged : number_of (settled after (tells actor news next)) ∷ [] ≡ (new.worker, new.attempt) ∷ [] = sym (ap (map number_of) has) ∙ new.numbered in
+    let second : number_of (settled after (tells actor news next)) ≡ (reins.worker, next) = settled_number after (tells actor news next) (replied (tells actor news next)) in
+    let numbered : next ≡ new.attempt = sym (ap (λ (p : ℕ × ℕ). p.1) second) ∙ ap second_of tagged in
+    let only : new.seat.me.0.reins ≡ settled after (tells actor news new.attempt) ∷ [] = has ∙ ap (λ (n : ℕ). settled after (tells actor news n) ∷ []) numbered in
+    record {
+      reins = after;
+      carries = record { own = may.has.own ∙ sym same; same_attempt = numbered; only = only };
+      ready = λ run call.
+          let all : Each (IsReady new.seat.me.0.config) (settled after (tells actor news new.attempt) ∷ []) =
+          subst (λ (some : List Reins). Each (IsReady new.seat.me.0.config) some) only began.ready in
+          subst (λ (one : Reins). IsReadyFor new.seat.me.0.config one.actor) (running_so after (tells actor news new.attempt) run) all.0 run call;
+    }
+
+-- it is told of the step in bits
+pub plain_so : (op : Op) → ((call : Call) (slot : ℕ) → op ≡ FileCall call slot → ⊥) → is_file op ≡ false
+plain_so (LoadBits at) other = refl
+plain_so (ChangeBits kind at from to) other = refl
+plain_so (FileCall call slot) other = absurd (other call slot refl)
