@@ -12,7 +12,7 @@ use Rattle.mw_world.specs.Definition.Happenings.{Happening}
 use Rattle.mw_world.specs.Definition.State.{State, Opening, Seat, tenants_of}
 use Rattle.mw_rule.specs.declared.views.View.{View}
 use Rattle.mw_rule.specs.Carrying.{Drives, MayCome, Took, Began, Looked, Precede}
-use Rattle.mw_rule.specs.Dealing.{maker, spent, dealt, left_over, note, hears, meets, takes}
+use Rattle.mw_rule.specs.Dealing.{gathers, maker, spent, dealt, left_over, note, hears, meets, takes}
 use Rattle.mw_rule.specs.Layout.{index_of, words_of}
 use Rattle.mw_rule.specs.Rule.{IsLive, IsRight, Ties, Tied}
 use Rattle.mw_rule.specs.Seen.{Gave, opening_at}
@@ -61,6 +61,11 @@ module _ (config : Config) (begun : (ℕ → Opening) → List Happening → Typ
   -- A thread that has no reins takes another's, as those that it lent.
   abbrev pub TakingKeepsTheRule : Type 0
   TakingKeepsTheRule = (id other : ℕ) (view its : View) → IsLive view → IsLive its → view.reins ≡ [] → Joins {S = Acting} (Tied config begun) id view other its (takes view its) spent
+
+  -- A thread takes over all that another knew, which had seen no less: its reins, and the requests that it noted. So at the end one thread can know of all that were finished.
+  abbrev pub GatheringKeepsTheRule : Type 0
+  GatheringKeepsTheRule = (id other : ℕ) (view its : View) → IsLive view → IsLive its → Precede (tenants_of view.config) view.seen its.seen
+      → Joins {S = Acting} (Tied config begun) id view other its (gathers view its) spent
 
 -- Of views alone.
 
