@@ -37,7 +37,7 @@ total_more count (one ∷ views) last = let rest = total_more count views last i
 pub weight_none : (one other : ℕ) → one ≢ other → weight (one == other) ≡ 0
 weight_none one other apart = grind (arith, nat_tests, apart)
 
-weight_own : (one other : ℕ) → one ≡ other → weight (one == other) ≡ 1
+pub weight_own : (one other : ℕ) → one ≡ other → weight (one == other) ≡ 1
 weight_own one other same = grind (arith, nat_tests, same)
 
 pub own_once : (worker : ℕ) (reins : Reins) → reins.worker ≡ worker → times worker (reins ∷ []) ≡ 1
