@@ -1,3 +1,4 @@
+pub mod Apart
 pub mod Calling
 pub mod Keeping
 pub mod Layouts

@@ -17,6 +17,6 @@ pub use laws::{
     calls_are_noted, knowledge_stays_right, places_stand_apart, steps_keep_the_rule,
     tables_start_under_the_rule, the_run_goes_on, what_is_known_is_parted,
 };
-pub use rule::{Begins, Deals, Hears, Meets, Notes, Takes, Tie};
+pub use rule::{Begins, Deals, Gathers, Hears, Meets, Notes, Takes, Tie};
 pub use views::{Deed, Finished, Opened, Reins, Sealed, View};
 pub use ways::{Way, way_of};
