@@ -8,5 +8,9 @@
 #![tactic(auto)]
 
 mod calls;
+#[cfg(test)]
+mod races;
+#[cfg(test)]
+mod test_worlds;
 
 pub use calls::{Advance, Core};

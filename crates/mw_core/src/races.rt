@@ -1,0 +1,140 @@
+//! Two threads drive two requests on one table.
+ghost use Rattle.std.specs.Prelude.{◌≡◌, All, IfSome};
+ghost use Rattle.mw_table.specs.Carried.{IsCarried};
+ghost use Rattle.mw_table.specs.Dealt.{IsDealt};
+ghost use Rattle.mw_table.specs.Passes.{IsOf};
+ghost use Rattle.mw_core.specs.Reached.{IsReached};
+
+use crate::calls::{Advance, Core};
+use crate::test_worlds::{MANY_STEPS, change_one, come, config, new_world, play_to, step};
+use mw_actor::Actor;
+use mw_look::Kind;
+use mw_simulator::World;
+use mw_table::{Pass, Shared};
+use mw_words::{At, Door, Gate, Job, Reply};
+use std::alloc::Global;
+use std::test::Fail;
+use std::thread::{Threads, join};
+
+/// A worker's pass, with the request that it carries.
+#[derive(Drop)]
+struct Side {
+    pass: Pass,
+    actor: Actor,
+}
+
+/// How far a thread drove its request.
+#[derive(Drop)]
+struct Driven {
+    pass: Pass,
+    end: Advance,
+    reply: Option<Reply>,
+}
+
+/// The request that a pass of a new table carries, if it has one without a reply.
+fn request_of(core: &Core, world: &World, pass: &Pass) -> Option<Actor>
+    requires reached { IsReached world.now }
+    requires dealt { IsDealt core.now.shared world.now pass.now }
+    ensures { IfSome result (λ actor. IsCarried pass.now actor) }
+{
+    let actor = world.actor(pass.worker())?;
+    match actor.reply() {
+        Some(_) => None,
+        None => Some(actor.copy()),
+    }
+}
+
+/// The last of the passes, with the request that it carries.
+fn take(core: &Core, world: &World, passes: &mut Vec<Pass>) -> Option<Side>
+    requires reached { IsReached world.now }
+    requires dealt { All (IsDealt core.now.shared world.now) passes.old.items }
+    ensures left { All (IsDealt core.now.shared world.now) passes.new.items }
+    ensures own { IfSome result (λ side. IsOf core.now.shared side.pass) }
+    ensures carried { IfSome result (λ side. IsCarried side.pass side.actor) }
+{
+    let pass = passes.pop()?;
+    let actor = request_of(core, world, &pass)?;
+    Some(Side { pass, actor })
+}
+
+/// Makes the steps of a request until its reply stands, or its file is to be called.
+fn drive(core: &Core, side: Side) -> Driven
+    requires own { IsOf core.now.shared side.pass }
+    requires carried { IsCarried side.pass side.actor }
+    ensures { IsOf core.now.shared result.pass }
+{
+    let Side {
+        mut pass,
+        mut actor,
+    } = side;
+    let mut end = Advance::Stepped;
+    for _ in 0..MANY_STEPS {
+        end = core.advance(&mut pass, &mut actor);
+        if end != Advance::Stepped {
+            break;
+        }
+    }
+    Driven {
+        pass,
+        end,
+        reply: actor.reply(),
+    }
+}
+
+/// Two threads drive their requests at once.
+fn drive_both<R: Threads + Sync>(rt: &R, core: &Core, one: Side, two: Side) -> (Driven, Driven)
+    requires own_one { IsOf core.now.shared one.pass }
+    requires carried_one { IsCarried one.pass one.actor }
+    requires own_two { IsOf core.now.shared two.pass }
+    requires carried_two { IsCarried two.pass two.actor }
+    ensures one { IsOf core.now.shared result.0.pass }
+    ensures two { IsOf core.now.shared result.1.pass }
+{
+    join(rt, || drive(core, one), || drive(core, two))
+}
+
+/// A world of one word and one slot: worker 0 has changed the word, and is about to give back its pin of the
+/// slot; worker 1 reads the word, and is about to pin the slot. None where it can't be played so.
+fn before_unpin(alloc: Global) -> Option<World>
+    ensures reached { IfSome result IsReached }
+    ensures config { IfSome result (λ world. world.config.pool ≡ 1) }
+{
+    let world = new_world(alloc, config(1, 2, 1))?;
+    let world = come(world, 0, change_one(1))?;
+    let world = play_to(world, 0, Kind::Resolve)?;
+    let world = step(world, 0)?;
+    let world = come(world, 1, Job::Get(0))?;
+    let world = play_to(world, 1, Kind::Pin)?;
+    play_to(world, 0, Kind::Unpin)
+}
+
+/// The writer's YES, the reader's VAL 1, a free slot under its next number, and no slot in use.
+fn pin_race_ends<R: Threads + Sync>(rt: &R, alloc: Global) -> Option<bool> {
+    let world = before_unpin(alloc)?;
+    let (shared, mut passes, _) = Shared::of_world(alloc, &world).ok()?;
+    let core = Core::new(shared);
+    let reader = take(&core, &world, &mut passes)?;
+    let writer = take(&core, &world, &mut passes)?;
+    let (mut wrote, read) = drive_both(rt, &core, writer, reader);
+    let gate = core.shared().figure(&mut wrote.pass, At::Gate(0));
+    let door = core.shared().figure(&mut wrote.pass, At::Door(0));
+    let free = Gate {
+        taken: false,
+        pins: 0,
+        seq: 1,
+    };
+    let unused = Door {
+        used: 0,
+        fault: false,
+    };
+    let replies = wrote.reply == Some(Reply::Yes) && read.reply == Some(Reply::Val(1));
+    Some(replies && gate == free.pack() && door == unused.pack())
+}
+
+#[test]
+fn pin_race(rt: HostRuntime) -> Result<(), Fail> {
+    for _ in 0..1000 {
+        assert!(rt; pin_race_ends(&rt, rt.alloc()) == Some(true));
+    }
+    Ok(())
+}
