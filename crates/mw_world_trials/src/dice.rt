@@ -6,20 +6,20 @@ use rand_xoshiro::Xoshiro256PlusPlus;
 
 /// A source of random choices. The same seed gives the same choices.
 #[derive(Drop)]
-pub(crate) struct Dice {
+pub struct Dice {
     rng: Xoshiro256PlusPlus,
 }
 
 impl Dice {
     /// The choices of this seed.
-    pub(crate) fn new(seed: u64) -> Dice {
+    pub fn new(seed: u64) -> Dice {
         Dice {
             rng: Xoshiro256PlusPlus::seed_from_u64(seed),
         }
     }
 
     /// A number below `sides`, of which there is at least one.
-    pub(crate) fn below(&mut self, sides: u64) -> u64
+    pub fn below(&mut self, sides: u64) -> u64
         requires { 1 ≤ sides }
         ensures { result < sides }
     {
@@ -27,7 +27,7 @@ impl Dice {
     }
 
     /// A number below `sides`, of which there is at least one.
-    pub(crate) fn small(&mut self, sides: u8) -> u8
+    pub fn small(&mut self, sides: u8) -> u8
         requires { 1 ≤ sides }
         ensures { result < sides }
     {
@@ -35,7 +35,7 @@ impl Dice {
     }
 
     /// Yes, once in so many times.
-    pub(crate) fn once_in(&mut self, times: u64) -> bool
+    pub fn once_in(&mut self, times: u64) -> bool
         requires { 1 ≤ times }
     {
         self.below(times) == 0

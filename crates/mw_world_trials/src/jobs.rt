@@ -12,7 +12,7 @@ use std::alloc::{AllocError, Global};
 const VALUES: u64 = 3;
 
 /// A small world: two to four workers, one or two tenants of one to three words.
-pub(crate) fn small_world(dice: &mut Dice) -> Config
+pub fn small_world(dice: &mut Dice) -> Config
     ensures { IsConfig result }
 {
     let mut tenants = ArrayVec::new();
@@ -31,6 +31,33 @@ pub(crate) fn small_world(dice: &mut Dice) -> Config
     }
 }
 
+/// A larger world: four workers, and three tenants of one to three words which may use two or three slots.
+pub fn large_world(dice: &mut Dice) -> Config
+    ensures { IsConfig result }
+{
+    let mut tenants = ArrayVec::new();
+    tenants.push(large_tenant(dice));
+    tenants.push(large_tenant(dice));
+    tenants.push(large_tenant(dice));
+    Config {
+        pool: 9,
+        workers: 4,
+        seq: 0,
+        tenants,
+    }
+}
+
+fn large_tenant(dice: &mut Dice) -> Tenant
+    ensures words { (1 ≤ result.words) × (result.words ≤ 3) }
+    ensures quota { (1 ≤ result.quota) × (result.quota ≤ 3) }
+{
+    Tenant {
+        name: Name::new(),
+        words: 1 + u16::from(dice.small(3)),
+        quota: 2 + dice.small(2),
+    }
+}
+
 fn small_tenant(dice: &mut Dice) -> Tenant
     ensures words { (1 ≤ result.words) × (result.words ≤ 3) }
     ensures quota { (1 ≤ result.quota) × (result.quota ≤ 3) }
@@ -43,7 +70,7 @@ fn small_tenant(dice: &mut Dice) -> Tenant
 }
 
 /// A read or a change of a tenant's words.
-pub(crate) fn job(dice: &mut Dice, words: u16) -> Job
+pub fn job(dice: &mut Dice, words: u16) -> Job
     requires { 1 ≤ words }
 {
     if dice.once_in(3) {
@@ -62,13 +89,19 @@ pub(crate) fn job(dice: &mut Dice, words: u16) -> Job
     Job::Cas(entries)
 }
 
+/// A way to stop each tenant's file, and to open it again.
+pub fn stops(alloc: Global, dice: &mut Dice, config: &Config) -> Result<Vec<Stop>, AllocError>
+    requires { 1 ≤ config.now.workers }
+{
+    let mut stops = Vec::new(alloc);
+    for tenant in 0..config.tenants.len() {
+        stops.push(stop(alloc, dice, tenant as u8, config.workers)?)?;
+    }
+    Ok(stops)
+}
+
 /// A way to stop a tenant's file, and to open it again.
-pub(crate) fn stop(
-    alloc: Global,
-    dice: &mut Dice,
-    tenant: u8,
-    workers: u8,
-) -> Result<Stop, AllocError>
+fn stop(alloc: Global, dice: &mut Dice, tenant: u8, workers: u8) -> Result<Stop, AllocError>
     requires { 1 ≤ workers }
 {
     let mut torn = Vec::new(alloc);

@@ -105,28 +105,52 @@ fn after_marks(
     requires { tenant < length world.now.config.tenants.items }
 {
     let its = &world.config().tenants[usize::from(tenant)];
-    let zeros = zeros(alloc, its.words)?;
-    let mut judge = Alone {
-        lone: Lone::new(alloc, &zeros, its.quota)?,
-        asked: 0,
-    };
-    let mut replies = handed.iter().filter(|handed| handed.tenant == tenant);
-    for mark in world.marks(tenant)? {
-        if let Some(reply) = judge.mark(mark)? {
-            match replies.next() {
-                Some(handed) if handed.reply == reply => {}
-                Some(_) => return Err(TrialFault::Disagreement(Disagreement::Reply)),
-                None => return Err(TrialFault::Disagreement(Disagreement::Replies)),
-            }
-        }
-    }
-    if replies.next().is_some() {
-        return Err(TrialFault::Disagreement(Disagreement::Replies));
-    }
+    let mut judge = Alone::new(alloc, its.words, its.quota)?;
+    let replies = judge.replies(alloc, world.marks(tenant)?)?;
+    compare(&replies, tenant, handed)?;
     Ok(judge)
 }
 
+/// These replies are those that the tenant was handed out.
+fn compare(replies: &[Reply], tenant: u8, handed: &[Handed]) -> Result<(), TrialFault> {
+    let mut others = handed.iter().filter(|handed| handed.tenant == tenant);
+    for reply in replies {
+        match others.next() {
+            Some(handed) if handed.reply == *reply => {}
+            Some(_) => return Err(TrialFault::Disagreement(Disagreement::Reply)),
+            None => return Err(TrialFault::Disagreement(Disagreement::Replies)),
+        }
+    }
+    match others.next() {
+        Some(_) => Err(TrialFault::Disagreement(Disagreement::Replies)),
+        None => Ok(()),
+    }
+}
+
 impl Alone {
+    /// The store alone of a tenant with so many words, which are 0, and this quota.
+    fn new(alloc: Global, words: u16, quota: u8) -> Result<Alone, TrialFault> {
+        let zeros = zeros(alloc, words)?;
+        Ok(Alone {
+            lone: Lone::new(alloc, &zeros, quota)?,
+            asked: 0,
+        })
+    }
+
+    /// What it hands out at these marks.
+    fn replies(&mut self, alloc: Global, marks: Vec<Mark>) -> Result<Vec<Reply>, TrialFault> {
+        let mut replies = Vec::new(alloc);
+        for mark in marks {
+            let Some(reply) = self.mark(mark)? else {
+                continue;
+            };
+            if replies.push(reply).is_err() {
+                return Err(TrialFault::Memory);
+            }
+        }
+        Ok(replies)
+    }
+
     fn mark(&mut self, mark: Mark) -> Result<Option<Reply>, TrialFault> {
         if let Mark::Ask(request, _) = &mark {
             self.asked = request.saturating_add(1);

@@ -2,13 +2,14 @@
 //! any order, device calls fail, and all stops and starts again. Then each tenant's marks are given to a
 //! new store of its words alone: it has to take each of them, hand out the replies that the world
 //! handed out, and have the words that the world has after each start.
+//!
+//! The random choices are public: `mw_world_runs` takes its larger worlds, and what happens to them, from
+//! here too.
 #![tactic(auto)]
 
-#[cfg(test)]
 mod dice;
 #[cfg(test)]
 mod example_marks_tests;
-#[cfg(test)]
 mod jobs;
 #[cfg(test)]
 mod judge;
@@ -20,3 +21,6 @@ mod schedule_tests;
 mod tests;
 #[cfg(test)]
 mod trial;
+
+pub use dice::Dice;
+pub use jobs::{job, large_world, small_world, stops};

@@ -2,7 +2,7 @@
 use mw_look::{Call, Kind};
 use mw_schedule::*;
 use mw_words::Job;
-use mw_world::{Interrupted, Outcome};
+use mw_world::{Interrupted, Outcome, Stop, Tenant};
 use std::alloc::{AllocError, Global};
 use std::process::Abort;
 use std::test::Fail;
@@ -258,14 +258,20 @@ fn with_line_ends(alloc: Global, text: &str) -> Result<Vec<u8>, AllocError> {
     Ok(bytes)
 }
 
+/// In each of these texts the first wrong line is the one with this number.
+fn are_wrong<R: Abort + AllocGlobal>(rt: &R, number: u64, texts: &str) -> Result<(), Fail> {
+    let wrong = Some(ScheduleFault::Wrong(number));
+    for text in texts.split('\n') {
+        let whole = with_line_ends(rt.alloc(), text)?;
+        assert_eq!(rt; fault_of(rt.alloc(), &whole), wrong, "{text}");
+    }
+    Ok(())
+}
+
 #[test]
 fn first_lines_that_are_wrong(rt: HostRuntime) -> Result<(), Fail> {
     for (number, texts) in WRONG_TEXTS {
-        let wrong = Some(ScheduleFault::Wrong(number));
-        for text in texts.split('\n') {
-            let whole = with_line_ends(rt.alloc(), text)?;
-            assert_eq!(rt; fault_of(rt.alloc(), &whole), wrong, "{text}");
-        }
+        are_wrong(&rt, number, texts)?;
     }
     Ok(())
 }
@@ -286,39 +292,51 @@ fn first_lines_that_are_right(rt: HostRuntime) -> Result<(), Fail> {
     Ok(())
 }
 
+/// The names of steps that change a word, and what they change, in the same order.
+const CHANGES: &str =
+    "admit claim fill pin unpin free drop row plant resolve decide-yes decide-no release clean";
+
+const CHANGED: [Kind; 14] = [
+    Kind::Admit,
+    Kind::Claim,
+    Kind::Fill,
+    Kind::Pin,
+    Kind::Unpin,
+    Kind::Free,
+    Kind::Drop,
+    Kind::Row,
+    Kind::Plant,
+    Kind::Resolve,
+    Kind::DecideYes,
+    Kind::DecideNo,
+    Kind::Release,
+    Kind::Clean,
+];
+
 #[test]
 fn kinds_of_steps(rt: HostRuntime) {
-    let cases: [(&[u8], StepKind); 19] = [
-        (b"load", StepKind::Load),
-        (b"admit", StepKind::Change(Kind::Admit)),
-        (b"claim", StepKind::Change(Kind::Claim)),
-        (b"fill", StepKind::Change(Kind::Fill)),
-        (b"pin", StepKind::Change(Kind::Pin)),
-        (b"unpin", StepKind::Change(Kind::Unpin)),
-        (b"free", StepKind::Change(Kind::Free)),
-        (b"drop", StepKind::Change(Kind::Drop)),
-        (b"row", StepKind::Change(Kind::Row)),
-        (b"plant", StepKind::Change(Kind::Plant)),
-        (b"resolve", StepKind::Change(Kind::Resolve)),
-        (b"decide-yes", StepKind::Change(Kind::DecideYes)),
-        (b"decide-no", StepKind::Change(Kind::DecideNo)),
-        (b"release", StepKind::Change(Kind::Release)),
-        (b"clean", StepKind::Change(Kind::Clean)),
-        (b"prepare", StepKind::File(Call::Prepare)),
-        (b"seal", StepKind::File(Call::Seal)),
-        (b"settle", StepKind::File(Call::Settle)),
-        (b"cancel", StepKind::File(Call::Cancel)),
-    ];
-    for (name, kind) in cases {
-        assert_eq!(rt; StepKind::named(name), Some(kind));
+    assert_eq!(rt; StepKind::named(b"load"), Some(StepKind::Load));
+    for (name, kind) in CHANGES.split(' ').zip(CHANGED) {
+        let named = StepKind::named(name.as_bytes());
+        assert_eq!(rt; named, Some(StepKind::Change(kind)));
     }
-    assert_eq!(rt; StepKind::named(b"ready"), None);
-    assert_eq!(rt; StepKind::named(b"fault"), None);
+    let calls = [Call::Prepare, Call::Seal, Call::Settle, Call::Cancel];
+    for (name, call) in "prepare seal settle cancel".split(' ').zip(calls) {
+        let named = StepKind::named(name.as_bytes());
+        assert_eq!(rt; named, Some(StepKind::File(call)));
+    }
+    for name in ["ready", "fault"] {
+        assert_eq!(rt; StepKind::named(name.as_bytes()), None);
+    }
 }
 
 /// The schedule of this text.
 fn schedule_of<R: Abort + AllocGlobal>(rt: &R, text: &[u8]) -> Schedule {
     read_schedule(rt.alloc(), text).expect(rt, "a schedule")
+}
+
+fn is_tenant(tenant: &Tenant, name: &[u8], words: u16, quota: u8) -> bool {
+    tenant.name.as_slice() == name && (tenant.words, tenant.quota) == (words, quota)
 }
 
 #[test]
@@ -327,10 +345,8 @@ fn the_world_that_is_told(rt: HostRuntime) {
     assert_eq!(rt; (config.pool, config.workers, config.seq), (33, 2, 7));
     match config.tenants.as_slice() {
         [first, second] => {
-            assert!(rt; first.name.as_slice() == b"t".as_slice());
-            assert_eq!(rt; (first.words, first.quota), (2, 1));
-            assert!(rt; second.name.as_slice() == b"u-1".as_slice());
-            assert_eq!(rt; (second.words, second.quota), (4096, 32));
+            assert!(rt; is_tenant(first, b"t", 2, 1));
+            assert!(rt; is_tenant(second, b"u-1", 4096, 32));
         }
         _ => assert!(rt; false, "there are two"),
     }
@@ -367,6 +383,19 @@ fn what_is_to_happen(rt: HostRuntime) {
     assert_eq!(rt; number, 12);
 }
 
+/// Whether a stop is that of this tenant, cut off there, with these torn bytes, and an opening that
+/// fails there.
+fn is_stop(
+    stop: &Stop,
+    tenant: u8,
+    interrupted: Option<Interrupted>,
+    torn: &[u8],
+    fails_at: Option<u64>,
+) -> bool {
+    let is_cut = (stop.tenant, stop.interrupted) == (tenant, interrupted);
+    is_cut && stop.torn.as_slice() == torn && stop.fails_at == fails_at
+}
+
 #[test]
 fn how_all_stops(rt: HostRuntime) {
     let text = b"pool 2\nworkers 1\ntenant t 1 1\ntenant u 9 1\nrestart u=3,4,00a5ff,6 t=-,-,\n";
@@ -377,16 +406,14 @@ fn how_all_stops(rt: HostRuntime) {
     let Command::Restart(stops) = &line.command else {
         return assert!(rt; false, "all stops");
     };
-    assert_eq!(rt; stops.len(), 2);
-    let interrupted = Interrupted { worker: 3, made: 4 };
-    assert_eq!(rt; stops[0].tenant, 1);
-    assert_eq!(rt; stops[0].interrupted, Some(interrupted));
-    assert!(rt; stops[0].torn.as_slice() == [0, 0xa5, 0xff].as_slice());
-    assert_eq!(rt; stops[0].fails_at, Some(6));
-    assert_eq!(rt; stops[1].tenant, 0);
-    assert_eq!(rt; stops[1].interrupted, None);
-    assert!(rt; stops[1].torn.is_empty());
-    assert_eq!(rt; stops[1].fails_at, None);
+    match stops.as_slice() {
+        [first, second] => {
+            let interrupted = Some(Interrupted { worker: 3, made: 4 });
+            assert!(rt; is_stop(first, 1, interrupted, &[0, 0xa5, 0xff], Some(6)));
+            assert!(rt; is_stop(second, 0, None, &[], None));
+        }
+        _ => assert!(rt; false, "there are two"),
+    }
 }
 
 #[test]

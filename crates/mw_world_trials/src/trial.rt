@@ -3,7 +3,7 @@ ghost use Rattle.std.specs.Prelude.{◌<◌, ◌≤◌, length};
 ghost use Rattle.mw_world.specs.Definition.State.{IsConfig};
 
 use crate::dice::Dice;
-use crate::jobs::{job, small_world, stop};
+use crate::jobs::{job, small_world, stops};
 use crate::judge::{Disagreement, Handed, TrialFault, judge, judge_start};
 use mw_look::Op;
 use mw_simulator::{World, WorldFault};
@@ -125,13 +125,7 @@ impl Trial {
 
     /// All stops and starts again, as the dice want it if that can be.
     fn restart(&mut self, dice: &mut Dice) -> Result<(), TrialFault> {
-        let mut stops = Vec::new(self.alloc);
-        for tenant in 0..self.world.config().tenants.len() {
-            let stop = stop(self.alloc, dice, tenant as u8, self.world.config().workers)?;
-            if stops.push(stop).is_err() {
-                return Err(TrialFault::Memory);
-            }
-        }
+        let stops = stops(self.alloc, dice, self.world.config())?;
         if self.may(Event::Restart(stops))? {
             count(&mut self.tally.interruptions);
         } else {

@@ -1,0 +1,89 @@
+//! What is to hold of the world at every moment, by its groups, as far as what is seen tells it.
+
+use crate::seen::Seen;
+
+mod changes;
+mod counts;
+mod files;
+mod references;
+mod words;
+
+/// A group of what is to hold.
+#[derive(Clone, Copy)]
+pub(crate) enum Group {
+    Bits,
+    Requests,
+    Claims,
+    Slots,
+    References,
+    Attempts,
+    Words,
+    Late,
+    Owed,
+    Files,
+    Places,
+    Counts,
+}
+
+/// All of them.
+pub(crate) const GROUPS: [Group; 12] = [
+    Group::Bits,
+    Group::Requests,
+    Group::Claims,
+    Group::Slots,
+    Group::References,
+    Group::Attempts,
+    Group::Words,
+    Group::Late,
+    Group::Owed,
+    Group::Files,
+    Group::Places,
+    Group::Counts,
+];
+
+impl Group {
+    pub(crate) fn name(self) -> &'static str {
+        match self {
+            Group::Bits => "bits",
+            Group::Requests => "requests",
+            Group::Claims => "claims",
+            Group::Slots => "slots",
+            Group::References => "references",
+            Group::Attempts => "attempts",
+            Group::Words => "words",
+            Group::Late => "late",
+            Group::Owed => "owed",
+            Group::Files => "files",
+            Group::Places => "places",
+            Group::Counts => "counts",
+        }
+    }
+}
+
+/// The first group that doesn't hold.
+pub(crate) fn broken(seen: &Seen) -> Option<Group> {
+    for group in GROUPS {
+        if !holds(seen, group) {
+            return Some(group);
+        }
+    }
+    None
+}
+
+/// Whether a group holds.
+pub(crate) fn holds(seen: &Seen, group: Group) -> bool {
+    match group {
+        Group::Bits => !seen.is_junk,
+        Group::Requests => changes::requests(seen),
+        Group::Claims => changes::claims(seen),
+        Group::Slots => changes::slots(seen),
+        Group::References => references::references(seen),
+        Group::Attempts => references::attempts(seen),
+        Group::Words => words::words(seen),
+        Group::Late => words::late(seen),
+        Group::Owed => words::owed(seen),
+        Group::Files => files::files(seen),
+        Group::Places => files::places(seen),
+        Group::Counts => counts::counts(seen),
+    }
+}

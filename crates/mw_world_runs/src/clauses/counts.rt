@@ -1,0 +1,130 @@
+//! What is to hold of pins, doors and quotas.
+
+use crate::past::Change;
+use crate::pins::{frees, pins_held, waits};
+use crate::seen::Seen;
+use mw_actor::Slot;
+use mw_words::Gate;
+
+/// A gate counts the pins that are held or were left behind, and a slot that is taken and has no pin is to be
+/// freed by one request; a door counts the slots that are taken for its tenant and the requests that wait, no
+/// more than the quota, and the quotas fit.
+pub(super) fn counts(seen: &Seen) -> bool {
+    are_gates(seen) && are_doors(seen) && are_left(seen) && all_quotas(seen) <= seen.slots.len()
+}
+
+fn are_gates(seen: &Seen) -> bool {
+    let mut slot: u8 = 0;
+    for written in &seen.slots {
+        if !is_gate(seen, slot, written.gate) {
+            return false;
+        }
+        slot = slot.saturating_add(1);
+    }
+    true
+}
+
+fn is_gate(seen: &Seen, slot: u8, gate: Gate) -> bool {
+    let seq = gate.seq;
+    let left: u16 = if stays(seen, Slot { slot, seq }) {
+        1
+    } else {
+        0
+    };
+    let to_free: u16 = if gate.taken && gate.pins == 0 { 1 } else { 0 };
+    gate.pins == all_pins(seen, slot).saturating_add(left) && all_freeing(seen, slot) == to_free
+}
+
+fn stays(seen: &Seen, change: Slot) -> bool {
+    match seen.past.find(change) {
+        Some(change) => change.stays,
+        None => false,
+    }
+}
+
+fn all_pins(seen: &Seen, slot: u8) -> u16 {
+    let mut pins: u16 = 0;
+    for seat in &seen.seats {
+        if let Some(actor) = &seat.actor {
+            pins = pins.saturating_add(pins_held(slot, &actor.point()));
+        }
+    }
+    pins
+}
+
+fn all_freeing(seen: &Seen, slot: u8) -> u16 {
+    let mut freeing: u16 = 0;
+    for seat in &seen.seats {
+        if let Some(actor) = &seat.actor {
+            if frees(slot, &actor.point()) {
+                freeing = freeing.saturating_add(1);
+            }
+        }
+    }
+    freeing
+}
+
+fn are_doors(seen: &Seen) -> bool {
+    let mut tenant: u8 = 0;
+    for quota in &seen.quotas {
+        if !is_door(seen, tenant, *quota) {
+            return false;
+        }
+        tenant = tenant.saturating_add(1);
+    }
+    true
+}
+
+fn all_quotas(seen: &Seen) -> usize {
+    let mut all: usize = 0;
+    for quota in &seen.quotas {
+        all = all.saturating_add(usize::from(*quota));
+    }
+    all
+}
+
+fn are_left(seen: &Seen) -> bool {
+    for change in &seen.past.changes {
+        if change.stays && !seen.is_pinned(change.slot) {
+            return false;
+        }
+    }
+    true
+}
+
+fn is_door(seen: &Seen, tenant: u8, quota: u8) -> bool {
+    let Some(door) = seen.doors.get(usize::from(tenant)) else {
+        return false;
+    };
+    let used = taken(seen, tenant).saturating_add(waiting(seen, tenant));
+    door.used == used && used <= u16::from(quota)
+}
+
+/// How many slots are taken for a tenant.
+fn taken(seen: &Seen, tenant: u8) -> u16 {
+    let mut taken: u16 = 0;
+    for change in &seen.past.changes {
+        if is_taken(seen, change, tenant) {
+            taken = taken.saturating_add(1);
+        }
+    }
+    taken
+}
+
+/// How many requests of a tenant wait, or are to lower its door.
+fn waiting(seen: &Seen, tenant: u8) -> u16 {
+    let mut waiting: u16 = 0;
+    for seat in &seen.seats {
+        if let Some(actor) = &seat.actor {
+            if actor.tenant() == tenant && waits(&actor.point()) {
+                waiting = waiting.saturating_add(1);
+            }
+        }
+    }
+    waiting
+}
+
+fn is_taken(seen: &Seen, change: &Change, tenant: u8) -> bool {
+    let gate = seen.gate(change.slot.slot);
+    change.tenant == tenant && gate.taken && gate.seq == change.slot.seq
+}

@@ -1,0 +1,207 @@
+//! What is to hold of a change's words, and why no late worker does harm to them.
+
+use super::references::change_of;
+use crate::past::{Change, Held};
+use crate::pins::{cleans, is_owed, owner_of};
+use crate::seen::{Datum, Seat, Seen};
+use mw_actor::{Point, Slot};
+use mw_words::{Status, Word};
+use mw_world::Phase;
+
+/// Each word of a change is as the change's status allows, and one that it holds or has written names it.
+pub(super) fn words(seen: &Seen) -> bool {
+    for change in &seen.past.changes {
+        if !are_allowed(seen, change) {
+            return false;
+        }
+    }
+    true
+}
+
+fn are_allowed(seen: &Seen, change: &Change) -> bool {
+    for held in &change.words {
+        if !may_be(change.fate, held.phase) || !is_named(seen, change, held) {
+            return false;
+        }
+    }
+    true
+}
+
+fn may_be(fate: Status, phase: Phase) -> bool {
+    match (fate, phase) {
+        (Status::Draft | Status::Open, Phase::Fresh) => true,
+        (Status::Open | Status::YesDirty | Status::Yes, Phase::Keeping) => true,
+        (Status::Yes | Status::DoneYes, Phase::Inked) => true,
+        (Status::DoneYes, Phase::Gone) => true,
+        (Status::No { .. } | Status::DoneNo { .. }, phase) => !matches!(phase, Phase::Inked),
+        _ => false,
+    }
+}
+
+fn is_named(seen: &Seen, change: &Change, held: &Held) -> bool {
+    let word = seen.word(change.tenant, held.entry.addr);
+    let Slot { slot, seq } = change.slot;
+    match held.phase {
+        Phase::Keeping => word == Some(Word::Held { slot, seq }),
+        Phase::Inked => word
+            == Some(Word::Dirty {
+                slot,
+                value: held.entry.new,
+            }),
+        Phase::Fresh | Phase::Gone => true,
+    }
+}
+
+/// Each word of a change that was decided to be made was held once. Whoever may still hold a word for a
+/// change, and finds its attempt there, finds a word that was never held for it, of a change that is not
+/// made; and the row names that change.
+pub(super) fn late(seen: &Seen) -> bool {
+    were_held(seen) && do_no_harm(seen)
+}
+
+fn were_held(seen: &Seen) -> bool {
+    for change in &seen.past.changes {
+        if is_made(change.fate) && has_fresh(change) {
+            return false;
+        }
+    }
+    true
+}
+
+fn do_no_harm(seen: &Seen) -> bool {
+    for seat in &seen.seats {
+        if !does_no_harm(seen, seat) {
+            return false;
+        }
+    }
+    true
+}
+
+fn is_made(fate: Status) -> bool {
+    matches!(fate, Status::YesDirty | Status::Yes | Status::DoneYes)
+}
+
+/// Whether some word was never held for a change.
+fn has_fresh(change: &Change) -> bool {
+    for held in &change.words {
+        if matches!(held.phase, Phase::Fresh) {
+            return true;
+        }
+    }
+    false
+}
+
+fn does_no_harm(seen: &Seen, seat: &Seat) -> bool {
+    let Some(actor) = &seat.actor else {
+        return true;
+    };
+    match actor.point() {
+        Point::Resolve {
+            task,
+            entry,
+            attempt,
+            was_open: true,
+        } => is_armed(
+            seen,
+            Datum {
+                tenant: actor.tenant(),
+                address: actor.entry(task, entry).addr,
+                word: Word::Planted {
+                    worker: attempt.worker,
+                    attempt: attempt.number,
+                },
+            },
+            task.target,
+        ),
+        _ => true,
+    }
+}
+
+/// The same of this attempt, whose number was given out, for this change.
+fn is_armed(seen: &Seen, attempt: Datum, target: Slot) -> bool {
+    let Word::Planted {
+        worker,
+        attempt: number,
+    } = attempt.word
+    else {
+        return false;
+    };
+    let Some(seat) = seen.seats.get(usize::from(worker)) else {
+        return false;
+    };
+    let Some((change, held)) = change_of(seen, &attempt, target) else {
+        return false;
+    };
+    if seen.word(attempt.tenant, attempt.address) != Some(attempt.word) {
+        return number < seat.attempt;
+    }
+    let is_named = (seat.row.slot, seat.row.seq) == (target.slot, target.seq);
+    is_named && matches!(held.phase, Phase::Fresh) && !is_made(change.fate)
+}
+
+/// A word that is held for a refused change is owed. The owner of a change that is neither refused nor done
+/// with is there, or has left its pin; so is, for a word that a change has written, who cleans it.
+pub(super) fn owed(seen: &Seen) -> bool {
+    are_let_go(seen) && have_owners(seen)
+}
+
+fn are_let_go(seen: &Seen) -> bool {
+    for datum in &seen.data {
+        if !is_let_go(seen, datum) {
+            return false;
+        }
+    }
+    true
+}
+
+fn have_owners(seen: &Seen) -> bool {
+    for change in &seen.past.changes {
+        if !has_owner(seen, change) {
+            return false;
+        }
+    }
+    true
+}
+
+fn is_let_go(seen: &Seen, datum: &Datum) -> bool {
+    match datum.word {
+        Word::Held { slot, seq } => {
+            let change = Slot { slot, seq };
+            match seen.past.fate(change) {
+                Status::No { .. } | Status::DoneNo { .. } => {
+                    is_owed(seen, datum.tenant, change, datum.address)
+                }
+                _ => true,
+            }
+        }
+        Word::Dirty { slot, .. } => {
+            let seq = seen.gate(slot).seq;
+            is_cleaned(seen, Slot { slot, seq }, datum.address)
+        }
+        _ => true,
+    }
+}
+
+fn is_cleaned(seen: &Seen, slot: Slot, address: u16) -> bool {
+    let Some(change) = seen.past.find(slot) else {
+        return false;
+    };
+    change.stays
+        || match owner_of(seen, change.owner, slot.slot) {
+            Some(actor) => cleans(actor, address),
+            None => false,
+        }
+}
+
+fn has_owner(seen: &Seen, change: &Change) -> bool {
+    let gate = seen.gate(change.slot.slot);
+    let is_now = gate.taken && gate.seq == change.slot.seq;
+    let is_undone = matches!(
+        change.fate,
+        Status::Draft | Status::Open | Status::YesDirty | Status::Yes
+    );
+    !is_now
+        || !is_undone
+        || change.stays
+        || owner_of(seen, change.owner, change.slot.slot).is_some()
+}

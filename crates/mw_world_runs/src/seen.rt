@@ -1,0 +1,290 @@
+//! What can be seen of a world between two events.
+ghost use Rattle.std.specs.Prelude.{◌<◌, ◌≤◌};
+
+use crate::past::Past;
+use mw_actor::{Actor, Slot};
+use mw_simulator::World;
+use mw_words::{
+    At, Door, Entry, Gate, MAX_ENTRIES, MAX_POOL, MAX_TENANTS, MAX_WORKERS, Row, Status, Word,
+};
+use std::alloc::{AllocError, Global};
+
+/// A word of a tenant.
+#[derive(Clone, Copy)]
+pub(crate) struct Datum {
+    pub(crate) tenant: u8,
+    pub(crate) address: u16,
+    pub(crate) word: Word,
+}
+
+/// What stands in a slot.
+#[derive(Clone, Copy)]
+pub(crate) struct Written {
+    pub(crate) gate: Gate,
+    pub(crate) status: Status,
+    pub(crate) count: u64,
+    pub(crate) entries: [Entry; MAX_ENTRIES],
+}
+
+/// A worker.
+#[derive(Drop)]
+pub(crate) struct Seat {
+    pub(crate) actor: Option<Actor>,
+    pub(crate) attempt: u64,
+    pub(crate) row: Row,
+}
+
+/// What the readers of a world show, and its past as far as its events have told it.
+#[derive(Drop)]
+pub(crate) struct Seen {
+    /// By tenant: how many words it has, how many slots it may use, and its door.
+    pub(crate) words: Vec<u16>,
+    pub(crate) quotas: Vec<u8>,
+    pub(crate) doors: Vec<Door>,
+    pub(crate) slots: Vec<Written>,
+    pub(crate) seats: Vec<Seat>,
+    pub(crate) data: Vec<Datum>,
+    pub(crate) past: Past,
+    /// A shared word has bits that no word of its kind has.
+    pub(crate) is_junk: bool,
+}
+
+impl Seen {
+    /// Nothing is seen yet.
+    pub(crate) fn new(alloc: Global) -> Seen {
+        Seen {
+            words: Vec::new(alloc),
+            quotas: Vec::new(alloc),
+            doors: Vec::new(alloc),
+            slots: Vec::new(alloc),
+            seats: Vec::new(alloc),
+            data: Vec::new(alloc),
+            past: Past::new(alloc),
+            is_junk: false,
+        }
+    }
+
+    /// Looks at a world that has just started.
+    pub(crate) fn begin(&mut self, world: &World) -> Result<(), AllocError> {
+        self.look(world)?;
+        self.start()
+    }
+
+    /// All has started, with the words that are seen.
+    pub(crate) fn start(&mut self) -> Result<(), AllocError> {
+        self.past.start(&self.data)
+    }
+
+    /// Looks at a world.
+    pub(crate) fn look(&mut self, world: &World) -> Result<(), AllocError> {
+        self.is_junk = false;
+        self.look_at_tenants(world)?;
+        self.look_at_slots(world)?;
+        self.look_at_workers(world)
+    }
+
+    fn look_at_tenants(&mut self, world: &World) -> Result<(), AllocError> {
+        self.words.clear();
+        self.quotas.clear();
+        self.doors.clear();
+        self.data.clear();
+        for number in 0..MAX_TENANTS {
+            self.look_at_tenant(world, number as u8)?;
+        }
+        Ok(())
+    }
+
+    /// Looks at a tenant, if there is one of this number.
+    fn look_at_tenant(&mut self, world: &World, tenant: u8) -> Result<(), AllocError> {
+        let Some((words, quota)) = extent(world, tenant) else {
+            return Ok(());
+        };
+        self.words.push(words)?;
+        self.quotas.push(quota)?;
+        self.look_at_door(world, tenant)?;
+        self.look_at_data(world, tenant, words)
+    }
+
+    fn look_at_door(&mut self, world: &World, tenant: u8) -> Result<(), AllocError> {
+        match Door::unpack(bits(world, At::Door(tenant))) {
+            Some(door) => self.doors.push(door)?,
+            None => self.is_junk = true,
+        }
+        Ok(())
+    }
+
+    fn look_at_data(&mut self, world: &World, tenant: u8, words: u16) -> Result<(), AllocError> {
+        for address in 0..words {
+            match Word::unpack(bits(world, At::Data { tenant, address })) {
+                Some(word) => self.data.push(Datum {
+                    tenant,
+                    address,
+                    word,
+                })?,
+                None => self.is_junk = true,
+            }
+        }
+        Ok(())
+    }
+
+    fn look_at_slots(&mut self, world: &World) -> Result<(), AllocError> {
+        self.slots.clear();
+        for slot in 0..MAX_POOL {
+            if slot >= world.config().pool {
+                return Ok(());
+            }
+            let slot = slot as u8;
+            let gate = Gate::unpack(bits(world, At::Gate(slot)));
+            let status = Status::unpack(bits(world, At::Status(slot)));
+            match (gate, status) {
+                (Some(gate), Some(status)) => self.slots.push(Written {
+                    gate,
+                    status,
+                    count: bits(world, At::Count(slot)),
+                    entries: entries(world, slot),
+                })?,
+                _ => self.is_junk = true,
+            }
+        }
+        Ok(())
+    }
+
+    fn look_at_workers(&mut self, world: &World) -> Result<(), AllocError> {
+        self.seats.clear();
+        for worker in 0..MAX_WORKERS {
+            if worker >= world.config().workers {
+                return Ok(());
+            }
+            match seat_of(world, worker) {
+                Some(seat) => self.seats.push(seat)?,
+                None => self.is_junk = true,
+            }
+        }
+        Ok(())
+    }
+
+    /// The gate of a slot; of one that isn't there one that isn't taken.
+    pub(crate) fn gate(&self, slot: u8) -> Gate {
+        match self.slots.get(usize::from(slot)) {
+            Some(written) => written.gate,
+            None => Gate {
+                taken: false,
+                pins: 0,
+                seq: 0,
+            },
+        }
+    }
+
+    /// The status of a slot.
+    pub(crate) fn status(&self, slot: u8) -> Status {
+        match self.slots.get(usize::from(slot)) {
+            Some(written) => written.status,
+            None => Status::Draft,
+        }
+    }
+
+    /// Whether a tenant's door tells that its file has failed.
+    pub(crate) fn has_failed(&self, tenant: u8) -> bool {
+        match self.doors.get(usize::from(tenant)) {
+            Some(door) => door.fault,
+            None => false,
+        }
+    }
+
+    /// A copy of a worker's request.
+    pub(crate) fn actor(&self, worker: u8) -> Option<Actor> {
+        let seat = self.seats.get(usize::from(worker))?;
+        copied(seat.actor.as_ref())
+    }
+
+    /// The row of a worker.
+    pub(crate) fn row(&self, worker: u8) -> Option<Row> {
+        Some(self.seats.get(usize::from(worker))?.row)
+    }
+
+    /// A word of a tenant.
+    pub(crate) fn word(&self, tenant: u8, address: u16) -> Option<Word> {
+        for datum in &self.data {
+            if datum.tenant == tenant && datum.address == address {
+                return Some(datum.word);
+            }
+        }
+        None
+    }
+
+    /// Whether the slot is taken and pinned, under this number.
+    pub(crate) fn is_pinned(&self, change: Slot) -> bool {
+        let gate = self.gate(change.slot);
+        gate.taken && gate.pins >= 1 && gate.seq == change.seq
+    }
+}
+
+fn copied(actor: Option<&Actor>) -> Option<Actor> {
+    match actor {
+        Some(actor) => Some(actor.copy()),
+        None => None,
+    }
+}
+
+/// What is seen of a worker; nothing where its row has bits that no row has.
+fn seat_of(world: &World, worker: u8) -> Option<Seat>
+    requires { worker < world.now.config.workers }
+{
+    let row = Row::unpack(bits(world, At::Row(worker)))?;
+    Some(Seat {
+        actor: copied(world.actor(worker)),
+        attempt: world.attempt(worker),
+        row,
+    })
+}
+
+/// How many words a tenant has, and how many slots it may use.
+fn extent(world: &World, tenant: u8) -> Option<(u16, u8)> {
+    match world.config().tenants.get(usize::from(tenant)) {
+        Some(its) => Some((its.words, its.quota)),
+        None => None,
+    }
+}
+
+/// The bits of a shared word; zeros for one that the world hasn't got.
+fn bits(world: &World, at: At) -> u64 {
+    match at {
+        At::Door(tenant) if usize::from(tenant) < world.config().tenants.len() => {
+            world.word(At::Door(tenant))
+        }
+        At::Row(worker) if worker < world.config().workers => world.word(At::Row(worker)),
+        At::Gate(slot) if u16::from(slot) < world.config().pool => world.word(At::Gate(slot)),
+        At::Status(slot) if u16::from(slot) < world.config().pool => world.word(At::Status(slot)),
+        At::Count(slot) if u16::from(slot) < world.config().pool => world.word(At::Count(slot)),
+        At::Data { tenant, address } => data_bits(world, tenant, address),
+        _ => 0,
+    }
+}
+
+fn data_bits(world: &World, tenant: u8, address: u16) -> u64 {
+    let tenants = &world.config().tenants;
+    if usize::from(tenant) >= tenants.len() {
+        return 0;
+    }
+    if address >= tenants[usize::from(tenant)].words {
+        return 0;
+    }
+    world.word(At::Data { tenant, address })
+}
+
+/// The entries that stand in a slot.
+fn entries(world: &World, slot: u8) -> [Entry; MAX_ENTRIES] {
+    let mut entries = [Entry::default(); MAX_ENTRIES];
+    if u16::from(slot) >= world.config().pool {
+        return entries;
+    }
+    for index in 0..MAX_ENTRIES {
+        let entry = index as u8;
+        entries[index] = Entry {
+            addr: u16::try_from(world.word(At::Addr { slot, entry })).unwrap_or(u16::MAX),
+            expected: world.word(At::Expected { slot, entry }),
+            new: world.word(At::New { slot, entry }),
+        };
+    }
+    entries
+}

@@ -1,0 +1,162 @@
+//! Random runs of larger worlds, in which all that is to hold of a world is looked at after every event, as
+//! far as the readers of a world tell it.
+//!
+//! What a change has come to is told by the steps that the events make: see `past`. Of the invariant of
+//! mw_world this leaves out what no reader shows: a request's quota and pool; that the worker's attempt and
+//! what it may still do in the history are those of its point, from which they are taken here; whether a
+//! file has failed but for what its door tells, what is in doubt in it, and how long it is; and in which
+//! place of its file a change is, of which it is only looked at that there are as many places as changes.
+//! The words of a file are those with which the tenant started and what was sealed since.
+
+use crate::clauses::{GROUPS, Group, broken, holds};
+use crate::past::Change;
+use crate::seen::{Datum, Seen};
+use crate::spoiling::spoil;
+use crate::watch::{RunFault, Watch};
+use mw_words::{Door, Status, Word};
+use mw_world::Phase;
+use mw_world_trials::Dice;
+use std::alloc::Global;
+
+/// How many runs there are, and how many events each has.
+const RUNS: u64 = 100;
+
+const EVENTS: u64 = 250;
+
+/// What was come across in runs: words held, written and planted, refusals, and failed files.
+#[derive(Clone, Copy, Default)]
+struct Tally {
+    held: u64,
+    written: u64,
+    planted: u64,
+    refused: u64,
+    failed: u64,
+}
+
+impl Tally {
+    fn count(&mut self, seen: &Seen) {
+        self.count_words(&seen.data);
+        self.count_changes(&seen.past.changes);
+        self.count_doors(&seen.doors);
+    }
+
+    fn count_words(&mut self, data: &[Datum]) {
+        for datum in data {
+            match datum.word {
+                Word::Plain(_) => {}
+                Word::Planted { .. } => self.planted = self.planted.saturating_add(1),
+                Word::Held { .. } => self.held = self.held.saturating_add(1),
+                Word::Dirty { .. } => self.written = self.written.saturating_add(1),
+            }
+        }
+    }
+
+    fn count_changes(&mut self, changes: &[Change]) {
+        for change in changes {
+            if matches!(change.fate, Status::DoneNo { .. }) {
+                self.refused = self.refused.saturating_add(1);
+            }
+        }
+    }
+
+    fn count_doors(&mut self, doors: &[Door]) {
+        for door in doors {
+            if door.fault {
+                self.failed = self.failed.saturating_add(1);
+            }
+        }
+    }
+}
+
+/// A run that this seed chooses, in which all that is to hold is looked at after each event.
+fn play(alloc: Global, seed: u64, tally: &mut Tally) -> Result<(), RunFault> {
+    let mut dice = Dice::new(seed);
+    let mut watch = Watch::new(alloc, &mut dice)?;
+    run(&mut watch, &mut dice, tally)
+}
+
+fn run(watch: &mut Watch, dice: &mut Dice, tally: &mut Tally) -> Result<(), RunFault> {
+    watch.begin()?;
+    for event in 0..EVENTS {
+        watch.go_on(dice)?;
+        if let Some(group) = broken(&watch.seen) {
+            return Err(RunFault::Broken(group, event));
+        }
+        tally.count(&watch.seen);
+    }
+    Ok(())
+}
+
+#[test]
+fn the_invariant_holds_of_larger_worlds(rt: HostRuntime) {
+    let mut tally = Tally::default();
+    for seed in 0..RUNS {
+        if let Err(fault) = play(rt.alloc(), seed, &mut tally) {
+            let (wrong, event) = fault.told();
+            assert!(rt; false, "seed {seed}: {wrong} {event}");
+        }
+    }
+    assert!(rt; tally.held > RUNS);
+    assert!(rt; tally.written > RUNS);
+    assert!(rt; tally.planted > RUNS);
+    assert!(rt; tally.refused > RUNS);
+    assert!(rt; tally.failed > RUNS);
+}
+
+/// Whether a change is open, of which no word is held yet.
+fn has_just_opened(change: &Change) -> bool {
+    let mut is_fresh = change.fate == Status::Open;
+    for held in &change.words {
+        is_fresh = is_fresh && matches!(held.phase, Phase::Fresh);
+    }
+    is_fresh
+}
+
+/// Whether there is some such change.
+fn has_opened(seen: &Seen) -> bool {
+    for change in &seen.past.changes {
+        if has_just_opened(change) {
+            return true;
+        }
+    }
+    false
+}
+
+/// Goes on until a change has just opened.
+fn open(watch: &mut Watch, dice: &mut Dice) -> Result<(), RunFault> {
+    watch.begin()?;
+    for _ in 0..EVENTS {
+        if has_opened(&watch.seen) {
+            return Ok(());
+        }
+        watch.go_on(dice)?;
+    }
+    Err(RunFault::Stuck)
+}
+
+/// Whether a group holds until it is spoilt.
+fn is_noticed(seen: &mut Seen, group: Group) -> bool {
+    let held = holds(seen, group);
+    spoil(seen, group);
+    held && !holds(seen, group)
+}
+
+/// The same in a run in which a change has just opened.
+fn is_noticed_in_a_run(alloc: Global, group: Group) -> Result<bool, RunFault> {
+    let mut dice = Dice::new(1);
+    let mut watch = Watch::new(alloc, &mut dice)?;
+    notice(&mut watch, &mut dice, group)
+}
+
+fn notice(watch: &mut Watch, dice: &mut Dice, group: Group) -> Result<bool, RunFault> {
+    open(watch, dice)?;
+    Ok(is_noticed(&mut watch.seen, group))
+}
+
+#[test]
+fn what_is_wrong_is_noticed(rt: HostRuntime) {
+    for group in GROUPS {
+        let is_noticed = matches!(is_noticed_in_a_run(rt.alloc(), group), Ok(true));
+        assert!(rt; is_noticed, "{}", group.name());
+    }
+}

@@ -1,0 +1,143 @@
+//! A larger world that random events happen to, and what is seen of it.
+ghost use Rattle.std.specs.Prelude.{◌≡◌, ◌<◌, ◌≤◌};
+ghost use Rattle.mw_world.specs.Definition.State.{IsConfig};
+
+use crate::clauses::Group;
+use crate::past::{call_deed, step_deed};
+use crate::seen::Seen;
+use mw_look::Op;
+use mw_simulator::{World, WorldFault};
+use mw_world::{Event, Outcome};
+use mw_world_trials::{Dice, job, large_world, stops};
+use std::alloc::{AllocError, Global};
+
+/// Why a run ended before its last event.
+#[derive(Clone, Copy)]
+pub(crate) enum RunFault {
+    /// Want of memory.
+    Memory,
+    /// A worker's next step was refused.
+    Stuck,
+    /// A group doesn't hold after this event.
+    Broken(Group, u64),
+}
+
+impl RunFault {
+    /// What went wrong, and after which event, where that is known.
+    pub(crate) fn told(self) -> (&'static str, u64) {
+        match self {
+            RunFault::Memory => ("memory", 0),
+            RunFault::Stuck => ("stuck", 0),
+            RunFault::Broken(group, event) => (group.name(), event),
+        }
+    }
+}
+
+impl From<AllocError> for RunFault {
+    fn from(_: AllocError) -> RunFault {
+        RunFault::Memory
+    }
+}
+
+/// A world, and what is seen of it.
+#[derive(Drop)]
+pub(crate) struct Watch {
+    alloc: Global,
+    world: World,
+    pub(crate) seen: Seen,
+    ghost configured: { IsConfig world.config },
+}
+
+impl Watch {
+    /// A larger world, as the dice want it, at which nobody has looked yet.
+    pub(crate) fn new(alloc: Global, dice: &mut Dice) -> Result<Watch, AllocError> {
+        Ok(Watch {
+            alloc,
+            world: World::new(alloc, large_world(dice))?,
+            seen: Seen::new(alloc),
+        })
+    }
+
+    /// Looks at the world, to which nothing has happened yet.
+    pub(crate) fn begin(&mut self) -> Result<(), AllocError> {
+        self.seen.begin(&self.world)
+    }
+
+    /// One event, of a worker or of all.
+    pub(crate) fn go_on(&mut self, dice: &mut Dice) -> Result<(), RunFault> {
+        if dice.once_in(150) {
+            return self.restart(dice);
+        }
+        let worker = dice.small(self.world.config().workers);
+        let Some(actor) = self.world.actor(worker) else {
+            return self.ask(worker, dice);
+        };
+        if actor.reply().is_some() {
+            return self.must(Event::Hand(worker));
+        }
+        match actor.ask() {
+            Op::File { .. } => self.call(worker, dice),
+            _ => self.step(worker),
+        }
+    }
+
+    /// A request, which may be one that is refused.
+    fn ask(&mut self, worker: u8, dice: &mut Dice) -> Result<(), RunFault> {
+        let tenants = &self.world.config().tenants;
+        let tenant = dice.small(tenants.len() as u8);
+        let job = job(dice, tenants[usize::from(tenant)].words);
+        self.may(Event::Come(worker, tenant, job))?;
+        Ok(())
+    }
+
+    fn step(&mut self, worker: u8) -> Result<(), RunFault> {
+        let Some(actor) = self.seen.actor(worker) else {
+            return Err(RunFault::Stuck);
+        };
+        let deed = step_deed(&self.seen, &actor);
+        self.seen.past.keep(deed, &actor)?;
+        self.must(Event::Step(worker))
+    }
+
+    /// A call on a file, in which a device call may fail.
+    fn call(&mut self, worker: u8, dice: &mut Dice) -> Result<(), RunFault> {
+        if dice.once_in(15) && self.may(Event::File(worker, Outcome::Fail(1 + dice.below(6))))? {
+            return Ok(());
+        }
+        let Some(actor) = self.seen.actor(worker) else {
+            return Err(RunFault::Stuck);
+        };
+        let deed = call_deed(&self.seen, &actor);
+        self.seen.past.keep(deed, &actor)?;
+        self.must(Event::File(worker, Outcome::Good))
+    }
+
+    /// All stops and starts again, as the dice want it if that can be.
+    fn restart(&mut self, dice: &mut Dice) -> Result<(), RunFault> {
+        let stops = stops(self.alloc, dice, self.world.config())?;
+        if !self.may(Event::Restart(stops))? {
+            self.must(Event::Restart(Vec::new(self.alloc)))?;
+        }
+        Ok(self.seen.start()?)
+    }
+
+    fn must(&mut self, event: Event) -> Result<(), RunFault> {
+        if self.may(event)? {
+            Ok(())
+        } else {
+            Err(RunFault::Stuck)
+        }
+    }
+
+    /// Whether an event can happen; then it does, and is looked at.
+    fn may(&mut self, event: Event) -> Result<bool, RunFault> {
+        match self.world.step(event) {
+            Ok(()) => {
+                self.seen.look(&self.world)?;
+                Ok(true)
+            }
+            Err(WorldFault::NotEnabled | WorldFault::LastNumber) => Ok(false),
+            Err(WorldFault::Memory) => Err(RunFault::Memory),
+        }
+    }
+}
