@@ -3,7 +3,9 @@
 //!
 //! What to read first. `specs/Layout` says where each shared word stands, `specs/Ways` what each kind of step
 //! makes of a word's bits; `specs/Rule` is the rule, with what one thread knows; `specs/Carrying` what a step
-//! asks of the thread that makes it, and what it tells the thread. `mw_table` has the steps.
+//! asks of the thread that makes it, and what it tells the thread; `specs/Calling` what that comes to over a
+//! whole call; `specs/Dealing` how what threads know is parted and put together. `specs/Laws` and
+//! `specs/Continuing` say what is proved of these. `mw_table` has the steps.
 #![tactic(auto)]
 
 mod indexes;
