@@ -4,6 +4,7 @@ pub mod Attempting
 pub mod Driving
 pub mod Finding
 pub mod Idling
+pub mod Meetings
 pub mod Numbering
 pub mod Opened
 pub mod Passing

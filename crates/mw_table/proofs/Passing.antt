@@ -12,7 +12,8 @@ use Rattle.mw_simulator.specs.Shows.{Shows}
 use Rattle.mw_rule.specs.declared.views.View.{View}
 use Rattle.mw_rule.specs.Carrying.{IsReady}
 use Rattle.mw_rule.specs.Dealing.{dealt, head_of, knows, left_over, reins_from, rest_of}
-use Rattle.mw_rule.specs.Rule.{Each}
+use Rattle.mw_rule.specs.Rule.{Each, IsRight, words_given}
+use Rattle.mw_rule.proofs.Righting.{nothing_right}
 use Rattle.mw_table.specs.declared.shared.Pass.{Pass}
 use Rattle.mw_table.specs.declared.shared.Shared.{Shared}
 use Rattle.mw_table.specs.Beginning.{opening_of, seat_in}
@@ -58,6 +59,7 @@ pass_dealt shared world before pass stands same table low is idle = record {
   there = low;
   view = is;
   idle = idle;
+  right = subst IsRight (sym is) (record { changes = λ tenant among. nothing_right (words_given (view_of world pass.worker) tenant); mine = tt });
   ready = subst (λ (view : View). Each (IsReady world.config) view.reins) (sym is) (ready world before pass.worker stands low, tt);
 }
 

@@ -1,6 +1,7 @@
 pub mod Beginning
 pub mod Carried
 pub mod Dealt
+pub mod Meeting
 pub mod Numbers
 pub mod Origins
 pub mod Passes

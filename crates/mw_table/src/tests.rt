@@ -29,16 +29,18 @@ fn config() -> Config
 #[test]
 fn a_new_world_in_a_table(rt: HostRuntime) -> Result<(), Fail> {
     let world = World::new(rt.alloc(), config())?;
-    let (shared, passes, actors) = Shared::of_world(rt.alloc(), &world)?;
+    let (shared, mut passes, actors) = Shared::of_world(rt.alloc(), &world)?;
     assert_eq!(rt; (passes.len(), actors.len()), (2, 2));
-    for mut pass in passes {
-        let door = Door {
-            used: 0,
-            fault: false,
-        };
-        assert_eq!(rt; shared.figure(&mut pass, At::Door(0)), door.pack());
-        assert_eq!(rt; shared.figure(&mut pass, At::Gate(0)), 0);
-        assert!(rt; pass.idle());
-    }
+    let (Some(mut one), Some(mut other)) = (passes.pop(), passes.pop()) else {
+        panic!(rt; "a pass for each worker")
+    };
+    let door = Door {
+        used: 0,
+        fault: false,
+    };
+    assert_eq!(rt; shared.figure(&mut one, At::Door(0)), door.pack());
+    assert_eq!(rt; shared.figure(&mut other, At::Gate(0)), 0);
+    shared.meet(&mut one, &mut other);
+    assert!(rt; one.idle() && other.idle());
     Ok(())
 }
