@@ -33,35 +33,52 @@ fn files_that_are_accepted(rt: HostRuntime) {
     assert_eq!(rt; count(b"abcdefghijklmnop 1 1 a\n", 1), Ok(1));
 }
 
-#[test]
-fn one_line_that_is_refused(rt: HostRuntime) {
-    let cases: [(&[u8], Refusal); 22] = [
-        (b"", Refusal::None),
-        (b"\n", Refusal::Form(1)),
-        (b"t\n", Refusal::Form(1)),
-        (b"t 1 1 a", Refusal::Form(1)),
-        (b"t 1 1 a\r\n", Refusal::Form(1)),
-        (b"t 1 1 a b\n", Refusal::Form(1)),
-        (b"t 1 1 \n", Refusal::Form(1)),
-        (b"t 1 1\n", Refusal::Form(1)),
-        (b"t  1 1 a\n", Refusal::Form(1)),
-        (b" t 1 1 a\n", Refusal::Form(1)),
-        (b"T 1 1 a\n", Refusal::Form(1)),
-        (b"abcdefghijklmnopq 1 1 a\n", Refusal::Form(1)),
-        (b"t 01 1 a\n", Refusal::Form(1)),
-        (b"t 1 00 a\n", Refusal::Form(1)),
-        (b"t -1 1 a\n", Refusal::Form(1)),
-        (b"t 1 1 \xc3\xa9\n", Refusal::Form(1)),
-        (b"t 0 1 a\n", Refusal::Words(1)),
-        (b"t 4097 1 a\n", Refusal::Words(1)),
-        (b"t 65537 1 a\n", Refusal::Words(1)),
-        (b"t 1 0 a\n", Refusal::Quota(1)),
-        (b"t 1 33 a\n", Refusal::Quota(1)),
-        (b"t 1 257 a\n", Refusal::Quota(1)),
-    ];
-    for (text, refusal) in cases {
-        assert_eq!(rt; count(text, 256), Err(refusal));
+/// Refusals, and texts that are refused so, one a line, in which `/` stands for a line's end.
+const REFUSED_TEXTS: [(Refusal, &str); 4] = [
+    (Refusal::None, ""),
+    (
+        Refusal::Form(1),
+        "\
+/
+t/
+t 1 1 a
+t 1 1 a\r/
+t 1 1 a b/
+t 1 1 /
+t 1 1/
+t  1 1 a/
+ t 1 1 a/
+T 1 1 a/
+abcdefghijklmnopq 1 1 a/
+t 01 1 a/
+t 1 00 a/
+t -1 1 a/
+t 1 1 é/",
+    ),
+    (Refusal::Words(1), "t 0 1 a/\nt 4097 1 a/\nt 65537 1 a/"),
+    (Refusal::Quota(1), "t 1 0 a/\nt 1 33 a/\nt 1 257 a/"),
+];
+
+/// A text whose lines end where `/` stands.
+fn with_line_ends(alloc: Global, text: &str) -> Result<Vec<u8>, AllocError> {
+    let mut bytes = text.as_bytes().to_vec(alloc)?;
+    for byte in bytes.iter_mut() {
+        if *byte == b'/' {
+            *byte = b'\n';
+        }
     }
+    Ok(bytes)
+}
+
+#[test]
+fn one_line_that_is_refused(rt: HostRuntime) -> Result<(), Fail> {
+    for (refusal, texts) in REFUSED_TEXTS {
+        for text in texts.split('\n') {
+            let text = with_line_ends(rt.alloc(), text)?;
+            assert_eq!(rt; count(&text, 256), Err(refusal));
+        }
+    }
+    Ok(())
 }
 
 #[test]
@@ -151,11 +168,11 @@ fn texts_of_refusals(rt: HostRuntime) -> Result<(), Fail> {
     Ok(())
 }
 
-/// What a command line gives: what it asks for, or the name of its fault.
-fn read(alloc: Global, args: &[&str]) -> Result<String, AllocError> {
+/// What a command line, its words apart by a space, gives: what it asks for, or the name of its fault.
+fn read(alloc: Global, line: &str) -> Result<String, AllocError> {
     let mut given = Vec::new(alloc);
-    for arg in args {
-        given.push(String::from_str(alloc, arg)?)?;
+    for word in line.split(' ') {
+        given.push(String::from_str(alloc, word)?)?;
     }
     match read_args(alloc, &given) {
         Ok(args) => format!(in alloc; "{args:?}"),
@@ -165,143 +182,70 @@ fn read(alloc: Global, args: &[&str]) -> Result<String, AllocError> {
     }
 }
 
-const LINES: [(&[&str], &str); 4] = [
+/// Command lines, and what they ask for.
+const LINES: [(&str, &str); 4] = [
     (
-        &["mwserve", "--tenants", "t", "--script", "s"],
+        "mwserve --tenants t --script s",
         "Args { tenants: \"t\", pool: 256, workers: 4, mode: Script(\"s\") }",
     ),
     (
-        &["mwserve", "--listen", "a:1", "--tenants", "t"],
+        "mwserve --listen a:1 --tenants t",
         "Args { tenants: \"t\", pool: 256, workers: 4, mode: Listen(\"a:1\", None) }",
     ),
     (
-        &[
-            "mwserve",
-            "--tenants",
-            "t",
-            "--pool",
-            "1",
-            "--workers",
-            "64",
-            "--listen",
-            "a:1",
-            "--connections",
-            "1000000",
-        ],
+        "mwserve --tenants t --pool 1 --workers 64 --listen a:1 --connections 1000000",
         "Args { tenants: \"t\", pool: 1, workers: 64, mode: Listen(\"a:1\", Some(1000000)) }",
     ),
     (
-        &[
-            "mwserve",
-            "--tenants",
-            "t",
-            "--pool=256",
-            "--workers=1",
-            "--listen=a:1",
-            "--connections=1",
-        ],
+        "mwserve --tenants t --pool=256 --workers=1 --listen=a:1 --connections=1",
         "Args { tenants: \"t\", pool: 256, workers: 1, mode: Listen(\"a:1\", Some(1)) }",
     ),
 ];
 
 #[test]
 fn command_lines_that_are_accepted(rt: HostRuntime) -> Result<(), Fail> {
-    for (args, wanted) in LINES {
-        let text = read(rt.alloc(), args)?;
+    for (line, wanted) in LINES {
+        let text = read(rt.alloc(), line)?;
         assert_eq!(rt; text.as_str(), wanted);
     }
     Ok(())
 }
 
+/// Command lines with no mode, with two, and with a number of connections of a script.
+const LINES_WITHOUT_ONE_MODE: &str = "\
+mwserve --tenants t
+mwserve --tenants t --listen a:1 --script s
+mwserve --tenants t --script s --connections 1";
+
 #[test]
 fn command_lines_without_one_mode(rt: HostRuntime) -> Result<(), Fail> {
-    let cases: [&[&str]; 3] = [
-        &["mwserve", "--tenants", "t"],
-        &[
-            "mwserve",
-            "--tenants",
-            "t",
-            "--listen",
-            "a:1",
-            "--script",
-            "s",
-        ],
-        &[
-            "mwserve",
-            "--tenants",
-            "t",
-            "--script",
-            "s",
-            "--connections",
-            "1",
-        ],
-    ];
-    for args in cases {
-        let text = read(rt.alloc(), args)?;
+    for line in LINES_WITHOUT_ONE_MODE.split('\n') {
+        let text = read(rt.alloc(), line)?;
         assert_eq!(rt; text.as_str(), "mode");
     }
     Ok(())
 }
 
+/// Command lines that are not of the form that the help tells, or with a number out of range.
+const REFUSED_LINES: &str = "\
+mwserve
+mwserve --script s
+mwserve --help
+mwserve --tenants
+mwserve --tenants t --script s --pool 0
+mwserve --tenants t --script s --pool 257
+mwserve --tenants t --script s --pool x
+mwserve --tenants t --script s --workers 0
+mwserve --tenants t --script s --workers 65
+mwserve --tenants t --listen a --connections 0
+mwserve --tenants t --listen a --connections 1000001
+mwserve --tenants t --script s --what
+mwserve --tenants t --script s more";
+
 #[test]
 fn command_lines_that_are_refused(rt: HostRuntime) -> Result<(), Fail> {
-    let cases: [&[&str]; 13] = [
-        &["mwserve"],
-        &["mwserve", "--script", "s"],
-        &["mwserve", "--help"],
-        &["mwserve", "--tenants"],
-        &["mwserve", "--tenants", "t", "--script", "s", "--pool", "0"],
-        &[
-            "mwserve",
-            "--tenants",
-            "t",
-            "--script",
-            "s",
-            "--pool",
-            "257",
-        ],
-        &["mwserve", "--tenants", "t", "--script", "s", "--pool", "x"],
-        &[
-            "mwserve",
-            "--tenants",
-            "t",
-            "--script",
-            "s",
-            "--workers",
-            "0",
-        ],
-        &[
-            "mwserve",
-            "--tenants",
-            "t",
-            "--script",
-            "s",
-            "--workers",
-            "65",
-        ],
-        &[
-            "mwserve",
-            "--tenants",
-            "t",
-            "--listen",
-            "a",
-            "--connections",
-            "0",
-        ],
-        &[
-            "mwserve",
-            "--tenants",
-            "t",
-            "--listen",
-            "a",
-            "--connections",
-            "1000001",
-        ],
-        &["mwserve", "--tenants", "t", "--script", "s", "--what"],
-        &["mwserve", "--tenants", "t", "--script", "s", "more"],
-    ];
-    for args in cases {
-        let text = read(rt.alloc(), args)?;
+    for line in REFUSED_LINES.split('\n') {
+        let text = read(rt.alloc(), line)?;
         assert_eq!(rt; text.as_str(), "refused");
     }
     Ok(())
@@ -310,8 +254,8 @@ fn command_lines_that_are_refused(rt: HostRuntime) -> Result<(), Fail> {
 /// Where memory is refused the answer is want of memory, and never another one.
 #[test]
 fn no_other_answer_for_want_of_memory(rt: HostRuntime) {
-    for (args, wanted) in LINES {
-        if let Ok(text) = read(rt.alloc(), args) {
+    for (line, wanted) in LINES {
+        if let Ok(text) = read(rt.alloc(), line) {
             assert_eq!(rt; text.as_str(), wanted);
         }
     }

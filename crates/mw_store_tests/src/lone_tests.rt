@@ -37,10 +37,12 @@ fn restart(interrupted: Option<u64>, take: bool) -> Mark {
     }
 }
 
-#[test]
-fn replies_as_the_marks_say(rt: HostRuntime) -> Result<(), Fail> {
-    let mut lone = Lone::new(rt.alloc(), &[10, 20], 1)?;
-    let marks = [
+/// A mark, and the reply that the store hands out at it.
+type Told = (Mark, Option<Reply>);
+
+/// Requests, of which one is refused by quota and one by a word.
+fn requests() -> [Told; 16] {
+    [
         (Mark::Ask(0, Job::Get(1)), None),
         (Mark::Ask(1, change_both((10, 11), (20, 21))), None),
         (Mark::Ask(2, change(0, 10, 12)), None),
@@ -57,6 +59,12 @@ fn replies_as_the_marks_say(rt: HostRuntime) -> Result<(), Fail> {
         (Mark::Miss(3, 1), None),
         (Mark::Reply(3), Some(Reply::No(1, 21))),
         (Mark::Retire(3), None),
+    ]
+}
+
+/// A change whose seal fails, and what is asked then.
+fn failures() -> [Told; 10] {
+    [
         (Mark::Ask(4, change(0, 11, 13)), None),
         (Mark::Admit(4), None),
         (Mark::SealFail(4), None),
@@ -67,6 +75,12 @@ fn replies_as_the_marks_say(rt: HostRuntime) -> Result<(), Fail> {
         (Mark::Ask(6, change(0, 11, 14)), None),
         (Mark::GiveUp(6), None),
         (Mark::Reply(6), Some(Reply::Fault)),
+    ]
+}
+
+/// Starts that find the change in doubt, none, and one that was cut off.
+fn starts() -> [Told; 15] {
+    [
         (restart(None, true), None),
         (Mark::Ask(7, Job::Get(0)), None),
         (Mark::Look(7), None),
@@ -82,8 +96,13 @@ fn replies_as_the_marks_say(rt: HostRuntime) -> Result<(), Fail> {
         (Mark::Ask(10, Job::Get(1)), None),
         (Mark::Look(10), None),
         (Mark::Reply(10), Some(Reply::Val(22))),
-    ];
-    for (mark, want) in marks {
+    ]
+}
+
+#[test]
+fn replies_as_the_marks_say(rt: HostRuntime) -> Result<(), Fail> {
+    let mut lone = Lone::new(rt.alloc(), &[10, 20], 1)?;
+    for (mark, want) in requests().into_iter().chain(failures()).chain(starts()) {
         assert_eq!(rt; lone.mark(mark), Ok(want));
     }
     Ok(())
