@@ -126,9 +126,28 @@ fn served_by_one<J: EngineBrand, R: Wait + Abort>(
 {
     let engine = parts.into_engine::<J>();
     assert_eq!(rt; pass.worker(), 0);
+    finds_both(rt, &engine);
+    asks_both(rt, &engine, &mut pass);
+    asks_for_figures(rt, &engine, &mut pass);
+    let disks = engine.into_disks(alloc)?;
+    assert_eq!(rt; disks.len(), 2);
+    Ok(())
+}
+
+fn finds_both<J: EngineBrand, R: Abort>(rt: &R, engine: &Engine<J, MemDisk, NoHold>) {
     assert_eq!(rt; engine.find(&name_of(b"t")), Some((0, 2)));
     assert_eq!(rt; engine.find(&name_of(b"u")), Some((1, 4)));
     assert_eq!(rt; engine.find(&name_of(b"v")), None);
+}
+
+fn asks_both<J: EngineBrand, R: Wait + Abort>(
+    rt: &R,
+    engine: &Engine<J, MemDisk, NoHold>,
+    pass: &mut Pass,
+)
+    requires { IsIdle pass.old }
+    ensures { IsIdle pass.new }
+{
     for (name, job, reply) in [
         (b"t", change(0, 0, 7), Some(Reply::Yes)),
         (b"t", Job::Get(0), Some(Reply::Val(7))),
@@ -136,16 +155,22 @@ fn served_by_one<J: EngineBrand, R: Wait + Abort>(
         (b"u", Job::Get(0), Some(Reply::Val(0))),
         (b"t", Job::Get(2), None),
     ] {
-        assert_eq!(rt; ask(rt, &engine, &mut pass, name, &job), reply);
+        assert_eq!(rt; ask(rt, engine, pass, name, &job), reply);
         assert!(rt; pass.idle());
     }
-    let figures = engine.figures(rt, &mut pass);
+}
+
+fn asks_for_figures<J: EngineBrand, R: Wait + Abort>(
+    rt: &R,
+    engine: &Engine<J, MemDisk, NoHold>,
+    pass: &mut Pass,
+)
+    requires { IsIdle pass.old }
+{
+    let figures = engine.figures(rt, pass);
     let report = report_text(&figures.tenants, figures.pool_free);
     let wanted = b"t                   2  1  0 up\nu                   4  2  0 up\nfree 3\n";
     assert!(rt; report.as_slice() == wanted.as_slice());
-    let disks = engine.into_disks(alloc)?;
-    assert_eq!(rt; disks.len(), 2);
-    Ok(())
 }
 
 #[test]

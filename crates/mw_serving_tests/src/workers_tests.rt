@@ -243,19 +243,29 @@ fn all_kinds<R: Net<Listener = TcpListener, Stream = TcpStream> + Threads + Cloc
     let cuts = cut.says(b"TENANT t\nCAS 30:0:1");
     let too_long = endless.asks(&[b'x'; 400], b"ERR 1\n") && endless.hears_the_end();
     let held = deaf.insists(b"TENANT t\nGET 0\nGET 0\nGET 0\n", 4_000_000);
-    let hasty = hasty_ones(rt, alloc, port)?;
+    let all = bound && cuts && too_long && held && hasty_ones(rt, alloc, port)?;
+    Ok(all && many_have_their_words(rt, alloc, port)? && is_served_on(&mut steady))
+}
+
+/// Many clients with a word of their own, at once.
+fn many_have_their_words<
+    R: Net<Listener = TcpListener, Stream = TcpStream> + Threads + Clock + Sync,
+>(rt: &R, alloc: Global, port: u16) -> io::Result<bool> {
     let many = thread::map_indices(
         rt,
         alloc,
         MANY,
         &|word| { has_its_word(rt, alloc, port, word) },
     )?;
-    let each = many.iter().all(|served| matches!(served, Ok(true)));
-    let steadily = steady.asks(
+    Ok(many.iter().all(|served| matches!(served, Ok(true))))
+}
+
+/// A client who has changed word 31 reads what it and others have written, and quits.
+fn is_served_on(steady: &mut Caller) -> bool {
+    steady.asks(
         b"GET 31\nGET 30\nGET 0\nQUIT\n",
         b"VAL 1\nVAL 0\nVAL 20\nBYE\n",
-    );
-    Ok(bound && cuts && too_long && held && hasty && each && steadily)
+    )
 }
 
 #[test]

@@ -1,5 +1,5 @@
 use Rattle.mw_engine.specs.Passes.{IsIdle}
-use Rattle.mw_serving_tests.proofs.engine_tests.served_by_one.Given as goal
+use Rattle.mw_serving_tests.proofs.engine_tests.asks_both.Given as goal
 
 -- the pass is idle
 abbrev pub invariant-loop-name : goal.invariant-loop-name
