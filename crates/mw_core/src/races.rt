@@ -1,17 +1,20 @@
 //! Two threads drive two requests on one table.
-ghost use Rattle.std.specs.Prelude.{◌≡◌, All, IfSome};
+ghost use Rattle.std.specs.Prelude.{◌≡◌, ◌≤◌, All, IfSome};
+ghost use Rattle.mw_world.specs.Definition.State.{tenant_at};
 ghost use Rattle.mw_table.specs.Carried.{IsCarried};
 ghost use Rattle.mw_table.specs.Dealt.{IsDealt};
 ghost use Rattle.mw_table.specs.Passes.{IsOf};
 ghost use Rattle.mw_core.specs.Reached.{IsReached};
 
 use crate::calls::{Advance, Core};
-use crate::test_worlds::{MANY_STEPS, change_one, come, config, new_world, play_to, step};
+use crate::test_worlds::{
+    MANY_STEPS, change_one, change_two, come, config, new_world, play_to, step,
+};
 use mw_actor::Actor;
 use mw_look::Kind;
 use mw_simulator::World;
 use mw_table::{Pass, Shared};
-use mw_words::{At, Door, Gate, Job, Reply};
+use mw_words::{At, Door, Gate, Job, Reply, Status, Word};
 use std::alloc::Global;
 use std::test::Fail;
 use std::thread::{Threads, join};
@@ -21,6 +24,12 @@ use std::thread::{Threads, join};
 struct Side {
     pass: Pass,
     actor: Actor,
+}
+
+/// A core on the shared words of a world, and the workers' passes.
+struct Opened {
+    core: Core,
+    passes: Vec<Pass>,
 }
 
 /// How far a thread drove its request.
@@ -44,7 +53,22 @@ fn request_of(core: &Core, world: &World, pass: &Pass) -> Option<Actor>
     }
 }
 
-/// The last of the passes, with the request that it carries.
+/// The world's shared words, and a pass for each worker. None where memory is refused.
+fn open(alloc: Global, world: &World) -> Option<Opened>
+    requires reached { IsReached world.now }
+    ensures world { IfSome result (λ opened. opened.core.shared.table.shared.key.world.value ≡ world.now) }
+    ensures dealt { IfSome result (λ opened. All (IsDealt opened.core.shared world.now) opened.passes.items) }
+{
+    match Shared::of_world(alloc, world) {
+        Ok((shared, passes, _)) => Some(Opened {
+            core: Core::new(shared),
+            passes,
+        }),
+        Err(_) => None,
+    }
+}
+
+/// The last of the passes, with the request that it carries. None where it carries none, or none is left.
 fn take(core: &Core, world: &World, passes: &mut Vec<Pass>) -> Option<Side>
     requires reached { IsReached world.now }
     requires dealt { All (IsDealt core.now.shared world.now) passes.old.items }
@@ -111,8 +135,7 @@ fn before_unpin(alloc: Global) -> Option<World>
 /// The writer's YES, the reader's VAL 1, a free slot under its next number, and no slot in use.
 fn pin_race_ends<R: Threads + Sync>(rt: &R, alloc: Global) -> Option<bool> {
     let world = before_unpin(alloc)?;
-    let (shared, mut passes, _) = Shared::of_world(alloc, &world).ok()?;
-    let core = Core::new(shared);
+    let Opened { core, mut passes } = open(alloc, &world)?;
     let reader = take(&core, &world, &mut passes)?;
     let writer = take(&core, &world, &mut passes)?;
     let (mut wrote, read) = drive_both(rt, &core, writer, reader);
@@ -135,6 +158,110 @@ fn pin_race_ends<R: Threads + Sync>(rt: &R, alloc: Global) -> Option<bool> {
 fn pin_race(rt: HostRuntime) -> Result<(), Fail> {
     for _ in 0..1000 {
         assert!(rt; pin_race_ends(&rt, rt.alloc()) == Some(true));
+    }
+    Ok(())
+}
+
+/// A world of two words and three slots: worker 0 is about to attempt to hold word 0 for a change of both
+/// words, worker 1 for a change of word 0 alone. None where it can't be played so.
+fn before_plants(alloc: Global) -> Option<World>
+    ensures reached { IfSome result IsReached }
+    ensures pool { IfSome result (λ world. world.config.pool ≡ 3) }
+    ensures words { IfSome result (λ world. (tenant_at world.config 0).words ≡ 2) }
+{
+    let world = new_world(alloc, config(3, 3, 2))?;
+    let world = come(world, 0, change_two(1))?;
+    let world = play_to(world, 0, Kind::Plant)?;
+    let world = come(world, 1, change_one(2))?;
+    play_to(world, 1, Kind::Plant)
+}
+
+/// What stands at the gates and the statuses of slots 0 and 1, and at words 0 and 1.
+fn figures(core: &Core, pass: &mut Pass) -> [u64; 6]
+    requires own { IsOf core.now.shared pass.old }
+    requires pool { core.now.shared.table.shared.key.world.value.config.pool ≡ 3 }
+    requires words { (tenant_at core.now.shared.table.shared.key.world.value.config 0).words ≡ 2 }
+{
+    let shared = core.shared();
+    [
+        shared.figure(pass, At::Gate(0)),
+        shared.figure(pass, At::Gate(1)),
+        shared.figure(pass, At::Status(0)),
+        shared.figure(pass, At::Status(1)),
+        shared.figure(
+            pass,
+            At::Data {
+                tenant: 0,
+                address: 0,
+            },
+        ),
+        shared.figure(
+            pass,
+            At::Data {
+                tenant: 0,
+                address: 1,
+            },
+        ),
+    ]
+}
+
+/// The gate of a slot in use, under its first number.
+fn pinned(pins: u16) -> u64
+    requires { pins ≤ 2 }
+{
+    let gate = Gate {
+        taken: true,
+        pins,
+        seq: 0,
+    };
+    gate.pack()
+}
+
+/// The figures where worker 0's change is decided: it holds both words, and worker 1 has pinned it.
+fn first_decided() -> [u64; 6] {
+    let held = Word::Held { slot: 0, seq: 0 };
+    [
+        pinned(2),
+        pinned(1),
+        Status::YesDirty.pack(),
+        Status::Open.pack(),
+        held.pack(),
+        held.pack(),
+    ]
+}
+
+/// The figures where worker 1's change is decided: it holds word 0, and worker 0 has pinned it.
+fn second_decided() -> [u64; 6] {
+    let held = Word::Held { slot: 1, seq: 0 };
+    [
+        pinned(1),
+        pinned(2),
+        Status::Open.pack(),
+        Status::YesDirty.pack(),
+        held.pack(),
+        Word::Plain(0).pack(),
+    ]
+}
+
+/// Whether both threads stop at the seal of one and the same change.
+fn plant_race_ends<R: Threads + Sync>(rt: &R, alloc: Global) -> Option<bool> {
+    let world = before_plants(alloc)?;
+    let Opened { core, mut passes } = open(alloc, &world)?;
+    if take(&core, &world, &mut passes).is_some() {
+        return None;
+    }
+    let second = take(&core, &world, &mut passes)?;
+    let first = take(&core, &world, &mut passes)?;
+    let (mut one, two) = drive_both(rt, &core, first, second);
+    let stopped = one.end == Advance::NeedsFile && two.end == Advance::NeedsFile;
+    let found = figures(&core, &mut one.pass);
+    Some(stopped && (found == first_decided() || found == second_decided()))
+}
+
+#[test]
+fn plant_race(rt: HostRuntime) -> Result<(), Fail> {
+    for _ in 0..1000 {
+        assert!(rt; plant_race_ends(&rt, rt.alloc()) == Some(true));
     }
     Ok(())
 }

@@ -1,7 +1,5 @@
-use Rattle.std.specs.Prelude.{◌≡◌, Some}
 use Rattle.std.proofs.Common.{ap, subst, sym, ◌∙◌}
 use Rattle.mw_actor.specs.Acting.{Acting}
-use Rattle.mw_world.specs.Definition.State.{State}
 use Rattle.mw_table.specs.Carried.{IsCarried}
 use Rattle.mw_core.proofs.Dealing.{carried_at_first}
 use Rattle.mw_core.proofs.races.request_of.Goals as goal
