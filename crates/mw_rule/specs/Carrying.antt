@@ -50,7 +50,7 @@ told_as got reins (Some actor) =
 abbrev pub told : Got → Reins → Reins
 told got reins = told_as got reins reins.actor
 
--- the reins once this request came, under this number, when so many changes were sealed
+-- the reins once this request came, under this number, when so many changes or more were sealed
 abbrev pub comes : Acting → ℕ → ℕ → Reins → Reins
 comes actor request begun reins = record reins { actor = Some actor; request = request; begun = begun; made = reins.made ++ Came ∷ [] }
 
@@ -108,7 +108,7 @@ pub record StoodThere (view : View) (index bits : ℕ) : Type 0 where
   pub gave : (tenant : ℕ) → tenant < tenants_of view.config → Gave openings state tenant (opening_at view.openings tenant)
   pub same_bits : (at : At) → has_place view.config at ≡ true → index_of view.config.pool at ≡ index → bits ≡ pack at (read state.cells at)
 
--- A request, of this number and for this job, has this reply: it is noted behind those that were noted before, at a place that is no smaller than what was sealed when it came.
+-- A request, of this number and for this job, has this reply: it is noted behind those that were noted before, at a place that is no smaller than what is known to have been sealed when it came.
 pub record IsNoted (tenant request begun : ℕ) (job : Job) (reply : Reply) (old new : List Finished) : Type 0 where
   pub place : ℕ
   pub no_smaller : begun ≤ place

@@ -21,9 +21,9 @@ pub fn tables_start_under_the_rule<B: Begins>()
 /// A step of a request that a thread carries keeps the rule, and so does the first step of a request, with
 /// which it comes. The thread's record of what its worker did gains just that: one event, or with a request's
 /// first step its coming before it and with its last one the reply after it. With the reply the request is noted,
-/// at a place where the reply is right, no smaller than what was sealed when the request came; no other step notes
-/// any. A load that is no event keeps the rule too, and tells what stood there. Whatever a thread has seen and
-/// noted is right by itself.
+/// at a place where the reply is right, no smaller than what the thread had seen when the request came (than 0
+/// where it came before the table was made); no other step notes any. A load that is no event keeps the rule too,
+/// and tells what stood there. Whatever a thread has seen and noted is right by itself.
 pub fn steps_keep_the_rule<B: Begins>()
     ensures steps { (key : B) → StepsKeepTheRule (B.config key) (B.begun key) }
     ensures first { (key : B) → FirstStepsKeepTheRule (B.config key) (B.begun key) }

@@ -79,8 +79,8 @@ pub struct Finished {
     pub job: Job,
     /// The reply.
     pub reply: Reply,
-    /// Its place: after so many of the tenant's changes the reply is right. It tells nothing where the reply rests on
-    /// no word, as that the tenant is busy.
+    /// Its place: after so many of the tenant's changes the reply is right. For YES the change of this number, from
+    /// 0 on, is the request's own. It tells nothing where the reply rests on no word, as that the tenant is busy.
     pub place: u64,
 }
 

@@ -48,7 +48,7 @@ impl Shared {
     }
 
     /// The bits of a word, by a load that is no step of a request: they stand there in a world after some run
-    /// with which the table may have begun as the pass knows it.
+    /// whose latest start gave the tenants what the pass knows of it.
     pub fn figure(&self, pass: &mut Pass, at: At) -> u64
         requires own { IsOf self.now pass.old }
         requires there { has_place (config_of self.now.table.shared.key) at ≡ true }
