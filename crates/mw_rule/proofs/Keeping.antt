@@ -1,5 +1,5 @@
 -- Whatever a thread's step is, if it is a stretch of events of its own worker, the rule is kept.
-use Rattle.std.specs.Prelude.{ℕ, ◌≡◌, ◌≢◌, ◌≤◌, ◌<◌, true, List, ◌++◌, length, slice_index, slice_set}
+use Rattle.std.specs.Prelude.{ℕ, ◌+◌, ◌≡◌, ◌≢◌, ◌≤◌, ◌<◌, true, List, ◌++◌, length, slice_index, slice_set}
 use Rattle.std.proofs.Common.{refl, sym, ap, subst, ◌∙◌, inl, inr, arith}
 use Rattle.std.proofs.lemmas.List.{length-set, get_or-set_same, get_or-set_other}
 use mathlib.Core.Option.{some}
@@ -17,7 +17,7 @@ use Rattle.mw_world.specs.Definition.State.{State, Opening, IsConfig}
 use Rattle.mw_law_runs.proofs.Numbers.{same_or_other}
 use Rattle.mw_rule.specs.declared.views.View.{View}
 use Rattle.mw_rule.specs.Layout.{index_of, words_of}
-use Rattle.mw_rule.specs.Rule.{Continues, Fits, Tied, Ties, has}
+use Rattle.mw_rule.specs.Rule.{Continues, Fits, Tied, Ties, has, notes_of, total}
 use Rattle.mw_rule.proofs.Layouts.{index_injective, places_within, places_in_table}
 use Rattle.mw_rule.proofs.Leading.{Leads, others_fit, past_on}
 use Rattle.mw_rule.proofs.Totals.{total_set, total_two}
@@ -40,8 +40,9 @@ ties_on config cells after words place bits is_config there long ties here else 
 pub keep : (config : Config) (begun : (ℕ → Opening) → List Happening → Type 0) (s : Table Acting View) (tied : Tied config begun s) (id index bits worker : ℕ) (old new : View) (after : State)
     (more : List Happening) → get_elem? s.views id ≡ some old → 1 ≤ has worker old → ((one : ℕ) → has one new ≡ has one old) → Leads config tied.state worker after more
     → Fits config tied.past.openings after (tied.events ++ more) new → Ties config after.cells (slice_set s.words index bits)
+    → ((tenant request : ℕ) → total (notes_of tenant request) s.views + notes_of tenant request new ≤ 1 + notes_of tenant request old)
     → Continues config begun s tied more (record { words = slice_set s.words index bits; homes = s.homes; views = slice_set s.views id new })
-keep config begun s tied id index bits worker old new after more at own same leads fits ties = record { after = kept; same_openings = refl; same_before = refl; events = refl }
+keep config begun s tied id index bits worker old new after more at own same leads fits ties few = record { after = kept; same_openings = refl; same_before = refl; events = refl }
   where
     kept : Tied config begun (record { words = slice_set s.words index bits; homes = s.homes; views = slice_set s.views id new })
     kept = record {
@@ -61,4 +62,5 @@ keep config begun s tied id index bits worker old new after more at own same lea
         ]
       ];
       alone = λ one. let sums = total_set (has one) s.views id old new at in let all = tied.alone one in let even = same one in omega (arith, sums, all, even);
+      once = λ tenant request. let sums = total_set (notes_of tenant request) s.views id old new at in let all = few tenant request in omega (arith, sums, all);
     }

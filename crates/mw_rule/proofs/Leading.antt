@@ -1,7 +1,7 @@
 -- Stretches of events of one worker, and what they leave of what others know.
-use Rattle.std.specs.Prelude.{ℕ, ◌≡◌, ◌≢◌, ◌<◌, List, [], ◌∷◌, ◌++◌, length, Option, Some, None}
+use Rattle.std.specs.Prelude.{ℕ, ◌≡◌, ◌≢◌, ◌≤◌, ◌<◌, List, [], ◌∷◌, ◌++◌, length, Option, Some, None}
 use Rattle.std.specs.Option.{option_and_then}
-use Rattle.std.proofs.Common.{refl, sym, ap, subst, ◌∙◌, append_assoc, append-nil, inl, inr, arith}
+use Rattle.std.proofs.Common.{refl, sym, ap, subst, ◌∙◌, append_assoc, append-nil, ◌⊎◌, inl, inr, arith}
 use Rattle.std.proofs.lemmas.Option.{same_Some, option_and_then_some}
 use Rattle.mw_lone.specs.declared.marks.Mark.{Mark}
 use Rattle.mw_lone.specs.declared.marks.Mark.TheVariants.{Ask}
@@ -22,19 +22,29 @@ use Rattle.mw_law_store.specs.OverCalls.{HasBegun, sealed_of}
 use Rattle.mw_law_store.proofs.Histories as histories
 use Rattle.mw_law_store.proofs.Momenting.{got_within}
 use Rattle.mw_law_store.proofs.Running.{events_are_followed, runs_are_followed}
+use Rattle.mw_rule.specs.declared.views.Finished.{Finished}
 use Rattle.mw_rule.specs.declared.views.Reins.{Reins}
 use Rattle.mw_rule.specs.declared.views.View.{View}
-use Rattle.mw_rule.specs.Rule.{Fits, Holds, Past, deed_of, made_by, times}
+use Rattle.mw_rule.specs.Rule.{Fits, Holds, IsOver, Past, deed_of, made_by, times}
 use Rattle.mw_rule.specs.Seen.{ComeFirst, Gave, HasBegunFor, opening_at, seen_at}
-use Rattle.mw_rule.proofs.Totals.{each_apart}
+use Rattle.mw_rule.proofs.Totals.{each_apart, each_on}
 
--- what a start gave a tenant stays
+-- what a start gave a tenant stays, and numbers that were given to requests are given
 pub record KeepsGift (old new : Account) : Type 0 where
   pub quota : new.quota ≡ old.quota
   pub is_up : new.is_up ≡ old.is_up
+  pub asked : old.asked ≤ new.asked
+
+pub no_fewer : (n m : ℕ) → n ≡ m → n ≤ m
+no_fewer n m same = omega (arith, same)
 
 pub same_gift : (account : Account) → KeepsGift account account
-same_gift account = record { quota = refl; is_up = refl }
+same_gift account = record { quota = refl; is_up = refl; asked = omega arith }
+
+-- A worker's request, of this tenant and number, was there, or its number is a new one.
+abbrev pub WasOrIsNew : State → ℕ → Acting → ℕ → Type 0
+WasOrIsNew old worker after number =
+    ((before : Acting) × ((old.seats worker).actor ≡ Some before) × (before.tenant ≡ after.tenant) × ((old.seats worker).request ≡ number)) ⊎ ((old.accounts after.tenant).asked ≤ number)
 
 -- The world after some events of one worker, none of which is a start.
 pub record Leads (config : Config) (old : State) (worker : ℕ) (new : State) (more : List Happening) : Type 0 where
@@ -43,6 +53,7 @@ pub record Leads (config : Config) (old : State) (worker : ℕ) (new : State) (m
   pub quiet : (other : ℕ) → other ≢ worker → made_by other more ≡ []
   pub no_starts : AreNoStarts more
   pub gifts : (tenant : ℕ) → KeepsGift (old.accounts tenant) (new.accounts tenant)
+  pub own : (after : Acting) → (new.seats worker).actor ≡ Some after → WasOrIsNew old worker after (new.seats worker).request
 
 pub run_on : (config : Config) (old between new : State) (events more : List Happening) → run config old events ≡ Some between → run config between more ≡ Some new
     → run config old (events ++ more) ≡ Some new
@@ -61,7 +72,11 @@ no_starts_on [] more first rest = rest
 no_starts_on (event ∷ events) more first rest = (first.0, no_starts_on events more first.1 rest)
 
 pub stays_there : (config : Config) (state : State) (worker : ℕ) → Leads config state worker state []
-stays_there config state worker = record { runs = refl; others = λ other apart. refl; quiet = λ other apart. refl; no_starts = tt; gifts = λ tenant. same_gift (state.accounts tenant) }
+stays_there config state worker = record { runs = refl; others = λ other apart. refl; quiet = λ other apart. refl; no_starts = tt; gifts = λ tenant. same_gift (state.accounts tenant); own = λ after sits. inl (after, sits, refl, refl) }
+
+was_or_new : (old : State) (worker : ℕ) (before after : Acting) (number now : ℕ) → before.tenant ≡ after.tenant → number ≡ now → WasOrIsNew old worker before number → WasOrIsNew old worker after now
+was_or_new old worker before after number now its same (inl was) = inl (was.0, was.1, was.2 ∙ its, was.3 ∙ same)
+was_or_new old worker before after number now its same (inr fresh) = inr (subst (λ n. (old.accounts after.tenant).asked ≤ n) same (subst (λ t. (old.accounts t).asked ≤ number) its fresh))
 
 pub leads_on : (config : Config) (old between new : State) (worker : ℕ) (first more : List Happening) → Leads config old worker between first → Leads config between worker new more
     → Leads config old worker new (first ++ more)
@@ -70,7 +85,11 @@ leads_on config old between new worker first more one two = record {
   others = λ other apart. two.others other apart ∙ one.others other apart;
   quiet = λ other apart. made_on other first more ∙ ap (λ made. made ++ made_by other more) (one.quiet other apart) ∙ two.quiet other apart;
   no_starts = no_starts_on first more one.no_starts two.no_starts;
-  gifts = λ tenant. record { quota = (two.gifts tenant).quota ∙ (one.gifts tenant).quota; is_up = (two.gifts tenant).is_up ∙ (one.gifts tenant).is_up };
+  gifts = λ tenant. record { quota = (two.gifts tenant).quota ∙ (one.gifts tenant).quota; is_up = (two.gifts tenant).is_up ∙ (one.gifts tenant).is_up; asked = (let more = (two.gifts tenant).asked in let some = (one.gifts tenant).asked in omega (arith, some, more)) };
+  own = λ after sits. elim (two.own after sits) [
+    | inl was ↦ was_or_new old worker was.0 after (between.seats worker).request (new.seats worker).request was.2 was.3 (one.own was.0 was.1)
+    | inr fresh ↦ let some = (one.gifts after.tenant).asked in inr (omega (arith, some, fresh))
+  ];
 }
 
 -- one account changes, and has the gift that it had
@@ -88,6 +107,24 @@ begins_on first between all one two = record {
 
 pub begins_itself : (all : List SealedChange) → IsBeginning all all
 begins_itself all = record { rest = []; parted = sym (append-nil all) }
+
+-- A request that is over stays so.
+pub over_on : (config : Config) (old new : State) (worker : ℕ) (more : List Happening) → Leads config old worker new more → (one : Finished) → IsOver old one → IsOver new one
+over_on config old new worker more leads one over = record {
+  given = let some = (leads.gifts one.tenant).asked in let given = over.given in omega (arith, some, given);
+  left = λ by actor sits its same. elim (same_or_other by worker) [
+    | inl own ↦ by_own actor (sym (ap (λ (n : ℕ). (new.seats n).actor) own) ∙ sits) its (sym (ap (λ (n : ℕ). (new.seats n).request) own) ∙ same)
+    | inr apart ↦
+        let seat = leads.others by apart in
+        over.left by actor (sym (ap (λ (s : Seat). s.actor) seat) ∙ sits) its (sym (ap (λ (s : Seat). s.request) seat) ∙ same)
+  ];
+}
+  where
+    by_own : (actor : Acting) → (new.seats worker).actor ≡ Some actor → actor.tenant ≡ one.tenant → (new.seats worker).request ≡ one.request → ⊥
+    by_own actor sits its same = elim (leads.own actor sits) [
+      | inl was ↦ over.left worker was.0 was.1 (was.2 ∙ its) (was.3 ∙ same)
+      | inr fresh ↦ let given = over.given in let here = ap (λ (t : ℕ). (old.accounts t).asked) its in absurd (omega (arith, fresh, given, here, same))
+    ]
 
 -- the tenant of a request is there
 pub tenant_there : (config : Config) (openings : ℕ → Opening) (events : List Happening) (state : State) → IsPlayed config openings events state → (worker : ℕ) (actor : Acting)
@@ -161,6 +198,7 @@ module _ (config : Config) (openings : ℕ → Opening) (before : List Happening
       seen = seen_on view.seen fits.seen;
       told = seen_on view.told fits.told;
       right = fits.right;
+      over = each_on (IsOver old) (IsOver new) (over_on config old new worker more leads) view.mine fits.over;
     }
 
 abbrev pub past_on : (config : Config) (begun : (ℕ → Opening) → List Happening → Type 0) (old new : State) (events more : List Happening) (worker : ℕ) → Past config begun old events → Leads config old worker new more

@@ -1,3 +1,5 @@
+pub mod Apart
+pub mod Calling
 pub mod Keeping
 pub mod Layouts
 pub mod Leading

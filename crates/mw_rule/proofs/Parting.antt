@@ -1,5 +1,5 @@
 -- What threads know may be looked at, cut in two and put together, and the rule is kept; and it holds of a table that is made of a world.
-use Rattle.std.specs.Prelude.{true, ℕ, zero, suc, ◌+◌, ◌≡◌, ◌≢◌, ◌≤◌, ◌<◌, ◌==◌, List, [], ◌∷◌, ◌++◌, length, slice_index, slice_set, Option, Some, None}
+use Rattle.std.specs.Prelude.{true, ℕ, zero, suc, ◌+◌, ◌≡◌, ◌≤◌, ◌<◌, ◌==◌, List, [], ◌∷◌, ◌++◌, length, slice_index, slice_set, Option, Some, None}
 use Rattle.std.proofs.Common.{refl, sym, ap, subst, ◌∙◌, append-nil, ◌⊎◌, inl, inr, arith}
 use Rattle.std.proofs.lemmas.Bool.Decides.{nat_tests}
 use Rattle.std.proofs.lemmas.List.{set-get_or}
@@ -26,19 +26,19 @@ use Rattle.mw_rule.specs.declared.views.View.{View}
 use Rattle.mw_rule.specs.Carrying.{Precede, StoodThere}
 use Rattle.mw_rule.specs.Continuing.{JoinsOn, LooksGoOn, PartsOn}
 use Rattle.mw_rule.specs.Layout.{index_of}
-use Rattle.mw_rule.specs.Dealing.{dealt, head_of, hears, left_over, maker, meets, note, reins_from, reins_of, rest_of, spent, takes}
-use Rattle.mw_rule.specs.Laws.{DealsKeepTheRule, HearingKeepsTheRule, LooksKeepTheRule, MeetingKeepsTheRule, NotesKeepTheRule, StartsUnderTheRule, TakingKeepsTheRule}
-use Rattle.mw_rule.specs.Rule.{Continues, Each, Fits, Holds, IsLive, IsSpent, Tied, Ties, has, times, total, weight}
+use Rattle.mw_rule.specs.Dealing.{dealt, gathers, head_of, hears, left_over, maker, meets, note, reins_from, reins_of, rest_of, spent, takes}
+use Rattle.mw_rule.specs.Laws.{DealsKeepTheRule, GatheringKeepsTheRule, HearingKeepsTheRule, LooksKeepTheRule, MeetingKeepsTheRule, NotesKeepTheRule, StartsUnderTheRule, TakingKeepsTheRule}
+use Rattle.mw_rule.specs.Rule.{Continues, Each, Fits, Holds, IsLive, IsOver, IsSpent, Tied, Ties, has, notes_of, times, total, weight}
 use Rattle.mw_rule.specs.Seen.{Gave, HasBegunFor, opening_at, seen_at}
-use Rattle.mw_rule.proofs.Righting.{dealt_right, hears_right, left_right, meets_right, mine_in, note_right, nothing_right, sees_right, takes_right}
-use Rattle.mw_rule.proofs.Totals.{total_set, total_more}
+use Rattle.mw_rule.proofs.Righting.{dealt_right, gathers_right, hears_right, left_right, meets_right, mine_in, note_right, nothing_right, sees_right, takes_right}
+use Rattle.mw_rule.proofs.Totals.{each_more, times_more, total_set, total_more, total_two, weight_none}
 use Rattle.mw_rule.proofs.Viewing.{all_at, all_seen, live_fits, sees, sees_on}
 
 -- the rule of the same words where threads know other things of the same world
 other_views : (config : Config) (begun : (ℕ → Opening) → List Happening → Type 0) (s now : Table Acting View) (tied : Tied config begun s) → now.words ≡ s.words
     → ((id : ℕ) (view : View) → get_elem? now.views id ≡ some view → IsSpent view ⊎ Fits config tied.past.openings tied.state tied.events view) → ((worker : ℕ) → total (has worker) now.views ≤ 1)
-    → Continues config begun s tied [] now
-other_views config begun s now tied same fits alone = record { after = kept; same_openings = refl; same_before = refl; events = sym (append-nil tied.events) }
+    → ((tenant request : ℕ) → total (notes_of tenant request) now.views ≤ 1) → Continues config begun s tied [] now
+other_views config begun s now tied same fits alone once = record { after = kept; same_openings = refl; same_before = refl; events = sym (append-nil tied.events) }
   where
     kept : Tied config begun now
     kept = record {
@@ -49,6 +49,7 @@ other_views config begun s now tied same fits alone = record { after = kept; sam
       ties = subst (Ties config tied.state.cells) (sym same) tied.ties;
       fits = fits;
       alone = alone;
+      once = once;
     }
 
 -- what stands at an index, told by the configuration that the thread knows
@@ -72,9 +73,9 @@ looks_on config begun id index view make live makes s tied at =
     let new = sees config sealed view view.reins view.mine in
     let before = tied.past.before ++ tied.events in
     let right = sees_right config openings tied.state new fits.same_config fits.gave before tied.past.played (all_at sealed (tenants_of config))
-    (mine_in config openings tied.state view fits.same_config fits.gave fits.seen view.mine fits.right.mine) in
+    (mine_in config openings tied.state view fits.same_config fits.gave fits.seen view.mine fits.right.mine) fits.right.once in
     let new_fits : Fits config openings tied.state tied.events new =
-    record { same_config = fits.same_config; gave = fits.gave; reins = fits.reins; seen = all_seen sealed (tenants_of config); told = fits.told; right = right } in
+    record { same_config = fits.same_config; gave = fits.gave; reins = fits.reins; seen = all_seen sealed (tenants_of config); told = fits.told; right = right; over = fits.over } in
     let bits = slice_index s.words index in
     let words : slice_set s.words index (make bits) ≡ s.words = ap (slice_set s.words index) (makes bits) ∙ set-get_or s.words index 0 in
     record {
@@ -90,7 +91,8 @@ looks_on config begun id index view make live makes s tied at =
           (λ other one is. elim (at_set s.views id other new one is) [
             | inl here ↦ inr (subst (Fits config openings tied.state tied.events) here.1 new_fits)
             | inr else ↦ tied.fits other one else.1
-          ]) (λ worker. let sums = total_set (has worker) s.views id view new at in let all = tied.alone worker in omega (arith, sums, all));
+          ]) (λ worker. let sums = total_set (has worker) s.views id view new at in let all = tied.alone worker in omega (arith, sums, all))
+          (λ tenant request. let sums = total_set (notes_of tenant request) s.views id view new at in let all = tied.once tenant request in omega (arith, sums, all));
     }
 
 pub looks_keep : (config : Config) (begun : (ℕ → Opening) → List Happening → Type 0) → LooksKeepTheRule config begun
@@ -101,9 +103,10 @@ looks_keep config begun slots id index me make live makes s tied homes at low =
 parts_on : (config : Config) (begun : (ℕ → Opening) → List Happening → Type 0) (id : ℕ) (view left right : View)
     → ((openings : ℕ → Opening) (state : State) (events : List Happening) → IsSpent view ⊎ Fits config openings state events view
     → (IsSpent left ⊎ Fits config openings state events left) × (IsSpent right ⊎ Fits config openings state events right))
-    → ((worker : ℕ) → has worker left + has worker right ≡ has worker view) → (s : Table Acting View) (tied : Tied config begun s) → get_elem? s.views id ≡ some view
+    → ((worker : ℕ) → has worker left + has worker right ≡ has worker view)
+    → ((tenant request : ℕ) → notes_of tenant request left + notes_of tenant request right ≡ notes_of tenant request view) → (s : Table Acting View) (tied : Tied config begun s) → get_elem? s.views id ≡ some view
     → Continues config begun s tied [] (record { words = s.words; homes = s.homes; views = slice_set s.views id left ++ right ∷ [] })
-parts_on config begun id view left right fit sums s tied at =
+parts_on config begun id view left right fit sums notes s tied at =
     let both = fit tied.past.openings tied.state tied.events (tied.fits id view at) in
     let So : View → Type 0 = λ one. IsSpent one ⊎ Fits config tied.past.openings tied.state tied.events one in
     other_views config begun s (record { words = s.words; homes = s.homes; views = slice_set s.views id left ++ right ∷ [] }) tied refl
@@ -119,6 +122,11 @@ parts_on config begun id view left right fit sums s tied at =
     let second = total_more (has worker) (slice_set s.views id left) right in
     let all = tied.alone worker in
     let even = sums worker in omega (arith, first, second, all, even))
+    (λ tenant request.
+    let first = total_set (notes_of tenant request) s.views id view left at in
+    let second = total_more (notes_of tenant request) (slice_set s.views id left) right in
+    let all = tied.once tenant request in
+    let even = notes tenant request in omega (arith, first, second, all, even))
 
 heads_and_rests : (worker : ℕ) (all : List Reins) → times worker (rest_of all) + times worker (head_of all) ≡ times worker all
 heads_and_rests worker [] = refl
@@ -134,31 +142,32 @@ each_rest P (one ∷ rest) holds = holds.1
 
 pub deals_on : (config : Config) (begun : (ℕ → Opening) → List Happening → Type 0) → PartsOn config begun left_over dealt
 deals_on config begun id view = parts_on config begun id view (left_over view) (dealt view) (λ openings state events fit. elim fit [
-  | inl gone ↦ (inl (record { flag = gone.flag; no_reins = ap rest_of gone.no_reins }), inl (record { flag = gone.flag; no_reins = ap head_of gone.no_reins }))
+  | inl gone ↦ (inl (record { flag = gone.flag; no_reins = ap rest_of gone.no_reins; no_mine = gone.no_mine }), inl (record { flag = gone.flag; no_reins = ap head_of gone.no_reins; no_mine = refl }))
   | inr fits ↦ (
-    inr (record { same_config = fits.same_config; gave = fits.gave; reins = each_rest (Holds config openings state events) view.reins fits.reins; seen = fits.seen; told = fits.told; right = left_right view fits.right }),
-    inr (record { same_config = fits.same_config; gave = fits.gave; reins = each_head (Holds config openings state events) view.reins fits.reins; seen = fits.seen; told = fits.told; right = dealt_right view fits.right }),
+    inr (record { same_config = fits.same_config; gave = fits.gave; reins = each_rest (Holds config openings state events) view.reins fits.reins; seen = fits.seen; told = fits.told; right = left_right view fits.right; over = fits.over }),
+    inr (record { same_config = fits.same_config; gave = fits.gave; reins = each_head (Holds config openings state events) view.reins fits.reins; seen = fits.seen; told = fits.told; right = dealt_right view fits.right; over = tt }),
   )
-]) (λ worker. heads_and_rests worker view.reins)
+]) (λ worker. heads_and_rests worker view.reins) (λ tenant request. omega arith)
 
 pub deals_keep : (config : Config) (begun : (ℕ → Opening) → List Happening → Type 0) → DealsKeepTheRule config begun
 deals_keep config begun id view s tied at = (deals_on config begun id view s tied at).after
 
 pub notes_on : (config : Config) (begun : (ℕ → Opening) → List Happening → Type 0) → PartsOn config begun (λ view. view) note
 notes_on config begun id view = parts_on config begun id view view (note view) (λ openings state events fit. elim fit [
-  | inl gone ↦ (inl gone, inl (record { flag = gone.flag; no_reins = refl }))
-  | inr fits ↦ (inr fits, inr (record { same_config = fits.same_config; gave = fits.gave; reins = tt; seen = fits.seen; told = fits.told; right = note_right view fits.right }))
-]) (λ worker. omega arith)
+  | inl gone ↦ (inl gone, inl (record { flag = gone.flag; no_reins = refl; no_mine = refl }))
+  | inr fits ↦ (inr fits, inr (record { same_config = fits.same_config; gave = fits.gave; reins = tt; seen = fits.seen; told = fits.told; right = note_right view fits.right; over = tt }))
+]) (λ worker. omega arith) (λ tenant request. omega arith)
 
 pub notes_keep : (config : Config) (begun : (ℕ → Opening) → List Happening → Type 0) → NotesKeepTheRule config begun
 notes_keep config begun id view s tied at = (notes_on config begun id view s tied at).after
 
 -- Two threads' knowledge becomes one that fits where both fit, and has no reins but theirs.
 joins_on : (config : Config) (begun : (ℕ → Opening) → List Happening → Type 0) (id other : ℕ) (view its both : View) → IsLive view → IsLive its
-    → ((openings : ℕ → Opening) (state : State) (events : List Happening) → Fits config openings state events view → Fits config openings state events its → Fits config openings state events both)
-    → ((worker : ℕ) → has worker both ≤ has worker view + has worker its) → (s : Table Acting View) (tied : Tied config begun s) → get_elem? s.views id ≡ some view → ¬ (other ≡ id)
+    → ((tenant request : ℕ) → notes_of tenant request both ≤ notes_of tenant request view + notes_of tenant request its) → ((worker : ℕ) → has worker both ≤ has worker view + has worker its)
+    → ((openings : ℕ → Opening) (state : State) (events : List Happening) → ((tenant request : ℕ) → notes_of tenant request view + notes_of tenant request its ≤ 1)
+    → Fits config openings state events view → Fits config openings state events its → Fits config openings state events both) → (s : Table Acting View) (tied : Tied config begun s) → get_elem? s.views id ≡ some view → ¬ (other ≡ id)
     → get_elem? (slice_set s.views id both) other ≡ some its → Continues config begun s tied [] (record { words = s.words; homes = s.homes; views = slice_set (slice_set s.views id both) other spent })
-joins_on config begun id other view its both live its_live fit sums s tied at apart its_at =
+joins_on config begun id other view its both live its_live notes sums fit s tied at apart its_at =
     let openings = tied.past.openings in
     let So : View → Type 0 = λ one. IsSpent one ⊎ Fits config openings tied.state tied.events one in
     let fits = live_fits config openings tied.state tied.events view live (tied.fits id view at) in
@@ -167,34 +176,42 @@ joins_on config begun id other view its both live its_live fit sums s tied at ap
       | inr else ↦ else.1
     ] in
     let its_fits = live_fits config openings tied.state tied.events its its_live (tied.fits other its was) in
+    let few : (tenant request : ℕ) → notes_of tenant request view + notes_of tenant request its ≤ 1 =
+    λ tenant request. let two = total_two (notes_of tenant request) s.views id other view its apart at was in let all = tied.once tenant request in omega (arith, two, all) in
     other_views config begun s (record { words = s.words; homes = s.homes; views = slice_set (slice_set s.views id both) other spent }) tied refl
     (λ third one is. elim (at_set (slice_set s.views id both) other third spent one is) [
-      | inl here ↦ inl (subst IsSpent here.1 (record { flag = refl; no_reins = refl }))
+      | inl here ↦ inl (subst IsSpent here.1 (record { flag = refl; no_reins = refl; no_mine = refl }))
       | inr else ↦ elim (at_set s.views id third both one else.1) [
-        | inl there ↦ inr (subst (Fits config openings tied.state tied.events) there.1 (fit openings tied.state tied.events fits its_fits))
+        | inl there ↦ inr (subst (Fits config openings tied.state tied.events) there.1 (fit openings tied.state tied.events few fits its_fits))
         | inr third_one ↦ tied.fits third one third_one.1
       ]
     ])
     (λ worker.
     let first = total_set (has worker) s.views id view both at in
     let second = total_set (has worker) (slice_set s.views id both) other its spent its_at in
-    let few = sums worker in
-    let all = tied.alone worker in omega (arith, first, second, few, all))
+    let no_more = sums worker in
+    let all = tied.alone worker in omega (arith, first, second, no_more, all))
+    (λ tenant request.
+    let first = total_set (notes_of tenant request) s.views id view both at in
+    let second = total_set (notes_of tenant request) (slice_set s.views id both) other its spent its_at in
+    let no_more = notes tenant request in
+    let all = tied.once tenant request in omega (arith, first, second, no_more, all))
 
 pub hearing_on : (config : Config) (begun : (ℕ → Opening) → List Happening → Type 0) → JoinsOn config begun (λ view its. its.reins ≡ []) hears
-hearing_on config begun id other view its live its_live may = joins_on config begun id other view its (hears view its) live its_live
-    (λ openings state events fits its_fits. record {
+hearing_on config begun id other view its live its_live may = joins_on config begun id other view its (hears view its) live its_live (λ tenant request. omega arith) (λ worker. omega arith)
+    (λ openings state events few fits its_fits. record {
       same_config = fits.same_config;
       gave = fits.gave;
       reins = fits.reins;
       seen = fits.seen;
       told = its_fits.seen;
       right = hears_right view its fits.right;
-    }) (λ worker. omega arith)
+      over = fits.over;
+    })
 
 pub meeting_on : (config : Config) (begun : (ℕ → Opening) → List Happening → Type 0) → JoinsOn config begun (λ view its. (its.reins ≡ []) × Precede (tenants_of view.config) view.seen its.seen) meets
-meeting_on config begun id other view its live its_live may = joins_on config begun id other view its (meets view its) live its_live
-    (λ openings state events fits its_fits. record {
+meeting_on config begun id other view its live its_live may = joins_on config begun id other view its (meets view its) live its_live (λ tenant request. omega arith) (λ worker. omega arith)
+    (λ openings state events few fits its_fits. record {
       same_config = fits.same_config;
       gave = fits.gave;
       reins = fits.reins;
@@ -202,18 +219,42 @@ meeting_on config begun id other view its live its_live may = joins_on config be
       told = its_fits.seen;
       right = meets_right view its (λ tenant low. let there = subst (λ (c : Config). tenant < tenants_of c) fits.same_config low in sym (its_fits.gave tenant there).words ∙ (fits.gave tenant there).words)
           (its_fits.same_config ∙ sym fits.same_config) may.1 fits.right its_fits.right;
-    }) (λ worker. omega arith)
+      over = fits.over;
+    })
 
 pub taking_on : (config : Config) (begun : (ℕ → Opening) → List Happening → Type 0) → JoinsOn config begun (λ view its. view.reins ≡ []) takes
-taking_on config begun id other view its live its_live may = joins_on config begun id other view its (takes view its) live its_live
-    (λ openings state events fits its_fits. record {
+taking_on config begun id other view its live its_live may = joins_on config begun id other view its (takes view its) live its_live (λ tenant request. omega arith) (λ worker. omega arith)
+    (λ openings state events few fits its_fits. record {
       same_config = fits.same_config;
       gave = fits.gave;
       reins = its_fits.reins;
       seen = fits.seen;
       told = fits.told;
       right = takes_right view its fits.right;
-    }) (λ worker. omega arith)
+      over = fits.over;
+    })
+
+times_behind : (worker : ℕ) (all more : List Reins) → times worker (all ++ more) ≡ times worker all + times worker more
+times_behind worker [] more = omega arith
+times_behind worker (one ∷ all) more = let rest = times_behind worker all more in omega (arith, rest)
+
+pub gathering_on : (config : Config) (begun : (ℕ → Opening) → List Happening → Type 0) → JoinsOn config begun (λ view its. Precede (tenants_of view.config) view.seen its.seen) gathers
+gathering_on config begun id other view its live its_live first = joins_on config begun id other view its (gathers view its) live its_live
+    (λ tenant request. let sum = times_more tenant request view.mine its.mine in omega (arith, sum)) (λ worker. let sum = times_behind worker view.reins its.reins in omega (arith, sum))
+    (λ openings state events few fits its_fits. record {
+      same_config = fits.same_config;
+      gave = fits.gave;
+      reins = each_more (Holds config openings state events) view.reins its.reins fits.reins its_fits.reins;
+      seen = its_fits.seen;
+      told = its_fits.seen;
+      right = gathers_right view its
+          (λ tenant low. let there = subst (λ (c : Config). tenant < tenants_of c) fits.same_config low in sym (its_fits.gave tenant there).words ∙ (fits.gave tenant there).words)
+          (its_fits.same_config ∙ sym fits.same_config) first few fits.right its_fits.right;
+      over = each_more (IsOver state) view.mine its.mine fits.over its_fits.over;
+    })
+
+pub gathering_keeps : (config : Config) (begun : (ℕ → Opening) → List Happening → Type 0) → GatheringKeepsTheRule config begun
+gathering_keeps config begun id other view its live its_live first s tied at apart its_at = (gathering_on config begun id other view its live its_live first s tied at apart its_at).after
 
 pub hearing_keeps : (config : Config) (begun : (ℕ → Opening) → List Happening → Type 0) → HearingKeepsTheRule config begun
 hearing_keeps config begun id other view its live its_live none s tied at apart its_at = (hearing_on config begun id other view its live its_live none s tied at apart its_at).after
@@ -247,9 +288,6 @@ module _ (config : Config) (openings : ℕ → Opening) (before : List Happening
   all_hold first zero most = tt
   all_hold first (suc left) most = (one_holds first (omega (arith, most)), all_hold (first + 1) left (omega (arith, most)))
 
-weight_none : (one other : ℕ) → one ≢ other → weight (one == other) ≡ 0
-weight_none one other apart = grind (arith, nat_tests, apart)
-
 weight_most : (one other : ℕ) → weight (one == other) ≤ 1
 weight_most one other = grind (arith, nat_tests)
 
@@ -281,7 +319,8 @@ starts config begun openings before state given seats words began played gave sa
       reins = all_hold config openings before state played seats same 0 config.workers (omega arith);
       seen = nothing_first (tenants_of config) (sealed_of openings state);
       told = nothing_first (tenants_of config) (sealed_of openings state);
-      right = record { changes = λ tenant low. nothing_right (opening_at given tenant).words; mine = tt };
+      right = record { changes = λ tenant low. nothing_right (opening_at given tenant).words; mine = tt; once = λ tenant request. omega arith };
+      over = tt;
     } in
     record {
       state = state;
@@ -291,4 +330,5 @@ starts config begun openings before state given seats words began played gave sa
       ties = ties;
       fits = λ id view is. inr (subst (Fits config openings state []) (the_one (maker config given seats) view id is) all_fit);
       alone = λ worker. let one = one_each seats worker 0 config.workers in omega (arith, one);
+      once = λ tenant request. omega arith;
     }

@@ -1,5 +1,5 @@
 -- What a thread knows is right, and stays so where more is sealed.
-use Rattle.std.specs.Prelude.{ℕ, ◌≡◌, ◌<◌, List, [], ◌∷◌, ◌++◌, length}
+use Rattle.std.specs.Prelude.{ℕ, ◌+◌, ◌≡◌, ◌≤◌, ◌<◌, List, [], length}
 use Rattle.std.proofs.Common.{refl, sym, ap, subst, arith}
 use Rattle.std.proofs.lemmas.List.{length-append}
 use Rattle.std.proofs.lemmas.Option.{none-some}
@@ -15,19 +15,12 @@ use Rattle.mw_law_store.proofs.SealedLists.{places_stay_right}
 use Rattle.mw_rule.specs.declared.views.Finished.{Finished}
 use Rattle.mw_rule.specs.declared.views.View.{View}
 use Rattle.mw_rule.specs.Carrying.{Precede}
-use Rattle.mw_rule.specs.Dealing.{dealt, hears, left_over, meets, note, takes}
+use Rattle.mw_rule.specs.Dealing.{dealt, hears, gathers, left_over, meets, note, takes}
 use Rattle.mw_rule.specs.Laws.{MeetingsAreRight, PartsAreRight}
-use Rattle.mw_rule.specs.Rule.{AreRight, Each, IsFinished, IsRight, IsRightAmong, words_given}
+use Rattle.mw_rule.specs.Rule.{AreRight, Each, IsFinished, IsRight, IsRightAmong, notes_of, words_given}
 use Rattle.mw_rule.specs.Seen.{ComeFirst, Gave, opening_at, seen_at}
 use Rattle.mw_rule.proofs.Leading.{begins_itself}
-
-pub each_on : {A : Type 0} (P Q : A → Type 0) → ((one : A) → P one → Q one) → (all : List A) → Each P all → Each Q all
-each_on P Q goes [] holds = tt
-each_on P Q goes (one ∷ rest) holds = (goes one holds.0, each_on P Q goes rest holds.1)
-
-pub each_more : {A : Type 0} (P : A → Type 0) (all more : List A) → Each P all → Each P more → Each P (all ++ more)
-each_more P [] more first rest = rest
-each_more P (one ∷ all) more first rest = (first.0, each_more P all more first.1 rest)
+use Rattle.mw_rule.proofs.Totals.{each_more, each_on, times_more}
 
 -- Where each tenant's words are the same and more is sealed after the others, a request is as right.
 pub right_on : (tenants : ℕ) (words now : ℕ → List ℕ) (sealed after : ℕ → List SealedChange) → ((tenant : ℕ) → tenant < tenants → words tenant ≡ now tenant)
@@ -59,8 +52,8 @@ module _ (config : Config) (openings : ℕ → Opening) (state : State) (view : 
 
   -- what is right in the world is so by what a thread saw that saw all
   pub sees_right : (events : List Happening) → IsPlayed config openings events state → ((tenant : ℕ) → tenant < tenants_of config → seen_at view.seen tenant ≡ sealed_of openings state tenant)
-      → Each (IsRightIn config openings state) view.mine → IsRight view
-  sees_right events played all mine = record {
+      → Each (IsRightIn config openings state) view.mine → ((tenant request : ℕ) → notes_of tenant request view ≤ 1) → IsRight view
+  sees_right events played all mine once = record {
     changes = λ tenant low.
         let there = subst (λ (c : Config). tenant < tenants_of c) same low in
         let right = sealed_are_right config openings events state tenant played there in
@@ -70,6 +63,7 @@ module _ (config : Config) (openings : ℕ → Opening) (state : State) (view : 
         subst (λ (c : Config). IsRightAmong (tenants_of c) (words_given view) (seen_at view.seen) one) (sym same)
         (right_on (tenants_of config) (words_at_start openings state) (words_given view) (sealed_of openings state) (seen_at view.seen) (λ tenant low. (gave tenant low).words)
         (λ tenant low. subst (IsBeginning (sealed_of openings state tenant)) (sym (all tenant low)) (begins_itself (sealed_of openings state tenant))) one so)) view.mine mine;
+    once = once;
   }
 
 -- nothing that was seen is right
@@ -78,19 +72,19 @@ nothing_right words = record { fit = λ place one at. absurd (none-some one at);
 
 -- Parts of what is right.
 pub left_right : (view : View) → IsRight view → IsRight (left_over view)
-left_right view right = record { changes = right.changes; mine = right.mine }
+left_right view right = record { changes = right.changes; mine = right.mine; once = right.once }
 
 pub dealt_right : (view : View) → IsRight view → IsRight (dealt view)
-dealt_right view right = record { changes = right.changes; mine = tt }
+dealt_right view right = record { changes = right.changes; mine = tt; once = λ tenant request. omega arith }
 
 pub note_right : (view : View) → IsRight view → IsRight (note view)
-note_right view right = record { changes = right.changes; mine = tt }
+note_right view right = record { changes = right.changes; mine = tt; once = λ tenant request. omega arith }
 
 pub hears_right : (view other : View) → IsRight view → IsRight (hears view other)
-hears_right view other right = record { changes = right.changes; mine = right.mine }
+hears_right view other right = record { changes = right.changes; mine = right.mine; once = right.once }
 
 pub takes_right : (view other : View) → IsRight view → IsRight (takes view other)
-takes_right view other right = record { changes = right.changes; mine = right.mine }
+takes_right view other right = record { changes = right.changes; mine = right.mine; once = right.once }
 
 pub parts_are_right : PartsAreRight
 parts_are_right view other right = (left_right view right, dealt_right view right, note_right view right, hears_right view other right, takes_right view other right)
@@ -103,7 +97,22 @@ meets_right view its same config first right its_right = record {
       subst (λ (words : List ℕ). AreRight words (seen_at its.seen tenant)) (same tenant low) (its_right.changes tenant (subst (λ (c : Config). tenant < tenants_of c) (sym config) low));
   mine = each_on (IsFinished view) (IsFinished (meets view its)) (λ one so.
       right_on (tenants_of view.config) (words_given view) (words_given view) (seen_at view.seen) (seen_at its.seen) (λ tenant low. refl) first one so) view.mine right.mine;
+  once = right.once;
 }
+
+-- What two know, the second of which saw no less.
+pub gathers_right : (view its : View) → ((tenant : ℕ) → tenant < tenants_of view.config → words_given its tenant ≡ words_given view tenant) → its.config ≡ view.config
+    → Precede (tenants_of view.config) view.seen its.seen → ((tenant request : ℕ) → notes_of tenant request view + notes_of tenant request its ≤ 1) → IsRight view → IsRight its → IsRight (gathers view its)
+gathers_right view its same config first once right its_right =
+    let met = meets_right view its same config first right its_right in
+    record {
+      changes = met.changes;
+      mine = each_more (IsFinished (gathers view its)) view.mine its.mine (each_on (IsFinished (meets view its)) (IsFinished (gathers view its)) (λ one so. so) view.mine met.mine)
+          (each_on (IsFinished its) (IsFinished (gathers view its)) (λ one so.
+          right_on (tenants_of view.config) (words_given its) (words_given view) (seen_at its.seen) (seen_at its.seen) same (λ tenant low. begins_itself (seen_at its.seen tenant)) one
+          (subst (λ (c : Config). IsRightAmong (tenants_of c) (words_given its) (seen_at its.seen) one) config so)) its.mine its_right.mine);
+      once = λ tenant request. let few = once tenant request in let sum = times_more tenant request view.mine its.mine in omega (arith, few, sum);
+    }
 
 pub meetings_are_right : MeetingsAreRight
 meetings_are_right view its right its_right config openings first =

@@ -1,9 +1,9 @@
 -- The events of one worker by its request: it comes, makes a step, and hands out its reply.
-use Rattle.std.specs.Prelude.{ℕ, ◌≡◌, ◌≢◌, ◌<◌, ◌==◌, ◌&&◌, not, Bool, true, false, if◌then◌else◌, List, [], ◌∷◌, ◌++◌, length, is_some, is_none, nat_lt, Option, Some, None}
+use Rattle.std.specs.Prelude.{ℕ, ◌≡◌, ◌≢◌, ◌≤◌, ◌<◌, ◌==◌, ◌&&◌, not, Bool, true, false, if◌then◌else◌, List, [], ◌∷◌, ◌++◌, length, is_some, is_none, nat_lt, Option, Some, None}
 use Rattle.std.specs.Option.{option_and_then}
-use Rattle.std.proofs.Common.{refl, sym, ap, subst, ◌∙◌, append_assoc, append-nil, arith}
+use Rattle.std.proofs.Common.{refl, sym, ap, subst, ◌∙◌, append_assoc, append-nil, inl, inr, arith}
 use Rattle.std.proofs.lemmas.Bool.Decides.{nat_tests}
-use Rattle.std.proofs.lemmas.Option.{option_and_then_some}
+use Rattle.std.proofs.lemmas.Option.{none-some, option_and_then_some, same_Some}
 use Rattle.mw_words.specs.declared.replies.Reply.{Reply}
 use Rattle.mw_words.specs.declared.jobs.Job.{Job}
 use Rattle.mw_words.specs.Change.{is_well_formed}
@@ -28,19 +28,24 @@ use Rattle.mw_world.specs.Definition.State.{State, Opening, Seat, tenant_at, ten
 use Rattle.mw_world.specs.Definition.Turns.{may_make, made_of, moved, next_attempt, turn, turned}
 use Rattle.mw_world.specs.Definition.World.{begun, asked, hand, handed, may_come, run, step}
 use Rattle.mw_law_knowledge.proofs.Deeds.Keeping.{upd_here, upd_else}
+use Rattle.mw_law_runs.proofs.Numbers.{same_or_other}
 use Rattle.mw_law_store.specs.Moments.{Moment}
 use Rattle.mw_law_store.specs.OverCalls.{IsRightAt, IsRightSince, sealed_of, words_at_start}
-use Rattle.mw_law_store.proofs.OverCalls.{replies_keep_their_place, requests_begin, requests_stay_begun}
+use Rattle.mw_law_store.specs.Tied.{AreApart}
+use Rattle.mw_law_store.proofs.Histories as histories
+use Rattle.mw_law_store.proofs.OverCalls.{on_with, replies_keep_their_place, requests_begin, requests_stay_begun}
+use Rattle.mw_law_store.proofs.Running.{runs_are_followed}
 use Rattle.mw_rule.specs.declared.views.Deed.{Deed}
 use Rattle.mw_rule.specs.declared.views.Deed.TheVariants.{Came, Stepped, Handed}
 use Rattle.mw_rule.specs.declared.views.Finished.{Finished}
 use Rattle.mw_rule.specs.declared.views.Reins.{Reins}
 use Rattle.mw_rule.specs.Carrying.{IsNoted, Notes, NotesAs, comes, settled, settled_as, told_as, told_of}
 use Rattle.mw_rule.specs.Continuing.{hand_out}
-use Rattle.mw_rule.specs.Rule.{Each, Holds, deed_if, made_by}
+use Rattle.mw_rule.specs.Rule.{Each, Holds, IsOver, deed_if, is_of, made_by, times_noted}
 use Rattle.mw_rule.specs.Seen.{CameAfter, HasBegunFor}
-use Rattle.mw_rule.proofs.Leading.{Leads, leads_on, made_on, one_gift, played_on, same_start, sealed_on, tenant_there}
+use Rattle.mw_rule.proofs.Leading.{Leads, leads_on, made_on, no_fewer, one_gift, over_on, played_on, same_start, sealed_on, tenant_there}
 use Rattle.mw_rule.proofs.Righting.{IsRightIn, right_on}
+use Rattle.mw_rule.proofs.Totals.{times_none, weight_few}
 use Rattle.mw_rule.proofs.Words.{cells_after, done_is, news_after}
 
 itself : (n : ℕ) → (n == n) ≡ true
@@ -88,6 +93,9 @@ pub record Reached (config : Config) (openings : ℕ → Opening) (old : State) 
   pub noted : List Finished
   pub right : Each (IsRightIn config openings after) noted
   pub ends : IsSo noted
+  pub few : (tenant request : ℕ) → times_noted tenant request noted ≤ 1
+  pub fresh : (other : Finished) → IsOver old other → times_noted other.tenant other.request noted ≡ 0
+  pub over : Each (IsOver after) noted
 
 -- The world after a step, after a reply is handed out, and after a request came.
 module _ (state : State) (worker : ℕ) (actor : Acting) where
@@ -122,12 +130,15 @@ module _ (config : Config) (openings : ℕ → Opening) (before : List Happening
             some_none reply e = cc
 
     pub step_leads : replied actor ≡ None → may_make config (asks actor) ≡ true → Leads config state worker (after_step state worker actor) (Step worker ∷ [])
-    step_leads running there = record {
-      runs = step_happens running there;
+    step_leads running there_so = record {
+      runs = step_happens running there_so;
       others = λ other apart. upd_else state.seats worker other _ apart;
       quiet = λ other apart. no_deed worker other Stepped apart;
       no_starts = (tt, tt);
-      gifts = λ tenant. one_gift state.accounts actor.tenant _ (record { quota = refl; is_up = refl }) tenant;
+      gifts = λ tenant. one_gift state.accounts actor.tenant _ (record { quota = refl; is_up = refl; asked = no_fewer _ _ refl }) tenant;
+      own = λ next there.
+          let same = on_with config state (after_step state worker actor) worker actor sits (Step worker) tt
+          (one_event config state (after_step state worker actor) (Step worker) (step_happens running there_so)) next there in inl (actor, sits, sym same.tenant, sym same.number);
     }
 
   -- A step, of the worker whose reins these are.
@@ -167,7 +178,8 @@ module _ (config : Config) (openings : ℕ → Opening) (state : State) (events 
     others = λ other apart. upd_else state.seats reins.worker other _ apart;
     quiet = λ other apart. no_deed reins.worker other Handed apart;
     no_starts = (tt, tt);
-    gifts = λ tenant. one_gift state.accounts next.tenant _ (record { quota = refl; is_up = refl }) tenant;
+    gifts = λ tenant. one_gift state.accounts next.tenant _ (record { quota = refl; is_up = refl; asked = no_fewer _ _ refl }) tenant;
+    own = λ after sits. absurd (none-some after (sym (ap (λ (seat : Seat). seat.actor) (upd_here state.seats reins.worker (record (state.seats reins.worker) { actor = None }))) ∙ sits));
   }
 
   hand_holds : Holds config openings (after_hand state reins.worker next) (events ++ Hand reins.worker ∷ []) (record reins { actor = None; made = reins.made ++ Handed ∷ [] })
@@ -181,6 +193,12 @@ module _ (config : Config) (openings : ℕ → Opening) (state : State) (events 
         made = made_on reins.worker events (Hand reins.worker ∷ []) ∙ ap (λ made. made_by reins.worker events ++ made) (own_deed reins.worker Handed) ∙ ap (λ made. made ++ Handed ∷ []) holds.made;
         begun = tt;
       }
+
+-- two workers' requests of one tenant have two numbers
+two_apart : (tenant : ℕ) (seat other : Seat) (actor another : Acting) → seat.actor ≡ Some actor → other.actor ≡ Some another → AreApart tenant seat other seat.actor other.actor → actor.tenant ≡ tenant
+    → another.tenant ≡ tenant → seat.request ≢ other.request
+two_apart tenant seat other actor another sits goes apart its theirs =
+    (subst (λ (one : Option Acting). AreApart tenant seat other one (Some another)) sits (subst (AreApart tenant seat other seat.actor) goes apart) its theirs).numbers
 
 -- A request that has its reply, at the place that it keeps; and it stays right where the reply is handed out.
 module _ (config : Config) (openings : ℕ → Opening) (before : List Happening) (state : State) (played : IsPlayed config openings before state) (events : List Happening) (reins : Reins) (next : Acting)
@@ -211,6 +229,44 @@ module _ (config : Config) (openings : ℕ → Opening) (before : List Happening
   unfolding the_finished
   is_noted = let fewer = holds.begun.no_fewer in let later = since.no_smaller in record { place = since.place; no_smaller = omega (arith, fewer, later); noted = refl }
 
+  -- the request's number was given to it, and no other worker has that
+  low : next.tenant < tenants_of config
+  low = tenant_there config openings before state played reins.worker next holds.actor
+
+  given : (state.seats reins.worker).request < (state.accounts next.tenant).asked
+  given = (histories.asks_stand_once runs_are_followed config openings before state next.tenant played low).numbers holds.begun.came.ask (state.seats reins.worker).request next.job holds.begun.came.came
+
+  numbers_apart : (by : ℕ) (actor : Acting) → by ≢ reins.worker → (state.seats by).actor ≡ Some actor → actor.tenant ≡ next.tenant → (state.seats by).request ≢ (state.seats reins.worker).request
+  numbers_apart by actor apart sits its =
+      two_apart next.tenant (state.seats by) (state.seats reins.worker) actor next sits holds.actor ((runs_are_followed config openings before state next.tenant played low).followed.tied.asks.apart by reins.worker apart) its
+      refl
+
+  handed_over : IsOver (after_hand state reins.worker next) the_finished
+  unfolding the_finished
+  handed_over =
+      let after = after_hand state reins.worker next in
+      let leads = hand_leads config openings state events reins next holds reply stands in
+      let request = holds.request in
+      record {
+        given = let some = (leads.gifts next.tenant).asked in let was = given in omega (arith, some, was, request);
+        left = λ by actor sits its same. elim (same_or_other by reins.worker) [
+          | inl own ↦ none-some actor (sym (ap (λ (n : ℕ). (after.seats n).actor) own ∙ ap (λ (seat : Seat). seat.actor) (upd_here state.seats reins.worker (record (state.seats reins.worker) { actor = None }))) ∙ sits)
+          | inr apart ↦
+              let seat = leads.others by apart in
+              numbers_apart by actor apart (sym (ap (λ (one : Seat). one.actor) seat) ∙ sits) its (sym (ap (λ (one : Seat). one.request) seat) ∙ same ∙ sym request)
+        ];
+      }
+
+  is_fresh : (other : Finished) → IsOver state other → times_noted other.tenant other.request (the_finished ∷ []) ≡ 0
+  unfolding the_finished
+  is_fresh other over = times_none other.tenant other.request (the_finished ∷ []) (
+    λ its same. over.left reins.worker next holds.actor its (holds.request ∙ same),
+    tt,
+  )
+
+  is_few : (tenant request : ℕ) → times_noted tenant request (the_finished ∷ []) ≤ 1
+  is_few tenant request = let few = weight_few (is_of tenant request the_finished) in omega (arith, few)
+
 -- the reply is handed out, if it stands
 pub settles : (config : Config) (openings : ℕ → Opening) (before : List Happening) (old state : State) (played : IsPlayed config openings before state) (events more : List Happening) (reins : Reins) (next : Acting)
     → Leads config old reins.worker state more → Holds config openings state (events ++ more) (record reins { actor = Some next })
@@ -221,7 +277,7 @@ settles config openings before old state played events more reins next leads hol
         → Reached config openings old reins.worker events (more ++ hand_out reins.worker reply) (settled_as reins next reply) state.cells (NotesAs next.tenant reins.request reins.begun next.job reply [])
     by None stands =
         subst (λ all. Reached config openings old reins.worker events all (settled_as reins next None) state.cells (NotesAs next.tenant reins.request reins.begun next.job None [])) (sym (append-nil more))
-        (record { after = state; leads = leads; holds = holds; same_cells = refl; noted = []; right = tt; ends = refl })
+        (record { after = state; leads = leads; holds = holds; same_cells = refl; noted = []; right = tt; ends = refl; few = λ tenant request. omega arith; fresh = λ other over. refl; over = tt })
     by (Some reply) stands = record {
       after = after_hand state reins.worker next;
       leads = leads_on config old state (after_hand state reins.worker next) reins.worker more (Hand reins.worker ∷ []) leads (hand_leads config openings state (events ++ more) reins next holds reply stands);
@@ -231,6 +287,9 @@ settles config openings before old state played events more reins next leads hol
       noted = the_finished config openings before state played (events ++ more) reins next holds reply stands ∷ [];
       right = (handed_right config openings before state played (events ++ more) reins next holds reply stands, tt);
       ends = is_noted config openings before state played (events ++ more) reins next holds reply stands;
+      few = is_few config openings before state played (events ++ more) reins next holds reply stands;
+      fresh = λ other over. is_fresh config openings before state played (events ++ more) reins next holds reply stands other (over_on config old state reins.worker more leads other over);
+      over = (handed_over config openings before state played (events ++ more) reins next holds reply stands, tt);
     }
 
 -- A step, after which the reply is handed out, if it stands; behind what the worker did before.
@@ -267,7 +326,13 @@ module _ (config : Config) (openings : ℕ → Opening) (state : State) (events 
     others = λ other apart. upd_else state.seats reins.worker other _ apart;
     quiet = λ other apart. no_deed reins.worker other Came apart;
     no_starts = (tt, tt);
-    gifts = λ other. one_gift state.accounts tenant _ (record { quota = refl; is_up = refl }) other;
+    gifts = λ other. one_gift state.accounts tenant _ (record { quota = refl; is_up = refl; asked = omega arith }) other;
+    own = λ after sits.
+        let actor = first reins.worker tenant (state.accounts tenant).quota config.pool job in
+        let seat = upd_here state.seats reins.worker (begun (state.seats reins.worker) actor (state.accounts tenant).asked) in
+        let its = same_Some actor after (sym (ap (λ (one : Seat). one.actor) seat) ∙ sits) in
+        inr (subst (λ n. (state.accounts after.tenant).asked ≤ n) (sym (ap (λ (one : Seat). one.request) seat))
+        (no_fewer (state.accounts after.tenant).asked (state.accounts tenant).asked (ap (λ (one : Acting). (state.accounts one.tenant).asked) (sym its))));
   }
 
   pub come_holds : Holds config openings (after_come config state reins.worker tenant job) (events ++ Come reins.worker tenant job ∷ [])

@@ -1,12 +1,14 @@
 -- Sums over what threads know, and what holds of each reins.
-use Rattle.std.specs.Prelude.{ℕ, zero, suc, ◌+◌, ◌≡◌, ◌≢◌, ◌≤◌, ◌==◌, List, [], ◌∷◌, ◌++◌, slice_set}
-use Rattle.std.proofs.Common.{refl, sym, ap, arith}
+use Rattle.std.specs.Prelude.{ℕ, zero, suc, ◌+◌, ◌≡◌, ◌≢◌, ◌≤◌, ◌==◌, ◌&&◌, Bool, true, false, List, [], ◌∷◌, ◌++◌, slice_set}
+use Rattle.std.proofs.Common.{refl, sym, ap, inl, inr, arith}
 use Rattle.std.proofs.lemmas.Bool.Decides.{nat_tests}
 use mathlib.Core.Option.{some, some-injective, some-ne-none}
 use lib.ListN.{get_elem?}
+use Rattle.mw_law_runs.proofs.Numbers.{same_or_other}
+use Rattle.mw_rule.specs.declared.views.Finished.{Finished}
 use Rattle.mw_rule.specs.declared.views.Reins.{Reins}
 use Rattle.mw_rule.specs.declared.views.View.{View}
-use Rattle.mw_rule.specs.Rule.{Each, times, weight, total}
+use Rattle.mw_rule.specs.Rule.{Each, is_of, times, times_noted, weight, total}
 
 pub total_set : (count : View → ℕ) (views : List View) (id : ℕ) (old new : View) → get_elem? views id ≡ some old → total count (slice_set views id new) + count old ≡ total count views + count new
 total_set count [] id old new is = absurd (some-ne-none old (sym is))
@@ -32,7 +34,10 @@ pub total_more : (count : View → ℕ) (views : List View) (last : View) → to
 total_more count [] last = omega arith
 total_more count (one ∷ views) last = let rest = total_more count views last in omega (arith, rest)
 
-weight_own : (one other : ℕ) → one ≡ other → weight (one == other) ≡ 1
+pub weight_none : (one other : ℕ) → one ≢ other → weight (one == other) ≡ 0
+weight_none one other apart = grind (arith, nat_tests, apart)
+
+pub weight_own : (one other : ℕ) → one ≡ other → weight (one == other) ≡ 1
 weight_own one other same = grind (arith, nat_tests, same)
 
 pub own_once : (worker : ℕ) (reins : Reins) → reins.worker ≡ worker → times worker (reins ∷ []) ≡ 1
@@ -48,3 +53,45 @@ each_apart P Q worker (one ∷ rest) none keeps holds = (
   keeps one (apart_from one.worker worker (omega (arith, none))) holds.0,
   each_apart P Q worker rest (omega (arith, none)) keeps holds.1,
 )
+
+pub each_on : {A : Type 0} (P Q : A → Type 0) → ((one : A) → P one → Q one) → (all : List A) → Each P all → Each Q all
+each_on P Q goes [] holds = tt
+each_on P Q goes (one ∷ rest) holds = (goes one holds.0, each_on P Q goes rest holds.1)
+
+pub each_more : {A : Type 0} (P : A → Type 0) (all more : List A) → Each P all → Each P more → Each P (all ++ more)
+each_more P [] more first rest = rest
+each_more P (one ∷ all) more first rest = (first.0, each_more P all more first.1 rest)
+
+-- Where no view has any there are none.
+pub total_none : (count : View → ℕ) (views : List View) → ((id : ℕ) (view : View) → get_elem? views id ≡ some view → count view ≡ 0) → total count views ≡ 0
+total_none count [] none = refl
+total_none count (one ∷ views) none = let first = none zero one refl in let rest = total_none count views (λ id view is. none (suc id) view is) in omega (arith, first, rest)
+
+-- Requests that are noted behind others.
+pub times_more : (tenant request : ℕ) (mine more : List Finished) → times_noted tenant request (mine ++ more) ≡ times_noted tenant request mine + times_noted tenant request more
+times_more tenant request [] more = omega arith
+times_more tenant request (one ∷ mine) more = let rest = times_more tenant request mine more in omega (arith, rest)
+
+-- A request is of itself, and no other is.
+pub weight_at : (one : Finished) (tenant request : ℕ) → (one.tenant ≡ tenant → one.request ≢ request) → weight (is_of tenant request one) ≡ 0
+weight_at one tenant request apart = elim (same_or_other one.tenant tenant) [
+  | inl same ↦ let not_it = apart same in both (one.tenant == tenant) (one.request == request) (weight_none one.request request not_it)
+  | inr other ↦ first (one.tenant == tenant) (one.request == request) (weight_none one.tenant tenant other)
+]
+  where
+    both : (a b : Bool) → weight b ≡ 0 → weight (a && b) ≡ 0
+    both true b none = none
+    both false b none = refl
+
+    first : (a b : Bool) → weight a ≡ 0 → weight (a && b) ≡ 0
+    first true b none = absurd (omega (arith, none))
+    first false b none = refl
+
+pub weight_few : (own : Bool) → weight own ≤ 1
+weight_few true = omega arith
+weight_few false = omega arith
+
+-- Where each of these is apart from the request, it isn't among them.
+pub times_none : (tenant request : ℕ) (mine : List Finished) → Each (λ one. one.tenant ≡ tenant → one.request ≢ request) mine → times_noted tenant request mine ≡ 0
+times_none tenant request [] apart = refl
+times_none tenant request (one ∷ mine) apart = let here = weight_at one tenant request apart.0 in let rest = times_none tenant request mine apart.1 in omega (arith, here, rest)

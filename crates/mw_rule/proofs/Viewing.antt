@@ -1,5 +1,5 @@
 -- What a thread knows after its own step.
-use Rattle.std.specs.Prelude.{ℕ, zero, suc, ◌≡◌, ◌≤◌, ◌<◌, ◌==◌, true, false, List, [], ◌∷◌, ◌++◌, length, map, slice_index_or, slice_set, Option, Some, None}
+use Rattle.std.specs.Prelude.{ℕ, zero, suc, ◌+◌, ◌≡◌, ◌≢◌, ◌≤◌, ◌<◌, ◌==◌, true, false, List, [], ◌∷◌, ◌++◌, length, map, slice_index_or, slice_set, Option, Some, None}
 use Rattle.std.proofs.Common.{refl, sym, ap, subst, ◌∙◌, ◌⊎◌, inl, inr, arith}
 use Rattle.std.proofs.lemmas.List.{length-append}
 use mathlib.Core.Option.{some}
@@ -24,13 +24,13 @@ use Rattle.mw_rule.specs.declared.views.Finished.{Finished}
 use Rattle.mw_rule.specs.declared.views.Reins.{Reins}
 use Rattle.mw_rule.specs.declared.views.View.{View}
 use Rattle.mw_rule.specs.Carrying.{GoesOn, IsReady, IsReadyFor, settled_as, told, told_as, told_of}
-use Rattle.mw_rule.specs.Rule.{Continues, Each, Fits, Holds, IsLive, IsRight, IsSpent, Tied, Ties, has, times, weight}
+use Rattle.mw_rule.specs.Rule.{Continues, Each, Fits, Holds, IsLive, IsOver, IsRight, IsSpent, Tied, Ties, has, notes_of, times, times_noted, total, weight}
 use Rattle.mw_rule.specs.Seen.{ComeFirst, all_of, opening_at, seen_at}
 use Rattle.mw_rule.proofs.Keeping.{keep}
-use Rattle.mw_rule.proofs.Leading.{begins_itself, gave_on, played_on, seen_on}
-use Rattle.mw_rule.proofs.Righting.{IsRightIn, each_more, mine_in, sees_right}
+use Rattle.mw_rule.proofs.Leading.{begins_itself, gave_on, over_on, played_on, seen_on}
+use Rattle.mw_rule.proofs.Righting.{IsRightIn, mine_in, sees_right}
 use Rattle.mw_rule.proofs.Stepping.{Reached}
-use Rattle.mw_rule.proofs.Totals.{own_once}
+use Rattle.mw_rule.proofs.Totals.{each_more, each_on, own_once, times_more, times_none, total_none, total_one}
 
 -- a list with one more, read before its end and there
 read_before : {A : Type 0} (all : List A) (last none : A) (index : ℕ) → index < length all → slice_index_or (all ++ last ∷ []) index none ≡ slice_index_or all index none
@@ -135,6 +135,24 @@ pub record Moved (config : Config) (begun : (ℕ → Opening) → List Happening
   pub mine : view.mine ≡ old.mine ++ noted
   pub ends : IsSo noted
 
+-- Requests of which each that is over is apart, none of them twice, are noted in no view.
+module _ (config : Config) (begun : (ℕ → Opening) → List Happening → Type 0) (s : Table Acting View) (tied : Tied config begun s) (noted : List Finished)
+    (few : (tenant request : ℕ) → times_noted tenant request noted ≤ 1) (fresh : (other : Finished) → IsOver tied.state other → times_noted other.tenant other.request noted ≡ 0) where
+  none_in : (tenant request many : ℕ) (view : View) → times_noted tenant request noted ≡ suc many → IsSpent view ⊎ Fits config tied.past.openings tied.state tied.events view → notes_of tenant request view ≡ 0
+  none_in tenant request many view is (inl spent) = ap (times_noted tenant request) spent.no_mine
+  none_in tenant request many view is (inr fits) =
+      times_none tenant request view.mine (each_on (IsOver tied.state) (λ one. one.tenant ≡ tenant → one.request ≢ request)
+      (λ one over its same. let none = sym (λ i. times_noted (its i) (same i) noted) ∙ fresh one over in absurd (omega (arith, is, none))) view.mine fits.over)
+
+  noted_few : (tenant request : ℕ) → total (notes_of tenant request) s.views + times_noted tenant request noted ≤ 1
+  noted_few tenant request = by (times_noted tenant request noted) refl
+    where
+      by : (many : ℕ) → times_noted tenant request noted ≡ many → total (notes_of tenant request) s.views + many ≤ 1
+      by zero is = let all = tied.once tenant request in omega (arith, all)
+      by (suc many) is =
+          let none = total_none (notes_of tenant request) s.views (λ id view at. none_in tenant request many view is (tied.fits id view at)) in
+          let low = few tenant request in omega (arith, none, low, is)
+
 pub moves : (config : Config) (begun : (ℕ → Opening) → List Happening → Type 0) (s : Table Acting View) (tied : Tied config begun s) (more : List Happening) (id index bits : ℕ) (old : View) (reins : Reins) (f : Reins → Reins) (cells : Cells)
     (IsSo : List Finished → Type 0)
     → get_elem? s.views id ≡ some old → old.reins ≡ reins ∷ [] → Fits config tied.past.openings tied.state tied.events old → ((one : Reins) → (f one).worker ≡ one.worker)
@@ -151,7 +169,11 @@ moves config begun s tied more id index bits old reins f cells IsSo at only fits
     gave_on config openings before tied.state tied.past.played reins.worker reached.after more reached.leads tenant low (opening_at old.openings tenant) (fits.gave tenant low) in
     let right = sees_right config openings reached.after new fits.same_config gave (before ++ more) later (all_at sealed (tenants_of config))
     (each_more (IsRightIn config openings reached.after) old.mine reached.noted
-    (mine_in config openings reached.after old fits.same_config gave (seen old.seen fits.seen) old.mine fits.right.mine) reached.right) in
+    (mine_in config openings reached.after old fits.same_config gave (seen old.seen fits.seen) old.mine fits.right.mine) reached.right)
+    (λ tenant request.
+    let all = noted_few config begun s tied reached.noted reached.few reached.fresh tenant request in
+    let some = total_one (notes_of tenant request) s.views id old at in
+    let sum = times_more tenant request old.mine reached.noted in omega (arith, all, some, sum)) in
     let new_fits : Fits config openings reached.after (tied.events ++ more) new = record {
       same_config = fits.same_config;
       gave = gave;
@@ -159,11 +181,16 @@ moves config begun s tied more id index bits old reins f cells IsSo at only fits
       seen = all_seen sealed (tenants_of config);
       told = seen old.told fits.told;
       right = right;
+      over = each_more (IsOver reached.after) old.mine reached.noted
+          (each_on (IsOver tied.state) (IsOver reached.after) (over_on config tied.state reached.after reins.worker more reached.leads) old.mine fits.over) reached.over;
     } in
     record {
       view = new;
       run = keep config begun s tied id index bits reins.worker old new reached.after more at (omega (arith, own)) (λ one. times_map f same one old.reins) reached.leads new_fits
-          (subst (λ all. Ties config all (slice_set s.words index bits)) (sym reached.same_cells) ties);
+          (subst (λ all. Ties config all (slice_set s.words index bits)) (sym reached.same_cells) ties)
+          (λ tenant request.
+          let all = noted_few config begun s tied reached.noted reached.few reached.fresh tenant request in
+          let sum = times_more tenant request old.mine reached.noted in omega (arith, all, sum));
       goes_on = sees_on config sealed old (map f old.reins) (old.mine ++ reached.noted) fits.same_config (seen old.seen fits.seen) (seen old.told fits.told);
       right = right;
       reins = refl;

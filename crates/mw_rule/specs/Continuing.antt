@@ -16,7 +16,7 @@ use Rattle.mw_world.specs.Definition.Happenings.{Happening, Come, Step, Hand}
 use Rattle.mw_world.specs.Definition.State.{Opening, tenants_of}
 use Rattle.mw_rule.specs.declared.views.View.{View}
 use Rattle.mw_rule.specs.Carrying.{Began, Drives, Looked, MayCome, Precede, Took, told_of}
-use Rattle.mw_rule.specs.Dealing.{dealt, hears, left_over, meets, note, spent, takes}
+use Rattle.mw_rule.specs.Dealing.{dealt, gathers, hears, left_over, meets, note, spent, takes}
 use Rattle.mw_rule.specs.Layout.{index_of}
 use Rattle.mw_rule.specs.Rule.{Continues, IsLive, Tied}
 use Rattle.mw_rule.specs.Ways.{finds, made_of_bits}
@@ -72,3 +72,4 @@ module _ (config : Config) (begun : (ℕ → Opening) → List Happening → Typ
 
   abbrev pub JoinsGoOn : Type 0
   JoinsGoOn = JoinsOn (λ view its. its.reins ≡ []) hears × JoinsOn (λ view its. (its.reins ≡ []) × Precede (tenants_of view.config) view.seen its.seen) meets × JoinsOn (λ view its. view.reins ≡ []) takes
+      × JoinsOn (λ view its. Precede (tenants_of view.config) view.seen its.seen) gathers

@@ -1,5 +1,5 @@
 -- What the first thread knows of a table, and how what threads know is cut in two and put together.
-use Rattle.std.specs.Prelude.{ℕ, zero, suc, ◌+◌, true, false, List, [], ◌∷◌}
+use Rattle.std.specs.Prelude.{ℕ, zero, suc, ◌+◌, true, false, List, [], ◌∷◌, ◌++◌}
 use Rattle.mw_world.specs.declared.config.Config.{Config}
 use Rattle.mw_world.specs.Definition.State.{Opening, Seat}
 use Rattle.mw_rule.specs.declared.views.Reins.{Reins}
@@ -52,6 +52,10 @@ meets view other = record view { seen = other.seen; told = other.seen }
 -- a thread that takes another's reins
 abbrev pub takes : View → View → View
 takes view other = record view { reins = other.reins }
+
+-- a thread that takes over all that another knew, which had seen no less
+abbrev pub gathers : View → View → View
+gathers view other = record view { reins = view.reins ++ other.reins; seen = other.seen; told = other.seen; mine = view.mine ++ other.mine }
 
 -- what is left of a thread that gave away all that it knew
 abbrev pub spent : View

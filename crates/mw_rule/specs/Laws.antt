@@ -1,7 +1,8 @@
 -- What is proved of the rule.
-use Rattle.std.specs.Prelude.{ℕ, ◌≡◌, ◌<◌, List, [], length}
+use Rattle.std.specs.Prelude.{ℕ, ◌≡◌, ◌<◌, List, [], length, slice_get, Some}
 use Rattle.atomic_table.specs.Table.{Me, Allows, Splits, Joins, opening}
 use Rattle.mw_words.specs.declared.places.At.TheVariants.{Door as AtDoor}
+use Rattle.mw_words.specs.declared.replies.Reply.TheVariants.{Yes as SaysYes}
 use Rattle.mw_look.specs.declared.news.Got.TheVariants.{Word as Bits}
 use Rattle.mw_look.specs.declared.steps.Op.{Op}
 use Rattle.mw_look.specs.Steps.{place_of}
@@ -10,9 +11,10 @@ use Rattle.mw_world.specs.declared.config.Config.{Config}
 use Rattle.mw_world.specs.Claim.Headline.{IsPlayed}
 use Rattle.mw_world.specs.Definition.Happenings.{Happening}
 use Rattle.mw_world.specs.Definition.State.{State, Opening, Seat, tenants_of}
+use Rattle.mw_rule.specs.declared.views.Finished.{Finished}
 use Rattle.mw_rule.specs.declared.views.View.{View}
 use Rattle.mw_rule.specs.Carrying.{Drives, MayCome, Took, Began, Looked, Precede}
-use Rattle.mw_rule.specs.Dealing.{maker, spent, dealt, left_over, note, hears, meets, takes}
+use Rattle.mw_rule.specs.Dealing.{gathers, maker, spent, dealt, left_over, note, hears, meets, takes}
 use Rattle.mw_rule.specs.Layout.{index_of, words_of}
 use Rattle.mw_rule.specs.Rule.{IsLive, IsRight, Ties, Tied}
 use Rattle.mw_rule.specs.Seen.{Gave, opening_at}
@@ -62,6 +64,11 @@ module _ (config : Config) (begun : (ℕ → Opening) → List Happening → Typ
   abbrev pub TakingKeepsTheRule : Type 0
   TakingKeepsTheRule = (id other : ℕ) (view its : View) → IsLive view → IsLive its → view.reins ≡ [] → Joins {S = Acting} (Tied config begun) id view other its (takes view its) spent
 
+  -- A thread takes over all that another knew, which had seen no less: its reins, and the requests that it noted. So at the end one thread can know of all that were finished.
+  abbrev pub GatheringKeepsTheRule : Type 0
+  GatheringKeepsTheRule = (id other : ℕ) (view its : View) → IsLive view → IsLive its → Precede (tenants_of view.config) view.seen its.seen
+      → Joins {S = Acting} (Tied config begun) id view other its (gathers view its) spent
+
 -- Of views alone.
 
 -- What is right of one thread's knowledge is right of its parts; and it is right of two that meet which know of one start.
@@ -70,3 +77,8 @@ PartsAreRight = (view other : View) → IsRight view → IsRight (left_over view
 
 abbrev pub MeetingsAreRight : Type 0
 MeetingsAreRight = (view its : View) → IsRight view → IsRight its → its.config ≡ view.config → its.openings ≡ view.openings → Precede (tenants_of view.config) view.seen its.seen → IsRight (meets view its)
+
+-- The change that a request answered by YES found at its place is its own: no other request that the thread noted found it there.
+abbrev pub ChangesAreOwn : Type 0
+ChangesAreOwn = (view : View) (index another : ℕ) (one other : Finished) → IsRight view → slice_get view.mine index ≡ Some one → slice_get view.mine another ≡ Some other
+    → one.tenant ≡ other.tenant → one.reply ≡ SaysYes → other.reply ≡ SaysYes → one.place ≡ other.place → index ≡ another

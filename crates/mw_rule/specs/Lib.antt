@@ -1,3 +1,4 @@
+pub mod Calling
 pub mod Carrying
 pub mod Continuing
 pub mod Dealing

@@ -1,5 +1,5 @@
 -- The rule: between any two steps the words in the table, and what the threads know, are those of the world after some run.
-use Rattle.std.specs.Prelude.{ℕ, ◌+◌, ◌≡◌, ◌≤◌, ◌<◌, ◌==◌, ◌⊎◌, Bool, true, false, cond, List, [], ◌∷◌, ◌++◌, length, slice_get, slice_index, Some}
+use Rattle.std.specs.Prelude.{ℕ, ◌+◌, ◌≡◌, ◌≢◌, ◌≤◌, ◌<◌, ◌==◌, ◌&&◌, ◌⊎◌, Bool, true, false, cond, List, [], ◌∷◌, ◌++◌, length, slice_get, slice_index, Some}
 use mathlib.Core.Option.{some}
 use lib.ListN.{get_elem?}
 use Rattle.atomic_table.specs.Table.{State as Table}
@@ -101,10 +101,27 @@ words_given view tenant = (opening_at view.openings tenant).words
 abbrev pub IsFinished : View → Finished → Type 0
 IsFinished view one = IsRightAmong (tenants_of view.config) (words_given view) (seen_at view.seen) one
 
--- What a thread knows is right by itself: the changes that it has seen, and each request that it noted.
+-- how often a tenant's request, by its number, stands among these
+abbrev pub is_of : ℕ → ℕ → Finished → Bool
+is_of tenant request one = (one.tenant == tenant) && (one.request == request)
+
+abbrev pub times_noted : ℕ → ℕ → List Finished → ℕ
+times_noted tenant request [] = 0
+times_noted tenant request (one ∷ rest) = weight (is_of tenant request one) + times_noted tenant request rest
+
+abbrev pub notes_of : ℕ → ℕ → View → ℕ
+notes_of tenant request view = times_noted tenant request view.mine
+
+-- What a thread knows is right by itself: the changes that it has seen, and each request that it noted, none of which it noted twice.
 pub record IsRight (view : View) : Type 0 where
   pub changes : (tenant : ℕ) → tenant < tenants_of view.config → AreRight (words_given view tenant) (seen_at view.seen tenant)
   pub mine : Each (IsFinished view) view.mine
+  pub once : (tenant request : ℕ) → notes_of tenant request view ≤ 1
+
+-- A request is over: its number was given to a request, and no worker has that.
+pub record IsOver (state : State) (one : Finished) : Type 0 where
+  pub given : one.request < (state.accounts one.tenant).asked
+  pub left : (worker : ℕ) (actor : Acting) → (state.seats worker).actor ≡ Some actor → actor.tenant ≡ one.tenant → (state.seats worker).request ≢ one.request
 
 -- What a thread knows is so.
 pub record Fits (config : Config) (openings : ℕ → Opening) (state : State) (events : List Happening) (view : View) : Type 0 where
@@ -114,17 +131,19 @@ pub record Fits (config : Config) (openings : ℕ → Opening) (state : State) (
   pub seen : ComeFirst (tenants_of config) view.seen (sealed_of openings state)
   pub told : ComeFirst (tenants_of config) view.told (sealed_of openings state)
   pub right : IsRight view
+  pub over : Each (IsOver state) view.mine
 
 -- A thread that has given all that it knew to another knows nothing, and has no reins.
 pub record IsSpent (view : View) : Type 0 where
   pub flag : view.is_spent ≡ true
   pub no_reins : view.reins ≡ []
+  pub no_mine : view.mine ≡ []
 
 -- A thread has reins, or hasn't given away what it knew.
 abbrev pub IsLive : View → Type 0
 IsLive view = (view.is_spent ≡ false) ⊎ ((one : Reins) × (rest : List Reins) × (view.reins ≡ one ∷ rest))
 
--- The rule of the table: there is a run; the words are those of the world after it; so is what each thread knows, if it isn't spent; and no two threads have reins of one worker.
+-- The rule of the table: there is a run; the words are those of the world after it; so is what each thread knows, if it isn't spent; no two threads have reins of one worker, and none noted a request that another did.
 pub record Tied (config : Config) (begun : (ℕ → Opening) → List Happening → Type 0) (s : Table Acting View) : Type 0 where
   pub state : State
   pub events : List Happening
@@ -133,6 +152,7 @@ pub record Tied (config : Config) (begun : (ℕ → Opening) → List Happening 
   pub ties : Ties config state.cells s.words
   pub fits : (id : ℕ) (view : View) → get_elem? s.views id ≡ some view → IsSpent view ⊎ Fits config past.openings state events view
   pub alone : (worker : ℕ) → total (has worker) s.views ≤ 1
+  pub once : (tenant request : ℕ) → total (notes_of tenant request) s.views ≤ 1
 
 -- The run behind a table goes on: the rule rests on the start and the run on which it rested, to which these events were added.
 pub record Continues (config : Config) (begun : (ℕ → Opening) → List Happening → Type 0) (s : Table Acting View) (tied : Tied config begun s) (more : List Happening) (next : Table Acting View) : Type 0 where

@@ -1,6 +1,7 @@
 //! What holds of the rule: facts for proofs to cite. The functions do nothing.
+ghost use Rattle.mw_rule.specs.Calling.{CallsBegin, CallsEnd, CallsGoOn, CallsStand};
 ghost use Rattle.mw_rule.specs.Continuing.{FirstStepsGoOn, JoinsGoOn, LooksGoOn, PartsGoOn, StepsGoOn};
-ghost use Rattle.mw_rule.specs.Laws.{DealsKeepTheRule, FirstStepsKeepTheRule, HearingKeepsTheRule, LooksKeepTheRule, MeetingKeepsTheRule, MeetingsAreRight, NotesKeepTheRule, PartsAreRight, StartsUnderTheRule, StepsKeepTheRule, TakingKeepsTheRule};
+ghost use Rattle.mw_rule.specs.Laws.{ChangesAreOwn, DealsKeepTheRule, FirstStepsKeepTheRule, GatheringKeepsTheRule, HearingKeepsTheRule, LooksKeepTheRule, MeetingKeepsTheRule, MeetingsAreRight, NotesKeepTheRule, PartsAreRight, StartsUnderTheRule, StepsKeepTheRule, TakingKeepsTheRule};
 ghost use Rattle.mw_rule.specs.Layout.{PlacesAreInTable, PlacesAreWithin, PlacesStandApart};
 
 use crate::rule::Begins;
@@ -42,17 +43,31 @@ pub fn the_run_goes_on<B: Begins>()
 {}
 
 /// Reins may be given to a new thread, and a note of what was seen; and a thread may be told what a note says,
-/// or take it for its own where it saw no more; and one that has no reins may take another's.
+/// or take it for its own where it saw no more; and one that has no reins may take another's,
+/// or one takes over all that another knew.
 pub fn what_is_known_is_parted<B: Begins>()
     ensures deals { (key : B) → DealsKeepTheRule (B.config key) (B.begun key) }
     ensures notes { (key : B) → NotesKeepTheRule (B.config key) (B.begun key) }
     ensures hears { (key : B) → HearingKeepsTheRule (B.config key) (B.begun key) }
     ensures meets { (key : B) → MeetingKeepsTheRule (B.config key) (B.begun key) }
     ensures takes { (key : B) → TakingKeepsTheRule (B.config key) (B.begun key) }
+    ensures gathers { (key : B) → GatheringKeepsTheRule (B.config key) (B.begun key) }
 {}
 
-/// What a thread has seen and noted stays right where it is parted, and where two threads meet.
+/// What a thread has seen and noted stays right where it is parted, and where two threads meet; and what is right
+/// gives each request that was answered by YES a change of its own.
 pub fn knowledge_stays_right()
     ensures parts { PartsAreRight }
     ensures meetings { MeetingsAreRight }
+    ensures own { ChangesAreOwn }
+{}
+
+/// A whole call: from the request's first step on, over each further one and over loads that are no step, what the
+/// thread saw goes on and it notes nothing, until the reply is there. Then one request more is noted, and its
+/// reply is right at a place that is no smaller than what the thread had seen when the request came.
+pub fn calls_are_noted()
+    ensures begin { CallsBegin }
+    ensures go_on { CallsGoOn }
+    ensures stand { CallsStand }
+    ensures end { CallsEnd }
 {}

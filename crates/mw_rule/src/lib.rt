@@ -3,7 +3,9 @@
 //!
 //! What to read first. `specs/Layout` says where each shared word stands, `specs/Ways` what each kind of step
 //! makes of a word's bits; `specs/Rule` is the rule, with what one thread knows; `specs/Carrying` what a step
-//! asks of the thread that makes it, and what it tells the thread. `mw_table` has the steps.
+//! asks of the thread that makes it, and what it tells the thread; `specs/Calling` what that comes to over a
+//! whole call; `specs/Dealing` how what threads know is parted and put together. `specs/Laws` and
+//! `specs/Continuing` say what is proved of these. `mw_table` has the steps.
 #![tactic(auto)]
 
 mod indexes;
@@ -14,9 +16,9 @@ mod ways;
 
 pub use indexes::index_of;
 pub use laws::{
-    knowledge_stays_right, places_stand_apart, steps_keep_the_rule, tables_start_under_the_rule,
-    the_run_goes_on, what_is_known_is_parted,
+    calls_are_noted, knowledge_stays_right, places_stand_apart, steps_keep_the_rule,
+    tables_start_under_the_rule, the_run_goes_on, what_is_known_is_parted,
 };
-pub use rule::{Begins, Deals, Hears, Meets, Notes, Takes, Tie};
+pub use rule::{Begins, Deals, Gathers, Hears, Meets, Notes, Takes, Tie};
 pub use views::{Deed, Finished, Opened, Reins, Sealed, View};
 pub use ways::{Way, way_of};

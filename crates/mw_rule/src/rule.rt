@@ -3,7 +3,7 @@ ghost use Rattle.std.specs.Prelude.{List, ℕ};
 ghost use Rattle.mw_world.specs.declared.config.Config.{Config};
 ghost use Rattle.mw_world.specs.Definition.Happenings.{Happening};
 ghost use Rattle.mw_world.specs.Definition.State.{Opening};
-ghost use Rattle.mw_rule.specs.Dealing.{dealt, hears, left_over, meets, note, spent, takes};
+ghost use Rattle.mw_rule.specs.Dealing.{dealt, gathers, hears, left_over, meets, note, spent, takes};
 ghost use Rattle.mw_rule.specs.Rule.{Tied};
 ghost use Rattle.mw_rule.specs.declared.views.View.{View};
 
@@ -73,6 +73,15 @@ pub struct Takes;
 
 impl Join<View> for Takes {
     ghost both = { takes };
+
+    ghost spent = { spent };
+}
+
+/// A thread takes over all that another knew.
+pub struct Gathers;
+
+impl Join<View> for Gathers {
+    ghost both = { gathers };
 
     ghost spent = { spent };
 }

@@ -96,7 +96,8 @@ pub struct View {
     pub seen: LinkedList<LinkedList<Sealed>>,
     /// The same, as another thread told it.
     pub told: LinkedList<LinkedList<Sealed>>,
-    /// The requests that the thread finished, in order, each at its place among what was seen.
+    /// The requests that the thread finished, in order, each at its place among what was seen; then those of
+    /// threads whose knowledge it took over.
     pub mine: LinkedList<Finished>,
     /// Whether all this was given to another thread. What is left tells nothing.
     pub is_spent: bool,

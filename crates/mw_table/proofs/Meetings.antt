@@ -11,7 +11,7 @@ use Rattle.mw_rule.specs.declared.views.Reins.{Reins}
 use Rattle.mw_rule.specs.declared.views.View.{View}
 use Rattle.mw_rule.specs.Carrying.{GoesOn, Looked, Precede}
 use Rattle.mw_rule.specs.Dealing.{hears, meets, spent}
-use Rattle.mw_rule.specs.Rule.{Fits, IsLive, IsRight, IsSpent, Tied, has}
+use Rattle.mw_rule.specs.Rule.{Fits, IsLive, IsRight, IsSpent, Tied, has, notes_of}
 use Rattle.mw_rule.proofs.Parting.{hearing_keeps, looks_keep, meeting_keeps}
 use Rattle.mw_rule.proofs.Righting.{meetings_are_right}
 use Rattle.mw_rule.proofs.Totals.{total_more, total_set}
@@ -32,9 +32,9 @@ tells_keep config begun id view is_live s tied at =
     let openings = tied.past.openings in
     let So : View → Type 0 = λ one. IsSpent one ⊎ Fits config openings tied.state tied.events one in
     let fits = live_fits config openings tied.state tied.events view is_live (tied.fits id view at) in
-    let right : IsRight (told_by view) = record { changes = fits.right.changes; mine = tt } in
+    let right : IsRight (told_by view) = record { changes = fits.right.changes; mine = tt; once = λ tenant request. omega arith } in
     let told_fits : Fits config openings tied.state tied.events (told_by view) =
-    record { same_config = fits.same_config; gave = fits.gave; reins = tt; seen = fits.seen; told = fits.told; right = right } in
+    record { same_config = fits.same_config; gave = fits.gave; reins = tt; seen = fits.seen; told = fits.told; right = right; over = tt } in
     record {
       state = tied.state;
       events = tied.events;
@@ -52,6 +52,10 @@ tells_keep config begun id view is_live s tied at =
           let first = total_set (has worker) s.views id view view at in
           let second = total_more (has worker) (slice_set s.views id view) (told_by view) in
           let all = tied.alone worker in omega (arith, first, second, all);
+      once = λ tenant request.
+          let first = total_set (notes_of tenant request) s.views id view view at in
+          let second = total_more (notes_of tenant request) (slice_set s.views id view) (told_by view) in
+          let all = tied.once tenant request in omega (arith, first, second, all);
     }
 
 -- there is a word

@@ -59,7 +59,7 @@ pass_dealt shared world before pass stands same table low is idle = record {
   there = low;
   view = is;
   idle = idle;
-  right = subst IsRight (sym is) (record { changes = λ tenant among. nothing_right (words_given (view_of world pass.worker) tenant); mine = tt });
+  right = subst IsRight (sym is) (record { changes = λ tenant among. nothing_right (words_given (view_of world pass.worker) tenant); mine = tt; once = λ tenant request. omega arith });
   ready = subst (λ (view : View). Each (IsReady world.config) view.reins) (sym is) (ready world before pass.worker stands low, tt);
 }
 

@@ -1,3 +1,4 @@
+use Rattle.mw_rule.proofs.Apart.{changes_are_own}
 use Rattle.mw_rule.proofs.Righting.{meetings_are_right, parts_are_right}
 use Rattle.mw_rule.proofs.laws.knowledge_stays_right.Goals as goal
 
@@ -6,3 +7,6 @@ returns-clause-parts c = parts_are_right
 
 pub returns-clause-meetings : goal.returns-clause-meetings
 returns-clause-meetings c = meetings_are_right
+
+pub returns-clause-own : goal.returns-clause-own
+returns-clause-own c = changes_are_own

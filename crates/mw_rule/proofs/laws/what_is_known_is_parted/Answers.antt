@@ -1,4 +1,4 @@
-use Rattle.mw_rule.proofs.Parting.{deals_keep, hearing_keeps, meeting_keeps, notes_keep, taking_keeps}
+use Rattle.mw_rule.proofs.Parting.{deals_keep, gathering_keeps, hearing_keeps, meeting_keeps, notes_keep, taking_keeps}
 use Rattle.mw_rule.proofs.laws.what_is_known_is_parted.Goals as goal
 
 pub returns-clause-deals : goal.returns-clause-deals
@@ -15,3 +15,6 @@ returns-clause-meets g c = λ key. meeting_keeps (g.B.Begins.config key) (g.B.Be
 
 pub returns-clause-takes : goal.returns-clause-takes
 returns-clause-takes g c = λ key. taking_keeps (g.B.Begins.config key) (g.B.Begins.begun key)
+
+pub returns-clause-gathers : goal.returns-clause-gathers
+returns-clause-gathers g c = λ key. gathering_keeps (g.B.Begins.config key) (g.B.Begins.begun key)

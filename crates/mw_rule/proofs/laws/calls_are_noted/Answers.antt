@@ -1,0 +1,14 @@
+use Rattle.mw_rule.proofs.Calling.{calls_begin, calls_end, calls_go_on, calls_stand}
+use Rattle.mw_rule.proofs.laws.calls_are_noted.Goals as goal
+
+pub returns-clause-begin : goal.returns-clause-begin
+returns-clause-begin c = calls_begin
+
+pub returns-clause-go_on : goal.returns-clause-go_on
+returns-clause-go_on c = calls_go_on
+
+pub returns-clause-stand : goal.returns-clause-stand
+returns-clause-stand c = calls_stand
+
+pub returns-clause-end : goal.returns-clause-end
+returns-clause-end c = calls_end
