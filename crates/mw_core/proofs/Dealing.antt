@@ -16,13 +16,13 @@ use Rattle.mw_rule.specs.Dealing.{reins_of}
 use Rattle.mw_rule.specs.Rule.{Each}
 use Rattle.mw_simulator.specs.declared.faults.WorldFault.{WorldFault}
 use Rattle.mw_simulator.specs.declared.world.World.{World}
-use Rattle.mw_simulator.specs.Running.{Stands, StandsAfter}
+use Rattle.mw_simulator.specs.Running.{StandsAfter}
 use Rattle.mw_simulator.specs.Shows.{Shows}
 use Rattle.mw_table.specs.declared.shared.Pass.{Pass}
 use Rattle.mw_table.specs.declared.shared.Shared.{Shared}
 use Rattle.mw_table.specs.Beginning.{seat_in}
 use Rattle.mw_table.specs.Carried.{IsCarried}
-use Rattle.mw_table.specs.Dealt.{IsDealt, view_of}
+use Rattle.mw_table.specs.Dealt.{IsDealt}
 use Rattle.mw_table.specs.Numbers.{numbers}
 use Rattle.mw_table.proofs.Starting.{seats_same}
 use Rattle.mw_core.specs.Reached.{IsReached}
