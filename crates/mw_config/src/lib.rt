@@ -1,4 +1,4 @@
-//! What a server is started with: the tenants file and the command line. The version too.
+//! What a server is started with: the tenants file and the command line.
 #![tactic(auto)]
 
 mod command_line;
@@ -6,11 +6,9 @@ mod laws;
 mod lines;
 mod refusals;
 mod tenants;
-mod version;
 
-pub use command_line::{ArgFault, Args, Listening, MAX_IDLE, Mode, read_args};
+pub use command_line::{ArgFault, Args, Mode, read_args};
 pub use laws::one_answer;
 pub use lines::TenantLine;
 pub use refusals::Refusal;
 pub use tenants::read_tenants;
-pub use version::VERSION;

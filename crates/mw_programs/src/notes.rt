@@ -1,43 +1,34 @@
-//! Notes for whoever runs the server.
+//! Notes on tenants, for whoever runs the server.
 
 use log::kv::Source;
 use log::span::Spans;
-use log::{Level, Log, Metadata, Record};
+use log::{Log, Metadata, Record};
+use std::cell::RefCell;
 use std::fmt::Display;
 use std::io::Write;
-use std::sync::{Mutex, Wait};
 
-/// A sink that writes each note on a line of its own, and nothing but the note. Many threads may write
-/// notes to it.
-///
-/// A warning is written in any case, and what is said more, at [`Level::Info`], only where it is to be
-/// verbose.
+/// A sink that writes each note on a line of its own, and nothing but the note.
 #[derive(Drop)]
-pub struct Notes<'a, W, R> {
-    rt: &'a R,
-    out: Mutex<&'a mut W>,
-    verbose: bool,
+pub struct Notes<'a, W> {
+    out: RefCell<&'a mut W>,
 }
 
-impl<'a, W: Write, R: Wait> Notes<'a, W, R> {
+impl<'a, W: Write> Notes<'a, W> {
     /// A sink over a writer.
-    pub fn new(rt: &'a R, out: &'a mut W, verbose: bool) -> Self {
+    pub fn new(out: &'a mut W) -> Self {
         Notes {
-            rt,
-            out: Mutex::new(out),
-            verbose,
+            out: RefCell::new(out),
         }
     }
 }
 
-impl<W: Write, R: Wait> Log for Notes<'_, W, R> {
-    fn enabled(&self, metadata: &Metadata<'_>) -> bool {
-        self.verbose || matches!(metadata.level(), Level::Error | Level::Warn)
+impl<W: Write> Log for Notes<'_, W> {
+    fn enabled(&self, _metadata: &Metadata<'_>) -> bool {
+        true
     }
 
     fn log<D: Display, K: Source, S: Spans>(&self, record: &Record<'_, D, K, S>) {
-        if self.enabled(record.metadata()) {
-            let mut out = self.out.lock(self.rt);
+        if let Ok(mut out) = self.out.try_borrow_mut() {
             let _ = writeln!(out, "{}", record.args());
         }
     }
