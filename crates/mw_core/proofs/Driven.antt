@@ -1,5 +1,5 @@
 -- How a step that was made ends a call.
-use Rattle.std.specs.Prelude.{ℕ, ◌≡◌, true, false, List, [], ◌∷◌, ◌++◌, map, Option, Some, None, is_some}
+use Rattle.std.specs.Prelude.{ℕ, ◌≡◌, Bool, true, false, List, [], ◌∷◌, ◌++◌, map, Option, Some, None, is_some}
 use Rattle.std.proofs.Common.{refl, sym, ap, subst, ◌∙◌}
 use Rattle.mw_words.specs.declared.replies.Reply.{Reply}
 use Rattle.mw_look.specs.declared.news.Got.{Got}
@@ -18,13 +18,13 @@ use Rattle.mw_actor.specs.Asks.{asks, asks_at}
 use Rattle.mw_actor.specs.Program.{replied, tells}
 use Rattle.mw_world.specs.Definition.Calls.{Called, called_at}
 use Rattle.mw_world.specs.Definition.Turns.{next_attempt}
-use Rattle.mw_rule.specs.declared.views.Deed.TheVariants.{Stepped}
 use Rattle.mw_rule.specs.declared.views.Reins.{Reins}
-use Rattle.mw_rule.specs.Carrying.{Began, IsReady, IsReadyFor, MayCome, Took, comes, settled, settled_as, told}
+use Rattle.mw_rule.specs.Carrying.{Began, IsReady, IsReadyFor, MayCome, Took, comes, settled, settled_as, stepped, told}
 use Rattle.mw_rule.specs.Rule.{Each}
 use Rattle.mw_table.specs.declared.shared.Pass.{Pass}
 use Rattle.mw_table.specs.Carried.{IsCarried}
 use Rattle.mw_table.specs.Numbers.{number_of}
+use Rattle.mw_table.specs.Resting.{has_none}
 use Rattle.mw_table.proofs.Driving.{is_file}
 use Rattle.mw_table.proofs.Numbering.{settled_number}
 use Rattle.mw_core.specs.declared.calls.Advance.{Advance}
@@ -98,7 +98,7 @@ carried_first old new actor got may same began =
     let reins = comes actor began.request began.begun may.reins in
     let news = news_of (place (asks actor)) got in
     let next = next_attempt actor.point reins.attempt in
-    let after : Reins = record reins { attempt = next; made = reins.made ++ Stepped ∷ [] } in
+    let after : Reins = stepped got reins actor in
     let has : new.seat.me.0.reins ≡ settled after (tells actor news next) ∷ [] =
     began.reins ∙ ap (map (λ (one : Reins). told got (comes actor began.request began.begun one))) may.has.only in
     let tagged : number_of (settled after (tells actor news next)) ∷ [] ≡ (new.worker, new.attempt) ∷ [] = sym (ap (map number_of) has) ∙ new.numbered in
@@ -119,3 +119,15 @@ pub plain_so : (op : Op) → ((call : Call) (slot : ℕ) → op ≡ FileCall cal
 plain_so (LoadBits at) other = refl
 plain_so (ChangeBits kind at from to) other = refl
 plain_so (FileCall call slot) other = absurd (other call slot refl)
+
+-- a pass that carries a request without a reply isn't idle
+pub busy_so : (pass : Pass) (actor : Acting) → IsCarried pass actor → replied actor ≡ None → pass.idle ≡ false
+busy_so pass actor carried running = by pass.idle refl
+  where
+    never : false ∷ [] ≡ true ∷ [] → ⊥
+    never is = cc
+
+    by : (idle : Bool) → pass.idle ≡ idle → idle ≡ false
+    by false is = refl
+    by true is =
+        absurd (never (sym (ap (map has_none) (carried.carries.only ∙ ap (λ (reply : Option Reply). settled_as carried.reins actor reply ∷ []) running)) ∙ pass.rests is))

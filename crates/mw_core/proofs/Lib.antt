@@ -1,2 +1,4 @@
-pub mod Dealing
 pub mod Driven
+pub mod Reasoned
+pub mod Turned
+pub mod Walking

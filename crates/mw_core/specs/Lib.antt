@@ -1,2 +1,3 @@
 pub mod Advancing
-pub mod Reached
+pub mod Looking
+pub mod Reasons

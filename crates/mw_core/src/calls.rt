@@ -1,5 +1,5 @@
 //! One atomic step of a request at a time.
-ghost use Rattle.std.specs.Prelude.{◌≡◌};
+ghost use Rattle.std.specs.Prelude.{◌≡◌, false, None};
 ghost use Rattle.mw_rule.specs.Carrying.{MayCome};
 ghost use Rattle.mw_table.specs.Carried.{IsCarried};
 ghost use Rattle.mw_table.specs.Passes.{IsOf, IsOfSameWorker};
@@ -43,12 +43,13 @@ impl Core {
     }
 
     /// A request comes to the pass's worker, which has none, and makes its first step, a load of its
-    /// tenant's door, of which the machine is told. From then on the pass carries it.
+    /// tenant's door, of which the machine is told. From then on the pass carries it, and isn't idle.
     pub fn begin(&self, pass: &mut Pass, actor: &mut Actor)
         requires own { IsOf self.now.shared pass.old }
         requires may { MayCome pass.old.seat.me.0 pass.old.worker actor.old }
         ensures own { IsOf self.now.shared pass.new }
         ensures worker { IsOfSameWorker pass.old pass.new }
+        ensures busy { pass.new.idle ≡ false }
         ensures begins { Begins pass.old pass.new actor.old actor.new }
         ensures carried { IsCarried pass.new actor.new }
     {
@@ -60,12 +61,14 @@ impl Core {
     }
 
     /// One atomic step of the request that the pass carries, on one shared word, of which the machine is
-    /// told. Nothing is done where a call on the tenant's file is next, or the reply stands.
+    /// told. Nothing is done where a call on the tenant's file is next, or the reply stands. As long as no reply
+    /// stands the pass is as idle as it was, which is not at all.
     pub fn advance(&self, pass: &mut Pass, actor: &mut Actor) -> Advance
         requires own { IsOf self.now.shared pass.old }
         requires carried { IsCarried pass.old actor.old }
         ensures own { IsOf self.now.shared pass.new }
         ensures worker { IsOfSameWorker pass.old pass.new }
+        ensures idle { replied actor.new ≡ None → pass.new.idle ≡ pass.old.idle }
         ensures advances { Advances pass.old pass.new actor.old actor.new result }
         ensures carried { IsCarried pass.new actor.new }
     {

@@ -4,13 +4,15 @@
 //! [`Core::begin`], and each [`Core::advance`] then makes one atomic step of it on the shared words, until the
 //! reply stands, or until a call on the tenant's file is next, of which the core has none.
 //!
-//! `specs/Advancing` says how a call ends.
+//! [`Core::try_look`] makes one pass of the program of a read: up to its reply, or back to its first point, and then
+//! it says why ([`WhyAgain`]).
+//!
+//! `specs/Advancing` says how a call of the first two ends, `specs/Looking` one of `try_look`, and `specs/Reasons` what
+//! the steps found where a read begins again.
 #![tactic(auto)]
 
 mod calls;
-#[cfg(test)]
-mod races;
-#[cfg(test)]
-mod test_worlds;
+mod looking;
 
 pub use calls::{Advance, Core};
+pub use looking::WhyAgain;

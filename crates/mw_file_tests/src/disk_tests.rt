@@ -1,6 +1,7 @@
 use mw_disk::*;
+use std::alloc::{AllocError, Global};
 use std::cell::Cell;
-use std::fs::{Metadata, OpenFile, OpenOptions};
+use std::fs::{File, Metadata, OpenFile, OpenOptions};
 use std::io::ErrorKind;
 use std::os::unix::fs::FileExt;
 use std::process::Abort;
@@ -22,84 +23,159 @@ fn four_bytes(disk: &mut MemDisk) -> Result<[u8; 4], DiskFault> {
     Ok(out)
 }
 
-/// Calls on a disk of the bytes 1 to 4, of which the second and the sixth fail.
-fn call_by_script<R: Abort>(rt: &R, disk: &mut MemDisk) {
-    assert_eq!(rt; disk.len(), Ok(4));
-    assert_eq!(rt; disk.sync(), Err(DiskFault));
-    assert_eq!(rt; disk.write_at(1, &[9, 9]), Ok(()));
-    assert_eq!(rt; four_bytes(disk), Ok([1, 9, 9, 4]));
+/// What a disk is to leave of torn bytes in a crash.
+type Left = (&'static [u8], &'static [u8]);
+
+/// Whether a crash of this disk with these torn bytes leaves just that.
+fn leaves(disk: &MemDisk, crash: Left) -> Result<bool, AllocError> {
+    let (torn, left) = crash;
+    Ok(disk.crash(torn)?.as_slice() == left)
+}
+
+/// A disk of the bytes 1 to 4, of whose calls the second and the sixth fail.
+fn scripted_disk(alloc: Global) -> Result<MemDisk, AllocError> {
+    let script = vec![in alloc; 2, 6]?;
+    MemDisk::new(alloc, vec![in alloc; 1, 2, 3, 4]?, script)
+}
+
+/// A disk of the bytes 1 to 4, of whose calls none is to fail.
+fn disk_of_four(alloc: Global) -> Result<MemDisk, AllocError> {
+    MemDisk::new(alloc, vec![in alloc; 1, 2, 3, 4]?, Vec::new(alloc))
+}
+
+/// What a disk of four bytes answers to its length, to a sync, to writes at 1, behind its end and at 4, and
+/// to a read between them.
+type Answers = (
+    Result<u64, DiskFault>,
+    [Result<(), DiskFault>; 4],
+    Result<[u8; 4], DiskFault>,
+);
+
+fn call_by_script(disk: &mut MemDisk) -> Answers {
+    let len = disk.len();
+    let synced = disk.sync();
+    let written = disk.write_at(1, &[9, 9]);
+    let bytes = four_bytes(disk);
     // The gap has zeros.
-    assert_eq!(rt; disk.write_at(6, &[7]), Ok(()));
-    assert_eq!(rt; disk.write_at(4, &[8, 8]), Err(DiskFault));
+    let behind = disk.write_at(6, &[7]);
+    let failed = disk.write_at(4, &[8, 8]);
+    (len, [synced, written, behind, failed], bytes)
 }
 
 #[test]
 fn a_disk_in_memory_fails_where_its_script_says(rt: HostRuntime) -> Result<(), Fail> {
-    let alloc = rt.alloc();
-    let bytes = vec![in alloc; 1, 2, 3, 4]?;
-    let script = vec![in alloc; 2, 6]?;
-    let mut disk = MemDisk::new(alloc, bytes, script)?;
-    call_by_script(&rt, &mut disk);
+    let mut disk = scripted_disk(rt.alloc())?;
+    let wanted = (
+        Ok(4),
+        [Err(DiskFault), Ok(()), Ok(()), Err(DiskFault)],
+        Ok([1, 9, 9, 4]),
+    );
+    assert_eq!(rt; call_by_script(&mut disk), wanted);
     assert_eq!(rt; (disk.faults(), disk.refused()), (2, 0));
-    for (torn, left) in [
-        (&[] as &[u8], [1, 9, 9, 4, 0, 0, 7]),
-        (&[10, 11, 12], [1, 10, 11, 4, 12, 0, 7]),
-        (&[10, 11, 12, 13, 14, 15], [1, 10, 11, 4, 12, 13, 14]),
-    ] {
-        assert_eq!(rt; disk.crash(torn)?.as_slice(), left.as_slice());
+    let crashes: [Left; 3] = [
+        (&[], &[1, 9, 9, 4, 0, 0, 7]),
+        (&[10, 11, 12], &[1, 10, 11, 4, 12, 0, 7]),
+        (&[10, 11, 12, 13, 14, 15], &[1, 10, 11, 4, 12, 13, 14]),
+    ];
+    for crash in crashes {
+        assert!(rt; leaves(&disk, crash)?, "{crash:?}");
     }
     Ok(())
 }
 
-#[test]
-fn a_disk_in_memory_fails_and_stops_when_told(rt: HostRuntime) -> Result<(), Fail> {
-    let alloc = rt.alloc();
-    let mut disk = MemDisk::new(alloc, vec![in alloc; 1, 2, 3, 4]?, Vec::new(alloc))?;
+/// Two writes, of which the second is told to fail.
+fn write_twice(disk: &mut MemDisk) -> [Result<(), DiskFault>; 2] {
+    let first = disk.write_at(0, &[5]);
+    [first, disk.write_at(5, &[6])]
+}
+
+/// A sync, a read of more bytes than there are, and a write for which there is not so much memory.
+fn ask_too_much(disk: &mut MemDisk) -> [Result<(), DiskFault>; 3] {
+    let synced = disk.sync();
+    let read = disk.read_at(3, &mut [0; 2]);
+    [synced, read, disk.write_at(1 << 63, &[1])]
+}
+
+/// The second call from now on fails, and no other one.
+fn fails_when_told<R: Abort>(rt: &R, disk: &mut MemDisk) -> Result<(), AllocError> {
     disk.fail_next(2)?;
-    assert_eq!(rt; disk.write_at(0, &[5]), Ok(()));
-    assert_eq!(rt; disk.write_at(5, &[6]), Err(DiskFault));
+    assert_eq!(rt; write_twice(disk), [Ok(()), Err(DiskFault)]);
+    assert!(rt; leaves(disk, (&[7, 8], &[7, 2, 3, 4, 0, 8]))?);
     assert_eq!(rt;
-        disk.crash(&[7, 8])?.as_slice(),
-        [7, 2, 3, 4, 0, 8].as_slice()
+        ask_too_much(disk),
+        [Ok(()), Err(DiskFault), Err(DiskFault)]
     );
-    assert_eq!(rt; disk.sync(), Ok(()));
-    assert_eq!(rt; disk.crash(&[7, 8])?.as_slice(), [5, 2, 3, 4].as_slice());
-    // There are not so many bytes.
-    assert_eq!(rt; disk.read_at(3, &mut [0; 2]), Err(DiskFault));
-    // There is not so much memory.
-    assert_eq!(rt; disk.write_at(1 << 63, &[1]), Err(DiskFault));
-    assert_eq!(rt; (disk.faults(), disk.refused()), (3, 1));
-    disk.stop_next(1);
-    assert_eq!(rt; disk.write_at(1, &[9]), Ok(()));
-    assert_eq!(rt; disk.write_at(2, &[9]), Err(DiskFault));
-    let mut copy = disk.copy()?;
-    assert_eq!(rt; copy.crash(&[6, 6])?.as_slice(), [5, 6, 3, 4].as_slice());
-    assert_eq!(rt; copy.len(), Err(DiskFault));
-    assert_eq!(rt; (copy.faults(), disk.faults()), (5, 4));
+    assert!(rt; leaves(disk, (&[7, 8], &[5, 2, 3, 4]))?);
     Ok(())
 }
 
-#[test]
-fn a_disk_in_memory_and_one_over_a_file_are_used_alike(rt: HostRuntime) -> Result<(), Fail> {
-    let alloc = rt.alloc();
-    let mut memory = MemDisk::new(alloc, Vec::new(alloc), Vec::new(alloc))?;
-    assert_eq!(rt; write_and_read(&mut memory, 3, b"abcd"), Ok(*b"abcd"));
+/// Two writes, of which the second comes when the disk has stopped.
+fn write_past_the_stop(disk: &mut MemDisk) -> [Result<(), DiskFault>; 2] {
+    disk.stop_next(1);
+    let first = disk.write_at(1, &[9]);
+    [first, disk.write_at(2, &[9])]
+}
 
-    let name = format!(in alloc; "mw_disk-test-{}", process::id(rt.process()))?;
-    let path = env::temp_dir(&rt)?.join(alloc, name.as_str())?;
+/// What a copy of a disk that has stopped answers to its length, and how many calls of the copy have failed
+/// then, if a crash of it leaves that.
+fn copy_of_stopped(disk: &MemDisk, crash: Left) -> Result<Option<Counted>, AllocError> {
+    let mut copy = disk.copy()?;
+    if !leaves(&copy, crash)? {
+        return Ok(None);
+    }
+    let len = copy.len();
+    Ok(Some((len, copy.faults())))
+}
+
+/// The length that a disk tells, and how many of its calls have failed.
+type Counted = (Result<u64, DiskFault>, u64);
+
+#[test]
+fn a_disk_in_memory_fails_and_stops_when_told(rt: HostRuntime) -> Result<(), Fail> {
+    let mut disk = disk_of_four(rt.alloc())?;
+    fails_when_told(&rt, &mut disk)?;
+    assert_eq!(rt; (disk.faults(), disk.refused()), (3, 1));
+    assert_eq!(rt; write_past_the_stop(&mut disk), [Ok(()), Err(DiskFault)]);
+    let copied = copy_of_stopped(&disk, (&[6, 6], &[5, 6, 3, 4]))?;
+    assert_eq!(rt; copied, Some((Err(DiskFault), 5)));
+    assert_eq!(rt; disk.faults(), 4);
+    Ok(())
+}
+
+/// What a disk of no bytes in memory gives of four that are written to it.
+fn read_from_memory(alloc: Global) -> Result<Result<[u8; 4], DiskFault>, AllocError> {
+    let mut memory = MemDisk::new(alloc, Vec::new(alloc), Vec::new(alloc))?;
+    Ok(write_and_read(&mut memory, 3, b"abcd"))
+}
+
+/// A new file, open for both, whose name is gone.
+fn nameless_file(rt: &HostRuntime) -> Result<File, Fail> {
+    let name = format!(in rt.alloc(); "mw_disk-test-{}", process::id(rt.process()))?;
+    let path = env::temp_dir(rt)?.join(rt.alloc(), name.as_str())?;
     let mut options = OpenOptions::new();
     let file = options
         .read(true)
         .write(true)
         .create(true)
-        .open(&rt, path.as_path())?;
-    fs::remove_file(&rt, path.as_path())?;
-    let mut disk = FileDisk::new(file);
+        .open(rt, path.as_path())?;
+    fs::remove_file(rt, path.as_path())?;
+    Ok(file)
+}
+
+/// What a disk of seven bytes answers to a read past them, and to writes past every file's end.
+fn go_too_far<D: Disk>(disk: &mut D) -> [Result<(), DiskFault>; 3] {
+    let read = disk.read_at(4, &mut [0; 4]);
+    let last = disk.write_at(u64::MAX, b"a");
+    [read, last, disk.write_at((1 << 63) - 1, b"a")]
+}
+
+#[test]
+fn a_disk_in_memory_and_one_over_a_file_are_used_alike(rt: HostRuntime) -> Result<(), Fail> {
+    assert_eq!(rt; read_from_memory(rt.alloc())?, Ok(*b"abcd"));
+    let mut disk = FileDisk::new(nameless_file(&rt)?);
     assert_eq!(rt; write_and_read(&mut disk, 3, b"abcd"), Ok(*b"abcd"));
     assert_eq!(rt; disk.len(), Ok(7));
-    assert_eq!(rt; disk.read_at(4, &mut [0; 4]), Err(DiskFault));
-    assert_eq!(rt; disk.write_at(u64::MAX, b"a"), Err(DiskFault));
-    assert_eq!(rt; disk.write_at((1 << 63) - 1, b"a"), Err(DiskFault));
+    assert_eq!(rt; go_too_far(&mut disk), [Err(DiskFault); 3]);
     assert_eq!(rt; disk.faults(), 3);
     assert_eq!(rt; disk.into_file().metadata()?.len(), 7);
     Ok(())
@@ -168,28 +244,35 @@ impl OpenFile for SlowFile {
     }
 }
 
-#[test]
-fn short_and_interrupted_calls_go_on(rt: HostRuntime) -> Result<(), Fail> {
-    let file = SlowFile {
+/// A slow file of zeros.
+fn slow_file() -> SlowFile {
+    SlowFile {
         bytes: Cell::new([0; 8]),
         turn: Cell::new(0),
         syncs: Cell::new(0),
-    };
-    let mut disk = FileDisk::new(file);
-    for at in [0, 3, 4] {
-        assert_eq!(rt;
-            write_and_read(&mut disk, at, b"abcd"),
-            Ok(*b"abcd"),
-            "at {at}"
-        );
     }
-    // Behind the last byte a write takes none, and a read gives none.
-    assert_eq!(rt; disk.write_at(6, b"abc"), Err(DiskFault));
-    assert_eq!(rt; disk.read_at(6, &mut [0; 3]), Err(DiskFault));
+}
+
+/// Writes that are read again, at 0, 3 and 4.
+fn write_and_read_thrice<D: Disk>(disk: &mut D) -> [Result<[u8; 4], DiskFault>; 3] {
+    let first = write_and_read(disk, 0, b"abcd");
+    let second = write_and_read(disk, 3, b"abcd");
+    [first, second, write_and_read(disk, 4, b"abcd")]
+}
+
+/// A write and a read that end behind the last of eight bytes: a write takes none there, and a read gives none.
+fn reach_behind<D: Disk>(disk: &mut D) -> [Result<(), DiskFault>; 2] {
+    let written = disk.write_at(6, b"abc");
+    [written, disk.read_at(6, &mut [0; 3])]
+}
+
+#[test]
+fn short_and_interrupted_calls_go_on(rt: HostRuntime) {
+    let mut disk = FileDisk::new(slow_file());
+    assert_eq!(rt; write_and_read_thrice(&mut disk), [Ok(*b"abcd"); 3]);
+    assert_eq!(rt; reach_behind(&mut disk), [Err(DiskFault); 2]);
     assert_eq!(rt; disk.len(), Err(DiskFault));
     assert_eq!(rt; disk.faults(), 3);
     let file = disk.into_file();
-    assert_eq!(rt; file.syncs.get(), 3);
-    assert_eq!(rt; file.bytes.get(), *b"abcaabab");
-    Ok(())
+    assert_eq!(rt; (file.syncs.get(), file.bytes.get()), (3, *b"abcaabab"));
 }

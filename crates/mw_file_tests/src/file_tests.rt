@@ -86,10 +86,26 @@ fn opening(alloc: Global, disk: MemDisk) -> (Result<Vec<u64>, OpenFault>, MemDis
     }
 }
 
-/// The words of a file with these bytes, if it opens.
-fn words_of(alloc: Global, bytes: &[u8]) -> Result<Option<Vec<u64>>, AllocError> {
-    let (ended, _) = opening(alloc, disk_with(alloc, bytes)?);
-    Ok(ended.ok())
+/// The words of a file that has two.
+pub(crate) type Words = [u64; 2];
+
+/// The two words among these, if there are two.
+fn two_of(words: &[u64]) -> Option<Words> {
+    match words {
+        [first, second] => Some([*first, *second]),
+        _ => None,
+    }
+}
+
+/// The words of a file of two words with these bytes, if it opens.
+fn words_of(alloc: Global, bytes: &[u8]) -> Result<Option<Words>, AllocError> {
+    match TenantFile::open(alloc, disk_with(alloc, bytes)?) {
+        Ok(opened) => {
+            let (_, words) = opened;
+            Ok(two_of(&words))
+        }
+        Err(_) => Ok(None),
+    }
 }
 
 /// The file on a disk, if it opens.
@@ -198,13 +214,16 @@ fn places_in(alloc: Global, bytes: &[u8]) -> Result<Option<(u16, bool)>, AllocEr
     }
 }
 
+/// The words and the places of the file of [`bytes_with_a_word`], if it opens.
+fn words_and_places(alloc: Global) -> Result<(Option<Words>, Option<(u16, bool)>), AllocError> {
+    let bytes = bytes_with_a_word(alloc)?;
+    Ok((words_of(alloc, &bytes)?, places_in(alloc, &bytes)?))
+}
+
 #[test]
 fn a_new_file_opens_with_all_places_free(rt: HostRuntime) -> Result<(), Fail> {
-    let alloc = rt.alloc();
-    let bytes = bytes_with_a_word(alloc)?;
-    let found = words_of(alloc, &bytes)?;
-    assert_eq!(rt; found.as_deref(), Some([5, 0].as_slice()));
-    assert_eq!(rt; places_in(alloc, &bytes)?, Some((2, true)));
+    let found = words_and_places(rt.alloc())?;
+    assert_eq!(rt; found, (Some([5, 0]), Some((2, true))));
     Ok(())
 }
 
@@ -321,36 +340,58 @@ fn with_two_records(alloc: Global) -> Result<Option<TenantFile<MemDisk>>, AllocE
     Ok(if is_so { Some(file) } else { None })
 }
 
-/// How an opening of these bytes ends whose device stops after so many calls.
+/// How an opening of these bytes ends whose device stops after so many calls: with these words or not, or
+/// with a fault.
 fn ended_after(
     alloc: Global,
     bytes: &[u8],
     calls: u8,
-) -> Result<Result<Vec<u64>, OpenFault>, AllocError> {
+    words: &[u64],
+) -> Result<Result<bool, OpenFault>, AllocError> {
     let (ended, _) = opening(alloc, troubled(alloc, bytes, calls, Trouble::Stop)?);
-    Ok(ended)
+    Ok(match ended {
+        Ok(found) => Ok(found.as_slice() == words),
+        Err(fault) => Err(fault),
+    })
+}
+
+/// What a crash leaves of the file with two records.
+fn left_of_two_records(alloc: Global) -> Result<Vec<u8>, Fail> {
+    let file = with_two_records(alloc)?.ok_or("both records are written")?;
+    Ok(file.crash(&[])?)
 }
 
 #[test]
 fn two_records(rt: HostRuntime) -> Result<(), Fail> {
-    let alloc = rt.alloc();
-    assert_eq!(rt; size(3, 2), 328);
-    let file = with_two_records(alloc)?.ok_or("both records are written")?;
-    let left = file.crash(&[])?;
-    let words = vec![in alloc; 0, 2, 3]?;
-    assert_eq!(rt; ended_after(alloc, &left, 7)?, Ok(words));
-    assert_eq!(rt; ended_after(alloc, &left, 6)?, Err(OpenFault::Disk));
+    let left = left_of_two_records(rt.alloc())?;
+    assert_eq!(rt; left.len(), 328);
+    for (calls, wanted) in [(7, Ok(true)), (6, Err(OpenFault::Disk))] {
+        let ended = ended_after(rt.alloc(), &left, calls, &[0, 2, 3])?;
+        assert_eq!(rt; ended, wanted);
+    }
     Ok(())
+}
+
+/// What a file without a free place answers to a change, to the cancel of the first place, and to the
+/// change again.
+fn cancel_between(
+    file: &mut TenantFile<MemDisk>,
+    entries: &Entries,
+) -> (
+    Option<Result<Place, FileFault>>,
+    Option<()>,
+    Option<Result<Place, FileFault>>,
+) {
+    let before = prepare(file, entries);
+    let cancelled = cancel(file, Place(0));
+    (before, cancelled, prepare(file, entries))
 }
 
 #[test]
 fn a_cancelled_place_is_taken_again(rt: HostRuntime) -> Result<(), Fail> {
-    let alloc = rt.alloc();
-    let mut file = with_two_records(alloc)?.ok_or("both records are written")?;
-    let first = change(&[(0, 1)]);
-    assert_eq!(rt; prepare(&mut file, &first), None);
-    assert_eq!(rt; cancel(&mut file, Place(0)), Some(()));
-    assert_eq!(rt; prepare(&mut file, &first), Some(Ok(Place(0))));
+    let mut file = with_two_records(rt.alloc())?.ok_or("both records are written")?;
+    let told = cancel_between(&mut file, &change(&[(0, 1)]));
+    assert_eq!(rt; told, (None, Some(()), Some(Ok(Place(0)))));
     Ok(())
 }
 
@@ -433,17 +474,21 @@ pub(crate) fn words_left(
     alloc: Global,
     file: &TenantFile<MemDisk>,
     torn: &[u8],
-) -> Result<Option<Vec<u64>>, AllocError> {
+) -> Result<Option<Words>, AllocError> {
     words_of(alloc, &file.crash(torn)?)
 }
 
-/// How many device calls of a file have failed.
-fn faults_of(alloc: Global, file: &TenantFile<MemDisk>) -> Result<u64, AllocError> {
-    Ok(file.copy(alloc)?.into_disk().faults())
+/// What a file answers, and how many device calls have failed then.
+fn answers_and_faults(
+    alloc: Global,
+    file: &mut TenantFile<MemDisk>,
+) -> Result<(Answers, u64), AllocError> {
+    let told = answers(file);
+    Ok((told, file.copy(alloc)?.into_disk().faults()))
 }
 
 /// The words that a crash with these torn bytes leaves where the device had trouble after so many calls.
-fn words_after(calls: u8, trouble: Trouble, torn: &[u8]) -> [u64; 2] {
+fn words_after(calls: u8, trouble: Trouble, torn: &[u8]) -> Words {
     if is_sealed(calls, trouble, torn) {
         [1, 2]
     } else {
@@ -451,7 +496,43 @@ fn words_after(calls: u8, trouble: Trouble, torn: &[u8]) -> [u64; 2] {
     }
 }
 
-/// What a file answers whose device has trouble after so many calls, twice, and what crashes leave then.
+/// Crashes of this file leave these words, whatever is torn.
+fn leaves_words<R: Abort + AllocGlobal>(
+    rt: &R,
+    file: &TenantFile<MemDisk>,
+    calls: u8,
+    trouble: Trouble,
+) -> Result<(), AllocError> {
+    for torn in TORN {
+        let found = words_left(rt.alloc(), file, &over_and_over(rt.alloc(), torn)?)?;
+        assert_eq!(rt;
+            found,
+            Some(words_after(calls, trouble, torn)),
+            "after {calls} calls"
+        );
+    }
+    Ok(())
+}
+
+/// What a file answers whose device has trouble after so many calls, twice, each time with how many calls
+/// have failed.
+fn answers_twice(
+    alloc: Global,
+    file: &mut TenantFile<MemDisk>,
+) -> Result<[(Answers, u64); 2], AllocError> {
+    let first = answers_and_faults(alloc, file)?;
+    Ok([first, answers_and_faults(alloc, file)?])
+}
+
+/// What it is to answer.
+fn wanted_twice(calls: u8, places: u16) -> [(Answers, u64); 2] {
+    let (first, again) = answers_to(calls, places);
+    let faults = if calls < 9 { 1 } else { 0 };
+    [(first, faults), (again, 1)]
+}
+
+/// A file whose device has trouble after so many calls answers as it should, twice, and crashes leave the
+/// right words then.
 fn crash_in_a_call<R: Abort + AllocGlobal>(
     rt: &R,
     calls: u8,
@@ -461,27 +542,10 @@ fn crash_in_a_call<R: Abort + AllocGlobal>(
     requires some_place { 1 ≤ places }
     requires places_fit { places ≤ MAX_PLACES }
 {
-    let alloc = rt.alloc();
-    let mut file = troubled_file(alloc, places, calls, trouble)?.ok_or("the file opens")?;
-    let (first, again) = answers_to(calls, places);
-    let faults = if calls < 9 { 1 } else { 0 };
-    let at = (calls, trouble, places);
-    assert_eq!(rt;
-        (answers(&mut file), faults_of(alloc, &file)?),
-        (first, faults),
-        "{at:?}"
-    );
-    assert_eq!(rt;
-        (answers(&mut file), faults_of(alloc, &file)?),
-        (again, 1),
-        "{at:?}"
-    );
-    for torn in TORN {
-        let found = words_left(alloc, &file, &over_and_over(alloc, torn)?)?;
-        let wanted = words_after(calls, trouble, torn);
-        assert_eq!(rt; found.as_deref(), Some(wanted.as_slice()), "{at:?}");
-    }
-    Ok(())
+    let mut file = troubled_file(rt.alloc(), places, calls, trouble)?.ok_or("the file opens")?;
+    let found = answers_twice(rt.alloc(), &mut file)?;
+    assert_eq!(rt; found, wanted_twice(calls, places), "after {calls} calls");
+    Ok(leaves_words(rt, &file, calls, trouble)?)
 }
 
 #[test]
@@ -547,8 +611,7 @@ fn open_with_trouble<R: Abort + AllocGlobal>(rt: &R, image: &[u8]) -> Result<(),
 
 /// A file with these bytes opens, and has the words of the sealed change.
 fn has_the_change<R: Abort + AllocGlobal>(rt: &R, bytes: &[u8]) -> Result<(), Fail> {
-    let found = words_of(rt.alloc(), bytes)?;
-    assert_eq!(rt; found.as_deref(), Some([1, 2].as_slice()));
+    assert_eq!(rt; words_of(rt.alloc(), bytes)?, Some([1, 2]));
     Ok(())
 }
 

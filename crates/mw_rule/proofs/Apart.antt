@@ -56,7 +56,7 @@ its_change view one right stands =
     subst (λ (reply : Reply). IsRightAt (words_given view one.tenant) (seen_at view.seen one.tenant) one.place one.request one.job reply) stands right.right
 
 pub changes_are_own : ChangesAreOwn
-changes_are_own view index another one other right at there its first second same =
+changes_are_own view right index another one other at there its first second same =
     let here = its_change view one (each_at (IsFinished view) view.mine index one right.mine at) first in
     let else = its_change view other (each_at (IsFinished view) view.mine another other right.mine there) second in
     let one_change = same_Some _ _ (sym here ∙ (λ i. slice_get (seen_at view.seen (its i)) (same i)) ∙ else) in

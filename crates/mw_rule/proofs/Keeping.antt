@@ -1,6 +1,6 @@
 -- Whatever a thread's step is, if it is a stretch of events of its own worker, the rule is kept.
 use Rattle.std.specs.Prelude.{ℕ, ◌+◌, ◌≡◌, ◌≢◌, ◌≤◌, ◌<◌, true, List, ◌++◌, length, slice_index, slice_set}
-use Rattle.std.proofs.Common.{refl, sym, ap, subst, ◌∙◌, inl, inr, arith}
+use Rattle.std.proofs.Common.{refl, sym, ap, subst, ◌∙◌, ◌⊎◌, inl, inr, arith}
 use Rattle.std.proofs.lemmas.List.{length-set, get_or-set_same, get_or-set_other}
 use mathlib.Core.Option.{some}
 use lib.ListN.{get_elem?}
@@ -15,10 +15,12 @@ use Rattle.mw_world.specs.Definition.Extent.{has_place}
 use Rattle.mw_world.specs.Definition.Happenings.{Happening}
 use Rattle.mw_world.specs.Definition.State.{State, Opening, IsConfig}
 use Rattle.mw_law_runs.proofs.Numbers.{same_or_other}
+use Rattle.mw_law_calls.specs.Beside.{AreBesideFile}
 use Rattle.mw_rule.specs.declared.views.View.{View}
 use Rattle.mw_rule.specs.Layout.{index_of, words_of}
-use Rattle.mw_rule.specs.Rule.{Continues, Fits, Tied, Ties, has, notes_of, total}
+use Rattle.mw_rule.specs.Rule.{Continues, Fits, Tied, Ties, has, holds_of, notes_of, total}
 use Rattle.mw_rule.proofs.Layouts.{index_injective, places_within, places_in_table}
+use Rattle.mw_rule.proofs.Holding.{all_held_on}
 use Rattle.mw_rule.proofs.Leading.{Leads, others_fit, past_on}
 use Rattle.mw_rule.proofs.Totals.{total_set, total_two}
 
@@ -41,8 +43,9 @@ pub keep : (config : Config) (begun : (ℕ → Opening) → List Happening → T
     (more : List Happening) → get_elem? s.views id ≡ some old → 1 ≤ has worker old → ((one : ℕ) → has one new ≡ has one old) → Leads config tied.state worker after more
     → Fits config tied.past.openings after (tied.events ++ more) new → Ties config after.cells (slice_set s.words index bits)
     → ((tenant request : ℕ) → total (notes_of tenant request) s.views + notes_of tenant request new ≤ 1 + notes_of tenant request old)
+    → ((tenant : ℕ) → AreBesideFile config tenant tied.state more ⊎ (1 ≤ holds_of tenant old)) → ((tenant : ℕ) → holds_of tenant new ≡ holds_of tenant old)
     → Continues config begun s tied more (record { words = slice_set s.words index bits; homes = s.homes; views = slice_set s.views id new })
-keep config begun s tied id index bits worker old new after more at own same leads fits ties few = record { after = kept; same_openings = refl; same_before = refl; events = refl }
+keep config begun s tied id index bits worker old new after more at own same leads fits ties few beside same_files = record { after = kept; same_openings = refl; same_before = refl; events = refl }
   where
     kept : Tied config begun (record { words = slice_set s.words index bits; homes = s.homes; views = slice_set s.views id new })
     kept = record {
@@ -58,9 +61,17 @@ keep config begun s tied id index bits worker old new after more at own same lea
           | inr fit ↦
               let two = total_two (has worker) s.views id other old view else.0 at else.1 in
               let all = tied.alone worker in
-              inr (others_fit config tied.past.openings (tied.past.before ++ tied.events) tied.state tied.past.played worker after more leads tied.events view (omega (arith, two, all, own)) fit)
+              inr (others_fit config tied.past.openings (tied.past.before ++ tied.events) tied.state tied.past.played worker after more leads tied.events view (omega (arith, two, all, own))
+              (all_held_on config tied.past.openings (tied.past.before ++ tied.events) tied.state tied.past.played after more leads.runs view.files
+              (λ tenant few_held. elim (beside tenant) [
+                | inl none ↦ none
+                | inr here ↦
+                    let both = total_two (holds_of tenant) s.views id other old view else.0 at else.1 in let one = tied.one_hand tenant in
+                    absurd (omega (arith, both, one, here, few_held))
+              ]) fit.files) fit)
         ]
       ];
       alone = λ one. let sums = total_set (has one) s.views id old new at in let all = tied.alone one in let even = same one in omega (arith, sums, all, even);
       once = λ tenant request. let sums = total_set (notes_of tenant request) s.views id old new at in let all = few tenant request in omega (arith, sums, all);
+      one_hand = λ tenant. let sums = total_set (holds_of tenant) s.views id old new at in let all = tied.one_hand tenant in let even = same_files tenant in omega (arith, sums, all, even);
     }

@@ -25,7 +25,7 @@ use Rattle.mw_law_store.proofs.Running.{events_are_followed, runs_are_followed}
 use Rattle.mw_rule.specs.declared.views.Finished.{Finished}
 use Rattle.mw_rule.specs.declared.views.Reins.{Reins}
 use Rattle.mw_rule.specs.declared.views.View.{View}
-use Rattle.mw_rule.specs.Rule.{Fits, Holds, IsOver, Past, deed_of, made_by, times}
+use Rattle.mw_rule.specs.Rule.{Each, Fits, Holds, HoldsFile, IsOver, Past, deed_of, made_by, times}
 use Rattle.mw_rule.specs.Seen.{ComeFirst, Gave, HasBegunFor, opening_at, seen_at}
 use Rattle.mw_rule.proofs.Totals.{each_apart, each_on}
 
@@ -187,11 +187,12 @@ module _ (config : Config) (openings : ℕ → Opening) (before : List Happening
           request = ap (λ seat. seat.request) same ∙ holds.request;
           made = made_on reins.worker events more ∙ ap (λ made. made_by reins.worker events ++ made) (leads.quiet reins.worker apart) ∙ append-nil (made_by reins.worker events) ∙ holds.made;
           begun = begun_for_on reins.worker reins.begun reins.actor same holds.begun;
+          ground = holds.ground;
         }
 
-    -- what a thread knows that has no reins of the worker
-    pub others_fit : (view : View) → times worker view.reins ≡ 0 → Fits config openings old events view → Fits config openings new (events ++ more) view
-    others_fit view none fits = record {
+    -- what a thread knows that has no reins of the worker, and of whose files no call was made
+    pub others_fit : (view : View) → times worker view.reins ≡ 0 → Each (HoldsFile config new) view.files → Fits config openings old events view → Fits config openings new (events ++ more) view
+    others_fit view none files fits = record {
       same_config = fits.same_config;
       gave = λ tenant low. gave_on tenant low (opening_at view.openings tenant) (fits.gave tenant low);
       reins = each_apart (Holds config openings old events) (Holds config openings new (events ++ more)) worker view.reins none others_hold fits.reins;
@@ -199,6 +200,7 @@ module _ (config : Config) (openings : ℕ → Opening) (before : List Happening
       told = seen_on view.told fits.told;
       right = fits.right;
       over = each_on (IsOver old) (IsOver new) (over_on config old new worker more leads) view.mine fits.over;
+      files = files;
     }
 
 abbrev pub past_on : (config : Config) (begun : (ℕ → Opening) → List Happening → Type 0) (old new : State) (events more : List Happening) (worker : ℕ) → Past config begun old events → Leads config old worker new more

@@ -1,6 +1,6 @@
 -- The steps of requests keep the rule, a request's first step too.
 use Rattle.std.specs.Prelude.{ℕ, ◌≡◌, ◌≤◌, ◌<◌, true, false, List, [], ◌∷◌, ◌++◌, length, slice_index, slice_set, Option, Some, None}
-use Rattle.std.proofs.Common.{refl, sym, ap, subst, ◌∙◌, append-nil, inr, arith}
+use Rattle.std.proofs.Common.{refl, sym, ap, subst, ◌∙◌, append-nil, inl, inr, arith}
 use Rattle.std.proofs.lemmas.Bool.Decides.{nat_tests}
 use Rattle.std.proofs.lemmas.List.{length-append}
 use Rattle.std.proofs.lemmas.Option.{same_Some}
@@ -36,13 +36,14 @@ use Rattle.mw_law_runs.proofs.Lawful.{runs_are_lawful}
 use Rattle.mw_rule.specs.declared.views.Finished.{Finished}
 use Rattle.mw_rule.specs.declared.views.Reins.{Reins}
 use Rattle.mw_rule.specs.declared.views.View.{View}
-use Rattle.mw_rule.specs.Carrying.{Notes, NotesAs, Took, comes, told, told_as, told_of}
+use Rattle.mw_rule.specs.Carrying.{IsFound, Notes, NotesAs, Took, comes, stepped, told, told_as, told_of}
 use Rattle.mw_rule.specs.Continuing.{FirstStepsGoOn, StepsGoOn, events_of}
 use Rattle.mw_rule.specs.Laws.{FirstStepsKeepTheRule, StepsKeepTheRule}
 use Rattle.mw_rule.specs.Layout.{index_of}
 use Rattle.mw_rule.specs.Rule.{Continues, Each, Fits, Holds, Tied, Ties}
 use Rattle.mw_rule.specs.Seen.{seen_at}
 use Rattle.mw_rule.specs.Ways.{finds, made_of_bits}
+use Rattle.mw_rule.proofs.Holding.{all_held_on, come_beside, step_beside}
 use Rattle.mw_rule.proofs.Keeping.{ties_on}
 use Rattle.mw_rule.proofs.Leading.{played_on, stays_there}
 use Rattle.mw_rule.proofs.Stepping.{Reached, after_come, come_holds, come_leads, steps}
@@ -50,7 +51,7 @@ use Rattle.mw_rule.proofs.Viewing.{Moved, live_fits, moves, told_worker}
 use Rattle.mw_rule.proofs.Words.{cells_after, news_after, step_other, step_packs, step_tells}
 
 -- the place of a step that may be made is there
-place_there : (config : Config) (step : Step) → may_make config step ≡ true → has_place config (place step) ≡ true
+pub place_there : (config : Config) (step : Step) → may_make config step ≡ true → has_place config (place step) ≡ true
 place_there config (Load at) may = may
 place_there config (Change kind at from to) may = may
 place_there config (File call slot) may = absurd (false_true may)
@@ -60,17 +61,29 @@ place_there config (File call slot) may = absurd (false_true may)
 
 module _ (config : Config) (begun : (ℕ → Opening) → List Happening → Type 0) (s : Table Acting View) (tied : Tied config begun s) (id : ℕ) (old : View) (at : get_elem? s.views id ≡ some old)
     (reins : Reins) (only : old.reins ≡ reins ∷ []) where
-  its_fits : Fits config tied.past.openings tied.state tied.events old
+  pub its_fits : Fits config tied.past.openings tied.state tied.events old
   its_fits = live_fits config tied.past.openings tied.state tied.events old (inr (reins, [], only)) (tied.fits id old at)
 
-  its_holds : Holds config tied.past.openings tied.state tied.events reins
+  pub its_holds : Holds config tied.past.openings tied.state tied.events reins
   its_holds = (subst (Each (Holds config tied.past.openings tied.state tied.events)) only its_fits.reins).0
 
   -- a step of the request that the thread carries
   module _ (actor : Acting) (carries : reins.actor ≡ Some actor) (running : replied actor ≡ None) (no_call : called_at actor.point ≡ None) (make : ℕ → ℕ)
       (makes : (bits : ℕ) → make bits ≡ made_of_bits (op_of (asks actor)) bits) where
+    step_found : (index : ℕ) → index ≡ index_of config.pool (place (asks actor)) → IsFound (finds (op_of (asks actor)) (slice_index s.words index)) actor
+    step_found index is =
+        let state = tied.state in
+        let step = asks actor in
+        let lawful = runs_are_lawful config tied.past.openings (tied.past.before ++ tied.events) state tied.past.played in
+        let may = (lawful.steps reins.worker actor (its_holds.actor ∙ carries) running no_call).there in
+        let seen : slice_index s.words index ≡ pack (place step) (read state.cells (place step)) = ap (slice_index s.words) is ∙ tied.ties (place step) (place_there config step may) in
+        record {
+          cells = state.cells;
+          is = ap (λ bits. news_of (place step) (finds (op_of step) bits)) seen ∙ step_tells config step state.cells may (lawful.fit (place step));
+        }
+
     step_moves : (index : ℕ) → index ≡ index_of config.pool (place (asks actor))
-        → Moved config begun s tied (events_of reins.worker (finds (op_of (asks actor)) (slice_index s.words index)) reins.attempt actor) id index (make (slice_index s.words index)) old (told (finds (op_of (asks actor)) (slice_index s.words index))) (Notes (finds (op_of (asks actor)) (slice_index s.words index)) reins actor [])
+        → Moved config begun s tied (events_of reins.worker (finds (op_of (asks actor)) (slice_index s.words index)) reins.attempt actor) id index (make (slice_index s.words index)) old (told (finds (op_of (asks actor)) (slice_index s.words index))) old.files (Notes (finds (op_of (asks actor)) (slice_index s.words index)) reins actor [])
     step_moves index is =
         let state = tied.state in
         let openings = tied.past.openings in
@@ -91,13 +104,18 @@ module _ (config : Config) (begun : (ℕ → Opening) → List Happening → Typ
         (ties_on config state.cells (cells_after step state.cells) s.words (place step) (make bits) tied.past.played.made there tied.long tied.ties made (λ other apart. step_other step state.cells other apart)) in
         let reached = steps config openings before state state tied.past.played tied.events [] reins actor (finds (op_of step) bits) (stays_there config state reins.worker)
         (subst (λ all. Holds config openings state all reins) (sym (append-nil tied.events)) its_holds) carries running may told_so in
-        moves config begun s tied (events_of reins.worker (finds (op_of step) bits) reins.attempt actor) id index (make bits) old reins (told (finds (op_of step) bits)) (cells_after step state.cells) (Notes (finds (op_of step) bits) reins actor []) at only its_fits (told_worker (finds (op_of step) bits))
-        (subst (λ one. Reached config openings state reins.worker tied.events (events_of reins.worker (finds (op_of step) bits) reins.attempt actor) one (cells_after step state.cells) (Notes (finds (op_of step) bits) reins actor [])) (ap (told_as (finds (op_of step) bits) reins) (sym carries)) reached) ties
+        let there_so : Reached config openings state reins.worker tied.events (events_of reins.worker (finds (op_of step) bits) reins.attempt actor) (told (finds (op_of step) bits) reins) (cells_after step state.cells) (Notes (finds (op_of step) bits) reins actor []) =
+        subst (λ one. Reached config openings state reins.worker tied.events (events_of reins.worker (finds (op_of step) bits) reins.attempt actor) one (cells_after step state.cells) (Notes (finds (op_of step) bits) reins actor [])) (ap (told_as (finds (op_of step) bits) reins) (sym carries)) reached in
+        moves config begun s tied (events_of reins.worker (finds (op_of step) bits) reins.attempt actor) id index (make bits) old reins (told (finds (op_of step) bits)) (cells_after step state.cells) old.files (Notes (finds (op_of step) bits) reins actor []) at only its_fits (told_worker (finds (op_of step) bits))
+        there_so ties
+        (λ tenant. inl (step_beside config tenant state reins.worker (replied (told_of (finds (op_of step) bits) reins.attempt actor)))) (λ tenant. refl)
+        (all_held_on config openings before state tied.past.played there_so.after (events_of reins.worker (finds (op_of step) bits) reins.attempt actor) there_so.leads.runs old.files
+        (λ tenant few. step_beside config tenant state reins.worker (replied (told_of (finds (op_of step) bits) reins.attempt actor))) its_fits.files)
 
 -- What is noted is noted behind what was.
-notes_behind : (tenant request begun : ℕ) (job : Job) (reply : Option Reply) (old more : List Finished) → NotesAs tenant request begun job reply [] more → NotesAs tenant request begun job reply old (old ++ more)
-notes_behind tenant request begun job None old more none = ap (λ (all : List Finished). old ++ all) none ∙ append-nil old
-notes_behind tenant request begun job (Some reply) old more one = record { place = one.place; no_smaller = one.no_smaller; noted = ap (λ (all : List Finished). old ++ all) one.noted }
+notes_behind : (reins : Reins) (tenant begun : ℕ) (job : Job) (reply : Option Reply) (old more : List Finished) → NotesAs reins tenant begun job reply [] more → NotesAs reins tenant begun job reply old (old ++ more)
+notes_behind reins tenant begun job None old more none = ap (λ (all : List Finished). old ++ all) none ∙ append-nil old
+notes_behind reins tenant begun job (Some reply) old more one = record { place = one.place; no_smaller = one.no_smaller; noted = ap (λ (all : List Finished). old ++ all) one.noted }
 
 same_one : (reins other : Reins) → reins ∷ [] ≡ other ∷ [] → reins ≡ other
 same_one reins other e = cc
@@ -111,7 +129,14 @@ notes_so got reins other actor another old new more only its carries having mine
     subst (λ (one : Reins). Notes got one another old.mine new.mine) same
     (subst (λ (one : Acting). Notes got reins one old.mine new.mine) it
     (subst (λ (all : List Finished). Notes got reins actor old.mine all) (sym mine)
-    (notes_behind actor.tenant reins.request reins.begun actor.job (replied (told_of got reins.attempt actor)) old.mine more noted)))
+    (notes_behind (stepped got reins actor) actor.tenant reins.begun actor.job (replied (told_of got reins.attempt actor)) old.mine more noted)))
+
+-- So it is said of whichever reins and request are the thread's that its step found what stands there.
+found_so : (got : Got) (reins other : Reins) (actor another : Acting) (old : View) → old.reins ≡ reins ∷ [] → old.reins ≡ other ∷ [] → reins.actor ≡ Some actor → other.actor ≡ Some another
+    → IsFound got actor → IsFound got another
+found_so got reins other actor another old only its carries having found =
+    subst (λ (one : Acting). IsFound got one)
+    (same_Some actor another (sym carries ∙ ap (λ (one : Reins). one.actor) (same_one reins other (sym only ∙ its)) ∙ having)) found
 
 pub steps_on : (config : Config) (begun : (ℕ → Opening) → List Happening → Type 0) → StepsGoOn config begun
 steps_on config begun id worker view op make drives makes s tied at =
@@ -128,8 +153,13 @@ steps_on config begun id worker view op make drives makes s tied at =
         right = moved.right;
         reins = moved.reins;
         ready = moved.ready;
+        same_files = moved.same_files;
         ends = λ reins actor only carries.
             notes_so (finds (op_of step) found) drives.reins reins drives.actor actor view moved.view moved.noted drives.has.only only drives.carries carries moved.mine moved.ends;
+        found = λ reins actor only carries.
+            found_so (finds (op_of step) found) drives.reins reins drives.actor actor view drives.has.only only drives.carries carries
+            (step_found config begun s tied id view at drives.reins drives.has.only drives.actor drives.carries drives.running drives.no_call make
+            (subst (λ (one : Op). (bits : ℕ) → make bits ≡ made_of_bits one bits) (sym drives.is) makes) index is);
       });
       run = subst (λ (more : List Happening). Continues config begun s tied more (record { words = slice_set s.words index (make found); homes = s.homes; views = slice_set s.views id moved.view }))
           (λ i. events_of (drives.has.own i) (finds (drives.is i) found) drives.reins.attempt drives.actor) moved.run;
@@ -202,8 +232,21 @@ module _ (config : Config) (begun : (ℕ → Opening) → List Happening → Typ
       subst (λ (cells : Cells). Reached config openings state reins.worker tied.events (begins_with actor) (told (Bits bits) (comes actor number so_many reins)) cells (Notes (Bits bits) (comes actor number so_many reins) actor []))
       (ap (λ (step : Step). cells_after step state.cells) asks_so) reached
 
+  first_found : (actor : Acting) → actor ≡ the_first → IsFound (Bits (slice_index s.words index)) actor
+  unfolding the_first
+  first_found actor is =
+      let state = tied.state in
+      let there : has_place config (AtDoor tenant) ≡ true = grind (arith, nat_tests, low) in
+      let lawful = runs_are_lawful config tied.past.openings (tied.past.before ++ tied.events) state tied.past.played in
+      let asks_so : asks actor ≡ Load (AtDoor tenant) = ap asks is ∙ first_asks reins.worker tenant (state.accounts tenant).quota config.pool job in
+      record {
+        cells = state.cells;
+        is = subst (λ (step : Step). news_of (place step) (Bits (slice_index s.words index)) ≡ news_after step state.cells) (sym asks_so)
+            (ap (news_of_bits (AtDoor tenant)) (tied.ties (AtDoor tenant) there) ∙ packs_are_seen (AtDoor tenant) (read state.cells (AtDoor tenant)) (lawful.fit (AtDoor tenant)));
+      }
+
   first_moves : (actor : Acting) → actor ≡ the_first
-      → Moved config begun s tied (begins_with actor) id index (make (slice_index s.words index)) old (λ one. told (Bits (slice_index s.words index)) (comes actor number so_many one))
+      → Moved config begun s tied (begins_with actor) id index (make (slice_index s.words index)) old (λ one. told (Bits (slice_index s.words index)) (comes actor number so_many one)) old.files
       (Notes (Bits (slice_index s.words index)) (comes actor number so_many reins) actor [])
   first_moves actor is =
       let bits = slice_index s.words index in
@@ -211,10 +254,15 @@ module _ (config : Config) (begun : (ℕ → Opening) → List Happening → Typ
       let there : has_place config (AtDoor tenant) ≡ true = grind (arith, nat_tests, low) in
       let lawful = runs_are_lawful config tied.past.openings (tied.past.before ++ tied.events) state tied.past.played in
       let seen : pack (AtDoor tenant) (read state.cells (AtDoor tenant)) ≡ make bits = sym (tied.ties (AtDoor tenant) there) ∙ sym (makes bits) in
-      moves config begun s tied (begins_with actor) id index (make bits) old reins (λ one. told (Bits bits) (comes actor number so_many one)) state.cells (Notes (Bits bits) (comes actor number so_many reins) actor []) at only (its_fits config begun s tied id old at reins only)
+      let reached : Reached config tied.past.openings state reins.worker tied.events (begins_with actor) (told (Bits bits) (comes actor number so_many reins)) state.cells (Notes (Bits bits) (comes actor number so_many reins) actor []) =
+      subst (λ (a : Acting). Reached config tied.past.openings state reins.worker tied.events (begins_with a) (told (Bits bits) (comes a number so_many reins)) state.cells (Notes (Bits bits) (comes a number so_many reins) a [])) (sym is) first_reached in
+      let beside = λ (its : ℕ). come_beside config its state reins.worker tenant job (replied (told_of (Bits bits) reins.attempt actor)) in
+      moves config begun s tied (begins_with actor) id index (make bits) old reins (λ one. told (Bits bits) (comes actor number so_many one)) state.cells old.files (Notes (Bits bits) (comes actor number so_many reins) actor []) at only (its_fits config begun s tied id old at reins only)
       (λ one. told_worker (Bits bits) (comes actor number so_many one))
-      (subst (λ (a : Acting). Reached config tied.past.openings state reins.worker tied.events (begins_with a) (told (Bits bits) (comes a number so_many reins)) state.cells (Notes (Bits bits) (comes a number so_many reins) a [])) (sym is) first_reached)
-      (ties_on config state.cells state.cells s.words (AtDoor tenant) (make bits) tied.past.played.made there tied.long tied.ties seen (λ other apart. refl))
+      reached (ties_on config state.cells state.cells s.words (AtDoor tenant) (make bits) tied.past.played.made there tied.long tied.ties seen (λ other apart. refl))
+      (λ its. inl (beside its)) (λ its. refl)
+      (all_held_on config tied.past.openings (tied.past.before ++ tied.events) state tied.past.played reached.after (begins_with actor) reached.leads.runs old.files (λ its few. beside its)
+      (its_fits config begun s tied id old at reins only).files)
 
 pub first_steps_on : (config : Config) (begun : (ℕ → Opening) → List Happening → Type 0) → FirstStepsGoOn config begun
 unfolding the_first
@@ -241,10 +289,12 @@ first_steps_on config begun id worker view actor make may makes s tied at =
         no_fewer = no_shorter (seen_at view.seen actor.tenant) (sealed_of tied.past.openings tied.state actor.tenant) (fits.seen actor.tenant there);
         reins = moved.reins;
         ready = moved.ready;
+        same_files = moved.same_files;
         ends = λ reins only.
             subst (λ (one : Reins). Notes (Bits bits) (comes actor number many one) actor view.mine moved.view.mine) (same_one may.reins reins (sym may.has.only ∙ only))
             (subst (λ (all : List Finished). Notes (Bits bits) (comes actor number many may.reins) actor view.mine all) (sym moved.mine)
-            (notes_behind actor.tenant number many actor.job (replied (told_of (Bits bits) may.reins.attempt actor)) view.mine moved.noted moved.ends));
+            (notes_behind (stepped (Bits bits) (comes actor number many may.reins) actor) actor.tenant many actor.job (replied (told_of (Bits bits) may.reins.attempt actor)) view.mine moved.noted moved.ends));
+        found = first_found config begun s tied id view at may.reins may.has.only may.idle actor.tenant actor.job there asks_well make makes actor is;
       };
       run = subst (λ (n : ℕ). Continues config begun s tied (Come n actor.tenant actor.job ∷ events_of n (Bits bits) may.reins.attempt actor)
           (record { words = slice_set s.words index (make bits); homes = s.homes; views = slice_set s.views id moved.view })) may.has.own moved.run;

@@ -1,5 +1,5 @@
 -- What threads know may be looked at, cut in two and put together, and the rule is kept; and it holds of a table that is made of a world.
-use Rattle.std.specs.Prelude.{true, ℕ, zero, suc, ◌+◌, ◌≡◌, ◌≤◌, ◌<◌, ◌==◌, List, [], ◌∷◌, ◌++◌, length, slice_index, slice_set, Option, Some, None}
+use Rattle.std.specs.Prelude.{true, false, ℕ, zero, suc, ◌+◌, ◌≡◌, ◌≤◌, ◌<◌, ◌==◌, List, [], ◌∷◌, ◌++◌, length, slice_index, slice_set, Option, Some, None}
 use Rattle.std.proofs.Common.{refl, sym, ap, subst, ◌∙◌, append-nil, ◌⊎◌, inl, inr, arith}
 use Rattle.std.proofs.lemmas.Bool.Decides.{nat_tests}
 use Rattle.std.proofs.lemmas.List.{set-get_or}
@@ -21,24 +21,26 @@ use Rattle.mw_law_store.specs.History.{IsBeginning}
 use Rattle.mw_law_store.specs.Moments.{SealedChange}
 use Rattle.mw_law_store.specs.OverCalls.{sealed_of}
 use Rattle.mw_law_store.proofs.OverCalls.{requests_have_begun}
+use Rattle.mw_rule.specs.declared.views.Held.{Held}
 use Rattle.mw_rule.specs.declared.views.Reins.{Reins}
 use Rattle.mw_rule.specs.declared.views.View.{View}
-use Rattle.mw_rule.specs.Carrying.{Precede, StoodThere}
+use Rattle.mw_rule.specs.Carrying.{GoesOn, Precede, StoodThere}
 use Rattle.mw_rule.specs.Continuing.{JoinsOn, LooksGoOn, PartsOn}
 use Rattle.mw_rule.specs.Layout.{index_of}
-use Rattle.mw_rule.specs.Dealing.{dealt, gathers, head_of, hears, left_over, maker, meets, note, reins_from, reins_of, rest_of, spent, takes}
-use Rattle.mw_rule.specs.Laws.{DealsKeepTheRule, GatheringKeepsTheRule, HearingKeepsTheRule, LooksKeepTheRule, MeetingKeepsTheRule, NotesKeepTheRule, StartsUnderTheRule, TakingKeepsTheRule}
-use Rattle.mw_rule.specs.Rule.{Continues, Each, Fits, Holds, IsLive, IsOver, IsSpent, Tied, Ties, has, notes_of, times, total, weight}
+use Rattle.mw_rule.specs.Dealing.{bereft, borrows, dealt, entrusted, gathers, head_of, hears, left_over, maker, meets, note, of_head, of_rest, reins_from, reins_of, rest_of, spent}
+use Rattle.mw_rule.specs.Laws.{BorrowingKeepsTheRule, DealsKeepTheRule, EntrustingKeepsTheRule, GatheringKeepsTheRule, HearingKeepsTheRule, LooksKeepTheRule, MeetingKeepsTheRule, NotesKeepTheRule, StartsUnderTheRule}
+use Rattle.mw_rule.specs.Rule.{Continues, Each, Fits, has, HasGroundFor, Holds, holds_of, HoldsFile, IsLive, IsOver, IsRight, IsSpent, notes_of, Tied, Ties, times, times_held, total, weight}
 use Rattle.mw_rule.specs.Seen.{Gave, HasBegunFor, opening_at, seen_at}
-use Rattle.mw_rule.proofs.Righting.{dealt_right, gathers_right, hears_right, left_right, meets_right, mine_in, note_right, nothing_right, sees_right, takes_right}
-use Rattle.mw_rule.proofs.Totals.{each_more, times_more, total_set, total_more, total_two, weight_none}
+use Rattle.mw_rule.proofs.Righting.{bereft_right, borrows_right, dealt_right, entrusted_right, gathers_right, hears_right, left_right, meets_right, mine_in, note_right, nothing_right, sees_right}
+use Rattle.mw_rule.proofs.Totals.{each_more, heads_and_rests, times_behind, times_more, total_more, total_set, total_two, weight_none}
+use Rattle.mw_rule.proofs.Owning.{each_of_head, each_of_rest, parts_sum}
 use Rattle.mw_rule.proofs.Viewing.{all_at, all_seen, live_fits, sees, sees_on}
 
 -- the rule of the same words where threads know other things of the same world
 other_views : (config : Config) (begun : (ℕ → Opening) → List Happening → Type 0) (s now : Table Acting View) (tied : Tied config begun s) → now.words ≡ s.words
     → ((id : ℕ) (view : View) → get_elem? now.views id ≡ some view → IsSpent view ⊎ Fits config tied.past.openings tied.state tied.events view) → ((worker : ℕ) → total (has worker) now.views ≤ 1)
-    → ((tenant request : ℕ) → total (notes_of tenant request) now.views ≤ 1) → Continues config begun s tied [] now
-other_views config begun s now tied same fits alone once = record { after = kept; same_openings = refl; same_before = refl; events = sym (append-nil tied.events) }
+    → ((tenant request : ℕ) → total (notes_of tenant request) now.views ≤ 1) → ((tenant : ℕ) → total (holds_of tenant) now.views ≤ 1) → Continues config begun s tied [] now
+other_views config begun s now tied same fits alone once one_hand = record { after = kept; same_openings = refl; same_before = refl; events = sym (append-nil tied.events) }
   where
     kept : Tied config begun now
     kept = record {
@@ -50,6 +52,7 @@ other_views config begun s now tied same fits alone once = record { after = kept
       fits = fits;
       alone = alone;
       once = once;
+      one_hand = one_hand;
     }
 
 -- what stands at an index, told by the configuration that the thread knows
@@ -65,34 +68,64 @@ stood_there config openings events state view index bits same played gave is = r
   same_bits = subst (λ (one : Config). (at : At) → has_place one at ≡ true → index_of one.pool at ≡ index → bits ≡ pack at (read state.cells at)) (sym same) is;
 }
 
-pub looks_on : (config : Config) (begun : (ℕ → Opening) → List Happening → Type 0) → LooksGoOn config begun
-looks_on config begun id index view make live makes s tied at =
+-- A load that is no event, after which this is held of files.
+pub record LooksAs (config : Config) (begun : (ℕ → Opening) → List Happening → Type 0) (s : Table Acting View) (tied : Tied config begun s) (id index bits : ℕ) (old : View) (files : List Held) : Type 0 where
+  pub view : View
+  pub goes_on : GoesOn old view
+  pub stood : StoodThere view index (slice_index s.words index)
+  pub right : IsRight view
+  pub same_reins : view.reins ≡ old.reins
+  pub same_mine : view.mine ≡ old.mine
+  pub same_files : view.files ≡ files
+  pub run : Continues config begun s tied [] (record { words = slice_set s.words index bits; homes = s.homes; views = slice_set s.views id view })
+
+pub looks_as : (config : Config) (begun : (ℕ → Opening) → List Happening → Type 0) (id index : ℕ) (view : View) (make : ℕ → ℕ) (files : List Held) → IsLive view → ((bits : ℕ) → make bits ≡ bits)
+    → (s : Table Acting View) (tied : Tied config begun s) → get_elem? s.views id ≡ some view → ((tenant : ℕ) → times_held tenant files ≡ holds_of tenant view) → Each (HoldsFile config tied.state) files
+    → LooksAs config begun s tied id index (make (slice_index s.words index)) view files
+looks_as config begun id index view make files live makes s tied at same_rights hold_files =
     let openings = tied.past.openings in
     let sealed = sealed_of openings tied.state in
     let fits = live_fits config openings tied.state tied.events view live (tied.fits id view at) in
-    let new = sees config sealed view view.reins view.mine in
+    let new = sees config sealed view view.reins view.mine files in
     let before = tied.past.before ++ tied.events in
     let right = sees_right config openings tied.state new fits.same_config fits.gave before tied.past.played (all_at sealed (tenants_of config))
-    (mine_in config openings tied.state view fits.same_config fits.gave fits.seen view.mine fits.right.mine) fits.right.once in
+    (mine_in config openings tied.state view fits.same_config fits.gave fits.seen view.mine fits.right.mine) fits.right.once fits.right.own fits.right.alone in
     let new_fits : Fits config openings tied.state tied.events new =
-    record { same_config = fits.same_config; gave = fits.gave; reins = fits.reins; seen = all_seen sealed (tenants_of config); told = fits.told; right = right; over = fits.over } in
+    record { same_config = fits.same_config; gave = fits.gave; reins = fits.reins; seen = all_seen sealed (tenants_of config); told = fits.told; right = right; over = fits.over; files = hold_files } in
     let bits = slice_index s.words index in
     let words : slice_set s.words index (make bits) ≡ s.words = ap (slice_set s.words index) (makes bits) ∙ set-get_or s.words index 0 in
     record {
-      new = new;
-      is_told = record {
-        goes_on = sees_on config sealed view view.reins view.mine fits.same_config fits.seen fits.told;
-        stood = stood_there config openings before tied.state new index bits fits.same_config tied.past.played fits.gave (λ place there is. sym (ap (slice_index s.words) is) ∙ tied.ties place there);
-        right = right;
-        same_reins = refl;
-        same_mine = refl;
-      };
+      view = new;
+      goes_on = sees_on config sealed view view.reins view.mine files fits.same_config fits.seen fits.told;
+      stood = stood_there config openings before tied.state new index bits fits.same_config tied.past.played fits.gave (λ place there is. sym (ap (slice_index s.words) is) ∙ tied.ties place there);
+      right = right;
+      same_reins = refl;
+      same_mine = refl;
+      same_files = refl;
       run = other_views config begun s (record { words = slice_set s.words index (make bits); homes = s.homes; views = slice_set s.views id new }) tied words
           (λ other one is. elim (at_set s.views id other new one is) [
             | inl here ↦ inr (subst (Fits config openings tied.state tied.events) here.1 new_fits)
             | inr else ↦ tied.fits other one else.1
           ]) (λ worker. let sums = total_set (has worker) s.views id view new at in let all = tied.alone worker in omega (arith, sums, all))
-          (λ tenant request. let sums = total_set (notes_of tenant request) s.views id view new at in let all = tied.once tenant request in omega (arith, sums, all));
+          (λ tenant request. let sums = total_set (notes_of tenant request) s.views id view new at in let all = tied.once tenant request in omega (arith, sums, all))
+          (λ tenant. let sums = total_set (holds_of tenant) s.views id view new at in let all = tied.one_hand tenant in let even = same_rights tenant in omega (arith, sums, all, even));
+    }
+
+pub looks_on : (config : Config) (begun : (ℕ → Opening) → List Happening → Type 0) → LooksGoOn config begun
+looks_on config begun id index view make live makes s tied at =
+    let fits = live_fits config tied.past.openings tied.state tied.events view live (tied.fits id view at) in
+    let looks = looks_as config begun id index view make view.files live makes s tied at (λ tenant. refl) fits.files in
+    record {
+      new = looks.view;
+      is_told = record {
+        goes_on = looks.goes_on;
+        stood = looks.stood;
+        right = looks.right;
+        same_reins = looks.same_reins;
+        same_mine = looks.same_mine;
+        same_files = looks.same_files;
+      };
+      run = looks.run;
     }
 
 pub looks_keep : (config : Config) (begun : (ℕ → Opening) → List Happening → Type 0) → LooksKeepTheRule config begun
@@ -104,9 +137,10 @@ parts_on : (config : Config) (begun : (ℕ → Opening) → List Happening → T
     → ((openings : ℕ → Opening) (state : State) (events : List Happening) → IsSpent view ⊎ Fits config openings state events view
     → (IsSpent left ⊎ Fits config openings state events left) × (IsSpent right ⊎ Fits config openings state events right))
     → ((worker : ℕ) → has worker left + has worker right ≡ has worker view)
-    → ((tenant request : ℕ) → notes_of tenant request left + notes_of tenant request right ≡ notes_of tenant request view) → (s : Table Acting View) (tied : Tied config begun s) → get_elem? s.views id ≡ some view
+    → ((tenant request : ℕ) → notes_of tenant request left + notes_of tenant request right ≡ notes_of tenant request view)
+    → ((tenant : ℕ) → holds_of tenant left + holds_of tenant right ≡ holds_of tenant view) → (s : Table Acting View) (tied : Tied config begun s) → get_elem? s.views id ≡ some view
     → Continues config begun s tied [] (record { words = s.words; homes = s.homes; views = slice_set s.views id left ++ right ∷ [] })
-parts_on config begun id view left right fit sums notes s tied at =
+parts_on config begun id view left right fit sums notes holds s tied at =
     let both = fit tied.past.openings tied.state tied.events (tied.fits id view at) in
     let So : View → Type 0 = λ one. IsSpent one ⊎ Fits config tied.past.openings tied.state tied.events one in
     other_views config begun s (record { words = s.words; homes = s.homes; views = slice_set s.views id left ++ right ∷ [] }) tied refl
@@ -127,10 +161,11 @@ parts_on config begun id view left right fit sums notes s tied at =
     let second = total_more (notes_of tenant request) (slice_set s.views id left) right in
     let all = tied.once tenant request in
     let even = notes tenant request in omega (arith, first, second, all, even))
-
-heads_and_rests : (worker : ℕ) (all : List Reins) → times worker (rest_of all) + times worker (head_of all) ≡ times worker all
-heads_and_rests worker [] = refl
-heads_and_rests worker (one ∷ rest) = omega arith
+    (λ tenant.
+    let first = total_set (holds_of tenant) s.views id view left at in
+    let second = total_more (holds_of tenant) (slice_set s.views id left) right in
+    let all = tied.one_hand tenant in
+    let even = holds tenant in omega (arith, first, second, all, even))
 
 each_head : (P : Reins → Type 0) (all : List Reins) → Each P all → Each P (head_of all)
 each_head P [] holds = tt
@@ -140,34 +175,52 @@ each_rest : (P : Reins → Type 0) (all : List Reins) → Each P all → Each P 
 each_rest P [] holds = tt
 each_rest P (one ∷ rest) holds = holds.1
 
-pub deals_on : (config : Config) (begun : (ℕ → Opening) → List Happening → Type 0) → PartsOn config begun left_over dealt
-deals_on config begun id view = parts_on config begun id view (left_over view) (dealt view) (λ openings state events fit. elim fit [
-  | inl gone ↦ (inl (record { flag = gone.flag; no_reins = ap rest_of gone.no_reins; no_mine = gone.no_mine }), inl (record { flag = gone.flag; no_reins = ap head_of gone.no_reins; no_mine = refl }))
-  | inr fits ↦ (
-    inr (record { same_config = fits.same_config; gave = fits.gave; reins = each_rest (Holds config openings state events) view.reins fits.reins; seen = fits.seen; told = fits.told; right = left_right view fits.right; over = fits.over }),
-    inr (record { same_config = fits.same_config; gave = fits.gave; reins = each_head (Holds config openings state events) view.reins fits.reins; seen = fits.seen; told = fits.told; right = dealt_right view fits.right; over = tt }),
+pub deals_on : (config : Config) (begun : (ℕ → Opening) → List Happening → Type 0) → PartsOn config begun (λ view. Unit {0}) left_over dealt
+deals_on config begun id view any = parts_on config begun id view (left_over view) (dealt view) (λ openings state events fit. elim fit [
+  | inl gone ↦ (
+    inl (record { flag = gone.flag; no_reins = ap rest_of gone.no_reins; no_mine = (λ i. of_rest (gone.no_reins i) (gone.no_mine i)) }),
+    inl (record { flag = gone.flag; no_reins = ap head_of gone.no_reins; no_mine = (λ i. of_head (gone.no_reins i) (gone.no_mine i)) }),
   )
-]) (λ worker. heads_and_rests worker view.reins) (λ tenant request. omega arith)
+  | inr fits ↦ (
+    inr (record { same_config = fits.same_config; gave = fits.gave; reins = each_rest (Holds config openings state events) view.reins fits.reins; seen = fits.seen; told = fits.told; right = left_right view fits.right; over = each_of_rest (IsOver state) view.reins view.mine fits.over; files = fits.files }),
+    inr (record { same_config = fits.same_config; gave = fits.gave; reins = each_head (Holds config openings state events) view.reins fits.reins; seen = fits.seen; told = fits.told; right = dealt_right view fits.right; over = each_of_head (IsOver state) view.reins view.mine fits.over; files = tt }),
+  )
+]) (λ worker. heads_and_rests worker view.reins) (λ tenant request. parts_sum tenant request view.reins view.mine) (λ tenant. omega arith)
 
 pub deals_keep : (config : Config) (begun : (ℕ → Opening) → List Happening → Type 0) → DealsKeepTheRule config begun
-deals_keep config begun id view s tied at = (deals_on config begun id view s tied at).after
+deals_keep config begun id view s tied at = (deals_on config begun id view tt s tied at).after
 
-pub notes_on : (config : Config) (begun : (ℕ → Opening) → List Happening → Type 0) → PartsOn config begun (λ view. view) note
-notes_on config begun id view = parts_on config begun id view view (note view) (λ openings state events fit. elim fit [
-  | inl gone ↦ (inl gone, inl (record { flag = gone.flag; no_reins = refl; no_mine = refl }))
-  | inr fits ↦ (inr fits, inr (record { same_config = fits.same_config; gave = fits.gave; reins = tt; seen = fits.seen; told = fits.told; right = note_right view fits.right; over = tt }))
-]) (λ worker. omega arith) (λ tenant request. omega arith)
+pub notes_on : (config : Config) (begun : (ℕ → Opening) → List Happening → Type 0) → PartsOn config begun IsLive (λ view. view) note
+notes_on config begun id view live = parts_on config begun id view view (note view) (λ openings state events fit.
+    let fits = live_fits config openings state events view live fit in (
+      inr fits,
+      inr (record { same_config = fits.same_config; gave = fits.gave; reins = tt; seen = fits.seen; told = fits.told; right = note_right view fits.right; over = tt; files = tt }),
+    )) (λ worker. omega arith) (λ tenant request. omega arith) (λ tenant. omega arith)
 
 pub notes_keep : (config : Config) (begun : (ℕ → Opening) → List Happening → Type 0) → NotesKeepTheRule config begun
-notes_keep config begun id view s tied at = (notes_on config begun id view s tied at).after
+notes_keep config begun id view live s tied at = (notes_on config begun id view live s tied at).after
+
+-- The files go, and nothing else.
+pub entrusting_on : (config : Config) (begun : (ℕ → Opening) → List Happening → Type 0) → PartsOn config begun (λ view. Unit {0}) bereft entrusted
+entrusting_on config begun id view any = parts_on config begun id view (bereft view) (entrusted view) (λ openings state events fit. elim fit [
+  | inl gone ↦ (inl (record { flag = gone.flag; no_reins = gone.no_reins; no_mine = gone.no_mine }), inl (record { flag = gone.flag; no_reins = refl; no_mine = refl }))
+  | inr fits ↦ (
+    inr (record { same_config = fits.same_config; gave = fits.gave; reins = fits.reins; seen = fits.seen; told = fits.told; right = bereft_right view fits.right; over = fits.over; files = tt }),
+    inr (record { same_config = fits.same_config; gave = fits.gave; reins = tt; seen = fits.seen; told = fits.told; right = entrusted_right view fits.right; over = tt; files = fits.files }),
+  )
+]) (λ worker. omega arith) (λ tenant request. omega arith) (λ tenant. omega arith)
+
+pub entrusting_keeps : (config : Config) (begun : (ℕ → Opening) → List Happening → Type 0) → EntrustingKeepsTheRule config begun
+entrusting_keeps config begun id view s tied at = (entrusting_on config begun id view tt s tied at).after
 
 -- Two threads' knowledge becomes one that fits where both fit, and has no reins but theirs.
 joins_on : (config : Config) (begun : (ℕ → Opening) → List Happening → Type 0) (id other : ℕ) (view its both : View) → IsLive view → IsLive its
     → ((tenant request : ℕ) → notes_of tenant request both ≤ notes_of tenant request view + notes_of tenant request its) → ((worker : ℕ) → has worker both ≤ has worker view + has worker its)
+    → ((tenant : ℕ) → holds_of tenant both ≤ holds_of tenant view + holds_of tenant its)
     → ((openings : ℕ → Opening) (state : State) (events : List Happening) → ((tenant request : ℕ) → notes_of tenant request view + notes_of tenant request its ≤ 1)
-    → Fits config openings state events view → Fits config openings state events its → Fits config openings state events both) → (s : Table Acting View) (tied : Tied config begun s) → get_elem? s.views id ≡ some view → ¬ (other ≡ id)
+    → ((worker : ℕ) → has worker view + has worker its ≤ 1) → Fits config openings state events view → Fits config openings state events its → Fits config openings state events both) → (s : Table Acting View) (tied : Tied config begun s) → get_elem? s.views id ≡ some view → ¬ (other ≡ id)
     → get_elem? (slice_set s.views id both) other ≡ some its → Continues config begun s tied [] (record { words = s.words; homes = s.homes; views = slice_set (slice_set s.views id both) other spent })
-joins_on config begun id other view its both live its_live notes sums fit s tied at apart its_at =
+joins_on config begun id other view its both live its_live notes sums holds fit s tied at apart its_at =
     let openings = tied.past.openings in
     let So : View → Type 0 = λ one. IsSpent one ⊎ Fits config openings tied.state tied.events one in
     let fits = live_fits config openings tied.state tied.events view live (tied.fits id view at) in
@@ -178,11 +231,13 @@ joins_on config begun id other view its both live its_live notes sums fit s tied
     let its_fits = live_fits config openings tied.state tied.events its its_live (tied.fits other its was) in
     let few : (tenant request : ℕ) → notes_of tenant request view + notes_of tenant request its ≤ 1 =
     λ tenant request. let two = total_two (notes_of tenant request) s.views id other view its apart at was in let all = tied.once tenant request in omega (arith, two, all) in
+    let single : (worker : ℕ) → has worker view + has worker its ≤ 1 =
+    λ worker. let two = total_two (has worker) s.views id other view its apart at was in let all = tied.alone worker in omega (arith, two, all) in
     other_views config begun s (record { words = s.words; homes = s.homes; views = slice_set (slice_set s.views id both) other spent }) tied refl
     (λ third one is. elim (at_set (slice_set s.views id both) other third spent one is) [
       | inl here ↦ inl (subst IsSpent here.1 (record { flag = refl; no_reins = refl; no_mine = refl }))
       | inr else ↦ elim (at_set s.views id third both one else.1) [
-        | inl there ↦ inr (subst (Fits config openings tied.state tied.events) there.1 (fit openings tied.state tied.events few fits its_fits))
+        | inl there ↦ inr (subst (Fits config openings tied.state tied.events) there.1 (fit openings tied.state tied.events few single fits its_fits))
         | inr third_one ↦ tied.fits third one third_one.1
       ]
     ])
@@ -196,10 +251,15 @@ joins_on config begun id other view its both live its_live notes sums fit s tied
     let second = total_set (notes_of tenant request) (slice_set s.views id both) other its spent its_at in
     let no_more = notes tenant request in
     let all = tied.once tenant request in omega (arith, first, second, no_more, all))
+    (λ tenant.
+    let first = total_set (holds_of tenant) s.views id view both at in
+    let second = total_set (holds_of tenant) (slice_set s.views id both) other its spent its_at in
+    let no_more = holds tenant in
+    let all = tied.one_hand tenant in omega (arith, first, second, no_more, all))
 
 pub hearing_on : (config : Config) (begun : (ℕ → Opening) → List Happening → Type 0) → JoinsOn config begun (λ view its. its.reins ≡ []) hears
-hearing_on config begun id other view its live its_live may = joins_on config begun id other view its (hears view its) live its_live (λ tenant request. omega arith) (λ worker. omega arith)
-    (λ openings state events few fits its_fits. record {
+hearing_on config begun id other view its live its_live may = joins_on config begun id other view its (hears view its) live its_live (λ tenant request. omega arith) (λ worker. omega arith) (λ tenant. omega arith)
+    (λ openings state events few single fits its_fits. record {
       same_config = fits.same_config;
       gave = fits.gave;
       reins = fits.reins;
@@ -207,11 +267,12 @@ hearing_on config begun id other view its live its_live may = joins_on config be
       told = its_fits.seen;
       right = hears_right view its fits.right;
       over = fits.over;
+      files = fits.files;
     })
 
 pub meeting_on : (config : Config) (begun : (ℕ → Opening) → List Happening → Type 0) → JoinsOn config begun (λ view its. (its.reins ≡ []) × Precede (tenants_of view.config) view.seen its.seen) meets
-meeting_on config begun id other view its live its_live may = joins_on config begun id other view its (meets view its) live its_live (λ tenant request. omega arith) (λ worker. omega arith)
-    (λ openings state events few fits its_fits. record {
+meeting_on config begun id other view its live its_live may = joins_on config begun id other view its (meets view its) live its_live (λ tenant request. omega arith) (λ worker. omega arith) (λ tenant. omega arith)
+    (λ openings state events few single fits its_fits. record {
       same_config = fits.same_config;
       gave = fits.gave;
       reins = fits.reins;
@@ -220,38 +281,47 @@ meeting_on config begun id other view its live its_live may = joins_on config be
       right = meets_right view its (λ tenant low. let there = subst (λ (c : Config). tenant < tenants_of c) fits.same_config low in sym (its_fits.gave tenant there).words ∙ (fits.gave tenant there).words)
           (its_fits.same_config ∙ sym fits.same_config) may.1 fits.right its_fits.right;
       over = fits.over;
+      files = fits.files;
     })
 
-pub taking_on : (config : Config) (begun : (ℕ → Opening) → List Happening → Type 0) → JoinsOn config begun (λ view its. view.reins ≡ []) takes
-taking_on config begun id other view its live its_live may = joins_on config begun id other view its (takes view its) live its_live (λ tenant request. omega arith) (λ worker. omega arith)
-    (λ openings state events few fits its_fits. record {
-      same_config = fits.same_config;
-      gave = fits.gave;
-      reins = its_fits.reins;
-      seen = fits.seen;
-      told = fits.told;
-      right = takes_right view its fits.right;
-      over = fits.over;
-    })
-
-times_behind : (worker : ℕ) (all more : List Reins) → times worker (all ++ more) ≡ times worker all + times worker more
-times_behind worker [] more = omega arith
-times_behind worker (one ∷ all) more = let rest = times_behind worker all more in omega (arith, rest)
+held_behind : (tenant : ℕ) (all more : List Held) → times_held tenant (all ++ more) ≡ times_held tenant all + times_held tenant more
+held_behind tenant [] more = omega arith
+held_behind tenant (one ∷ all) more = let rest = held_behind tenant all more in omega (arith, rest)
 
 pub gathering_on : (config : Config) (begun : (ℕ → Opening) → List Happening → Type 0) → JoinsOn config begun (λ view its. Precede (tenants_of view.config) view.seen its.seen) gathers
 gathering_on config begun id other view its live its_live first = joins_on config begun id other view its (gathers view its) live its_live
     (λ tenant request. let sum = times_more tenant request view.mine its.mine in omega (arith, sum)) (λ worker. let sum = times_behind worker view.reins its.reins in omega (arith, sum))
-    (λ openings state events few fits its_fits. record {
+    (λ tenant. let sum = held_behind tenant view.files its.files in omega (arith, sum))
+    (λ openings state events few single fits its_fits. record {
       same_config = fits.same_config;
       gave = fits.gave;
       reins = each_more (Holds config openings state events) view.reins its.reins fits.reins its_fits.reins;
       seen = its_fits.seen;
       told = its_fits.seen;
       right = gathers_right view its
+          (λ tenant low. let there = subst (λ (c : Config). tenant < tenants_of c) fits.same_config low in sym (its_fits.gave tenant there).quota ∙ (fits.gave tenant there).quota)
           (λ tenant low. let there = subst (λ (c : Config). tenant < tenants_of c) fits.same_config low in sym (its_fits.gave tenant there).words ∙ (fits.gave tenant there).words)
-          (its_fits.same_config ∙ sym fits.same_config) first few fits.right its_fits.right;
+          (its_fits.same_config ∙ sym fits.same_config) first few single fits.right its_fits.right;
       over = each_more (IsOver state) view.mine its.mine fits.over its_fits.over;
+      files = each_more (HoldsFile config state) view.files its.files fits.files its_fits.files;
     })
+
+pub borrowing_on : (config : Config) (begun : (ℕ → Opening) → List Happening → Type 0) → JoinsOn config begun (λ view its. Unit {0}) borrows
+borrowing_on config begun id other view its live its_live may = joins_on config begun id other view its (borrows view its) live its_live (λ tenant request. omega arith) (λ worker. omega arith)
+    (λ tenant. let sum = held_behind tenant view.files its.files in omega (arith, sum))
+    (λ openings state events few single fits its_fits. record {
+      same_config = fits.same_config;
+      gave = fits.gave;
+      reins = fits.reins;
+      seen = fits.seen;
+      told = fits.told;
+      right = borrows_right view its fits.right;
+      over = fits.over;
+      files = each_more (HoldsFile config state) view.files its.files fits.files its_fits.files;
+    })
+
+pub borrowing_keeps : (config : Config) (begun : (ℕ → Opening) → List Happening → Type 0) → BorrowingKeepsTheRule config begun
+borrowing_keeps config begun id other view its live its_live s tied at apart its_at = (borrowing_on config begun id other view its live its_live tt s tied at apart its_at).after
 
 pub gathering_keeps : (config : Config) (begun : (ℕ → Opening) → List Happening → Type 0) → GatheringKeepsTheRule config begun
 gathering_keeps config begun id other view its live its_live first s tied at apart its_at = (gathering_on config begun id other view its live its_live first s tied at apart its_at).after
@@ -262,15 +332,20 @@ hearing_keeps config begun id other view its live its_live none s tied at apart 
 pub meeting_keeps : (config : Config) (begun : (ℕ → Opening) → List Happening → Type 0) → MeetingKeepsTheRule config begun
 meeting_keeps config begun id other view its live its_live none first s tied at apart its_at = (meeting_on config begun id other view its live its_live (none, first) s tied at apart its_at).after
 
-pub taking_keeps : (config : Config) (begun : (ℕ → Opening) → List Happening → Type 0) → TakingKeepsTheRule config begun
-taking_keeps config begun id other view its live its_live none s tied at apart its_at = (taking_on config begun id other view its live its_live none s tied at apart its_at).after
-
 -- The first thread has the reins of each worker once.
 module _ (config : Config) (openings : ℕ → Opening) (before : List Happening) (state : State) (played : IsPlayed config openings before state) (seats : ℕ → Seat)
     (same : (worker : ℕ) → worker < config.workers → seats worker ≡ state.seats worker) where
   begun_before : (worker : ℕ) (actor : Option Acting) → (state.seats worker).actor ≡ actor → HasBegunFor openings state worker 0 actor
   begun_before worker None sits = tt
   begun_before worker (Some actor) sits = let begun = requests_have_begun config openings before state worker actor played sits in record { sealed = begun.0; no_fewer = omega arith; came = begun.1 }
+
+  -- nothing is known of what its steps found before
+  not_whole : (worker : ℕ) (actor : Option Acting) → HasGroundFor (reins_of worker (seats worker)) actor
+  not_whole worker None = tt
+  not_whole worker (Some actor) = λ whole. absurd (false_true whole)
+    where
+      false_true : false ≡ true → ⊥
+      false_true e = cc
 
   one_holds : (worker : ℕ) → worker < config.workers → Holds config openings state [] (reins_of worker (seats worker))
   one_holds worker low =
@@ -282,6 +357,7 @@ module _ (config : Config) (openings : ℕ → Opening) (before : List Happening
         request = ap (λ (seat : Seat). seat.request) (sym (same worker low));
         made = refl;
         begun = begun_before worker (seats worker).actor sits;
+        ground = not_whole worker (seats worker).actor;
       }
 
   all_hold : (first left : ℕ) → first + left ≤ config.workers → Each (Holds config openings state []) (reins_from seats first left)
@@ -312,15 +388,16 @@ nothing_first : (tenants : ℕ) (sealed : ℕ → List SealedChange) (tenant : �
 nothing_first tenants sealed tenant low = record { rest = sealed tenant; parted = refl }
 
 pub starts : (config : Config) (begun : (ℕ → Opening) → List Happening → Type 0) → StartsUnderTheRule config begun
-starts config begun openings before state given seats words began played gave same long ties =
-    let all_fit : Fits config openings state [] (maker config given seats) = record {
+starts config begun openings before state given seats files words began played gave same files_fit one_each_file long ties =
+    let all_fit : Fits config openings state [] (maker config given seats files) = record {
       same_config = refl;
       gave = gave;
       reins = all_hold config openings before state played seats same 0 config.workers (omega arith);
       seen = nothing_first (tenants_of config) (sealed_of openings state);
       told = nothing_first (tenants_of config) (sealed_of openings state);
-      right = record { changes = λ tenant low. nothing_right (opening_at given tenant).words; mine = tt; once = λ tenant request. omega arith };
+      right = record { changes = λ tenant low. nothing_right (opening_at given tenant).words; mine = tt; once = λ tenant request. omega arith; own = tt; alone = λ worker. one_each seats worker 0 config.workers };
       over = tt;
+      files = files_fit;
     } in
     record {
       state = state;
@@ -328,7 +405,8 @@ starts config begun openings before state given seats words began played gave sa
       past = record { openings = openings; before = before; began = began; played = subst (λ all. IsPlayed config openings all state) (sym (append-nil before)) played; no_starts = tt };
       long = long;
       ties = ties;
-      fits = λ id view is. inr (subst (Fits config openings state []) (the_one (maker config given seats) view id is) all_fit);
+      fits = λ id view is. inr (subst (Fits config openings state []) (the_one (maker config given seats files) view id is) all_fit);
       alone = λ worker. let one = one_each seats worker 0 config.workers in omega (arith, one);
       once = λ tenant request. omega arith;
+      one_hand = λ tenant. let one = one_each_file tenant in omega (arith, one);
     }

@@ -1,5 +1,5 @@
 -- What a thread knows is right, and stays so where more is sealed.
-use Rattle.std.specs.Prelude.{ℕ, ◌+◌, ◌≡◌, ◌≤◌, ◌<◌, List, [], length}
+use Rattle.std.specs.Prelude.{ℕ, ◌+◌, ◌≡◌, ◌≤◌, ◌<◌, List, [], ◌++◌, length}
 use Rattle.std.proofs.Common.{refl, sym, ap, subst, arith}
 use Rattle.std.proofs.lemmas.List.{length-append}
 use Rattle.std.proofs.lemmas.Option.{none-some}
@@ -15,17 +15,19 @@ use Rattle.mw_law_store.proofs.SealedLists.{places_stay_right}
 use Rattle.mw_rule.specs.declared.views.Finished.{Finished}
 use Rattle.mw_rule.specs.declared.views.View.{View}
 use Rattle.mw_rule.specs.Carrying.{Precede}
-use Rattle.mw_rule.specs.Dealing.{dealt, hears, gathers, left_over, meets, note, takes}
+use Rattle.mw_rule.specs.Dealing.{bereft, borrows, dealt, entrusted, gathers, hears, left_over, meets, note}
 use Rattle.mw_rule.specs.Laws.{MeetingsAreRight, PartsAreRight}
-use Rattle.mw_rule.specs.Rule.{AreRight, Each, IsFinished, IsRight, IsRightAmong, notes_of, words_given}
+use Rattle.mw_rule.specs.Rule.{AreRight, Each, IsFinished, IsGrounded, IsOfThese, IsRight, IsRightAmong, has, notes_of, quota_given, words_given}
 use Rattle.mw_rule.specs.Seen.{ComeFirst, Gave, opening_at, seen_at}
 use Rattle.mw_rule.proofs.Leading.{begins_itself}
-use Rattle.mw_rule.proofs.Totals.{each_more, each_on, times_more}
+use Rattle.mw_rule.proofs.Owning.{each_of_head, each_of_rest, head_own, parts_sum, rest_own}
+use Rattle.mw_rule.proofs.Totals.{each_more, each_on, heads_and_rests, times_behind, times_more}
 
--- Where each tenant's words are the same and more is sealed after the others, a request is as right.
-pub right_on : (tenants : ℕ) (words now : ℕ → List ℕ) (sealed after : ℕ → List SealedChange) → ((tenant : ℕ) → tenant < tenants → words tenant ≡ now tenant)
-    → ((tenant : ℕ) → tenant < tenants → IsBeginning (sealed tenant) (after tenant)) → (one : Finished) → IsRightAmong tenants words sealed one → IsRightAmong tenants now after one
-right_on tenants words now sealed after same begins one right =
+-- Where each tenant's quota and words are the same and more is sealed after the others, a request is as right.
+pub right_on : (tenants : ℕ) (quotas quota : ℕ → ℕ) (words now : ℕ → List ℕ) (sealed after : ℕ → List SealedChange) → ((tenant : ℕ) → tenant < tenants → quotas tenant ≡ quota tenant)
+    → ((tenant : ℕ) → tenant < tenants → words tenant ≡ now tenant)
+    → ((tenant : ℕ) → tenant < tenants → IsBeginning (sealed tenant) (after tenant)) → (one : Finished) → IsRightAmong tenants quotas words sealed one → IsRightAmong tenants quota now after one
+right_on tenants quotas quota words now sealed after as_many same begins one right =
     let first = begins one.tenant right.there in
     let long = ap (λ (changes : List SealedChange). length changes) first.parted in
     let within = right.within in
@@ -35,11 +37,12 @@ right_on tenants words now sealed after same begins one right =
       within = omega (arith, long, length-append (sealed one.tenant) first.rest, within);
       right = subst (λ (start : List ℕ). IsRightAt start (after one.tenant) one.place one.request one.job one.reply) (same one.tenant right.there)
           (subst (λ (all : List SealedChange). IsRightAt (words one.tenant) all one.place one.request one.job one.reply) (sym first.parted) stays);
+      ground = subst (λ (n : ℕ). IsGrounded n one) (as_many one.tenant right.there) right.ground;
     }
 
 -- a request is right in a world
 abbrev pub IsRightIn : Config → (ℕ → Opening) → State → Finished → Type 0
-IsRightIn config openings state one = IsRightAmong (tenants_of config) (words_at_start openings state) (sealed_of openings state) one
+IsRightIn config openings state one = IsRightAmong (tenants_of config) (λ tenant. (state.accounts tenant).quota) (words_at_start openings state) (sealed_of openings state) one
 
 -- A thread that knows what a start gave, and saw changes that come first of those of a world.
 module _ (config : Config) (openings : ℕ → Opening) (state : State) (view : View) (same : view.config ≡ config)
@@ -47,23 +50,27 @@ module _ (config : Config) (openings : ℕ → Opening) (state : State) (view : 
   -- what is right by what the thread saw is right in the world
   pub mine_in : ComeFirst (tenants_of config) view.seen (sealed_of openings state) → (mine : List Finished) → Each (IsFinished view) mine → Each (IsRightIn config openings state) mine
   mine_in seen mine right = each_on (IsFinished view) (IsRightIn config openings state) (λ one so.
-      right_on (tenants_of config) (words_given view) (words_at_start openings state) (seen_at view.seen) (sealed_of openings state) (λ tenant low. sym (gave tenant low).words) seen one
-      (subst (λ (c : Config). IsRightAmong (tenants_of c) (words_given view) (seen_at view.seen) one) same so)) mine right
+      right_on (tenants_of config) (quota_given view) (λ tenant. (state.accounts tenant).quota) (words_given view) (words_at_start openings state) (seen_at view.seen) (sealed_of openings state)
+      (λ tenant low. sym (gave tenant low).quota) (λ tenant low. sym (gave tenant low).words) seen one
+      (subst (λ (c : Config). IsRightAmong (tenants_of c) (quota_given view) (words_given view) (seen_at view.seen) one) same so)) mine right
 
   -- what is right in the world is so by what a thread saw that saw all
   pub sees_right : (events : List Happening) → IsPlayed config openings events state → ((tenant : ℕ) → tenant < tenants_of config → seen_at view.seen tenant ≡ sealed_of openings state tenant)
-      → Each (IsRightIn config openings state) view.mine → ((tenant request : ℕ) → notes_of tenant request view ≤ 1) → IsRight view
-  sees_right events played all mine once = record {
+      → Each (IsRightIn config openings state) view.mine → ((tenant request : ℕ) → notes_of tenant request view ≤ 1) → Each (IsOfThese view.reins) view.mine → ((worker : ℕ) → has worker view ≤ 1) → IsRight view
+  sees_right events played all mine once own alone = record {
     changes = λ tenant low.
         let there = subst (λ (c : Config). tenant < tenants_of c) same low in
         let right = sealed_are_right config openings events state tenant played there in
         subst (λ (words : List ℕ). AreRight words (seen_at view.seen tenant)) (gave tenant there).words
         (subst (AreRight (words_at_start openings state tenant)) (sym (all tenant there)) (record { fit = right.fit; once = right.once }));
     mine = each_on (IsRightIn config openings state) (IsFinished view) (λ one so.
-        subst (λ (c : Config). IsRightAmong (tenants_of c) (words_given view) (seen_at view.seen) one) (sym same)
-        (right_on (tenants_of config) (words_at_start openings state) (words_given view) (sealed_of openings state) (seen_at view.seen) (λ tenant low. (gave tenant low).words)
+        subst (λ (c : Config). IsRightAmong (tenants_of c) (quota_given view) (words_given view) (seen_at view.seen) one) (sym same)
+        (right_on (tenants_of config) (λ tenant. (state.accounts tenant).quota) (quota_given view) (words_at_start openings state) (words_given view) (sealed_of openings state) (seen_at view.seen)
+        (λ tenant low. (gave tenant low).quota) (λ tenant low. (gave tenant low).words)
         (λ tenant low. subst (IsBeginning (sealed_of openings state tenant)) (sym (all tenant low)) (begins_itself (sealed_of openings state tenant))) one so)) view.mine mine;
     once = once;
+    own = own;
+    alone = alone;
   }
 
 -- nothing that was seen is right
@@ -72,22 +79,48 @@ nothing_right words = record { fit = λ place one at. absurd (none-some one at);
 
 -- Parts of what is right.
 pub left_right : (view : View) → IsRight view → IsRight (left_over view)
-left_right view right = record { changes = right.changes; mine = right.mine; once = right.once }
+left_right view right = record {
+  changes = right.changes;
+  mine = each_of_rest (IsFinished view) view.reins view.mine right.mine;
+  once = λ tenant request. let sum = parts_sum tenant request view.reins view.mine in let few = right.once tenant request in omega (arith, sum, few);
+  own = rest_own view.reins view.mine right.own;
+  alone = λ worker. let sum = heads_and_rests worker view.reins in let few = right.alone worker in omega (arith, sum, few);
+}
 
 pub dealt_right : (view : View) → IsRight view → IsRight (dealt view)
-dealt_right view right = record { changes = right.changes; mine = tt; once = λ tenant request. omega arith }
+dealt_right view right = record {
+  changes = right.changes;
+  mine = each_of_head (IsFinished view) view.reins view.mine right.mine;
+  once = λ tenant request. let sum = parts_sum tenant request view.reins view.mine in let few = right.once tenant request in omega (arith, sum, few);
+  own = head_own view.reins view.mine right.own;
+  alone = λ worker. let sum = heads_and_rests worker view.reins in let few = right.alone worker in omega (arith, sum, few);
+}
 
 pub note_right : (view : View) → IsRight view → IsRight (note view)
-note_right view right = record { changes = right.changes; mine = tt; once = λ tenant request. omega arith }
+note_right view right = record { changes = right.changes; mine = tt; once = λ tenant request. omega arith; own = tt; alone = λ worker. omega arith }
 
 pub hears_right : (view other : View) → IsRight view → IsRight (hears view other)
-hears_right view other right = record { changes = right.changes; mine = right.mine; once = right.once }
+hears_right view other right = record { changes = right.changes; mine = right.mine; once = right.once; own = right.own; alone = right.alone }
 
-pub takes_right : (view other : View) → IsRight view → IsRight (takes view other)
-takes_right view other right = record { changes = right.changes; mine = right.mine; once = right.once }
+pub bereft_right : (view : View) → IsRight view → IsRight (bereft view)
+bereft_right view right = record { changes = right.changes; mine = right.mine; once = right.once; own = right.own; alone = right.alone }
+
+pub entrusted_right : (view : View) → IsRight view → IsRight (entrusted view)
+entrusted_right view right = record { changes = right.changes; mine = tt; once = λ tenant request. omega arith; own = tt; alone = λ worker. omega arith }
+
+pub borrows_right : (view other : View) → IsRight view → IsRight (borrows view other)
+borrows_right view other right = record { changes = right.changes; mine = right.mine; once = right.once; own = right.own; alone = right.alone }
 
 pub parts_are_right : PartsAreRight
-parts_are_right view other right = (left_right view right, dealt_right view right, note_right view right, hears_right view other right, takes_right view other right)
+parts_are_right view other right = (
+  left_right view right,
+  dealt_right view right,
+  note_right view right,
+  hears_right view other right,
+  bereft_right view right,
+  entrusted_right view right,
+  borrows_right view other right,
+)
 
 -- What another saw that saw no less.
 pub meets_right : (view its : View) → ((tenant : ℕ) → tenant < tenants_of view.config → words_given its tenant ≡ words_given view tenant) → its.config ≡ view.config
@@ -96,22 +129,29 @@ meets_right view its same config first right its_right = record {
   changes = λ tenant low.
       subst (λ (words : List ℕ). AreRight words (seen_at its.seen tenant)) (same tenant low) (its_right.changes tenant (subst (λ (c : Config). tenant < tenants_of c) (sym config) low));
   mine = each_on (IsFinished view) (IsFinished (meets view its)) (λ one so.
-      right_on (tenants_of view.config) (words_given view) (words_given view) (seen_at view.seen) (seen_at its.seen) (λ tenant low. refl) first one so) view.mine right.mine;
+      right_on (tenants_of view.config) (quota_given view) (quota_given view) (words_given view) (words_given view) (seen_at view.seen) (seen_at its.seen) (λ tenant low. refl) (λ tenant low. refl) first one so) view.mine right.mine;
   once = right.once;
+  own = right.own;
+  alone = right.alone;
 }
 
 -- What two know, the second of which saw no less.
-pub gathers_right : (view its : View) → ((tenant : ℕ) → tenant < tenants_of view.config → words_given its tenant ≡ words_given view tenant) → its.config ≡ view.config
-    → Precede (tenants_of view.config) view.seen its.seen → ((tenant request : ℕ) → notes_of tenant request view + notes_of tenant request its ≤ 1) → IsRight view → IsRight its → IsRight (gathers view its)
-gathers_right view its same config first once right its_right =
+pub gathers_right : (view its : View) → ((tenant : ℕ) → tenant < tenants_of view.config → quota_given its tenant ≡ quota_given view tenant) → ((tenant : ℕ) → tenant < tenants_of view.config → words_given its tenant ≡ words_given view tenant) → its.config ≡ view.config
+    → Precede (tenants_of view.config) view.seen its.seen → ((tenant request : ℕ) → notes_of tenant request view + notes_of tenant request its ≤ 1) → ((worker : ℕ) → has worker view + has worker its ≤ 1)
+    → IsRight view → IsRight its → IsRight (gathers view its)
+gathers_right view its as_many same config first once alone right its_right =
     let met = meets_right view its same config first right its_right in
     record {
       changes = met.changes;
       mine = each_more (IsFinished (gathers view its)) view.mine its.mine (each_on (IsFinished (meets view its)) (IsFinished (gathers view its)) (λ one so. so) view.mine met.mine)
           (each_on (IsFinished its) (IsFinished (gathers view its)) (λ one so.
-          right_on (tenants_of view.config) (words_given its) (words_given view) (seen_at its.seen) (seen_at its.seen) same (λ tenant low. begins_itself (seen_at its.seen tenant)) one
-          (subst (λ (c : Config). IsRightAmong (tenants_of c) (words_given its) (seen_at its.seen) one) config so)) its.mine its_right.mine);
+          right_on (tenants_of view.config) (quota_given its) (quota_given view) (words_given its) (words_given view) (seen_at its.seen) (seen_at its.seen) as_many same (λ tenant low. begins_itself (seen_at its.seen tenant)) one
+          (subst (λ (c : Config). IsRightAmong (tenants_of c) (quota_given its) (words_given its) (seen_at its.seen) one) config so)) its.mine its_right.mine);
       once = λ tenant request. let few = once tenant request in let sum = times_more tenant request view.mine its.mine in omega (arith, few, sum);
+      own = each_more (IsOfThese (view.reins ++ its.reins)) view.mine its.mine
+          (each_on (IsOfThese view.reins) (IsOfThese (view.reins ++ its.reins)) (λ one so. let sum = times_behind one.worker view.reins its.reins in omega (arith, sum, so)) view.mine right.own)
+          (each_on (IsOfThese its.reins) (IsOfThese (view.reins ++ its.reins)) (λ one so. let sum = times_behind one.worker view.reins its.reins in omega (arith, sum, so)) its.mine its_right.own);
+      alone = λ worker. let few = alone worker in let sum = times_behind worker view.reins its.reins in omega (arith, few, sum);
     }
 
 pub meetings_are_right : MeetingsAreRight

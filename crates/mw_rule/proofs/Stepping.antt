@@ -39,29 +39,32 @@ use Rattle.mw_rule.specs.declared.views.Deed.{Deed}
 use Rattle.mw_rule.specs.declared.views.Deed.TheVariants.{Came, Stepped, Handed}
 use Rattle.mw_rule.specs.declared.views.Finished.{Finished}
 use Rattle.mw_rule.specs.declared.views.Reins.{Reins}
-use Rattle.mw_rule.specs.Carrying.{IsNoted, Notes, NotesAs, comes, settled, settled_as, told_as, told_of}
+use Rattle.mw_rule.specs.Carrying.{IsNoted, Notes, NotesAs, comes, finished_as, settled, settled_as, stepped, told_as, told_of}
 use Rattle.mw_rule.specs.Continuing.{hand_out}
-use Rattle.mw_rule.specs.Rule.{Each, Holds, IsOver, deed_if, is_of, made_by, times_noted}
+use Rattle.mw_rule.specs.Grounds.{HasGround}
+use Rattle.mw_rule.specs.Rule.{Each, HasGroundFor, Holds, IsOver, deed_if, is_of, made_by, times_noted}
 use Rattle.mw_rule.specs.Seen.{CameAfter, HasBegunFor}
+use Rattle.mw_rule.proofs.Grounded.{ground_of}
+use Rattle.mw_rule.proofs.GroundsInRuns.{first_grounded, ground_told, quota_so}
 use Rattle.mw_rule.proofs.Leading.{Leads, leads_on, made_on, no_fewer, one_gift, over_on, played_on, same_start, sealed_on, tenant_there}
 use Rattle.mw_rule.proofs.Righting.{IsRightIn, right_on}
 use Rattle.mw_rule.proofs.Totals.{times_none, weight_few}
 use Rattle.mw_rule.proofs.Words.{cells_after, done_is, news_after}
 
-itself : (n : ℕ) → (n == n) ≡ true
+pub itself : (n : ℕ) → (n == n) ≡ true
 itself n = grind (arith, nat_tests)
 
 not_it : (one other : ℕ) → other ≢ one → (one == other) ≡ false
 not_it one other apart = grind (arith, nat_tests, apart)
 
-own_deed : (worker : ℕ) (deed : Deed) → deed_if (worker == worker) deed ++ [] ≡ deed ∷ []
+pub own_deed : (worker : ℕ) (deed : Deed) → deed_if (worker == worker) deed ++ [] ≡ deed ∷ []
 own_deed worker deed = ap (λ own. deed_if own deed ++ []) (itself worker)
 
-no_deed : (worker other : ℕ) (deed : Deed) → other ≢ worker → deed_if (worker == other) deed ++ [] ≡ []
+pub no_deed : (worker other : ℕ) (deed : Deed) → other ≢ worker → deed_if (worker == other) deed ++ [] ≡ []
 no_deed worker other deed apart = ap (λ own. deed_if own deed ++ []) (not_it worker other apart)
 
 -- a step's meaning leaves the request's number
-same_request : (note : Note) (past : History) (lines : List (Option Mark)) (seat : Seat) → (seated note past lines seat).request ≡ seat.request
+pub same_request : (note : Note) (past : History) (lines : List (Option Mark)) (seat : Seat) → (seated note past lines seat).request ≡ seat.request
 same_request note.Kept past lines seat = refl
 same_request (note.Freed slot) past lines seat = refl
 same_request note.Nothing past lines seat = refl
@@ -92,6 +95,7 @@ pub record Reached (config : Config) (openings : ℕ → Opening) (old : State) 
   pub same_cells : after.cells ≡ cells
   pub noted : List Finished
   pub right : Each (IsRightIn config openings after) noted
+  pub own : Each (λ one. one.worker ≡ worker) noted
   pub ends : IsSo noted
   pub few : (tenant request : ℕ) → times_noted tenant request noted ≤ 1
   pub fresh : (other : Finished) → IsOver old other → times_noted other.tenant other.request noted ≡ 0
@@ -145,7 +149,7 @@ module _ (config : Config) (openings : ℕ → Opening) (before : List Happening
   module _ (events : List Happening) (reins : Reins) (actor : Acting) (carries : reins.actor ≡ Some actor) (holds : Holds config openings state events reins) where
     step_holds : (got : Got) → replied actor ≡ None → may_make config (asks actor) ≡ true → news_of (place (asks actor)) got ≡ news_after (asks actor) state.cells
         → Holds config openings (after_step state reins.worker actor) (events ++ Step reins.worker ∷ [])
-        (record reins { actor = Some (told_of got reins.attempt actor); attempt = next_attempt actor.point reins.attempt; made = reins.made ++ Stepped ∷ [] })
+        (record (stepped got reins actor) { actor = Some (told_of got reins.attempt actor) })
     step_holds got running there told =
         let sits = holds.actor ∙ carries in
         let after = after_step state reins.worker actor in
@@ -166,6 +170,7 @@ module _ (config : Config) (openings : ℕ → Opening) (before : List Happening
             came = (requests_stay_begun config openings before state after (Step reins.worker) reins.worker actor (told_of got reins.attempt actor) begun.sealed played begun.came tt
                 (one_event config state after (Step reins.worker) (step_happens reins.worker actor sits running there)) now).1;
           };
+          ground = ground_told config openings before state played reins.worker actor sits reins got told holds.attempt (subst (HasGroundFor reins) carries holds.ground);
         }
 
 -- A reply is handed out.
@@ -192,6 +197,7 @@ module _ (config : Config) (openings : ℕ → Opening) (state : State) (events 
         request = ap (λ (seat : Seat). seat.request) own ∙ holds.request;
         made = made_on reins.worker events (Hand reins.worker ∷ []) ∙ ap (λ made. made_by reins.worker events ++ made) (own_deed reins.worker Handed) ∙ ap (λ made. made ++ Handed ∷ []) holds.made;
         begun = tt;
+        ground = tt;
       }
 
 -- two workers' requests of one tenant have two numbers
@@ -207,7 +213,7 @@ module _ (config : Config) (openings : ℕ → Opening) (before : List Happening
   since = replies_keep_their_place config openings before state reins.worker next holds.begun.sealed reply played holds.begun.came stands
 
   the_finished : Finished
-  the_finished = record { tenant = next.tenant; request = reins.request; job = next.job; reply = reply; place = since.place }
+  the_finished = finished_as reins next.tenant next.job reply since.place
 
   stands_right : IsRightIn config openings state the_finished
   unfolding the_finished
@@ -215,17 +221,25 @@ module _ (config : Config) (openings : ℕ → Opening) (before : List Happening
     there = tenant_there config openings before state played reins.worker next holds.actor;
     within = since.within;
     right = subst (λ (n : ℕ). IsRightAt (words_at_start openings state next.tenant) (sealed_of openings state next.tenant) since.place n next.job reply) holds.request since.right;
+    ground = λ whole.
+        subst (λ (quota : ℕ). HasGround reins.found reins.attempt next.tenant quota reply) (quota_so config openings before state played reins.worker next holds.actor)
+        (ground_of reins.found reins.attempt next.tenant next.quota next.point reply stands (holds.ground whole));
   }
 
   handed_right : IsRightIn config openings (after_hand state reins.worker next) the_finished
   handed_right =
       let after = after_hand state reins.worker next in
       let leads = hand_leads config openings state events reins next holds reply stands in
-      right_on (tenants_of config) (words_at_start openings state) (words_at_start openings after) (sealed_of openings state) (sealed_of openings after)
+      right_on (tenants_of config) (λ tenant. (state.accounts tenant).quota) (λ tenant. (after.accounts tenant).quota) (words_at_start openings state) (words_at_start openings after) (sealed_of openings state)
+      (sealed_of openings after) (λ tenant low. sym (leads.gifts tenant).quota)
       (λ tenant low. ap (λ (start : Moment). start.words) (sym (same_start config openings before state played reins.worker after (Hand reins.worker ∷ []) leads tenant low)))
       (λ tenant low. sealed_on config openings before state played reins.worker after (Hand reins.worker ∷ []) leads tenant low) the_finished stands_right
 
-  is_noted : IsNoted next.tenant reins.request reins.begun next.job reply [] (the_finished ∷ [])
+  is_own : the_finished.worker ≡ reins.worker
+  unfolding the_finished
+  is_own = refl
+
+  is_noted : IsNoted reins next.tenant reins.begun next.job reply [] (the_finished ∷ [])
   unfolding the_finished
   is_noted = let fewer = holds.begun.no_fewer in let later = since.no_smaller in record { place = since.place; no_smaller = omega (arith, fewer, later); noted = refl }
 
@@ -270,14 +284,14 @@ module _ (config : Config) (openings : ℕ → Opening) (before : List Happening
 -- the reply is handed out, if it stands
 pub settles : (config : Config) (openings : ℕ → Opening) (before : List Happening) (old state : State) (played : IsPlayed config openings before state) (events more : List Happening) (reins : Reins) (next : Acting)
     → Leads config old reins.worker state more → Holds config openings state (events ++ more) (record reins { actor = Some next })
-    → Reached config openings old reins.worker events (more ++ hand_out reins.worker (replied next)) (settled reins next) state.cells (NotesAs next.tenant reins.request reins.begun next.job (replied next) [])
+    → Reached config openings old reins.worker events (more ++ hand_out reins.worker (replied next)) (settled reins next) state.cells (NotesAs reins next.tenant reins.begun next.job (replied next) [])
 settles config openings before old state played events more reins next leads holds = by (replied next) refl
   where
     by : (reply : Option Reply) → replied next ≡ reply
-        → Reached config openings old reins.worker events (more ++ hand_out reins.worker reply) (settled_as reins next reply) state.cells (NotesAs next.tenant reins.request reins.begun next.job reply [])
+        → Reached config openings old reins.worker events (more ++ hand_out reins.worker reply) (settled_as reins next reply) state.cells (NotesAs reins next.tenant reins.begun next.job reply [])
     by None stands =
-        subst (λ all. Reached config openings old reins.worker events all (settled_as reins next None) state.cells (NotesAs next.tenant reins.request reins.begun next.job None [])) (sym (append-nil more))
-        (record { after = state; leads = leads; holds = holds; same_cells = refl; noted = []; right = tt; ends = refl; few = λ tenant request. omega arith; fresh = λ other over. refl; over = tt })
+        subst (λ all. Reached config openings old reins.worker events all (settled_as reins next None) state.cells (NotesAs reins next.tenant reins.begun next.job None [])) (sym (append-nil more))
+        (record { after = state; leads = leads; holds = holds; same_cells = refl; noted = []; right = tt; own = tt; ends = refl; few = λ tenant request. omega arith; fresh = λ other over. refl; over = tt })
     by (Some reply) stands = record {
       after = after_hand state reins.worker next;
       leads = leads_on config old state (after_hand state reins.worker next) reins.worker more (Hand reins.worker ∷ []) leads (hand_leads config openings state (events ++ more) reins next holds reply stands);
@@ -286,6 +300,7 @@ settles config openings before old state played events more reins next leads hol
       same_cells = refl;
       noted = the_finished config openings before state played (events ++ more) reins next holds reply stands ∷ [];
       right = (handed_right config openings before state played (events ++ more) reins next holds reply stands, tt);
+      own = (is_own config openings before state played (events ++ more) reins next holds reply stands, tt);
       ends = is_noted config openings before state played (events ++ more) reins next holds reply stands;
       few = is_few config openings before state played (events ++ more) reins next holds reply stands;
       fresh = λ other over. is_fresh config openings before state played (events ++ more) reins next holds reply stands other (over_on config old state reins.worker more leads other over);
@@ -301,7 +316,7 @@ steps config openings before old state played events some reins actor got leads 
     let after = after_step state reins.worker actor in
     let made = step_leads config openings before state played reins.worker actor (holds.actor ∙ carries) running there in
     let later = played_on config openings before state played reins.worker after (Step reins.worker ∷ []) made in
-    let held : Reins = record reins { attempt = next_attempt actor.point reins.attempt; made = reins.made ++ Stepped ∷ [] } in
+    let held : Reins = stepped got reins actor in
     settles config openings (before ++ Step reins.worker ∷ []) old after later events (some ++ Step reins.worker ∷ []) held (told_of got reins.attempt actor)
     (leads_on config old state after reins.worker some (Step reins.worker ∷ []) leads made)
     (subst (λ all. Holds config openings after all (record held { actor = Some (told_of got reins.attempt actor) })) (append_assoc events some (Step reins.worker ∷ []))
@@ -351,4 +366,5 @@ module _ (config : Config) (openings : ℕ → Opening) (state : State) (events 
           came = requests_begin config openings state (after_come config state reins.worker tenant job) reins.worker tenant job
               (one_event config state (after_come config state reins.worker tenant job) (Come reins.worker tenant job) come_leads.runs);
         };
+        ground = first_grounded reins (state.accounts tenant).asked (length (sealed_of openings state tenant)) tenant (state.accounts tenant).quota config.pool job;
       }

@@ -8,6 +8,7 @@ use Rattle.mw_law_runs.proofs.Numbers.{same_or_other}
 use Rattle.mw_rule.specs.declared.views.Finished.{Finished}
 use Rattle.mw_rule.specs.declared.views.Reins.{Reins}
 use Rattle.mw_rule.specs.declared.views.View.{View}
+use Rattle.mw_rule.specs.Dealing.{head_of, rest_of}
 use Rattle.mw_rule.specs.Rule.{Each, is_of, times, times_noted, weight, total}
 
 pub total_set : (count : View → ℕ) (views : List View) (id : ℕ) (old new : View) → get_elem? views id ≡ some old → total count (slice_set views id new) + count old ≡ total count views + count new
@@ -61,6 +62,15 @@ each_on P Q goes (one ∷ rest) holds = (goes one holds.0, each_on P Q goes rest
 pub each_more : {A : Type 0} (P : A → Type 0) (all more : List A) → Each P all → Each P more → Each P (all ++ more)
 each_more P [] more first rest = rest
 each_more P (one ∷ all) more first rest = (first.0, each_more P all more first.1 rest)
+
+-- the first reins, and the others
+pub heads_and_rests : (worker : ℕ) (all : List Reins) → times worker (rest_of all) + times worker (head_of all) ≡ times worker all
+heads_and_rests worker [] = refl
+heads_and_rests worker (one ∷ rest) = omega arith
+
+pub times_behind : (worker : ℕ) (all more : List Reins) → times worker (all ++ more) ≡ times worker all + times worker more
+times_behind worker [] more = omega arith
+times_behind worker (one ∷ all) more = let rest = times_behind worker all more in omega (arith, rest)
 
 -- Where no view has any there are none.
 pub total_none : (count : View → ℕ) (views : List View) → ((id : ℕ) (view : View) → get_elem? views id ≡ some view → count view ≡ 0) → total count views ≡ 0

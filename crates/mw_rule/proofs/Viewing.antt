@@ -14,17 +14,17 @@ use Rattle.mw_world.specs.Claim.Headline.{IsPlayed}
 use Rattle.mw_world.specs.Definition.Cells.{Cells}
 use Rattle.mw_world.specs.Definition.Happenings.{Happening}
 use Rattle.mw_world.specs.Definition.State.{State, Opening, tenants_of}
-use Rattle.mw_world.specs.Definition.Turns.{next_attempt}
+use Rattle.mw_law_calls.specs.Beside.{AreBesideFile}
 use Rattle.mw_law_runs.proofs.Lawful.{runs_are_lawful}
 use Rattle.mw_law_store.specs.History.{IsBeginning}
 use Rattle.mw_law_store.specs.Moments.{SealedChange}
 use Rattle.mw_law_store.specs.OverCalls.{sealed_of}
-use Rattle.mw_rule.specs.declared.views.Deed.TheVariants.{Stepped}
 use Rattle.mw_rule.specs.declared.views.Finished.{Finished}
+use Rattle.mw_rule.specs.declared.views.Held.{Held}
 use Rattle.mw_rule.specs.declared.views.Reins.{Reins}
 use Rattle.mw_rule.specs.declared.views.View.{View}
-use Rattle.mw_rule.specs.Carrying.{GoesOn, IsReady, IsReadyFor, settled_as, told, told_as, told_of}
-use Rattle.mw_rule.specs.Rule.{Continues, Each, Fits, Holds, IsLive, IsOver, IsRight, IsSpent, Tied, Ties, has, notes_of, times, times_noted, total, weight}
+use Rattle.mw_rule.specs.Carrying.{GoesOn, IsReady, IsReadyFor, settled_as, stepped, told, told_as, told_of}
+use Rattle.mw_rule.specs.Rule.{Continues, Each, Fits, has, Holds, holds_of, HoldsFile, IsLive, IsOfThese, IsOver, IsRight, IsSpent, notes_of, Tied, Ties, times, times_held, times_noted, total, weight}
 use Rattle.mw_rule.specs.Seen.{ComeFirst, all_of, opening_at, seen_at}
 use Rattle.mw_rule.proofs.Keeping.{keep}
 use Rattle.mw_rule.proofs.Leading.{begins_itself, gave_on, over_on, played_on, seen_on}
@@ -64,16 +64,17 @@ all_at sealed (suc tenants) tenant low = elim (same_or_below tenant tenants (ome
       | inr below ↦ inr (omega (arith, below))
     ]
 
--- with these reins, and with these requests noted, all that was sealed was seen
-abbrev pub sees : Config → (ℕ → List SealedChange) → View → List Reins → List Finished → View
-sees config sealed old reins mine = record old { reins = reins; seen = all_of sealed (tenants_of config); mine = mine }
+-- with these reins and files, and with these requests noted, all that was sealed was seen
+abbrev pub sees : Config → (ℕ → List SealedChange) → View → List Reins → List Finished → List Held → View
+sees config sealed old reins mine files = record old { reins = reins; seen = all_of sealed (tenants_of config); mine = mine; files = files }
 
 -- What was seen goes on.
-pub sees_on : (config : Config) (sealed : ℕ → List SealedChange) (old : View) (reins : List Reins) (mine : List Finished) → old.config ≡ config → ComeFirst (tenants_of config) old.seen sealed → ComeFirst (tenants_of config) old.told sealed
-    → GoesOn old (sees config sealed old reins mine)
-sees_on config sealed old reins mine same seen told = record {
+pub sees_on : (config : Config) (sealed : ℕ → List SealedChange) (old : View) (reins : List Reins) (mine : List Finished) (files : List Held) → old.config ≡ config → ComeFirst (tenants_of config) old.seen sealed
+    → ComeFirst (tenants_of config) old.told sealed → GoesOn old (sees config sealed old reins mine files)
+sees_on config sealed old reins mine files same seen told = record {
   same_config = refl;
   same_openings = refl;
+  same_spent = refl;
   same_told = refl;
   seen = λ tenant low. let there = subst (λ (one : Config). tenant < tenants_of one) same low in
       subst (IsBeginning (seen_at old.seen tenant)) (sym (all_at sealed (tenants_of config) tenant there)) (seen tenant there);
@@ -113,7 +114,7 @@ same_worker_as reins actor (Some reply) = refl
 
 told_worker_as : (got : Got) (reins : Reins) (actor : Option Acting) → (told_as got reins actor).worker ≡ reins.worker
 told_worker_as got reins None = refl
-told_worker_as got reins (Some actor) = same_worker_as (record reins { attempt = next_attempt actor.point reins.attempt; made = reins.made ++ Stepped ∷ [] }) (told_of got reins.attempt actor) (replied (told_of got reins.attempt actor))
+told_worker_as got reins (Some actor) = same_worker_as (stepped got reins actor) (told_of got reins.attempt actor) (replied (told_of got reins.attempt actor))
 
 pub told_worker : (got : Got) (reins : Reins) → (told got reins).worker ≡ reins.worker
 told_worker got reins = told_worker_as got reins reins.actor
@@ -124,7 +125,7 @@ times_map f same worker (one ∷ rest) = let first = ap (λ n. weight (n == work
 
 -- What a thread knows after these events of its worker, and the rule of the table then.
 pub record Moved (config : Config) (begun : (ℕ → Opening) → List Happening → Type 0) (s : Table Acting View) (tied : Tied config begun s) (more : List Happening) (id index bits : ℕ) (old : View) (f : Reins → Reins)
-    (IsSo : List Finished → Type 0) : Type 0 where
+    (files : List Held) (IsSo : List Finished → Type 0) : Type 0 where
   pub view : View
   pub run : Continues config begun s tied more (record { words = slice_set s.words index bits; homes = s.homes; views = slice_set s.views id view })
   pub goes_on : GoesOn old view
@@ -134,6 +135,7 @@ pub record Moved (config : Config) (begun : (ℕ → Opening) → List Happening
   pub noted : List Finished
   pub mine : view.mine ≡ old.mine ++ noted
   pub ends : IsSo noted
+  pub same_files : view.files ≡ files
 
 -- Requests of which each that is over is apart, none of them twice, are noted in no view.
 module _ (config : Config) (begun : (ℕ → Opening) → List Happening → Type 0) (s : Table Acting View) (tied : Tied config begun s) (noted : List Finished)
@@ -154,14 +156,16 @@ module _ (config : Config) (begun : (ℕ → Opening) → List Happening → Typ
           let low = few tenant request in omega (arith, none, low, is)
 
 pub moves : (config : Config) (begun : (ℕ → Opening) → List Happening → Type 0) (s : Table Acting View) (tied : Tied config begun s) (more : List Happening) (id index bits : ℕ) (old : View) (reins : Reins) (f : Reins → Reins) (cells : Cells)
-    (IsSo : List Finished → Type 0)
+    (files : List Held) (IsSo : List Finished → Type 0)
     → get_elem? s.views id ≡ some old → old.reins ≡ reins ∷ [] → Fits config tied.past.openings tied.state tied.events old → ((one : Reins) → (f one).worker ≡ one.worker)
-    → Reached config tied.past.openings tied.state reins.worker tied.events more (f reins) cells IsSo → Ties config cells (slice_set s.words index bits) → Moved config begun s tied more id index bits old f IsSo
-moves config begun s tied more id index bits old reins f cells IsSo at only fits same reached ties =
+    → (reached : Reached config tied.past.openings tied.state reins.worker tied.events more (f reins) cells IsSo) → Ties config cells (slice_set s.words index bits)
+    → ((tenant : ℕ) → AreBesideFile config tenant tied.state more ⊎ (1 ≤ holds_of tenant old)) → ((tenant : ℕ) → times_held tenant files ≡ holds_of tenant old)
+    → Each (HoldsFile config reached.after) files → Moved config begun s tied more id index bits old f files IsSo
+moves config begun s tied more id index bits old reins f cells files IsSo at only fits same reached ties beside same_files hold_files =
     let openings = tied.past.openings in
     let before = tied.past.before ++ tied.events in
     let sealed = sealed_of openings reached.after in
-    let new = sees config sealed old (map f old.reins) (old.mine ++ reached.noted) in
+    let new = sees config sealed old (map f old.reins) (old.mine ++ reached.noted) files in
     let later = played_on config openings before tied.state tied.past.played reins.worker reached.after more reached.leads in
     let seen = seen_on config openings before tied.state tied.past.played reins.worker reached.after more reached.leads in
     let own : has reins.worker old ≡ 1 = ap (times reins.worker) only ∙ own_once reins.worker reins refl in
@@ -173,7 +177,13 @@ moves config begun s tied more id index bits old reins f cells IsSo at only fits
     (λ tenant request.
     let all = noted_few config begun s tied reached.noted reached.few reached.fresh tenant request in
     let some = total_one (notes_of tenant request) s.views id old at in
-    let sum = times_more tenant request old.mine reached.noted in omega (arith, all, some, sum)) in
+    let sum = times_more tenant request old.mine reached.noted in omega (arith, all, some, sum))
+    (each_more (IsOfThese (map f old.reins)) old.mine reached.noted
+    (each_on (IsOfThese old.reins) (IsOfThese (map f old.reins)) (λ one so. let as_many = times_map f same one.worker old.reins in omega (arith, as_many, so)) old.mine fits.right.own)
+    (each_on (λ one. one.worker ≡ reins.worker) (IsOfThese (map f old.reins)) (λ one is.
+    let as_many = times_map f same one.worker old.reins in
+    let once : times one.worker old.reins ≡ 1 = ap (times one.worker) only ∙ own_once one.worker reins (sym is) in omega (arith, as_many, once)) reached.noted reached.own))
+    (λ worker. let as_many = times_map f same worker old.reins in let few = fits.right.alone worker in omega (arith, as_many, few)) in
     let new_fits : Fits config openings reached.after (tied.events ++ more) new = record {
       same_config = fits.same_config;
       gave = gave;
@@ -183,6 +193,7 @@ moves config begun s tied more id index bits old reins f cells IsSo at only fits
       right = right;
       over = each_more (IsOver reached.after) old.mine reached.noted
           (each_on (IsOver tied.state) (IsOver reached.after) (over_on config tied.state reached.after reins.worker more reached.leads) old.mine fits.over) reached.over;
+      files = hold_files;
     } in
     record {
       view = new;
@@ -190,8 +201,8 @@ moves config begun s tied more id index bits old reins f cells IsSo at only fits
           (subst (λ all. Ties config all (slice_set s.words index bits)) (sym reached.same_cells) ties)
           (λ tenant request.
           let all = noted_few config begun s tied reached.noted reached.few reached.fresh tenant request in
-          let sum = times_more tenant request old.mine reached.noted in omega (arith, all, sum));
-      goes_on = sees_on config sealed old (map f old.reins) (old.mine ++ reached.noted) fits.same_config (seen old.seen fits.seen) (seen old.told fits.told);
+          let sum = times_more tenant request old.mine reached.noted in omega (arith, all, sum)) beside same_files;
+      goes_on = sees_on config sealed old (map f old.reins) (old.mine ++ reached.noted) files fits.same_config (seen old.seen fits.seen) (seen old.told fits.told);
       right = right;
       reins = refl;
       ready = subst (λ (one : Config). Each (IsReady one) (map f old.reins)) (sym fits.same_config)
@@ -199,4 +210,5 @@ moves config begun s tied more id index bits old reins f cells IsSo at only fits
       noted = reached.noted;
       mine = refl;
       ends = reached.ends;
+      same_files = refl;
     }

@@ -15,7 +15,8 @@ use Rattle.mw_actor.specs.Program.{replied, tells}
 use Rattle.mw_world.specs.declared.config.Config.{Config}
 use Rattle.mw_world.specs.Claim.Headline.{IsPlayed}
 use Rattle.mw_world.specs.Definition.Calls.{called_at}
-use Rattle.mw_world.specs.Definition.Cells.{read}
+use Rattle.mw_world.specs.Definition.Cells.{Cells, read}
+use Rattle.mw_world.specs.Definition.Changes.{done}
 use Rattle.mw_world.specs.Definition.Extent.{has_place}
 use Rattle.mw_world.specs.Definition.Happenings.{Happening}
 use Rattle.mw_world.specs.Definition.State.{State, Opening, tenant_at, tenants_of}
@@ -41,18 +42,26 @@ settled reins actor = settled_as reins actor (replied actor)
 abbrev pub told_of : Got → ℕ → Acting → Acting
 told_of got attempt actor = tells actor (news_of (place (asks actor)) got) (next_attempt actor.point attempt)
 
--- the reins once their worker made the step that its request asks for, and was told what it found
+-- the reins once their worker made the step that this request asks for, which found this, before the request is told
+abbrev pub stepped : Got → Reins → Acting → Reins
+stepped got reins actor = record reins {
+  actor = Some actor;
+  attempt = next_attempt actor.point reins.attempt;
+  made = reins.made ++ Stepped ∷ [];
+  found = reins.found ++ record { op = op_of (asks actor); got = got } ∷ [];
+}
+
+-- the reins once it was told what the step found
 abbrev pub told_as : Got → Reins → Option Acting → Reins
 told_as got reins None = reins
-told_as got reins (Some actor) =
-    settled (record reins { attempt = next_attempt actor.point reins.attempt; made = reins.made ++ Stepped ∷ [] }) (told_of got reins.attempt actor)
+told_as got reins (Some actor) = settled (stepped got reins actor) (told_of got reins.attempt actor)
 
 abbrev pub told : Got → Reins → Reins
 told got reins = told_as got reins reins.actor
 
 -- the reins once this request came, under this number, when so many changes or more were sealed
 abbrev pub comes : Acting → ℕ → ℕ → Reins → Reins
-comes actor request begun reins = record reins { actor = Some actor; request = request; begun = begun; made = reins.made ++ Came ∷ [] }
+comes actor request begun reins = record reins { actor = Some actor; request = request; begun = begun; made = reins.made ++ Came ∷ []; found = []; is_whole = true }
 
 -- The next step of the worker's request, if it has one without a reply that has come to no call on a file, is at a place that is there.
 abbrev pub IsReadyFor : Config → Option Acting → Type 0
@@ -91,10 +100,17 @@ pub record MayCome (view : View) (worker : ℕ) (actor : Acting) : Type 0 where
 abbrev pub Precede : ℕ → List (List SealedChange) → List (List SealedChange) → Type 0
 Precede tenants first then = ComeFirst tenants first (seen_at then)
 
--- What no step changes, and that what was seen goes on: all that the thread had seen, and all that it was told, comes first of what it has seen now.
+-- Whatever a thread does, it knows the same of the world and of the latest start, and all that it had seen comes first of what it has seen now.
+pub record Keeps (old new : View) : Type 0 where
+  pub same_config : new.config ≡ old.config
+  pub same_openings : new.openings ≡ old.openings
+  pub seen : Precede (tenants_of old.config) old.seen new.seen
+
+-- So it is over steps and loads, and all that the thread was told comes first of what it has seen now.
 pub record GoesOn (old new : View) : Type 0 where
   pub same_config : new.config ≡ old.config
   pub same_openings : new.openings ≡ old.openings
+  pub same_spent : new.is_spent ≡ old.is_spent
   pub same_told : new.told ≡ old.told
   pub seen : Precede (tenants_of old.config) old.seen new.seen
   pub told : Precede (tenants_of old.config) old.told new.seen
@@ -108,20 +124,34 @@ pub record StoodThere (view : View) (index bits : ℕ) : Type 0 where
   pub gave : (tenant : ℕ) → tenant < tenants_of view.config → Gave openings state tenant (opening_at view.openings tenant)
   pub same_bits : (at : At) → has_place view.config at ≡ true → index_of view.config.pool at ≡ index → bits ≡ pack at (read state.cells at)
 
--- A request, of this number and for this job, has this reply: it is noted behind those that were noted before, at a place that is no smaller than what is known to have been sealed when it came.
-pub record IsNoted (tenant request begun : ℕ) (job : Job) (reply : Reply) (old new : List Finished) : Type 0 where
+-- the request of these reins, of this tenant and for this job, with its reply at its place
+abbrev pub finished_as : Reins → ℕ → Job → Reply → ℕ → Finished
+finished_as reins tenant job reply place = record {
+  worker = reins.worker;
+  tenant = tenant;
+  request = reins.request;
+  job = job;
+  reply = reply;
+  place = place;
+  found = reins.found;
+  is_whole = reins.is_whole;
+  attempt = reins.attempt;
+}
+
+-- The request of these reins has this reply: it is noted behind those that were noted before, at a place that is no smaller than what is known to have been sealed when it came.
+pub record IsNoted (reins : Reins) (tenant begun : ℕ) (job : Job) (reply : Reply) (old new : List Finished) : Type 0 where
   pub place : ℕ
   pub no_smaller : begun ≤ place
-  pub noted : new ≡ old ++ record { tenant = tenant; request = request; job = job; reply = reply; place = place } ∷ []
+  pub noted : new ≡ old ++ finished_as reins tenant job reply place ∷ []
 
 -- It is noted where it has its reply; else nothing is.
-abbrev pub NotesAs : (tenant request begun : ℕ) (job : Job) → Option Reply → List Finished → List Finished → Type 0
-NotesAs tenant request begun job None old new = new ≡ old
-NotesAs tenant request begun job (Some reply) old new = IsNoted tenant request begun job reply old new
+abbrev pub NotesAs : (reins : Reins) (tenant begun : ℕ) (job : Job) → Option Reply → List Finished → List Finished → Type 0
+NotesAs reins tenant begun job None old new = new ≡ old
+NotesAs reins tenant begun job (Some reply) old new = IsNoted reins tenant begun job reply old new
 
 -- what is noted once the request of these reins was told what its step found
 abbrev pub Notes : Got → Reins → Acting → List Finished → List Finished → Type 0
-Notes got reins actor old new = NotesAs actor.tenant reins.request reins.begun actor.job (replied (told_of got reins.attempt actor)) old new
+Notes got reins actor old new = NotesAs (stepped got reins actor) actor.tenant reins.begun actor.job (replied (told_of got reins.attempt actor)) old new
 
 -- So it is of the request that a thread carries, over a step of it; and of one that comes, over its first step.
 abbrev pub Ends : Got → View → View → Type 0
@@ -130,10 +160,27 @@ Ends got old new = (reins : Reins) (actor : Acting) → old.reins ≡ reins ∷ 
 abbrev pub EndsAtOnce : Acting → ℕ → ℕ → Got → View → View → Type 0
 EndsAtOnce actor request begun got old new = (reins : Reins) → old.reins ≡ reins ∷ [] → Notes got (comes actor request begun reins) actor old.mine new.mine
 
+-- What a step of this request found is, as the request is told it, what the step finds in some shared words.
+pub record IsFound (got : Got) (actor : Acting) : Type 0 where
+  pub cells : Cells
+  pub is : news_of (place (asks actor)) got ≡ done (asks actor) cells (λ after news. news)
+
+-- So it is of the request that a thread carries.
+abbrev pub Finds : Got → View → Type 0
+Finds got old = (reins : Reins) (actor : Acting) → old.reins ≡ reins ∷ [] → reins.actor ≡ Some actor → IsFound got actor
+
 -- A load that is no event, of these bits at this index. What the thread saw before, and what it was told, comes first of what it has seen now.
 pub record Looked (index bits : ℕ) (old new : View) : Type 0 where
   pub goes_on : GoesOn old new
   pub stood : StoodThere new index bits
+  pub right : IsRight new
+  pub same_reins : new.reins ≡ old.reins
+  pub same_mine : new.mine ≡ old.mine
+  pub same_files : new.files ≡ old.files
+
+-- A thread met others: what it has seen goes on, and is right with all that it noted, which is the same, as are its reins.
+pub record Met (old new : View) : Type 0 where
+  pub keeps : Keeps old new
   pub right : IsRight new
   pub same_reins : new.reins ≡ old.reins
   pub same_mine : new.mine ≡ old.mine
@@ -145,6 +192,8 @@ pub record Took (got : Got) (old new : View) : Type 0 where
   pub reins : new.reins ≡ map (told got) old.reins
   pub ready : Each (IsReady new.config) new.reins
   pub ends : Ends got old new
+  pub same_files : new.files ≡ old.files
+  pub found : Finds got old
 
 -- A request came, and made its first step, which found this. No less was sealed than the thread had seen.
 pub record Began (actor : Acting) (got : Got) (old new : View) : Type 0 where
@@ -156,6 +205,8 @@ pub record Began (actor : Acting) (got : Got) (old new : View) : Type 0 where
   pub reins : new.reins ≡ map (λ one. told got (comes actor request begun one)) old.reins
   pub ready : Each (IsReady new.config) new.reins
   pub ends : EndsAtOnce actor request begun got old new
+  pub same_files : new.files ≡ old.files
+  pub found : IsFound got actor
 
 -- The thread carries this request for a worker, with these reins; or the request was finished.
 pub record Carries (view : View) (worker attempt : ℕ) (actor : Acting) (reins : Reins) : Type 0 where

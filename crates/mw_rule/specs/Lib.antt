@@ -2,6 +2,8 @@ pub mod Calling
 pub mod Carrying
 pub mod Continuing
 pub mod Dealing
+pub mod Filing
+pub mod Grounds
 pub mod Layout
 pub mod Laws
 pub mod Rule

@@ -1,7 +1,7 @@
 //! What holds of the rule: facts for proofs to cite. The functions do nothing.
-ghost use Rattle.mw_rule.specs.Calling.{CallsBegin, CallsEnd, CallsGoOn, CallsStand};
-ghost use Rattle.mw_rule.specs.Continuing.{FirstStepsGoOn, JoinsGoOn, LooksGoOn, PartsGoOn, StepsGoOn};
-ghost use Rattle.mw_rule.specs.Laws.{ChangesAreOwn, DealsKeepTheRule, FirstStepsKeepTheRule, GatheringKeepsTheRule, HearingKeepsTheRule, LooksKeepTheRule, MeetingKeepsTheRule, MeetingsAreRight, NotesKeepTheRule, PartsAreRight, StartsUnderTheRule, StepsKeepTheRule, TakingKeepsTheRule};
+ghost use Rattle.mw_rule.specs.Calling.{CallsBegin, CallsDealt, CallsEnd, CallsGoOn, CallsMeet, CallsStand};
+ghost use Rattle.mw_rule.specs.Continuing.{CallsEndOn, CallsFindFaultsOn, CallsLoadOn, CallsMeetFaultsOn, FirstStepsGoOn, JoinsGoOn, LooksGoOn, PartsGoOn, StepsGoOn};
+ghost use Rattle.mw_rule.specs.Laws.{BorrowingKeepsTheRule, CallsEndWell, CallsFindFaults, CallsLoad, CallsMeetFaults, ChangesAreOwn, DealsKeepTheRule, EntrustingKeepsTheRule, FirstStepsKeepTheRule, GatheredPartsAgain, GatheringKeepsTheRule, HearingKeepsTheRule, LooksKeepTheRule, MeetingKeepsTheRule, MeetingsAreRight, NotesKeepTheRule, NotesLoseNothing, PartsAreRight, StartsUnderTheRule, StepsKeepTheRule};
 ghost use Rattle.mw_rule.specs.Layout.{PlacesAreInTable, PlacesAreWithin, PlacesStandApart};
 
 use crate::rule::Begins;
@@ -30,6 +30,27 @@ pub fn steps_keep_the_rule<B: Begins>()
     ensures looks { (key : B) → LooksKeepTheRule (B.config key) (B.begun key) }
 {}
 
+/// A call on a tenant's file, by the one thread that has the right to it, keeps the rule in each of its steps. First
+/// the status of the change is loaded: where the call doesn't start from it, that was the call, which does nothing;
+/// else the call can be made, if the file hasn't failed. After the device calls an exchange of the status ends it,
+/// which wins; where one of them failed, or the file had failed before, the fault is set at the tenant's door.
+/// The request is told how it went, and what is known of the file is what it is then.
+pub fn file_calls_keep_the_rule<B: Begins>()
+    ensures load { (key : B) → CallsLoad (B.config key) (B.begun key) }
+    ensures end { (key : B) → CallsEndWell (B.config key) (B.begun key) }
+    ensures faults { (key : B) → CallsMeetFaults (B.config key) (B.begun key) }
+    ensures failed { (key : B) → CallsFindFaults (B.config key) (B.begun key) }
+{}
+
+/// Each call on a file adds one event to the run on which the rule rests: that this worker's call was made, and
+/// which device call failed in it, if one did.
+pub fn file_calls_are_events<B: Begins>()
+    ensures load { (key : B) → CallsLoadOn (B.config key) (B.begun key) }
+    ensures end { (key : B) → CallsEndOn (B.config key) (B.begun key) }
+    ensures faults { (key : B) → CallsMeetFaultsOn (B.config key) (B.begun key) }
+    ensures failed { (key : B) → CallsFindFaultsOn (B.config key) (B.begun key) }
+{}
+
 /// The run on which the rule rests goes on from the run before, from the same start: a step of a request adds its
 /// own event, and behind it that the reply is handed out, once it stands; a request's first step adds in front
 /// that the request came. A load that is no step adds none, nor does it when what threads know is parted or put
@@ -42,32 +63,38 @@ pub fn the_run_goes_on<B: Begins>()
     ensures joins { (key : B) → JoinsGoOn (B.config key) (B.begun key) }
 {}
 
-/// Reins may be given to a new thread, and a note of what was seen; and a thread may be told what a note says,
-/// or take it for its own where it saw no more; and one that has no reins may take another's,
-/// or one takes over all that another knew.
+/// Reins may be given to a new thread, with what their worker finished, and a note of what was seen; and a thread
+/// may be told what a note says, or take it for its own where it saw no more; or one takes over all that another
+/// knew. The right to call files may be given to a new thread alone, and be taken back.
 pub fn what_is_known_is_parted<B: Begins>()
     ensures deals { (key : B) → DealsKeepTheRule (B.config key) (B.begun key) }
     ensures notes { (key : B) → NotesKeepTheRule (B.config key) (B.begun key) }
     ensures hears { (key : B) → HearingKeepsTheRule (B.config key) (B.begun key) }
     ensures meets { (key : B) → MeetingKeepsTheRule (B.config key) (B.begun key) }
-    ensures takes { (key : B) → TakingKeepsTheRule (B.config key) (B.begun key) }
     ensures gathers { (key : B) → GatheringKeepsTheRule (B.config key) (B.begun key) }
+    ensures entrusts { (key : B) → EntrustingKeepsTheRule (B.config key) (B.begun key) }
+    ensures borrows { (key : B) → BorrowingKeepsTheRule (B.config key) (B.begun key) }
 {}
 
-/// What a thread has seen and noted stays right where it is parted, and where two threads meet; and what is right
-/// gives each request that was answered by YES a change of its own.
+/// What a thread has seen and noted stays right where it is parted, and where two threads meet, which lose nothing
+/// by it; and what is right gives each request that was answered by YES a change of its own.
 pub fn knowledge_stays_right()
     ensures parts { PartsAreRight }
     ensures meetings { MeetingsAreRight }
+    ensures nothing_lost { NotesLoseNothing }
+    ensures part_again { GatheredPartsAgain }
     ensures own { ChangesAreOwn }
 {}
 
-/// A whole call: from the request's first step on, over each further one and over loads that are no step, what the
-/// thread saw goes on and it notes nothing, until the reply is there. Then one request more is noted, and its
-/// reply is right at a place that is no smaller than what the thread had seen when the request came.
+/// A whole call: from the request's first step on, or from the making of a table where its worker has it then, over
+/// each further step, over loads that are no step and over meetings with others, what the thread saw goes on and it
+/// notes nothing, until the reply is there. Then one request more is noted, and its reply is right at a place that
+/// is no smaller than what the thread had seen when the request came.
 pub fn calls_are_noted()
     ensures begin { CallsBegin }
     ensures go_on { CallsGoOn }
     ensures stand { CallsStand }
+    ensures meet { CallsMeet }
+    ensures dealt { CallsDealt }
     ensures end { CallsEnd }
 {}

@@ -3,7 +3,7 @@ ghost use Rattle.std.specs.Prelude.{List, ℕ};
 ghost use Rattle.mw_world.specs.declared.config.Config.{Config};
 ghost use Rattle.mw_world.specs.Definition.Happenings.{Happening};
 ghost use Rattle.mw_world.specs.Definition.State.{Opening};
-ghost use Rattle.mw_rule.specs.Dealing.{dealt, gathers, hears, left_over, meets, note, spent, takes};
+ghost use Rattle.mw_rule.specs.Dealing.{bereft, borrows, dealt, entrusted, gathers, hears, left_over, meets, note, spent};
 ghost use Rattle.mw_rule.specs.Rule.{Tied};
 ghost use Rattle.mw_rule.specs.declared.views.View.{View};
 
@@ -32,7 +32,7 @@ impl<B: Begins> TableRule<Actor, View, B> for Tie {
     ghost first = { λ key. B.first key };
 }
 
-/// The first reins of a thread are given to a new one.
+/// The first reins of a thread are given to a new one, with what their worker finished.
 pub struct Deals;
 
 impl Split<View> for Deals {
@@ -68,20 +68,29 @@ impl Join<View> for Meets {
     ghost spent = { spent };
 }
 
-/// A thread that has no reins takes another's, as those that it lent.
-pub struct Takes;
-
-impl Join<View> for Takes {
-    ghost both = { takes };
-
-    ghost spent = { spent };
-}
-
 /// A thread takes over all that another knew.
 pub struct Gathers;
 
 impl Join<View> for Gathers {
     ghost both = { gathers };
+
+    ghost spent = { spent };
+}
+
+/// The right to call files is given to a new thread.
+pub struct Entrusts;
+
+impl Split<View> for Entrusts {
+    ghost left = { bereft };
+
+    ghost right = { entrusted };
+}
+
+/// A thread takes another's right to call files.
+pub struct Borrows;
+
+impl Join<View> for Borrows {
+    ghost both = { borrows };
 
     ghost spent = { spent };
 }

@@ -1,7 +1,9 @@
 //! What a thread knows of the world. These are for proofs: no value of them is made.
 
 use mw_actor::Actor;
-use mw_words::{Entry, Job, Reply};
+use mw_law_calls::FileRights;
+use mw_look::{Got, Op};
+use mw_words::{Entry, Job, Reply, Status};
 use mw_world::Config;
 use std::collections::LinkedList;
 use std::marker::Model;
@@ -16,6 +18,14 @@ pub enum Deed {
     Called,
     /// Its reply was handed out.
     Handed,
+}
+
+/// A step of a request, and what it found.
+pub struct Finding {
+    /// The step.
+    pub op: Op,
+    /// What it found.
+    pub got: Got,
 }
 
 /// The right to make the steps of one worker, and what is known of the worker.
@@ -33,6 +43,11 @@ pub struct Reins {
     /// So many of the tenant's changes, or more, were sealed when the request came. It is 0 of one that had come
     /// before the table was made.
     pub begun: u64,
+    /// What the request's steps found, in order: all of them since it came, or, where it had come before the
+    /// table was made, those since then.
+    pub found: LinkedList<Finding>,
+    /// Whether the request came since the table was made, so that no step is missing there.
+    pub is_whole: bool,
 }
 
 /// What the start gave a tenant.
@@ -71,6 +86,8 @@ impl Model for Sealed {
 
 /// A request that has its reply.
 pub struct Finished {
+    /// The worker that worked on it.
+    pub worker: u8,
     /// The tenant that asked.
     pub tenant: u8,
     /// The request's number among the tenant's.
@@ -80,8 +97,31 @@ pub struct Finished {
     /// The reply.
     pub reply: Reply,
     /// Its place: after so many of the tenant's changes the reply is right. For YES the change of this number, from
-    /// 0 on, is the request's own. It tells nothing where the reply rests on no word, as that the tenant is busy.
+    /// 0 on, is the request's own. It tells nothing where the reply rests on no word, as that the tenant is busy:
+    /// that rests on what the request's steps found.
     pub place: u64,
+    /// What its steps found, in order, as its worker's reins tell it.
+    pub found: LinkedList<Finding>,
+    /// Whether no step is missing there.
+    pub is_whole: bool,
+    /// The number of its worker's next attempt to hold a word then.
+    pub attempt: u64,
+}
+
+/// What was found of the status of a change: a request is at a call on its file that starts from this status.
+pub struct FoundStatus {
+    /// The worker whose request it is.
+    pub worker: u8,
+    /// The status.
+    pub status: Status,
+}
+
+/// The right to make the calls on a tenant's file, and what is known of it.
+pub struct Held {
+    /// What is known of the file.
+    pub file: FileRights,
+    /// What was found for the call that is under way, if one is.
+    pub found: Option<FoundStatus>,
 }
 
 /// What a thread knows.
@@ -96,9 +136,11 @@ pub struct View {
     pub seen: LinkedList<LinkedList<Sealed>>,
     /// The same, as another thread told it.
     pub told: LinkedList<LinkedList<Sealed>>,
-    /// The requests that the thread finished, in order, each at its place among what was seen; then those of
-    /// threads whose knowledge it took over.
+    /// The requests that its workers finished, in order, each at its place among what was seen; of a thread that
+    /// took over another's knowledge its own come first.
     pub mine: LinkedList<Finished>,
+    /// The files on which the thread may make calls.
+    pub files: LinkedList<Held>,
     /// Whether all this was given to another thread. What is left tells nothing.
     pub is_spent: bool,
 }

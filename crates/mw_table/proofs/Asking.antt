@@ -21,9 +21,8 @@ use Rattle.mw_rule.specs.Rule.{IsLive, Tied}
 use Rattle.mw_rule.specs.Ways.{finds, made_of_bits}
 use Rattle.mw_table.specs.declared.shared.Pass.{Pass}
 use Rattle.mw_table.specs.declared.shared.Shared.{Shared}
-use Rattle.mw_table.specs.Beginning.{LedTo}
 use Rattle.mw_table.specs.Numbers.{number_of}
-use Rattle.mw_table.specs.Origins.{config_of}
+use Rattle.mw_table.specs.Origins.{begun_of, config_of}
 use Rattle.mw_table.specs.Passes.{IsOf}
 use Rattle.mw_rule.proofs.Layouts.{places_in_table}
 use Rattle.mw_rule.proofs.Moving.{first_steps_keep, steps_keep}
@@ -31,7 +30,7 @@ use Rattle.mw_rule.proofs.Parting.{looks_keep}
 
 -- the rule of a table
 abbrev pub rule_of : Shared → Table Acting View → Type 0
-rule_of shared = Tied shared.table.shared.key.world.value.config (LedTo shared.table.shared.key.world.value)
+rule_of shared = Tied (config_of shared.table.shared.key) (begun_of shared.table.shared.key)
 
 -- what a step asks of the table
 abbrev pub Asks : Shared → Pass → ℕ → (ℕ → ℕ) → (ℕ → Me Acting View → Type 0) → Type 0
@@ -58,11 +57,11 @@ pub step_asks : (shared : Shared) (pass : Pass) (op : Op) (index : ℕ) (make : 
     → index ≡ index_of shared.pool (place_of op) → ((bits : ℕ) → make bits ≡ made_of_bits op bits) → ((bits : ℕ) → got bits ≡ finds op bits)
     → Asks shared pass index make (λ bits next. Took (got bits) pass.seat.me.0 next.0)
 step_asks shared pass op index make got own drives is does tells =
-    let world = shared.table.shared.key.world.value in
+    let origin = shared.table.shared.key in
     let slots = shared.table.shared.table_id.slots in
     let me = pass.seat.me in
     let at = in_table shared pass (place_of op) index own drives.there is in
-    let keeps = steps_keep world.config (LedTo world) slots pass.seat.id pass.worker me op make drives does in (
+    let keeps = steps_keep (config_of origin) (begun_of origin) slots pass.seat.id pass.worker me op make drives does in (
       own.table,
       at.0,
       allows_so (rule_of shared) slots pass.seat.id me index make (λ bits next. Took (finds op bits) me.0 next.0) (λ bits next. Took (got bits) me.0 next.0)
@@ -78,11 +77,11 @@ pub first_asks : (shared : Shared) (pass : Pass) (actor : Acting) (index : ℕ) 
     → index ≡ index_of shared.pool (AtDoor actor.tenant) → ((bits : ℕ) → make bits ≡ bits)
     → Asks shared pass index make (λ bits next. Began actor (Found bits) pass.seat.me.0 next.0)
 first_asks shared pass actor index make own may is same =
-    let world = shared.table.shared.key.world.value in
+    let origin = shared.table.shared.key in
     let slots = shared.table.shared.table_id.slots in
     let me = pass.seat.me in
     let at = in_table shared pass (AtDoor actor.tenant) index own (lower actor.tenant (tenants_of me.0.config) may.tenant) is in
-    let keeps = first_steps_keep world.config (LedTo world) slots pass.seat.id pass.worker me actor make may same in (
+    let keeps = first_steps_keep (config_of origin) (begun_of origin) slots pass.seat.id pass.worker me actor make may same in (
       own.table,
       at.0,
       subst (λ (k : ℕ). Allows (rule_of shared) slots pass.seat.id me k make (λ bits next. Began actor (Found bits) me.0 next.0)) at.1 keeps,
@@ -97,10 +96,10 @@ live view (one ∷ rest) worker attempt are is = inr (one, rest, are)
 pub look_asks : (shared : Shared) (pass : Pass) (at : At) (index : ℕ) → IsOf shared pass → has_place pass.seat.me.0.config at ≡ true → index ≡ index_of shared.pool at
     → Asks shared pass index (λ bits. bits) (λ bits next. Looked index bits pass.seat.me.0 next.0)
 look_asks shared pass at index own there is =
-    let world = shared.table.shared.key.world.value in (
+    let origin = shared.table.shared.key in (
       own.table,
       (in_table shared pass at index own there is).0,
-      looks_keep world.config (LedTo world) shared.table.shared.table_id.slots pass.seat.id index pass.seat.me (λ bits. bits)
+      looks_keep (config_of origin) (begun_of origin) shared.table.shared.table_id.slots pass.seat.id index pass.seat.me (λ bits. bits)
           (live pass.seat.me.0 pass.seat.me.0.reins pass.worker pass.attempt refl pass.numbered) (λ bits. refl),
     )
 

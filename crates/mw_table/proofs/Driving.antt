@@ -15,9 +15,8 @@ use Rattle.mw_world.specs.declared.config.Config.{Config}
 use Rattle.mw_world.specs.Definition.Calls.{called_at}
 use Rattle.mw_world.specs.Definition.Extent.{has_place}
 use Rattle.mw_world.specs.Definition.Turns.{may_make, next_attempt}
-use Rattle.mw_rule.specs.declared.views.Deed.TheVariants.{Stepped}
 use Rattle.mw_rule.specs.declared.views.Reins.{Reins}
-use Rattle.mw_rule.specs.Carrying.{Drives, IsReady, IsReadyFor, Took, settled, settled_as, told}
+use Rattle.mw_rule.specs.Carrying.{Drives, IsReady, IsReadyFor, Took, settled, settled_as, stepped, told}
 use Rattle.mw_rule.specs.Rule.{Each}
 use Rattle.mw_table.specs.declared.shared.Pass.{Pass}
 use Rattle.mw_table.specs.Carried.{IsCarried}
@@ -72,7 +71,7 @@ carried_on old new actor got carried running same took =
     let reins = carried.reins in
     let news = news_of (place (asks actor)) got in
     let next = next_attempt actor.point reins.attempt in
-    let after : Reins = record reins { actor = Some actor; attempt = next; made = reins.made ++ Stepped ∷ [] } in
+    let after : Reins = stepped got reins actor in
     let had : old.seat.me.0.reins ≡ record reins { actor = Some actor } ∷ [] = carried.carries.only ∙ ap (λ (one : Reins). one ∷ []) (running_so reins actor running) in
     let has : new.seat.me.0.reins ≡ settled after (tells actor news next) ∷ [] = took.reins ∙ ap (map (told got)) had in
     let tagged : number_of (settled after (tells actor news next)) ∷ [] ≡ (new.worker, new.attempt) ∷ [] = sym (ap (map number_of) has) ∙ new.numbered in

@@ -8,9 +8,8 @@ use Rattle.mw_actor.specs.Program.{replied}
 use Rattle.mw_rule.specs.declared.views.Reins.{Reins}
 use Rattle.mw_rule.specs.declared.views.View.{View}
 use Rattle.mw_rule.specs.Carrying.{Drives, Has, Looked, settled_as}
-use Rattle.mw_simulator.specs.declared.world.World.{World}
 use Rattle.mw_table.specs.declared.shared.Pass.{Pass}
-use Rattle.mw_table.specs.Beginning.{seat_in}
+use Rattle.mw_table.specs.Beginning.{Basis}
 use Rattle.mw_table.specs.Carried.{IsCarried}
 use Rattle.mw_table.specs.Dealt.{view_of}
 use Rattle.mw_table.specs.Resting.{IsAtRest, has_none}
@@ -50,5 +49,5 @@ rests_then pass actor carried stands =
     ap (map has_none) carried.carries.only ∙ ap (λ (one : Option Acting). is_none one ∷ []) (none_left carried.reins actor (replied actor) stands)
 
 -- a pass that is dealt is idle where its worker has no request
-pub rests_first : (world : World) (worker : ℕ) (view : View) → view ≡ view_of world worker → is_none (seat_in world worker).actor ≡ true → IsAtRest view
-rests_first world worker view is none = ap (λ (one : View). map has_none one.reins) is ∙ ap (λ (test : Bool). test ∷ []) none
+pub rests_first : (basis : Basis) (worker : ℕ) (view : View) → view ≡ view_of basis worker → is_none (basis.seats worker).actor ≡ true → IsAtRest view
+rests_first basis worker view is none = ap (λ (one : View). map has_none one.reins) is ∙ ap (λ (test : Bool). test ∷ []) none

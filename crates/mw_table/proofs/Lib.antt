@@ -3,6 +3,7 @@ pub mod Asking
 pub mod Attempting
 pub mod Driving
 pub mod Finding
+pub mod Fresh
 pub mod Idling
 pub mod Meetings
 pub mod Numbering

@@ -21,7 +21,7 @@ use Rattle.mw_actor.specs.Program.{replied}
 use Rattle.mw_world.specs.Definition.Turns.{next_attempt}
 use Rattle.mw_rule.specs.declared.views.Reins.{Reins}
 use Rattle.mw_rule.specs.declared.views.View.{View}
-use Rattle.mw_rule.specs.Carrying.{Began, Drives, MayCome, Took, comes, settled_as, told, told_as, told_of}
+use Rattle.mw_rule.specs.Carrying.{Began, Drives, MayCome, Took, comes, settled_as, stepped, told, told_as, told_of}
 use Rattle.mw_table.specs.Numbers.{number_of, numbers}
 use Rattle.mw_table.specs.Passes.{is_plant}
 
@@ -36,7 +36,7 @@ settled_number reins actor (Some reply) = refl
 pub told_number : (got : Got) (reins : Reins) (actor : Acting) (having : Option Acting) → having ≡ Some actor → number_of (told_as got reins having) ≡ (reins.worker, next_attempt actor.point reins.attempt)
 told_number got reins actor None is = absurd (cc)
 told_number got reins actor (Some one) is =
-    settled_number (record reins { attempt = next_attempt one.point reins.attempt; made = _ }) (told_of got reins.attempt one) (replied (told_of got reins.attempt one))
+    settled_number (stepped got reins one) (told_of got reins.attempt one) (replied (told_of got reins.attempt one))
     ∙ ap (λ (a : Acting). (reins.worker, next_attempt a.point reins.attempt)) (some_same one actor is)
   where
     some_same : (one other : Acting) → Some one ≡ Some other → one ≡ other
@@ -55,7 +55,7 @@ numbers_stay op got worker v w plain drives took =
 
 said_number : (got : Got) (one : Reins) (actor : Acting) (request begun worker attempt : ℕ) → next_attempt actor.point one.attempt ≡ one.attempt → number_of (told got (comes actor request begun one)) ≡ number_of one
 said_number got one actor request begun worker attempt stays =
-    settled_number (record one { actor = Some actor; request = request; begun = begun; attempt = next_attempt actor.point one.attempt; made = _ }) (told_of got one.attempt actor) (replied (told_of got one.attempt actor))
+    settled_number (stepped got (comes actor request begun one) actor) (told_of got one.attempt actor) (replied (told_of got one.attempt actor))
     ∙ ap (λ (n : ℕ). (one.worker, n)) stays
 
 first_stays : (tenant attempt : ℕ) (job : Job) → next_attempt (first_point tenant job) attempt ≡ attempt

@@ -1,86 +1,90 @@
 -- The passes are dealt one by one.
-use Rattle.std.specs.Prelude.{ℕ, suc, ◌≡◌, ◌<◌, ◌+◌, ◌-◌, List, [], ◌∷◌, ◌++◌, All, map, length, Bool, true, false, not, is_none, is_some, MatchOption, Option, Some, None}
+use Rattle.std.specs.Prelude.{ℕ, zero, suc, ◌≡◌, ◌<◌, ◌+◌, ◌-◌, ◌==◌, List, [], ◌∷◌, ◌++◌, All, length, slice_get, Some}
 use Rattle.std.proofs.Common.{sym, ap, subst, ◌∙◌, length-append, arith}
 use Rattle.std.proofs.lemmas.List.Elements.{All-push}
 use Rattle.atomic_table.specs.Table.{Me}
 use Rattle.mw_actor.specs.Acting.{Acting}
-use Rattle.mw_world.specs.Definition.Happenings.{Happening}
-use Rattle.mw_world.specs.Definition.State.{Seat, State}
-use Rattle.mw_simulator.specs.declared.world.World.{World}
-use Rattle.mw_simulator.specs.Running.{Stands}
-use Rattle.mw_simulator.specs.Shows.{Shows}
 use Rattle.mw_rule.specs.declared.views.View.{View}
-use Rattle.mw_rule.specs.Carrying.{IsReady}
-use Rattle.mw_rule.specs.Dealing.{dealt, head_of, knows, left_over, reins_from, rest_of}
+use Rattle.mw_rule.specs.Carrying.{IsReady, IsReadyFor}
+use Rattle.mw_rule.specs.Dealing.{dealt, knows, left_over, reins_from}
 use Rattle.mw_rule.specs.Rule.{Each, IsRight, words_given}
 use Rattle.mw_rule.proofs.Righting.{nothing_right}
+use Rattle.mw_rule.proofs.Totals.{weight_few}
+use Rattle.mw_table.specs.declared.dealing.Bearing.{Bearing}
 use Rattle.mw_table.specs.declared.shared.Pass.{Pass}
 use Rattle.mw_table.specs.declared.shared.Shared.{Shared}
-use Rattle.mw_table.specs.Beginning.{opening_of, seat_in}
-use Rattle.mw_table.specs.Dealt.{IsDealt, view_of}
+use Rattle.mw_table.specs.Beginning.{Basis}
+use Rattle.mw_table.specs.Dealt.{AreInOrder, IsBearing, IsDealt, view_of}
 use Rattle.mw_table.specs.Numbers.{numbers}
-use Rattle.mw_table.proofs.Starting.{ready, seats_same}
+use Rattle.mw_table.specs.Origins.{basis_of}
 
 -- what is left to deal from a worker on
-abbrev pub left_at : World → ℕ → Me Acting View
-left_at world worker = (knows world.config (map opening_of world.accounts.items) (reins_from (seat_in world) worker (world.config.workers - worker)), [])
+abbrev pub left_at : Basis → ℕ → Me Acting View
+left_at basis worker = (knows basis.config basis.openings (reins_from basis.seats worker (basis.config.workers - worker)) [], [])
 
 one_less : (n w : ℕ) → w < n → n - w ≡ suc (n - (w + 1))
 one_less n w low = omega arith
 
 -- what is left, and what is dealt, of what was left
-pub left_next : (world : World) (worker : ℕ) (old new : Me Acting View) → worker < world.config.workers → old ≡ left_at world worker → new ≡ (left_over old.0, old.1) → new ≡ left_at world (worker + 1)
-left_next world worker old new low left is =
+pub left_next : (basis : Basis) (worker : ℕ) (old new : Me Acting View) → worker < basis.config.workers → old ≡ left_at basis worker → new ≡ (left_over old.0, old.1) → new ≡ left_at basis (worker + 1)
+left_next basis worker old new low left is =
     is ∙ (ap (λ (me : Me Acting View). (left_over me.0, me.1)) left
-    ∙ ap (λ (k : ℕ). (knows world.config (map opening_of world.accounts.items) (rest_of (reins_from (seat_in world) worker k)), [])) (one_less world.config.workers worker low))
+    ∙ ap (λ (k : ℕ). (left_over (knows basis.config basis.openings (reins_from basis.seats worker k) []), [])) (one_less basis.config.workers worker low))
 
-pub dealt_view : (world : World) (worker : ℕ) (old new : Me Acting View) → worker < world.config.workers → old ≡ left_at world worker → new ≡ (dealt old.0, []) → new.0 ≡ view_of world worker
-dealt_view world worker old new low left is =
+pub dealt_view : (basis : Basis) (worker : ℕ) (old new : Me Acting View) → worker < basis.config.workers → old ≡ left_at basis worker → new ≡ (dealt old.0, []) → new.0 ≡ view_of basis worker
+dealt_view basis worker old new low left is =
     ap (λ (me : Me Acting View). me.0) is
     ∙ (ap (λ (me : Me Acting View). dealt me.0) left
-    ∙ ap (λ (k : ℕ). knows world.config (map opening_of world.accounts.items) (head_of (reins_from (seat_in world) worker k))) (one_less world.config.workers worker low))
+    ∙ ap (λ (k : ℕ). dealt (knows basis.config basis.openings (reins_from basis.seats worker k) [])) (one_less basis.config.workers worker low))
 
 -- the numbers of a pass that is dealt
-pub dealt_numbers : (world : World) (before : List Happening) (worker attempt : ℕ) (view : View) → Stands world before → worker < world.config.workers → view ≡ view_of world worker
-    → ((state : State) → Shows world state → attempt ≡ (state.seats worker).attempt) → numbers view ≡ (worker, attempt) ∷ []
-dealt_numbers world before worker attempt view stands low is attempts =
-    ap numbers is ∙ ap (λ (n : ℕ). (worker, n) ∷ []) (ap (λ (seat : Seat). seat.attempt) (seats_same world stands.state worker stands.shows low) ∙ sym (attempts stands.state stands.shows))
+pub dealt_numbers : (basis : Basis) (worker : ℕ) (view : View) (bearing : Bearing) → view ≡ view_of basis worker → IsBearing (basis.seats worker) bearing → numbers view ≡ (worker, bearing.attempt) ∷ []
+dealt_numbers basis worker view bearing is tells = ap numbers is ∙ ap (λ (n : ℕ). (worker, n) ∷ []) (sym tells.attempt)
+
+-- what it knows is right
+dealt_right : (basis : Basis) (worker : ℕ) (view : View) → view ≡ view_of basis worker → IsRight view
+dealt_right basis worker view is =
+    subst IsRight (sym is) (record {
+      changes = λ tenant among. nothing_right (words_given (view_of basis worker) tenant);
+      mine = tt;
+      once = λ tenant request. omega arith;
+      own = tt;
+      alone = λ other. let few = weight_few (worker == other) in omega (arith, few);
+    })
 
 -- a pass that is dealt
-pub pass_dealt : (shared : Shared) (world : World) (before : List Happening) (pass : Pass) → Stands world before → shared.table.shared.key.world.value ≡ world
-    → pass.seat.table_id ≡ shared.table.shared.table_id → pass.worker < world.config.workers → pass.seat.me.0 ≡ view_of world pass.worker → pass.idle ≡ is_none (seat_in world pass.worker).actor
-    → IsDealt shared world pass
-pass_dealt shared world before pass stands same table low is idle = record {
-  own = record {
-    table = table;
-    config = ap (λ (view : View). view.config) is ∙ sym (ap (λ (one : World). one.config) same);
-    openings = ap (λ (view : View). view.openings) is ∙ sym (ap (λ (one : World). map opening_of one.accounts.items) same);
-  };
-  there = low;
-  view = is;
-  idle = idle;
-  right = subst IsRight (sym is) (record { changes = λ tenant among. nothing_right (words_given (view_of world pass.worker) tenant); mine = tt; once = λ tenant request. omega arith });
-  ready = subst (λ (view : View). Each (IsReady world.config) view.reins) (sym is) (ready world before pass.worker stands low, tt);
-}
+pub pass_dealt : (shared : Shared) (pass : Pass) (bearing : Bearing) → let basis = basis_of shared.table.shared.key in
+    pass.seat.table_id ≡ shared.table.shared.table_id → pass.worker < basis.config.workers → pass.seat.me.0 ≡ view_of basis pass.worker → pass.idle ≡ bearing.idle
+    → IsBearing (basis.seats pass.worker) bearing → IsReadyFor basis.config (basis.seats pass.worker).actor → IsDealt shared basis pass
+pass_dealt shared pass bearing table low is same tells ready =
+    let basis = basis_of shared.table.shared.key in record {
+      own = record { table = table; config = ap (λ (view : View). view.config) is; openings = ap (λ (view : View). view.openings) is };
+      there = low;
+      view = is;
+      idle = same ∙ tells.idle;
+      right = dealt_right basis pass.worker pass.seat.me.0 is;
+      ready = subst (λ (view : View). Each (IsReady basis.config) view.reins) (sym is) (ready, tt);
+    }
 
 -- with one more
-pub more_dealt : (shared : Shared) (world : World) (old new : List Pass) (pass : Pass) → new ≡ old ++ pass ∷ [] → All (IsDealt shared world) old → IsDealt shared world pass → All (IsDealt shared world) new
-more_dealt shared world old new pass is all one = subst (λ (passes : List Pass). All (IsDealt shared world) passes) (sym is) (All-push (IsDealt shared world) old pass all one)
+pub more_dealt : (shared : Shared) (basis : Basis) (old new : List Pass) (pass : Pass) → new ≡ old ++ pass ∷ [] → All (IsDealt shared basis) old → IsDealt shared basis pass → All (IsDealt shared basis) new
+more_dealt shared basis old new pass is all one = subst (λ (passes : List Pass). All (IsDealt shared basis) passes) (sym is) (All-push (IsDealt shared basis) old pass all one)
 
 pub one_more : (old new : List Pass) (pass : Pass) (count : ℕ) → new ≡ old ++ pass ∷ [] → length old ≡ count → length new ≡ count + 1
 one_more old new pass count is many = omega (arith, ap length is, length-append old (pass ∷ []), many)
 
--- whether a worker of a world has no request
-pub is_idle : {A : Type 0} (world : World) (before : List Happening) (worker : ℕ) (now : A → Acting) (found : Option A) (test : Bool) → Stands world before → worker < world.config.workers
-    → ((state : State) → Shows world state → MatchOption found ((state.seats worker).actor ≡ None) (λ actor. (state.seats worker).actor ≡ Some (now actor)))
-    → is_some found ≡ not test → test ≡ is_none (seat_in world worker).actor
-is_idle world before worker now found test stands low tells tested =
-    by now found test (tells stands.state stands.shows) tested ∙ ap (λ (seat : Seat). is_none seat.actor) (sym (seats_same world stands.state worker stands.shows low))
-  where
-    by : {A : Type 0} (now : A → Acting) (one : Option A) (test : Bool)
-        → MatchOption one ((stands.state.seats worker).actor ≡ None) (λ actor. (stands.state.seats worker).actor ≡ Some (now actor)) → is_some one ≡ not test
-        → test ≡ is_none (stands.state.seats worker).actor
-    by now None true is tested = ap is_none (sym is)
-    by now None false is tested = absurd (cc)
-    by now (Some actor) true is tested = absurd (cc)
-    by now (Some actor) false is tested = ap is_none (sym is)
+some_pass : (one other : Pass) → Some one ≡ Some other → one ≡ other
+some_pass one other is = cc
+
+-- each pass is of the worker that is so many behind a first one
+abbrev AreFrom : (ℕ → ℕ) → List Pass → Type 0
+AreFrom worker_of passes = (index : ℕ) (pass : Pass) → slice_get passes index ≡ Some pass → pass.worker ≡ worker_of index
+
+from_more : (worker_of : ℕ → ℕ) (old : List Pass) (pass : Pass) → AreFrom worker_of old → pass.worker ≡ worker_of (length old) → AreFrom worker_of (old ++ pass ∷ [])
+from_more worker_of [] pass all own zero found is = ap (λ (one : Pass). one.worker) (sym (some_pass pass found is)) ∙ own
+from_more worker_of [] pass all own (suc index) found is = absurd (cc)
+from_more worker_of (one ∷ rest) pass all own zero found is = all zero found is
+from_more worker_of (one ∷ rest) pass all own (suc index) found is = from_more (λ k. worker_of (suc k)) rest pass (λ k. all (suc k)) own index found is
+
+pub more_in_order : (old new : List Pass) (pass : Pass) (count : ℕ) → new ≡ old ++ pass ∷ [] → length old ≡ count → AreInOrder old → pass.worker ≡ count → AreInOrder new
+more_in_order old new pass count is many all own = subst AreInOrder (sym is) (from_more (λ k. k) old pass all (own ∙ sym many))

@@ -23,7 +23,10 @@ use Rattle.mw_rule.specs.Carrying.{IsReadyFor}
 use Rattle.mw_rule.specs.Layout.{words_of}
 use Rattle.mw_rule.specs.Rule.{Tied, Ties}
 use Rattle.mw_rule.specs.Seen.{Gave, no_opening, opening_at}
-use Rattle.mw_table.specs.Beginning.{LedTo, first_view, opening_of, seat_in, up_after}
+use Rattle.mw_table.specs.Beginning.{LedTo, opening_of, seat_in, up_after}
+use Rattle.mw_table.specs.declared.dealing.Bearing.{Bearing}
+use Rattle.mw_table.specs.Dealt.{AreBearings, IsBearing}
+use Rattle.mw_rule.specs.Dealing.{maker}
 use Rattle.mw_rule.proofs.Parting.{starts}
 use Rattle.mw_table.proofs.Opened.{run_told}
 
@@ -77,8 +80,17 @@ gave_so world before stands tenant low = by_account (slice_get_cases world.accou
 
 -- the rule holds of the table at first
 pub first_table : (world : World) (before : List Happening) (words : List ℕ) → Stands world before → length words ≡ words_of world.config
-    → ((state : State) → Shows world state → Ties world.config state.cells words) → Tied world.config (LedTo world) (opening {S = Acting} words [] (first_view world))
+    → ((state : State) → Shows world state → Ties world.config state.cells words) → Tied world.config (LedTo world) (opening {S = Acting} words [] (maker world.config (map opening_of world.accounts.items) (seat_in world) []))
 first_table world before words stands long ties =
-    starts world.config (LedTo world) (first_openings world.config) before stands.state (map opening_of world.accounts.items) (seat_in world) words
-    (record { first = refl; stands = stands }) (played world before stands) (gave_so world before stands) (λ worker low. seats_same world stands.state worker stands.shows low) long
+    starts world.config (LedTo world) (first_openings world.config) before stands.state (map opening_of world.accounts.items) (seat_in world) [] words
+    (record { first = refl; stands = stands }) (played world before stands) (gave_so world before stands) (λ worker low. seats_same world stands.state worker stands.shows low) tt (λ tenant. omega arith) long
     (ties stands.state stands.shows)
+
+-- what tells of the workers of a world that the world in memory shows tells of those in memory
+pub bearings_same : (world : World) (before : List Happening) (bearings : List Bearing) → Stands world before
+    → ((state : State) → Shows world state → AreBearings state.seats world.config.workers bearings) → AreBearings (seat_in world) world.config.workers bearings
+bearings_same world before bearings stands tells =
+    let are = tells stands.state stands.shows in record {
+      count = are.count;
+      each = λ worker other low. subst (λ (seat : Seat). IsBearing seat (slice_index_or bearings worker other)) (sym (seats_same world stands.state worker stands.shows low)) (are.each worker other low);
+    }

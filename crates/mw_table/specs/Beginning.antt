@@ -1,8 +1,9 @@
--- What a table begins with that is made of a world in memory.
+-- What a table begins with, and where it is made of a world in memory.
 use Rattle.std.specs.Prelude.{ℕ, ◌≡◌, Bool, true, List, [], ◌∷◌, map, length, replicate, slice_get}
 use Rattle.std.specs.Option.{option_map_or}
 use Rattle.mw_lone.specs.declared.marks.Mark.{Mark}
 use Rattle.mw_lone.specs.declared.marks.Mark.TheVariants.{Restart}
+use Rattle.mw_world.specs.declared.config.Config.{Config}
 use Rattle.mw_world.specs.Definition.Happenings.{Happening}
 use Rattle.mw_world.specs.Definition.State.{Opening, Seat, first_openings, idle_seat}
 use Rattle.mw_world_memory.specs.declared.accounts.Account.{Account}
@@ -10,8 +11,12 @@ use Rattle.mw_simulator.specs.declared.world.World.{World}
 use Rattle.mw_simulator.specs.Running.{Stands}
 use Rattle.mw_world_memory.specs.Seats.{seat_of}
 use Rattle.mw_law_store.specs.Moments.{after_marks, first_moment}
-use Rattle.mw_rule.specs.declared.views.View.{View}
-use Rattle.mw_rule.specs.Dealing.{maker}
+
+-- What a table begins with: what its world is made of, what the latest start gave each tenant, and the workers.
+pub record Basis : Type 0 where
+  pub config : Config
+  pub openings : List Opening
+  pub seats : ℕ → Seat
 
 -- The run that led to the world began at the first start of all, and these events have happened since.
 pub record LedTo (world : World) (openings : ℕ → Opening) (before : List Happening) : Type 0 where
@@ -36,6 +41,6 @@ opening_of account = record {
 abbrev pub seat_in : World → ℕ → Seat
 seat_in world worker = option_map_or seat_of (slice_get world.seats.items worker) idle_seat
 
--- what the first thread knows
-abbrev pub first_view : World → View
-first_view world = maker world.config (map opening_of world.accounts.items) (seat_in world)
+-- what a table of the world begins with
+abbrev pub basis_of_world : World → Basis
+basis_of_world world = record { config = world.config; openings = map opening_of world.accounts.items; seats = seat_in world }

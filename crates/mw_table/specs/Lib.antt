@@ -1,6 +1,7 @@
 pub mod Beginning
 pub mod Carried
 pub mod Dealt
+pub mod Fresh
 pub mod Meeting
 pub mod Numbers
 pub mod Origins

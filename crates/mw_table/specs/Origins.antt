@@ -1,12 +1,30 @@
--- What a table is made of: what its world is made of, and what the latest start gave each tenant.
-use Rattle.std.specs.Prelude.{List, map}
+-- What a table is made of: what it begins with, and which runs may have been before.
+use Rattle.std.specs.Prelude.{ℕ, List, []}
 use Rattle.mw_world.specs.declared.config.Config.{Config}
+use Rattle.mw_world.specs.Definition.Happenings.{Happening}
 use Rattle.mw_world.specs.Definition.State.{Opening}
+use Rattle.mw_rule.specs.declared.views.View.{View}
+use Rattle.mw_rule.specs.Dealing.{maker}
 use Rattle.mw_table.specs.declared.origin.Origin.{Origin}
-use Rattle.mw_table.specs.Beginning.{opening_of}
+use Rattle.mw_table.specs.declared.origin.Origin.TheVariants.{World as OfWorld, Start as OfStart}
+use Rattle.mw_table.specs.Beginning.{Basis, LedTo, basis_of_world}
+use Rattle.mw_table.specs.Fresh.{StartedWith, basis_of_start}
+
+abbrev pub basis_of : Origin → Basis
+basis_of (OfWorld world) = basis_of_world world.value
+basis_of (OfStart config found) = basis_of_start config.value found.value.items
 
 abbrev pub config_of : Origin → Config
-config_of origin = origin.world.value.config
+config_of origin = (basis_of origin).config
 
 abbrev pub openings_of : Origin → List Opening
-openings_of origin = map opening_of origin.world.value.accounts.items
+openings_of origin = (basis_of origin).openings
+
+-- what the first start gave, and what has happened before the table was made
+abbrev pub begun_of : Origin → (ℕ → Opening) → List Happening → Type 0
+begun_of (OfWorld world) = LedTo world.value
+begun_of (OfStart config found) = StartedWith config.value found.value.items
+
+-- what the first thread knows
+abbrev pub first_of : Origin → View
+first_of origin = maker (config_of origin) (openings_of origin) (basis_of origin).seats []

@@ -30,8 +30,8 @@ impl Play<Actor, View> for Looks {
 
 impl Shared {
     /// A request comes to the pass's worker, which has none, and makes its first step: a load of its
-    /// tenant's door, whose bits these are. The pass isn't idle then. An exchange of 0 for 0 never changes a word, and announces
-    /// the request.
+    /// tenant's door, whose bits these are. Tell the machine of them. The pass isn't idle then. It is made by an
+    /// exchange of 0 for 0, which never changes a word, and which can announce the request as a load can't.
     pub fn begin(&self, pass: &mut Pass, actor: &Actor) -> u64
         requires own { IsOf self.now pass.old }
         requires may { MayCome pass.old.seat.me.0 pass.old.worker actor.now }
@@ -47,8 +47,9 @@ impl Shared {
             .compare_exchange_with::<Comes>(&mut pass.seat, door, 0, 0, actor)
     }
 
-    /// The bits of a word, by a load that is no step of a request: they stand there in a world after some run
-    /// whose latest start gave the tenants what the pass knows of it.
+    /// The bits of a word, for reports and tests, by a load that is no step of a request. The pass may carry a
+    /// request or be idle, and stays so. What the bits are: those that stand there in a world after some run from
+    /// the start of which the pass knows. Two figures needn't be of one moment.
     pub fn figure(&self, pass: &mut Pass, at: At) -> u64
         requires own { IsOf self.now pass.old }
         requires there { has_place (config_of self.now.table.shared.key) at ≡ true }

@@ -1,4 +1,6 @@
-//! One call for each kind of step.
+//! One call for each kind of step. Each asks that it is the next step of the request that the pass carries, so what it
+//! is given is what that step expects and puts. An exchange answers whether it won: whether the word was still as
+//! expected. If it wasn't, nothing was changed.
 ghost use Rattle.std.specs.Prelude.{◌≡◌, ◌+◌, cond};
 ghost use Rattle.mw_words.specs.declared.places.At.TheVariants.{Door as AtDoor, Gate as AtGate, Row as AtRow, Status as AtStatus};
 ghost use Rattle.mw_words.specs.declared.statuses.Status.TheVariants as status;
@@ -15,7 +17,7 @@ use mw_look::Kind;
 use mw_words::{At, Door, Gate, Row, Status, Word};
 
 impl Shared {
-    /// One slot more is in use, by the tenant's door, if that is still as it was read.
+    /// One slot more is in use, by the tenant's door, if that is still as it was read. Whether it was.
     pub fn admit(&self, pass: &mut Pass, tenant: u8, from: Door, to: Door) -> bool
         requires own { IsOf self.now pass.old }
         requires next { Drives pass.old.seat.me.0 pass.old.worker (ChangeBits kind.Admit (AtDoor tenant) (packed_door from) (packed_door to)) }
@@ -26,7 +28,7 @@ impl Shared {
         self.exchange(pass, Kind::Admit, At::Door(tenant), from.pack(), to.pack())
     }
 
-    /// A slot is taken, by its gate, if that is still as it was read.
+    /// A slot is taken, by its gate, if that is still as it was read. Whether it was.
     pub fn claim(&self, pass: &mut Pass, slot: u8, from: Gate, to: Gate) -> bool
         requires own { IsOf self.now pass.old }
         requires from { IsGateInRange from }
@@ -39,7 +41,7 @@ impl Shared {
         self.exchange(pass, Kind::Claim, At::Gate(slot), from.pack(), to.pack())
     }
 
-    /// One pin more, on a slot's gate, if that is still as it was read.
+    /// One pin more, on a slot's gate, if that is still as it was read, its number too. Whether it was.
     pub fn pin(&self, pass: &mut Pass, slot: u8, from: Gate, to: Gate) -> bool
         requires own { IsOf self.now pass.old }
         requires from { IsGateInRange from }
@@ -52,7 +54,7 @@ impl Shared {
         self.exchange(pass, Kind::Pin, At::Gate(slot), from.pack(), to.pack())
     }
 
-    /// A word of a slot of one's own is written.
+    /// A word of a slot of one's own is written: its status, its count, or a part of an entry.
     pub fn fill(&self, pass: &mut Pass, at: At, bits: u64)
         requires own { IsOf self.now pass.old }
         requires next { Drives pass.old.seat.me.0 pass.old.worker (ChangeBits kind.Fill at 0 bits) }
@@ -63,7 +65,8 @@ impl Shared {
         self.store(pass, Kind::Fill, at, bits)
     }
 
-    /// One pin less, on a slot's gate. The gate's bits as they were.
+    /// One pin less, on a slot's gate. The gate's bits as they were, from which the request knows whether its pin
+    /// was the last one.
     pub fn unpin(&self, pass: &mut Pass, slot: u8) -> u64
         requires own { IsOf self.now pass.old }
         requires next { Drives pass.old.seat.me.0 pass.old.worker (ChangeBits kind.Unpin (AtGate slot) 0 0) }
@@ -74,7 +77,7 @@ impl Shared {
         self.subtract(pass, Kind::Unpin, At::Gate(slot), 1 << 48)
     }
 
-    /// A slot that nobody holds on to is free: its gate with the next number.
+    /// A slot that nobody has pinned is free: its gate with the next number.
     pub fn free(&self, pass: &mut Pass, slot: u8, gate: Gate)
         requires own { IsOf self.now pass.old }
         requires gate { IsGateInRange gate }
@@ -110,8 +113,8 @@ impl Shared {
         self.store(pass, Kind::Row, at, row.pack())
     }
 
-    /// A tenant's word stands as the worker's next attempt to hold it, if it has the expected value. Won or
-    /// lost, the attempt's number is used up.
+    /// A tenant's word stands as the worker's next attempt to hold it, if it has the expected value. Whether it
+    /// had. Either way the attempt's number is used up.
     pub fn plant(&self, pass: &mut Pass, at: At, expected: u64) -> bool
         requires own { IsOf self.now pass.old }
         requires from { IsWordInRange (word.Plain expected) }
@@ -129,7 +132,7 @@ impl Shared {
         self.attempt(pass, at, Word::Plain(expected).pack(), attempt.pack())
     }
 
-    /// An attempt holds a tenant's word, or puts its value back, if it still stands there.
+    /// An attempt holds a tenant's word, or puts its value back, if it still stands there. Whether it did.
     pub fn resolve(&self, pass: &mut Pass, at: At, from: Word, to: Word) -> bool
         requires own { IsOf self.now pass.old }
         requires from { IsWordInRange from }
@@ -142,7 +145,7 @@ impl Shared {
         self.exchange(pass, Kind::Resolve, at, from.pack(), to.pack())
     }
 
-    /// A change is to be made, if it is still open.
+    /// A change is to be made, if it is still open. Whether it was.
     pub fn decide_yes(&self, pass: &mut Pass, slot: u8) -> bool
         requires own { IsOf self.now pass.old }
         requires next { Drives pass.old.seat.me.0 pass.old.worker (ChangeBits kind.DecideYes (AtStatus slot) (packed_status status.Open) (packed_status status.YesDirty)) }
@@ -160,7 +163,7 @@ impl Shared {
     }
 
     /// A change is not to be made, if it is still open: this is the entry that refuses it, and the value
-    /// of its word.
+    /// of its word. Whether it was.
     pub fn decide_no(&self, pass: &mut Pass, slot: u8, entry: u8, value: u64) -> bool
         requires own { IsOf self.now pass.old }
         requires no { IsStatusInRange (status.No entry value) }
@@ -179,7 +182,7 @@ impl Shared {
         )
     }
 
-    /// A held word gets the value that the decision gives it, if it is still held for the change.
+    /// A held word gets the value that the decision gives it, if it is still held for the change. Whether it was.
     pub fn release(&self, pass: &mut Pass, at: At, from: Word, to: Word) -> bool
         requires own { IsOf self.now pass.old }
         requires from { IsWordInRange from }

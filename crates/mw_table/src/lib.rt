@@ -3,14 +3,25 @@
 //!
 //! Between any two steps the words, and what the threads know, are those of the world after some run
 //! (`mw_rule`). A thread steps with a [`Pass`], which carries the right to make the steps of one worker.
-//! [`Shared::of_world`] makes a table and its passes, `figure` loads a word and `meet` lets two passes see what
-//! either has seen. Each other call of [`Shared`] is one step of a request: it asks that it is the next one of
-//! the request that the pass carries, or its first, with which it comes; and where the reply stands after it,
-//! the reply is handed out. `step` makes whichever is next.
+//!
+//! [`Shared::new`] makes a table and its passes at a start, [`Shared::of_world`] of a world in memory. A request
+//! comes by `begin`, with its first step. Each further step is one call: it asks, as its `requires`, that it is the
+//! next step of the request that the pass carries (`Drives` of `mw_rule`), and tells the pass what it found
+//! (`Took`). `step` makes whichever step is next; `load` and the calls of `calls.rt` make one kind each. Where the
+//! reply stands after a step, the reply is handed out with it, and `Pass::rest` makes the pass idle again. No call
+//! makes a step on a tenant's file: a request that has come to one stays there.
+//!
+//! Two calls are no step of a request: `figure` loads a word, and `meet` lets two passes see what either has seen.
+//! None waits, and none but `new` and `of_world` takes memory.
+//!
+//! What to read first: `specs/Passes` and `specs/Dealt` say what a pass of a table is, `specs/Beginning` and
+//! `specs/Fresh` what a table begins with.
 #![tactic(auto)]
 
+mod at_start;
 mod begins;
 mod calls;
+mod dealing;
 mod making;
 mod meeting;
 mod origin;
@@ -18,9 +29,7 @@ mod passes;
 mod places;
 mod shared;
 mod steps;
-#[cfg(test)]
-mod tests;
 mod turns;
 
-pub use origin::Origin;
+pub use origin::{FileOpening, Origin};
 pub use shared::{Pass, Shared};

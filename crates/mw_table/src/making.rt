@@ -6,16 +6,17 @@ ghost use Rattle.mw_rule.specs.Layout.{words_of};
 ghost use Rattle.mw_rule.specs.Rule.{Ties};
 ghost use Rattle.mw_simulator.specs.Running.{Stands};
 ghost use Rattle.mw_simulator.specs.Shows.{Shows};
-ghost use Rattle.mw_table.specs.Beginning.{first_view};
-ghost use Rattle.mw_table.specs.Dealt.{AreActors, IsDealt};
+ghost use Rattle.mw_table.specs.Beginning.{basis_of_world};
+ghost use Rattle.mw_table.specs.Dealt.{AreActors, AreBearings, AreInOrder, IsDealt};
+ghost use Rattle.mw_table.specs.Origins.{basis_of};
 ghost use Rattle.mw_table.specs.Places.{IsAt};
 
+use crate::dealing::Bearing;
 use crate::origin::Origin;
 use crate::places::{has_place, place_at};
 use crate::shared::{Pass, Shared};
-use atomic_table::{Seat, Table};
 use mw_actor::Actor;
-use mw_rule::{Deals, View, index_of};
+use mw_rule::index_of;
 use mw_simulator::World;
 use mw_words::At;
 use std::alloc::{AllocError, Global};
@@ -23,60 +24,46 @@ use std::snapshot::Snapshot;
 
 impl Shared {
     /// A table with the shared words of a world that a run from a new world has led to, a pass for each
-    /// worker, and the workers' requests. The only error is want of memory.
+    /// worker, by worker, and each worker's request, by worker. Passes and requests stand where the world's do:
+    /// the pass of a worker that has a request carries it, at the step to which it has come, and the others are
+    /// idle. So play a world to its point with a request for each thread, and go on with threads.
+    ///
+    /// Where a reply stands in the world and hasn't been handed out, its worker's pass is of no use: it isn't
+    /// idle, and the request has no step left. Hand it out in the world first. The only error is want of memory;
+    /// then there is no table, and the world is as it was.
     pub fn of_world(
         alloc: Global,
         world: &World,
     ) -> Result<(Shared, Vec<Pass>, Vec<Option<Actor>>), AllocError>
         requires { (before : List Happening) × Stands world.now before }
-        ensures table { IfOk result (λ made. made.0.table.shared.key.world.value ≡ world.now) }
+        ensures table { IfOk result (λ made. basis_of made.0.table.shared.key ≡ basis_of_world world.now) }
         ensures count { IfOk result (λ made. length made.1.items ≡ world.now.config.workers) }
-        ensures passes { IfOk result (λ made. All (IsDealt made.0 world.now) made.1.items) }
+        ensures passes { IfOk result (λ made. All (IsDealt made.0 (basis_of_world world.now)) made.1.items) }
+        ensures order { IfOk result (λ made. AreInOrder made.1.items) }
         ensures actors { IfOk result (λ made. (state : State) → Shows world.now state → AreActors state world.now.config.workers made.2.items) }
     {
         let words = words_of_world(alloc, world)?;
-        let origin = Origin {
-            world: Snapshot::of(world),
-        };
-        let (table, seat) = Table::of_words(alloc, &words, &origin)?;
-        let shared = Shared {
-            table,
-            pool: world.config().pool,
-        };
-        let passes = shared.deal(alloc, seat, world)?;
+        let bearings = bearings_of_world(alloc, world)?;
+        let origin = Origin::World(Snapshot::of(world));
+        let (shared, passes) = Shared::open(alloc, &words, &origin, world.config(), &bearings)?;
         let actors = actors_of(alloc, world)?;
         Ok((shared, passes, actors))
     }
+}
 
-    /// Gives each worker a pass.
-    fn deal(
-        &self,
-        alloc: Global,
-        mut seat: Seat<Actor, View>,
-        world: &World,
-    ) -> Result<Vec<Pass>, AllocError>
-        requires table { seat.table_id ≡ self.now.table.shared.table_id }
-        requires world { self.now.table.shared.key.world.value ≡ world.now }
-        requires stands { (before : List Happening) × Stands world.now before }
-        requires first { seat.me ≡ (first_view world.now, []) }
-        ensures count { IfOk result (λ passes. length passes.items ≡ world.now.config.workers) }
-        ensures passes { IfOk result (λ passes. All (IsDealt self.now world.now) passes.items) }
-    {
-        let workers = world.config().workers;
-        let mut passes = Vec::with_capacity(alloc, usize::from(workers))?;
-        for worker in 0..workers {
-            let own = self.table.shared.split_seat::<Deals>(&mut seat);
-            let attempt = world.attempt(worker);
-            let idle = world.actor(worker).is_none();
-            passes.push(Pass {
-                seat: own,
-                worker,
-                attempt,
-                idle,
-            })?;
-        }
-        Ok(passes)
+/// What the workers' passes are to say of themselves.
+fn bearings_of_world(alloc: Global, world: &World) -> Result<Vec<Bearing>, AllocError>
+    ensures { IfOk result (λ bearings. (state : State) → Shows world.now state → AreBearings state.seats world.now.config.workers bearings.items) }
+{
+    let workers = world.config().workers;
+    let mut bearings = Vec::with_capacity(alloc, usize::from(workers))?;
+    for worker in 0..workers {
+        bearings.push(Bearing {
+            attempt: world.attempt(worker),
+            idle: world.actor(worker).is_none(),
+        })?;
     }
+    Ok(bearings)
 }
 
 /// The workers' requests.

@@ -12,7 +12,8 @@ use mw_actor::Actor;
 use mw_rule::{Tie, View};
 use std::alloc::Global;
 
-/// The shared words.
+/// The shared words: a door for each tenant, a row for each worker, the words of each slot, and the tenants' words.
+/// Threads share it by reference.
 #[derive(Drop)]
 pub struct Shared {
     pub(crate) table: Table<Actor, View, Origin, Tie, Global>,
@@ -22,7 +23,9 @@ pub struct Shared {
     ghost long: { table.shared.table_id.words ≡ words_of (config_of table.shared.key) },
 }
 
-/// The right to make the steps of one worker.
+/// The right to make the steps of one worker, with what the thread that has it knows. It can't be copied, and a
+/// table deals one for each worker; so no two threads make steps of one worker. Where it is dropped, nobody makes
+/// that worker's steps any more.
 #[derive(Drop)]
 pub struct Pass {
     pub(crate) seat: Seat<Actor, View>,

@@ -45,7 +45,7 @@ impl Play<Actor, View> for Stores {
 }
 
 impl Shared {
-    /// The bits of a word.
+    /// The bits of a word, by a step of the request that the pass carries, which is a load.
     pub fn load(&self, pass: &mut Pass, at: At) -> u64
         requires own { IsOf self.now pass.old }
         requires next { Drives pass.old.seat.me.0 pass.old.worker (LoadBits at) }

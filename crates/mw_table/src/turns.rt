@@ -13,7 +13,8 @@ use mw_rule::{Way, way_of};
 use mw_words::At;
 
 impl Shared {
-    /// The next step of the request that the pass carries, whatever it is. What it found.
+    /// The next step of the request that the pass carries, whatever it is but a call on a file. What it found, of
+    /// which the machine is to be told.
     pub fn step(&self, pass: &mut Pass, op: Op) -> Got
         requires own { IsOf self.now pass.old }
         requires next { Drives pass.old.seat.me.0 pass.old.worker op }

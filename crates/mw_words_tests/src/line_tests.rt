@@ -1,5 +1,6 @@
 use mw_line::*;
 use mw_words::{Entries, Entry, Job, MAX_LINE, Name, Reply};
+use std::process::Abort;
 
 /// A change of words that hold 0, with these addresses and new values.
 fn change(parts: &[(u16, u64)]) -> Option<Request> {
@@ -23,93 +24,119 @@ fn get(addr: u16) -> Option<Request> {
     Some(Request::Job(Job::Get(addr)))
 }
 
+/// Whether a line is read, as this request.
+fn is_read(line: &[u8], request: Option<Request>) -> bool {
+    request.is_some() && read_line(line).ok() == request
+}
+
 #[test]
 fn lines_are_read(rt: HostRuntime) {
-    let eight = change(&[
-        (0, 1),
-        (1, 1),
-        (2, 1),
-        (3, 1),
-        (4, 1),
-        (5, 1),
-        (6, 1),
-        (7, 1),
-    ]);
-    let most = change(&[(4095, 281474976710655)]);
-    let cases: [(&[u8], Option<Request>); 12] = [
-        (b"TENANT t", tenant(b"t")),
-        (b"TENANT abc-0123456789-z", tenant(b"abc-0123456789-z")),
-        (b"ADMIN", Some(Request::Admin)),
-        (b"REPORT", Some(Request::Report)),
-        (b"QUIT", Some(Request::Quit)),
-        (b"GET 0", get(0)),
-        (b"GET 10", get(10)),
-        (b"GET 4095", get(4095)),
-        (b"CAS 0:0:1", change(&[(0, 1)])),
-        (b"CAS 3:0:1 4:0:2", change(&[(3, 1), (4, 2)])),
-        (b"CAS 4095:0:281474976710655", most),
+    assert!(rt; is_read(b"TENANT t", tenant(b"t")));
+    assert!(rt; is_read(b"TENANT abc-0123456789-z", tenant(b"abc-0123456789-z")));
+    assert!(rt; is_read(b"ADMIN", Some(Request::Admin)));
+    assert!(rt; is_read(b"REPORT", Some(Request::Report)));
+    assert!(rt; is_read(b"QUIT", Some(Request::Quit)));
+}
+
+#[test]
+fn reads_are_read(rt: HostRuntime) {
+    let cases: [(&[u8], u16); 3] = [(b"GET 0", 0), (b"GET 10", 10), (b"GET 4095", 4095)];
+    for (line, addr) in cases {
+        assert!(rt; is_read(line, get(addr)), "{addr}");
+    }
+}
+
+/// A change of eight words.
+const EIGHT: [(u16, u64); 8] = [
+    (0, 1),
+    (1, 1),
+    (2, 1),
+    (3, 1),
+    (4, 1),
+    (5, 1),
+    (6, 1),
+    (7, 1),
+];
+
+#[test]
+fn changes_are_read(rt: HostRuntime) {
+    let cases: [(&[u8], &[(u16, u64)]); 4] = [
+        (b"CAS 0:0:1", &[(0, 1)]),
+        (b"CAS 3:0:1 4:0:2", &[(3, 1), (4, 2)]),
+        (b"CAS 4095:0:281474976710655", &[(4095, 281474976710655)]),
         (
             b"CAS 0:0:1 1:0:1 2:0:1 3:0:1 4:0:1 5:0:1 6:0:1 7:0:1",
-            eight,
+            &EIGHT,
         ),
     ];
-    for (line, request) in &cases {
-        assert!(rt; request.is_some(), "{line:?}");
-        assert!(rt; read_line(line).ok() == *request, "{line:?}");
+    for (line, parts) in cases {
+        assert!(rt; is_read(line, change(parts)), "{parts:?}");
+    }
+}
+
+/// Lines that are no command.
+const NO_COMMANDS: &str = "\
+GET
+
+GET\x20
+GET 01
+GET 00
+GET  1
+GET 1\x20
+GET -1
+GET +1
+GET 0\r
+get 1
+CAS
+CAS\x20
+CAS 0:0:1\x20
+CAS  0:0:1
+CAS 0:0:1  1:0:1
+CAS 0:0
+CAS 0:0:1:2
+TENANT 1st
+TENANT\x20
+TENANT abc-0123456789-yz
+ADMIN\x20
+CAS 0:0:1 0:0:1 0:0:1 0:0:1 0:0:1 0:0:1 0:0:1 0:0:1 0:0:01";
+
+/// Faults, and lines that have them.
+const FAULTS: [(LineFault, &str); 5] = [
+    (LineFault::NotACommand, NO_COMMANDS),
+    (
+        LineFault::AddressRange,
+        "\
+GET 4096
+GET 5000
+GET 65536
+GET 18446744073709551616
+CAS 3:0:1 3:0:1 5000:0:1",
+    ),
+    (LineFault::AddressOrder, "CAS 3:0:1 3:1:2\nCAS 4:0:1 3:1:2"),
+    (
+        LineFault::ValueRange,
+        "\
+CAS 0:0:281474976710656
+CAS 0:18446744073709551616:0
+CAS 5000:0:281474976710656",
+    ),
+    (
+        LineFault::TooManyEntries,
+        "CAS 0:0:1 0:0:1 0:0:1 0:0:1 0:0:1 0:0:1 0:0:1 0:0:1 0:0:1",
+    ),
+];
+
+/// Each of these lines has this fault.
+fn have_fault<R: Abort>(rt: &R, fault: LineFault, lines: &str) {
+    for line in lines.split('\n') {
+        assert!(rt; read_line(line.as_bytes()) == Err(fault), "{line}");
     }
 }
 
 #[test]
 fn lines_are_refused(rt: HostRuntime) {
-    let no_command: [&[u8]; 22] = [
-        b"",
-        b"GET",
-        b"GET ",
-        b"GET 01",
-        b"GET 00",
-        b"GET  1",
-        b"GET 1 ",
-        b"GET -1",
-        b"GET +1",
-        b"GET 0\r",
-        b"get 1",
-        b"CAS",
-        b"CAS ",
-        b"CAS 0:0:1 ",
-        b"CAS  0:0:1",
-        b"CAS 0:0:1  1:0:1",
-        b"CAS 0:0",
-        b"CAS 0:0:1:2",
-        b"TENANT 1st",
-        b"TENANT ",
-        b"TENANT abc-0123456789-yz",
-        b"ADMIN ",
-    ];
-    for line in &no_command {
-        assert!(rt; read_line(line) == Err(LineFault::NotACommand), "{line:?}");
-    }
-    let faults: [(&[u8], LineFault); 12] = [
-        (b"GET 4096", LineFault::AddressRange),
-        (b"GET 5000", LineFault::AddressRange),
-        (b"GET 65536", LineFault::AddressRange),
-        (b"GET 18446744073709551616", LineFault::AddressRange),
-        (b"CAS 3:0:1 3:1:2", LineFault::AddressOrder),
-        (b"CAS 4:0:1 3:1:2", LineFault::AddressOrder),
-        (b"CAS 0:0:281474976710656", LineFault::ValueRange),
-        (b"CAS 0:18446744073709551616:0", LineFault::ValueRange),
-        (b"CAS 5000:0:281474976710656", LineFault::ValueRange),
-        (b"CAS 3:0:1 3:0:1 5000:0:1", LineFault::AddressRange),
-        (
-            b"CAS 0:0:1 0:0:1 0:0:1 0:0:1 0:0:1 0:0:1 0:0:1 0:0:1 0:0:1",
-            LineFault::TooManyEntries,
-        ),
-        (
-            b"CAS 0:0:1 0:0:1 0:0:1 0:0:1 0:0:1 0:0:1 0:0:1 0:0:1 0:0:01",
-            LineFault::NotACommand,
-        ),
-    ];
-    for (line, fault) in &faults {
-        assert!(rt; read_line(line) == Err(*fault), "{line:?}");
+    for (fault, lines) in FAULTS {
+        have_fault(&rt, fault, lines);
     }
 }
 
@@ -117,10 +144,7 @@ fn lines_are_refused(rt: HostRuntime) {
 fn long_lines_are_read_to_their_end(rt: HostRuntime) {
     assert!(rt; read_line(&[b'A'; MAX_LINE]) == Err(LineFault::NotACommand));
     let mut line = [b'7'; 304];
-    line[0] = b'G';
-    line[1] = b'E';
-    line[2] = b'T';
-    line[3] = b' ';
+    line[..4].copy_from_slice(b"GET ");
     assert!(rt; read_line(&line) == Err(LineFault::AddressRange));
     line[303] = b'x';
     assert!(rt; read_line(&line) == Err(LineFault::NotACommand));

@@ -1,4 +1,30 @@
 use mw_words::*;
+use std::process::Abort;
+
+/// Whether a word is in range, and has these bits both ways.
+fn is_word(word: Word, bits: u64) -> bool {
+    word.is_in_range() && word.pack() == bits && Word::unpack(bits) == Some(word)
+}
+
+/// Whether a gate is in range, and has these bits both ways.
+fn is_gate(gate: Gate, bits: u64) -> bool {
+    gate.is_in_range() && gate.pack() == bits && Gate::unpack(bits) == Some(gate)
+}
+
+/// Whether a door has these bits both ways.
+fn is_door(door: Door, bits: u64) -> bool {
+    door.pack() == bits && Door::unpack(bits) == Some(door)
+}
+
+/// Whether a status is in range, and has these bits both ways.
+fn is_status(status: Status, bits: u64) -> bool {
+    status.is_in_range() && status.pack() == bits && Status::unpack(bits) == Some(status)
+}
+
+/// Whether a row is in range, and has these bits both ways.
+fn is_row(row: Row, bits: u64) -> bool {
+    row.is_in_range() && row.pack() == bits && Row::unpack(bits) == Some(row)
+}
 
 #[test]
 fn words(rt: HostRuntime) {
@@ -29,9 +55,7 @@ fn words(rt: HostRuntime) {
         ),
     ];
     for (word, bits) in cases {
-        assert!(rt; word.is_in_range());
-        assert_eq!(rt; word.pack(), bits);
-        assert_eq!(rt; Word::unpack(bits), Some(word));
+        assert!(rt; is_word(word, bits), "{bits}");
     }
     let beyond = Word::Planted {
         worker: 64,
@@ -41,8 +65,7 @@ fn words(rt: HostRuntime) {
     assert!(rt; !Word::Plain(MAX_VALUE + 1).is_in_range());
 }
 
-#[test]
-fn gates_and_doors(rt: HostRuntime) {
+fn are_gates<R: Abort>(rt: &R) {
     let gates: [(bool, u16, u64, u64); 4] = [
         (true, 2, 7, 0x8002_0000_0000_0007),
         (true, 0, 1, 0x8000_0000_0000_0001),
@@ -50,10 +73,7 @@ fn gates_and_doors(rt: HostRuntime) {
         (false, 0, 7, 0x0000_0000_0000_0007),
     ];
     for (taken, pins, seq, bits) in gates {
-        let gate = Gate { taken, pins, seq };
-        assert!(rt; gate.is_in_range());
-        assert_eq!(rt; gate.pack(), bits);
-        assert_eq!(rt; Gate::unpack(bits), Some(gate));
+        assert!(rt; is_gate(Gate { taken, pins, seq }, bits), "{bits}");
     }
     let pinned = Gate {
         taken: false,
@@ -61,16 +81,23 @@ fn gates_and_doors(rt: HostRuntime) {
         seq: 7,
     };
     assert!(rt; !pinned.is_in_range());
+}
+
+fn are_doors<R: Abort>(rt: &R) {
     let doors: [(bool, u16, u64); 3] = [
         (true, 3, 0x8000_0000_0000_0003),
         (false, 0, 0x0000_0000_0000_0000),
         (false, 65_535, 0x0000_0000_0000_ffff),
     ];
     for (fault, used, bits) in doors {
-        let door = Door { fault, used };
-        assert_eq!(rt; door.pack(), bits);
-        assert_eq!(rt; Door::unpack(bits), Some(door));
+        assert!(rt; is_door(Door { fault, used }, bits), "{bits}");
     }
+}
+
+#[test]
+fn gates_and_doors(rt: HostRuntime) {
+    are_gates(&rt);
+    are_doors(&rt);
 }
 
 #[test]
@@ -92,9 +119,7 @@ fn statuses(rt: HostRuntime) {
         ),
     ];
     for (status, bits) in cases {
-        assert!(rt; status.is_in_range());
-        assert_eq!(rt; status.pack(), bits);
-        assert_eq!(rt; Status::unpack(bits), Some(status));
+        assert!(rt; is_status(status, bits), "{bits}");
     }
     let beyond = Status::DoneNo {
         entry: MAX_ENTRIES as u8,
@@ -110,10 +135,7 @@ fn rows(rt: HostRuntime) {
         (255, 0, WORN_NUMBER, 0xff00_ffff_ffff_ffff),
     ];
     for (slot, entry, seq, bits) in cases {
-        let row = Row { slot, entry, seq };
-        assert!(rt; row.is_in_range());
-        assert_eq!(rt; row.pack(), bits);
-        assert_eq!(rt; Row::unpack(bits), Some(row));
+        assert!(rt; is_row(Row { slot, entry, seq }, bits), "{bits}");
     }
     let beyond = Row {
         slot: 2,
@@ -123,34 +145,66 @@ fn rows(rt: HostRuntime) {
     assert!(rt; !beyond.is_in_range());
 }
 
+/// Whether some word has one of these bits.
+fn some_word(all: &[u64]) -> bool {
+    for bits in all {
+        if Word::unpack(*bits).is_some() {
+            return true;
+        }
+    }
+    false
+}
+
+/// Whether some door has one of these bits.
+fn some_door(all: &[u64]) -> bool {
+    for bits in all {
+        if Door::unpack(*bits).is_some() {
+            return true;
+        }
+    }
+    false
+}
+
+/// Whether some status has one of these bits.
+fn some_status(all: &[u64]) -> bool {
+    for bits in all {
+        if Status::unpack(*bits).is_some() {
+            return true;
+        }
+    }
+    false
+}
+
+/// Whether some row has one of these bits.
+fn some_row(all: &[u64]) -> bool {
+    for bits in all {
+        if Row::unpack(*bits).is_some() {
+            return true;
+        }
+    }
+    false
+}
+
 #[test]
 fn bits_of_nothing(rt: HostRuntime) {
-    let words: [u64; 4] = [
+    let words = [
         0x0001_0000_0000_0005,
         0x4040_0000_0000_0009,
         0x8100_0000_0000_0001,
         0xd000_0000_0000_0001,
     ];
-    for bits in words {
-        assert_eq!(rt; Word::unpack(bits), None);
-    }
-    assert_eq!(rt; Gate::unpack(0x0001_0000_0000_0007), None);
-    for bits in [0x0000_0000_0001_0003, 0x4000_0000_0000_0003] {
-        assert_eq!(rt; Door::unpack(bits), None);
-    }
-    let statuses: [u64; 5] = [
+    let statuses = [
         0x1000_0000_0000_0001,
         0x3001_0000_0000_0000,
         0x4100_0000_0000_0000,
         0x60ff_0000_0000_0000,
         0x7000_0000_0000_0000,
     ];
-    for bits in statuses {
-        assert_eq!(rt; Status::unpack(bits), None);
-    }
-    for bits in [0x02f5_0000_0000_0009, 0x02ff_0000_0000_0009] {
-        assert_eq!(rt; Row::unpack(bits), None);
-    }
+    assert!(rt; !some_word(&words));
+    assert!(rt; Gate::unpack(0x0001_0000_0000_0007).is_none());
+    assert!(rt; !some_door(&[0x0000_0000_0001_0003, 0x4000_0000_0000_0003]));
+    assert!(rt; !some_status(&statuses));
+    assert!(rt; !some_row(&[0x02f5_0000_0000_0009, 0x02ff_0000_0000_0009]));
 }
 
 #[test]

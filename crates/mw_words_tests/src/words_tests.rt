@@ -8,6 +8,23 @@ fn entry(addr: u16, new: u64) -> Entry {
     }
 }
 
+/// Whether these entries are a change of four words, or none, as is wanted; and a copy of them is the same.
+fn is_so(entries: &[Entry], wanted: bool) -> bool {
+    let Ok(entries) = Entries::try_from(entries) else {
+        return false;
+    };
+    let is_so = is_change(&entries, 4) == wanted && copy_of(&entries) == entries;
+    is_so && Job::Cas(entries).copy().is_well_formed(4) == wanted
+}
+
+/// Whether a name with these bytes has the same copy.
+fn is_copied(bytes: &[u8]) -> bool {
+    match Name::try_from(bytes) {
+        Ok(name) => copy_of_name(&name) == name,
+        Err(_) => false,
+    }
+}
+
 #[test]
 fn changes_that_are_well_formed_and_not(rt: HostRuntime) {
     let cases: [(&[Entry], bool); 6] = [
@@ -19,15 +36,7 @@ fn changes_that_are_well_formed_and_not(rt: HostRuntime) {
         (&[entry(2, 1), entry(2, 1)], false),
     ];
     for (entries, wanted) in cases {
-        match Entries::try_from(entries) {
-            Ok(entries) => {
-                assert_eq!(rt; is_change(&entries, 4), wanted);
-                assert_eq!(rt; copy_of(&entries), entries);
-                let job = Job::Cas(entries);
-                assert_eq!(rt; job.copy().is_well_formed(4), wanted);
-            }
-            Err(_) => assert!(rt; false, "there is room"),
-        }
+        assert!(rt; is_so(entries, wanted), "{entries:?}");
     }
     assert!(rt; Job::Get(3).is_well_formed(4));
     assert!(rt; !Job::Get(4).copy().is_well_formed(4));
@@ -37,10 +46,7 @@ fn changes_that_are_well_formed_and_not(rt: HostRuntime) {
 fn names(rt: HostRuntime) {
     for name in ["t", "a-0", "abcdefghijklmnop"] {
         assert!(rt; is_name(name.as_bytes()), "{name}");
-        match Name::try_from(name.as_bytes()) {
-            Ok(name) => assert_eq!(rt; copy_of_name(&name), name),
-            Err(_) => assert!(rt; false, "there is room"),
-        }
+        assert!(rt; is_copied(name.as_bytes()), "{name}");
     }
     for text in ["", "T", "0a", "-a", "a b", "aB", "abcdefghijklmnopq"] {
         assert!(rt; !is_name(text.as_bytes()), "{text}");

@@ -8,7 +8,7 @@ use Rattle.mw_actor.specs.Program.{tells}
 use Rattle.mw_table.proofs.Driving.{carried_on, drives_so, is_file}
 use Rattle.mw_table.specs.Carried.{IsCarried}
 use Rattle.mw_core.specs.Advancing.{IsTold}
-use Rattle.mw_core.proofs.Driven.{plain_so, runs_still, step_made, stood_before}
+use Rattle.mw_core.proofs.Driven.{busy_so, plain_so, runs_still, step_made, stood_before}
 use Rattle.mw_core.proofs.calls.Core.advance.Goals as goal
 
 pub step-got-requires : goal.step-got-requires
@@ -42,3 +42,8 @@ returns-clause-carried c =
     let running = runs_still actor (sym (c.is_some.ensures ∙ ap is_some c.reply.ensures) ∙ c.if-is_some.false) in
     let told : IsTold new actor c.tell.new.self got = c.tell.ensures ∙ ap (tells actor (news_of (place (asks actor)) got)) c.attempt.ensures in
     subst (λ (one : Acting). IsCarried new one) (sym told) (carried_on c.args.pass.now new actor got c.requires.carried running c.step-got.ensures.worker c.step-got.ensures.took)
+
+pub returns-clause-idle : goal.returns-clause-idle
+returns-clause-idle c =
+    let running = runs_still c.args.actor.now (sym (c.is_some.ensures ∙ ap is_some c.reply.ensures) ∙ c.if-is_some.false) in
+    λ none. busy_so c.step-got.new.pass c.tell.new.self (returns-clause-carried c) none ∙ sym (busy_so c.args.pass.now c.args.actor.now c.requires.carried running)

@@ -1,0 +1,89 @@
+-- Changes that have no word in common, and the change that may be sealed.
+use Rattle.std.proofs.Common.{◌≡◌, ℕ, zero, suc, ◌<◌, ◌==◌, ◌&&◌, ◌||◌, not, Bool, true, false, List, [], ◌∷◌, refl, sym, ap, ◌∙◌, inl, inr, arith}
+use Rattle.std.specs.List.{list_any}
+use Rattle.std.proofs.lemmas.Bool.{cases_eq, cases_lt, and_parts, or_cases, eqb-true}
+use Rattle.mw_words.specs.declared.jobs.Entry.{Entry}
+use Rattle.mw_record.specs.Records.{holds}
+use Rattle.mw_record.specs.Layout.{pairs_of}
+use Rattle.mw_file.specs.declared.place_states.PlaceState.{PlaceState}
+use Rattle.mw_file.specs.declared.place_states.Stage.TheVariants.{Free as FreeStage, Prepared as PreparedStage, Sealed as SealedStage}
+use Rattle.mw_file.specs.PlaceStates.{MaySeal}
+use Rattle.mw_world_file.specs.Devices.{stage_told}
+use Rattle.mw_world_file.specs.Files.{File, Place, Empty, Prepared, Sealed, is_empty, is_prepared, is_sealed, entries_in, entries_at, share_a_word, is_apart}
+use Rattle.mw_book.specs.Shown.{ArePlaced}
+
+-- the test of all places, at one of them
+apart_at : (file : File) (entries : List Entry) (n k : ℕ) → is_apart file entries n ≡ true → k < n → not (is_sealed (file.places k) && share_a_word entries (entries_at file k)) ≡ true
+apart_at file entries zero k all lt = absurd (let e : ⊥ = omega (arith, lt) in e)
+apart_at file entries (suc n) k all lt =
+    let both = and_parts (is_apart file entries n) (not (is_sealed (file.places n) && share_a_word entries (entries_at file n))) all in
+    elim (cases_eq k n) [
+      | inl same ↦ ap (λ j. not (is_sealed (file.places j) && share_a_word entries (entries_at file j))) same ∙ both.1
+      | inr other ↦ apart_at file entries n k both.0 (omega (arith, lt, other))
+    ]
+
+-- an address among the entries of a change
+holds_word : (entries : List Entry) (a : ℕ) → holds (pairs_of entries) a ≡ list_any (λ other. other.addr == a) entries
+holds_word [] a = refl
+holds_word (e ∷ entries) a = ap (λ b. (e.addr == a) || b) (holds_word entries a)
+
+neither : (a b : Bool) → (a || b) ≡ false → (a ≡ false) × (b ≡ false)
+neither false b is = (refl, is)
+neither true b is = absurd (cc)
+
+-- changes that share no word have no address in common
+none_common : (these those : List Entry) (a : ℕ) → share_a_word these those ≡ false → holds (pairs_of these) a ≡ true → holds (pairs_of those) a ≡ false
+none_common [] those a none held = absurd (cc)
+none_common (e ∷ these) those a none held =
+    let apart = neither (list_any (λ other. other.addr == e.addr) those) (share_a_word these those) none in
+    elim (or_cases (e.addr == a) (holds (pairs_of these) a) held) [
+      | inl here ↦
+          let is : e.addr ≡ a = eqb-true e.addr a here in
+          holds_word those a ∙ ap (λ b. list_any (λ other. other.addr == b) those) (sym is) ∙ apart.0
+      | inr there ↦ none_common these those a apart.1 there
+    ]
+
+none_shared : (p : Place) (entries : List Entry) → stage_told p ≡ SealedStage → not (is_sealed p && share_a_word entries (entries_in p)) ≡ true → share_a_word entries (entries_in p) ≡ false
+none_shared Empty entries is test = absurd (let e : FreeStage ≡ SealedStage = is in cc)
+none_shared (Prepared others) entries is test = absurd (let e : PreparedStage ≡ SealedStage = is in cc)
+none_shared (Sealed others) entries is test = by (share_a_word entries others) refl where
+  by : (b : Bool) → share_a_word entries others ≡ b → b ≡ false
+  by false same = refl
+  by true same = absurd (let e : false ≡ true = sym (ap not same) ∙ test in cc)
+
+busy_sealed : (p : Place) → stage_told p ≡ SealedStage → is_empty p ≡ false
+busy_sealed Empty is = absurd (let e : FreeStage ≡ SealedStage = is in cc)
+busy_sealed (Prepared entries) is = refl
+busy_sealed (Sealed entries) is = refl
+
+busy_prepared : (p : Place) → is_prepared p ≡ true → is_empty p ≡ false
+busy_prepared Empty is = absurd (let e : false ≡ true = is in cc)
+busy_prepared (Prepared entries) is = refl
+busy_prepared (Sealed entries) is = refl
+
+-- a place that is told as prepared, or as sealed
+pub prepared_stage : (p : Place) → is_prepared p ≡ true → stage_told p ≡ PreparedStage
+prepared_stage Empty is = absurd (let e : false ≡ true = is in cc)
+prepared_stage (Prepared entries) is = refl
+prepared_stage (Sealed entries) is = absurd (let e : false ≡ true = is in cc)
+
+pub sealed_stage : (p : Place) → is_sealed p ≡ true → stage_told p ≡ SealedStage
+sealed_stage Empty is = absurd (let e : false ≡ true = is in cc)
+sealed_stage (Prepared entries) is = absurd (let e : false ≡ true = is in cc)
+sealed_stage (Sealed entries) is = refl
+
+-- the change of a prepared place, apart from the sealed ones, may be sealed
+pub may_seal : (states : List PlaceState) (places : ℕ) (file : File) (place : ℕ) → ArePlaced states places file.places → place < places
+    → is_prepared (file.places place) ≡ true → is_apart file (entries_at file place) places ≡ true → MaySeal states place
+may_seal states places file place placed within prepared all = record {
+  prepared = placed.stages place within ∙ prepared_stage (file.places place) prepared;
+  apart = λ other a sealed held. elim (cases_lt other places) [
+    | inl lt ↦
+        let told : stage_told (file.places other) ≡ SealedStage = sym (placed.stages other lt) ∙ sealed in
+        let none = none_shared (file.places other) (entries_at file place) told (apart_at file (entries_at file place) places other all lt) in
+        let mine = placed.writes place within (busy_prepared (file.places place) prepared) in
+        let its = placed.writes other lt (busy_sealed (file.places other) told) in
+        ap (λ ps. holds ps a) its ∙ none_common (entries_at file place) (entries_at file other) a none (sym (ap (λ ps. holds ps a) mine) ∙ held)
+    | inr past ↦ absurd (let e : FreeStage ≡ SealedStage = sym (placed.further other past) ∙ sealed in cc)
+  ];
+}

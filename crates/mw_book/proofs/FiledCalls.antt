@@ -1,0 +1,284 @@
+-- Calls on a book that are made, and calls in which the device fails.
+use Rattle.std.proofs.Common.{◌≡◌, ℕ, ◌+◌, ◌<◌, ◌≤◌, true, false, List, [], length, Some, Result, Ok, Err, is_err, slice_set, nat_le, IsTrue, refl, sym, ap, subst, ◌∙◌, arith}
+use Rattle.std.proofs.lemmas.Bool.{and_from, le-leb}
+use Rattle.std.proofs.lemmas.Option.{same_Some}
+use Rattle.mw_words.specs.declared.limits.TheConstants.{MAX_POOL}
+use Rattle.mw_words.specs.declared.jobs.Entry.{Entry}
+use Rattle.mw_words.specs.Change.{put}
+use Rattle.mw_look.specs.declared.steps.Call.{Call}
+use Rattle.mw_look.specs.declared.steps.Call.TheVariants.{Prepare as PrepareCall, Seal as SealCall, Settle as SettleCall, Cancel as CancelCall}
+use Rattle.mw_disk.specs.Facts.{Facts}
+use Rattle.mw_disk.specs.Runs.{Good, Later}
+use Rattle.mw_disk.proofs.RunLaws.{later_refl, was_honest, good_none}
+use Rattle.mw_record.specs.Records.{Pairs, put_pairs}
+use Rattle.mw_record.specs.Layout.{pairs_of}
+use Rattle.mw_record.proofs.ReadAgain.{put-put_pairs}
+use Rattle.mw_lone.proofs.SoundStores.{length-put}
+use Rattle.mw_file.specs.declared.place_states.Stage.{Stage}
+use Rattle.mw_file.specs.declared.place_states.Stage.TheVariants.{Free as FreeStage, Prepared as PreparedStage, Sealed as SealedStage}
+use Rattle.mw_file.specs.declared.tenant_file.TenantFile.{TenantFile}
+use Rattle.mw_file.specs.declared.tenant_file.FileFault.{FileFault}
+use Rattle.mw_file.specs.declared.tenant_file.FileFault.TheVariants.{Disk, Failed}
+use Rattle.mw_file.specs.File.{disk_of, states_of, has_failed, WentWell, MetFault, Ends as FileEnds}
+use Rattle.mw_file.specs.Keeps.{Keeps, CrashSafe, ContentsStay, ChangeIsSealed}
+use Rattle.mw_file.specs.PlaceStates.{is_free_stage, free_place, stage_of, writes_of_place, IsStaged}
+use Rattle.mw_world_file.specs.Calls.{fails_on, place_for, device_calls, is_made, doubt_of}
+use Rattle.mw_world_file.specs.Crashes.{at_stake}
+use Rattle.mw_world_file.specs.Files.{File, Empty, Prepared, Sealed, entries_at, broken, prepared, sealed, emptied}
+use Rattle.mw_world_file.specs.Maps.{upd}
+use Rattle.mw_world_file.proofs.KeptPlaces.{set_number}
+use Rattle.mw_book.specs.declared.answers.Filed.{Filed}
+use Rattle.mw_book.specs.declared.answers.Filed.TheVariants.{Made, Broken, Untouched}
+use Rattle.mw_book.specs.declared.kept.Book.{Book}
+use Rattle.mw_book.specs.Crashes.{LeavesEither}
+use Rattle.mw_book.specs.Ends.{FailedAt}
+use Rattle.mw_book.specs.Filed.{IsFiled}
+use Rattle.mw_book.specs.Permits.{HasPlace}
+use Rattle.mw_book.specs.Held.{states_in, disk_in}
+use Rattle.mw_book.specs.Shown.{ArePlaced, Shows, HasParts, place_at}
+use Rattle.mw_book.proofs.FoundPlaces.{found_at}
+use Rattle.mw_book.proofs.ShownFiles.{shows_parts, on_disk, on_same, leaves_either, untouched, there_held, failed_as, placed_in, keeps_in, certain, same_place, place_within, writes_called, as_many}
+use Rattle.mw_book.proofs.StagedPlaces.{placed_on, placed_as}
+
+-- a call that is known by another name
+pub filed_as : {D : Type 0} (facts : D → Facts) (call other : Call) (slot : ℕ) (entries : List Entry) (old new : Book D) (result : Filed) → call ≡ other → IsFiled facts other slot entries old new result
+    → IsFiled facts call slot entries old new result
+filed_as facts call other slot entries old new result same is = subst (λ k. IsFiled facts k slot entries old new result) (sym same) is
+
+-- a call on a file that had failed before
+pub refused : {D : Type 0} (facts : D → Facts) (call : Call) (slot : ℕ) (entries : List Entry) (old : Book D) → old.has_failed ≡ true → ((file : File) → fails_on call file ≡ file.has_failed)
+    → (call ≡ CancelCall → ⊥) → IsFiled facts call slot entries old old Untouched
+refused facts call slot entries old failed fails other = record {
+  ends = λ file shows. record { refused = fails file ∙ shows.same_failed ∙ failed; same = refl };
+  moments = λ file shows. untouched facts old.held file.contents file.doubt shows.stands;
+  later = on_same facts Later old.held later_refl;
+  quiet = λ is. absurd (other is);
+  words = refl;
+  places = refl;
+}
+
+-- a call that answered no Ok on a file that hadn't failed met the fault
+pub met_fault : {D T : Type 0} (facts : D → Facts) (calls : ℕ) (held now : TenantFile D) (r : Result T FileFault) → is_err r ≡ true → has_failed held ≡ false → FileEnds facts calls held now r
+    → MetFault facts calls held now
+met_fault facts calls held now (Ok x) bad sound ends = absurd (let e : false ≡ true = bad in cc)
+met_fault facts calls held now (Err Disk) bad sound ends = ends
+met_fault facts calls held now (Err Failed) bad sound ends = absurd (let e : true ≡ false = sym ends.before ∙ sound in cc)
+
+-- what a seal leaves, by its answer
+sealed_well : {D : Type 0} (facts : D → Facts) (held now : TenantFile D) (w : Pairs) (r : Result (Unit {0}) FileFault) → is_err r ≡ false → ChangeIsSealed facts held now w r
+    → IsTrue (facts (disk_of held)).honest → (contents : List ℕ) (doubt : Pairs) → Keeps facts held contents doubt → CrashSafe facts held now contents w (put_pairs w contents) []
+sealed_well facts held now w (Ok x) well safe honest contents doubt keeps = safe honest contents doubt keeps
+sealed_well facts held now w (Err fault) well safe honest contents doubt keeps = absurd (let e : true ≡ false = well in cc)
+
+sealed_badly : {D : Type 0} (facts : D → Facts) (calls : ℕ) (held now : TenantFile D) (w : Pairs) (r : Result (Unit {0}) FileFault) → is_err r ≡ true → has_failed held ≡ false → FileEnds facts calls held now r
+    → ChangeIsSealed facts held now w r → IsTrue (facts (disk_of held)).honest → (contents : List ℕ) (doubt : Pairs) → Keeps facts held contents doubt → CrashSafe facts held now contents w contents w
+sealed_badly facts calls held now w (Ok x) bad sound ends safe honest contents doubt keeps = absurd (let e : false ≡ true = bad in cc)
+sealed_badly facts calls held now w (Err Disk) bad sound ends safe honest contents doubt keeps = safe honest contents doubt keeps
+sealed_badly facts calls held now w (Err Failed) bad sound ends safe honest contents doubt keeps = absurd (let e : true ≡ false = sym ends.before ∙ sound in cc)
+
+-- the number of the call that failed is one of them
+failed_within : (calls well : ℕ) → well < calls → is_made calls (well + 1) ≡ true
+failed_within calls well fewer = and_from (nat_le 1 (well + 1)) (nat_le (well + 1) calls) (le-leb 1 (well + 1) (omega arith)) (le-leb (well + 1) calls (omega (arith, fewer)))
+
+-- the place of a slot's change is not free
+pub busy_in : {D : Type 0} (old : Book D) (held : TenantFile D) (slot : ℕ) (stage : Stage) → old.held ≡ Some held → stage_of (states_in old.held) (place_at old slot) ≡ stage → is_free_stage stage ≡ false
+    → is_free_stage (stage_of (states_of held) (place_at old slot)) ≡ false
+busy_in old held slot stage is_old at busy = ap (λ h. is_free_stage (stage_of (states_in h) (place_at old slot))) (sym is_old) ∙ ap is_free_stage at ∙ busy
+
+-- The file in memory that the old book holds has become the one that the new book holds.
+module _ {D : Type 0} (facts : D → Facts) (old new : Book D) (held now : TenantFile D) (is_old : old.held ≡ Some held) (later : Later (facts (disk_of held)) (facts (disk_of now))) where
+  -- what it stands for is asked on a disk that is honest still
+  still : (contents : List ℕ) (doubt : Pairs) → (IsTrue (facts (disk_of held)).honest → Keeps facts now contents doubt) → IsTrue (facts (disk_of now)).honest → Keeps facts now contents doubt
+  still contents doubt keeps honest = keeps (was_honest (facts (disk_of held)) (facts (disk_of now)) later honest)
+
+  -- a device call of it failed
+  module _ (parts : HasParts new (Some now) old.words old.places old.place_of true) (sound : old.has_failed ≡ false) (calls : ℕ) (met : MetFault facts calls held now)
+      (call : Call) (slot : ℕ) (entries : List Entry) (other : call ≡ CancelCall → ⊥) (fails : (file : File) → fails_on call file ≡ file.has_failed) where
+    pub broke : ((file : File) → Shows facts old file → calls ≡ device_calls call (entries_at file (place_for call file old.places slot)))
+        → ((file : File) → Shows facts old file → IsTrue (facts (disk_of held)).honest → Keeps facts now file.contents (pairs_of (doubt_of call (entries_at file (place_for call file old.places slot)))))
+        → ((file : File) → Shows facts old file → LeavesEither file.contents (at_stake call file (place_for call file old.places slot)) (facts (disk_of held)) (facts (disk_of now)))
+        → IsFiled facts call slot entries old new Broken
+    broke many keeps leaves = record {
+      ends = λ file shows.
+          let place : ℕ = place_for call file old.places slot in
+          let doubt : List Entry = doubt_of call (entries_at file place) in
+          let made : ℕ = device_calls call (entries_at file place) in
+          record {
+            began = fails file ∙ shows.same_failed ∙ sound;
+            number = met.made.well + 1;
+            within = ap (λ n. is_made n (met.made.well + 1)) (sym (many file shows)) ∙ failed_within calls met.made.well met.made.fewer;
+            made = on_disk facts (FailedAt made (met.made.well + 1)) old.held new.held held now is_old parts.is_held
+                (subst (λ n. FailedAt n (met.made.well + 1) (facts (disk_of held)) (facts (disk_of now))) (many file shows) (record { failed = met.made; at = refl }));
+            shows = shows_parts facts new (Some now) old.words old.places old.place_of true (broken file doubt) parts (record {
+              same_words = shows.same_words;
+              same_places = placed_as (states_of held) (states_of now) old.places file.places met.states (placed_in facts old held is_old file shows);
+              same_place_of = shows.same_place_of;
+              same_failed = refl;
+              stands = still file.contents (pairs_of doubt) (keeps file shows);
+            });
+          };
+      moments = λ file shows.
+          on_disk facts (LeavesEither file.contents (at_stake call file (place_for call file old.places slot))) old.held new.held held now is_old parts.is_held (leaves file shows);
+      later = on_disk facts Later old.held new.held held now is_old parts.is_held later;
+      quiet = λ is. absurd (other is);
+      words = parts.is_words;
+      places = parts.is_places;
+    }
+
+  -- a call that leaves the words, and the change in doubt
+  module _ (safe : ContentsStay facts held now) where
+    stays : (file : File) → Shows facts old file → IsTrue (facts (disk_of held)).honest → CrashSafe facts held now file.contents (pairs_of file.doubt) file.contents (pairs_of file.doubt)
+    stays file shows honest = safe honest file.contents (pairs_of file.doubt) (keeps_in facts old held is_old file shows honest)
+
+    stays_safe : (file : File) → Shows facts old file → LeavesEither file.contents file.doubt (facts (disk_of held)) (facts (disk_of now))
+    stays_safe file shows honest = leaves_either (facts (disk_of held)) (facts (disk_of now)) (length (states_of held)) file.contents file.doubt (stays file shows honest).moments
+
+    stays_certain : old.has_failed ≡ false → (file : File) → Shows facts old file → IsTrue (facts (disk_of held)).honest → Keeps facts now file.contents []
+    stays_certain sound file shows honest =
+        subst (λ doubt. Keeps facts now file.contents doubt) (certain facts old held is_old file shows sound honest) (stays file shows honest).after
+
+    -- a prepare
+    pub prepare_broken : (slot : ℕ) (entries : List Entry) → HasParts new (Some now) old.words old.places old.place_of true → old.has_failed ≡ false → MetFault facts 2 held now
+        → IsFiled facts PrepareCall slot entries old new Broken
+    prepare_broken slot entries parts sound met =
+        broke parts sound 2 met PrepareCall slot entries (λ is. let e : PrepareCall ≡ CancelCall = is in cc) (λ file. refl) (λ file shows. refl) (stays_certain sound) stays_safe
+
+    pub prepare_made : (slot place : ℕ) (entries : List Entry) → HasParts new (Some now) old.words old.places (slice_set old.place_of slot place) old.has_failed → old.has_failed ≡ false
+        → slot < MAX_POOL → MAX_POOL ≤ length old.place_of → WentWell facts 2 held now → free_place (states_of held) ≡ Some place
+        → IsStaged (states_of held) (states_of now) place PreparedStage (pairs_of entries) → HasPlace (states_in old.held) old.places → IsFiled facts PrepareCall slot entries old new Made
+    prepare_made slot place entries parts sound within long went found staged room = record {
+      ends = λ file shows.
+          let placed = placed_in facts old held is_old file shows in
+          let same = found_at (states_of held) old.places file (there_held facts old held is_old) placed place found in
+          let one : room.place ≡ place = same_Some room.place place (sym room.free ∙ ap (λ h. free_place (states_in h)) is_old ∙ found) in
+          record {
+            began = shows.same_failed ∙ sound;
+            made = on_disk facts (Good 2) old.held new.held held now is_old parts.is_held went.made;
+            shows = subst (λ p. Shows facts new (prepared file slot p entries)) (sym same)
+                (shows_parts facts new (Some now) old.words old.places (slice_set old.place_of slot place) old.has_failed (prepared file slot place entries) parts (record {
+                  same_words = shows.same_words;
+                  same_places = placed_on (states_of held) (states_of now) old.places place file.places (Prepared entries) PreparedStage (pairs_of entries) placed staged (let lt = room.within in omega (arith, one, lt)) refl (λ busy. refl);
+                  same_place_of = set_number file.place_of old.place_of slot place MAX_POOL long within shows.same_place_of;
+                  same_failed = shows.same_failed;
+                  stands = still file.contents (pairs_of file.doubt) (λ honest. (stays file shows honest).after);
+                }));
+          };
+      moments = λ file shows. on_disk facts (LeavesEither file.contents file.doubt) old.held new.held held now is_old parts.is_held (stays_safe file shows);
+      later = on_disk facts Later old.held new.held held now is_old parts.is_held later;
+      quiet = λ is. absurd (let e : PrepareCall ≡ CancelCall = is in cc);
+      words = parts.is_words;
+      places = parts.is_places;
+    }
+
+    -- A place that is empty again.
+    module _ (slot : ℕ) (within : slot < MAX_POOL) (busy : is_free_stage (stage_of (states_of held) (place_at old slot)) ≡ false) (w : Pairs)
+        (staged : IsStaged (states_of held) (states_of now) (place_at old slot) FreeStage w) (parts : HasParts new (Some now) old.words old.places old.place_of old.has_failed) where
+      emptied_shown : (file : File) → Shows facts old file → Shows facts new (emptied file (file.place_of slot))
+      emptied_shown file shows =
+          let place : ℕ = place_at old slot in
+          subst (λ p. Shows facts new (emptied file p)) (sym (same_place facts old held is_old file shows slot within busy))
+          (shows_parts facts new (Some now) old.words old.places old.place_of old.has_failed (emptied file place) parts (record {
+            same_words = shows.same_words;
+            same_places = placed_on (states_of held) (states_of now) old.places place file.places Empty FreeStage w (placed_in facts old held is_old file shows) staged
+                (place_within facts old held is_old file shows slot within busy) refl (λ none. absurd (let e : true ≡ false = none in cc));
+            same_place_of = shows.same_place_of;
+            same_failed = shows.same_failed;
+            stands = still file.contents (pairs_of file.doubt) (λ honest. (stays file shows honest).after);
+          }))
+
+      pub cancel_made : (entries : List Entry) → disk_of now ≡ disk_of held → IsFiled facts CancelCall slot entries old new Made
+      cancel_made entries same = record {
+        ends = λ file shows. record {
+          began = refl;
+          made = on_disk facts (Good 0) old.held new.held held now is_old parts.is_held
+              (subst (λ d. Good 0 (facts (disk_of held)) (facts d)) (sym same) (good_none (facts (disk_of held))));
+          shows = emptied_shown file shows;
+        };
+        moments = λ file shows. on_disk facts (LeavesEither file.contents file.doubt) old.held new.held held now is_old parts.is_held (stays_safe file shows);
+        later = on_disk facts Later old.held new.held held now is_old parts.is_held later;
+        quiet = λ is. ap disk_in parts.is_held ∙ ap Some same ∙ sym (ap disk_in is_old);
+        words = parts.is_words;
+        places = parts.is_places;
+      }
+
+      pub settle_made : (entries : List Entry) → old.has_failed ≡ false → WentWell facts (length (writes_of_place (states_of held) (place_at old slot)) + 3) held now
+          → IsFiled facts SettleCall slot entries old new Made
+      settle_made entries sound went = record {
+        ends = λ file shows.
+            let many = ap (λ n. n + 3) (as_many facts old held is_old file shows slot within busy) in
+            record {
+              began = shows.same_failed ∙ sound;
+              made = on_disk facts (Good (length (entries_at file (file.place_of slot)) + 3)) old.held new.held held now is_old parts.is_held
+                  (subst (λ n. Good n (facts (disk_of held)) (facts (disk_of now))) many went.made);
+              shows = emptied_shown file shows;
+            };
+        moments = λ file shows. on_disk facts (LeavesEither file.contents file.doubt) old.held new.held held now is_old parts.is_held (stays_safe file shows);
+        later = on_disk facts Later old.held new.held held now is_old parts.is_held later;
+        quiet = λ is. absurd (let e : SettleCall ≡ CancelCall = is in cc);
+        words = parts.is_words;
+        places = parts.is_places;
+      }
+
+    pub settle_broken : (slot : ℕ) (entries : List Entry) → slot < MAX_POOL → is_free_stage (stage_of (states_of held) (place_at old slot)) ≡ false
+        → HasParts new (Some now) old.words old.places old.place_of true → old.has_failed ≡ false → MetFault facts (length (writes_of_place (states_of held) (place_at old slot)) + 3) held now
+        → IsFiled facts SettleCall slot entries old new Broken
+    settle_broken slot entries within busy parts sound met =
+        broke parts sound (length (writes_of_place (states_of held) (place_at old slot)) + 3) met SettleCall slot entries (λ is. let e : SettleCall ≡ CancelCall = is in cc) (λ file. refl)
+        (λ file shows. ap (λ n. n + 3) (as_many facts old held is_old file shows slot within busy)) (stays_certain sound) stays_safe
+
+  -- A seal.
+  module _ (slot : ℕ) (within : slot < MAX_POOL) (busy : is_free_stage (stage_of (states_of held) (place_at old slot)) ≡ false) (sound : old.has_failed ≡ false) (r : Result (Unit {0}) FileFault)
+      (safe : ChangeIsSealed facts held now (writes_of_place (states_of held) (place_at old slot)) r) where
+    safe_as : (file : File) → Shows facts old file → ChangeIsSealed facts held now (pairs_of (entries_at file (file.place_of slot))) r
+    safe_as file shows = subst (λ w. ChangeIsSealed facts held now w r) (writes_called facts old held is_old file shows slot within busy) safe
+
+    pub seal_broken : (entries : List Entry) → is_err r ≡ true → FileEnds facts 2 held now r → HasParts new (Some now) old.words old.places old.place_of true → IsFiled facts SealCall slot entries old new Broken
+    seal_broken entries bad ends parts =
+        broke parts sound 2 (met_fault facts 2 held now r bad (failed_as facts old held is_old ∙ sound) ends) SealCall slot entries (λ is. let e : SealCall ≡ CancelCall = is in cc) (λ file. refl)
+        (λ file shows. refl) (λ file shows honest. (left file shows honest).after)
+        (λ file shows honest. leaves_either (facts (disk_of held)) (facts (disk_of now)) (length (states_of held)) file.contents (entries_at file (file.place_of slot)) (left file shows honest).moments) where
+          left : (file : File) → Shows facts old file → IsTrue (facts (disk_of held)).honest
+              → CrashSafe facts held now file.contents (pairs_of (entries_at file (file.place_of slot))) file.contents (pairs_of (entries_at file (file.place_of slot)))
+          left file shows honest =
+              sealed_badly facts 2 held now (pairs_of (entries_at file (file.place_of slot))) r bad (failed_as facts old held is_old ∙ sound) ends (safe_as file shows) honest
+              file.contents (pairs_of file.doubt) (keeps_in facts old held is_old file shows honest)
+
+    pub seal_made : (entries : List Entry) → is_err r ≡ false → WentWell facts 2 held now → IsStaged (states_of held) (states_of now) (place_at old slot) SealedStage (writes_of_place (states_of held) (place_at old slot))
+        → HasParts new (Some now) old.words old.places old.place_of old.has_failed → IsFiled facts SealCall slot entries old new Made
+    seal_made entries well went staged parts = record {
+      ends = λ file shows. record {
+        began = shows.same_failed ∙ sound;
+        made = on_disk facts (Good 2) old.held new.held held now is_old parts.is_held went.made;
+        shows = shown file shows;
+      };
+      moments = λ file shows. on_disk facts (LeavesEither file.contents (entries_at file (file.place_of slot))) old.held new.held held now is_old parts.is_held
+          (λ honest. leaves_either (facts (disk_of held)) (facts (disk_of now)) (length (states_of held)) file.contents (entries_at file (file.place_of slot)) (done file shows honest).moments);
+      later = on_disk facts Later old.held new.held held now is_old parts.is_held later;
+      quiet = λ is. absurd (let e : SealCall ≡ CancelCall = is in cc);
+      words = parts.is_words;
+      places = parts.is_places;
+    } where
+      done : (file : File) → Shows facts old file → IsTrue (facts (disk_of held)).honest
+          → CrashSafe facts held now file.contents (pairs_of (entries_at file (file.place_of slot))) (put_pairs (pairs_of (entries_at file (file.place_of slot))) file.contents) []
+      done file shows honest =
+          sealed_well facts held now (pairs_of (entries_at file (file.place_of slot))) r well (safe_as file shows) honest
+          file.contents (pairs_of file.doubt) (keeps_in facts old held is_old file shows honest)
+
+      stands : (file : File) (shows : Shows facts old file) → IsTrue (facts (disk_of held)).honest → Keeps facts now (put file.contents (entries_at file (file.place_of slot))) (pairs_of file.doubt)
+      stands file shows honest =
+          subst (λ doubt. Keeps facts now (put file.contents (entries_at file (file.place_of slot))) doubt) (sym (certain facts old held is_old file shows sound honest))
+          (subst (λ words. Keeps facts now words []) (sym (put-put_pairs (entries_at file (file.place_of slot)) file.contents)) (done file shows honest).after)
+
+      shown : (file : File) → Shows facts old file → Shows facts new (sealed file (file.place_of slot))
+      shown file shows =
+          let at = same_place facts old held is_old file shows slot within busy in
+          let es : List Entry = entries_at file (file.place_of slot) in
+          shows_parts facts new (Some now) old.words old.places old.place_of old.has_failed (sealed file (file.place_of slot)) parts (record {
+            same_words = length-put file.contents es ∙ shows.same_words;
+            same_places = subst (λ p. ArePlaced (states_of now) old.places (upd file.places p (Sealed es))) (sym at)
+                (placed_on (states_of held) (states_of now) old.places (place_at old slot) file.places (Sealed es) SealedStage (writes_of_place (states_of held) (place_at old slot))
+                (placed_in facts old held is_old file shows) staged (place_within facts old held is_old file shows slot within busy) refl (λ full. writes_called facts old held is_old file shows slot within busy));
+            same_place_of = shows.same_place_of;
+            same_failed = shows.same_failed;
+            stands = still (put file.contents es) (pairs_of file.doubt) (stands file shows);
+          })

@@ -1,0 +1,7 @@
+pub mod ApartChanges
+pub mod FiledCalls
+pub mod FoundPlaces
+pub mod NewBooks
+pub mod PermittedCalls
+pub mod ShownFiles
+pub mod StagedPlaces

@@ -1,0 +1,5 @@
+use Rattle.mw_book.proofs.ShownFiles.{untouched}
+use Rattle.mw_book.proofs.laws.crash_between_calls.Goals as goal
+
+pub returns : goal.returns
+returns g c book file shows = untouched g.D.Disk.facts book.held file.contents file.doubt shows.stands

@@ -1,0 +1,6 @@
+pub mod Crashes
+pub mod Ends
+pub mod Filed
+pub mod Held
+pub mod Permits
+pub mod Shown

@@ -1,8 +1,0 @@
-use Rattle.mw_core.proofs.Dealing.{reached_on}
-use Rattle.mw_core.proofs.test_worlds.step.Goals as goal
-
-pub returns-in-Ok-clause-reached : goal.returns-in-Ok-clause-reached
-returns-in-Ok-clause-reached c = let run = c.requires.reached in reached_on c.step.new.self run.0 _ c.step.result (c.step.ensures.stands run.0 run.1)
-
-pub call-requires : goal.call-requires
-call-requires c = let run = c.requires.reached in record { reached = reached_on c.step.new.self run.0 _ c.step.result (c.step.ensures.stands run.0 run.1) }

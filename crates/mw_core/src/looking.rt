@@ -1,0 +1,275 @@
+//! One pass of a read's program: up to its reply, or back to its first point.
+ghost use Rattle.std.specs.Prelude.{ℕ, ◌≡◌, true, false, is_some, None};
+ghost use Rattle.mw_words.specs.declared.jobs.Job.TheVariants.{Get};
+ghost use Rattle.mw_look.specs.declared.news.News.TheVariants.{SawGate, SawWord, SawNumber, Lost};
+ghost use Rattle.mw_look.specs.Program.{Reading};
+ghost use Rattle.mw_look.specs.Program as looks;
+ghost use Rattle.mw_actor.specs.declared.points.Point.TheVariants.{Read};
+ghost use Rattle.mw_actor.specs.Program.{replied};
+ghost use Rattle.mw_rule.specs.Carrying.{MayCome};
+ghost use Rattle.mw_table.specs.Carried.{IsCarried};
+ghost use Rattle.mw_table.specs.Passes.{IsOf, IsOfSameWorker};
+ghost use Rattle.mw_core.specs.Looking.{EndsAs, IsLook, Looks, MakesFirst, MakesNext};
+ghost use Rattle.mw_core.specs.Looking as looking;
+ghost use Rattle.mw_core.specs.Reasons as reasons;
+
+use crate::calls::Core;
+use mw_actor::{Actor, Point};
+use mw_look::{News, Point as LookPoint, Told, Trail};
+use mw_table::Pass;
+use mw_words::{Gate, Job, MAX_ENTRIES, MAX_PINS, Reply, Status, WORN_NUMBER, Word};
+
+/// Why a read began again. What it held is given back, and it stands at its first step.
+#[derive(Clone, Copy, Debug, PartialEq, Eq)]
+pub enum WhyAgain {
+    /// The word, loaded again, was another one than at first.
+    WordChanged,
+    /// The gate of the slot that the word, or the row of its attempt, names wasn't as these imply: it wasn't
+    /// taken, had no pin, or had another number.
+    GateDiffers,
+    /// The gate has [`MAX_PINS`] pins, the most that there can be.
+    ///
+    /// [`MAX_PINS`]: mw_words::MAX_PINS
+    GateFull,
+    /// The word, or the row of its attempt, names the worn number, under which no slot is used.
+    NumberWorn,
+    /// The gate was no longer as it was loaded when a pin was to be added to it.
+    PinLost,
+    /// None of the entries that a slot can have is the word's.
+    EntryMissing,
+    /// The word is held still by a change that was made and is done with.
+    ChangeDone,
+}
+
+impl Core {
+    /// One pass of the program of a read, in at most 11 + [`MAX_ENTRIES`] steps: up to its reply, or back to
+    /// its first point. The request is a read at its first step. Where the pass is idle the request comes to
+    /// it; else it is the one that the pass carries, as an earlier call has left it.
+    ///
+    /// With the reply the pass is idle. Where the read began again the pass carries it still, at its first
+    /// step, and the request is as it was: the next call with both goes on with it.
+    ///
+    /// [`MAX_ENTRIES`]: mw_words::MAX_ENTRIES
+    pub fn try_look(&self, pass: &mut Pass, actor: &mut Actor) -> Result<Reply, WhyAgain>
+        requires own { IsOf self.now.shared pass.old }
+        requires look { IsLook actor.old }
+        requires comes { pass.old.idle ≡ true → MayCome pass.old.seat.me.0 pass.old.worker actor.old }
+        requires goes_on { pass.old.idle ≡ false → IsCarried pass.old actor.old }
+        ensures own { IsOf self.now.shared pass.new }
+        ensures worker { IsOfSameWorker pass.old pass.new }
+        ensures looks { Looks pass.old pass.new actor.old actor.new result }
+        ensures carried { IsCarried pass.new actor.new }
+    {
+        self.make_first(pass, actor);
+        let mut why = None;
+        while is_under_way(actor) {
+            why = self.make_next(pass, actor).or(why);
+        }
+        end(pass, actor, why)
+    }
+
+    /// The first step of a read, with which it comes to an idle pass: a load of its tenant's door.
+    fn make_first(&self, pass: &mut Pass, actor: &mut Actor)
+        requires own { IsOf self.now.shared pass.old }
+        requires look { IsLook actor.old }
+        requires comes { pass.old.idle ≡ true → MayCome pass.old.seat.me.0 pass.old.worker actor.old }
+        requires goes_on { pass.old.idle ≡ false → IsCarried pass.old actor.old }
+        ensures own { IsOf self.now.shared pass.new }
+        ensures worker { IsOfSameWorker pass.old pass.new }
+        ensures made { (look : IsLook actor.old) → MakesFirst pass.old pass.new actor.old actor.new look.address }
+        ensures carried { IsCarried pass.new actor.new }
+    {
+        if pass.idle() {
+            self.begin(pass, actor);
+        } else {
+            self.advance(pass, actor);
+        }
+    }
+
+    /// The next step of a read that is under way. Why the read turns back there, if it does.
+    fn make_next(&self, pass: &mut Pass, actor: &mut Actor) -> Option<WhyAgain>
+        requires own { IsOf self.now.shared pass.old }
+        requires carried { IsCarried pass.old actor.old }
+        requires running { replied actor.old ≡ None }
+        requires look { (read : Reading) × (actor.old.point ≡ Read read) × (actor.old.job ≡ Get read.address) }
+        ensures own { IsOf self.now.shared pass.new }
+        ensures worker { IsOfSameWorker pass.old pass.new }
+        ensures made { (read : Reading) → actor.old.point ≡ Read read → MakesNext pass.old pass.new actor.old actor.new read result }
+        ensures carried { IsCarried pass.new actor.new }
+    {
+        let point = look_point(actor);
+        let address = address_of(actor);
+        let op = actor.ask();
+        let got = self.shared().step(pass, op);
+        actor.tell(Told {
+            got,
+            next: pass.attempt(),
+        });
+        turns(address, point, News::of(op.place(), got))
+    }
+}
+
+/// Where a read is in its program. Of a change it tells nothing.
+fn look_point(actor: &Actor) -> LookPoint
+    ensures { (read : Reading) → actor.now.point ≡ Read read → result ≡ read.point }
+{
+    match actor.point() {
+        Point::Read(look) => look.point(),
+        _ => LookPoint::ReadDoor,
+    }
+}
+
+/// The address that a read asks for. Of a change it tells nothing.
+fn address_of(actor: &Actor) -> u16
+    ensures { (address : ℕ) → actor.now.job ≡ Get address → result ≡ address }
+{
+    match actor.job() {
+        Job::Get(address) => *address,
+        Job::Cas(_) => 0,
+    }
+}
+
+/// Whether a read is neither at its first point nor at its reply.
+fn is_under_way(actor: &Actor) -> bool
+    ensures { (read : Reading) → actor.now.point ≡ Read read → result ≡ looking.is_under_way read.point }
+{
+    match look_point(actor) {
+        LookPoint::ReadDoor => false,
+        LookPoint::Replied(_) => false,
+        _ => true,
+    }
+}
+
+/// The end of a pass of the program: with the reply, and the pass is idle then; or at the first point, and why.
+fn end(pass: &mut Pass, actor: &Actor, why: Option<WhyAgain>) -> Result<Reply, WhyAgain>
+    requires carried { IsCarried pass.old actor.now }
+    requires why { replied actor.now ≡ None → is_some why ≡ true }
+    ensures ends { EndsAs result pass.old pass.new actor.now why }
+    ensures carried { IsCarried pass.new actor.now }
+{
+    if let Some(reply) = actor.reply() {
+        pass.rest(actor);
+        return Ok(reply);
+    }
+    match why {
+        Some(why) => Err(why),
+        None => unreachable!(),
+    }
+}
+
+/// Why a read turns back at a point, by what it is told there.
+fn turns(address: u16, point: LookPoint, news: News) -> Option<WhyAgain>
+    ensures { result ≡ reasons.turns address point news }
+{
+    match news {
+        News::SawGate(gate) => turns_at_gate(address, point, gate),
+        News::SawWord(word) => turns_at_word(address, point, word),
+        News::SawNumber(number) => turns_at_number(address, point, number),
+        News::Lost => turns_at_loss(address, point),
+        News::SawDoor(_) => None,
+        News::SawStatus(_) => None,
+        News::SawRow(_) => None,
+        News::Won => None,
+        News::Filed(_) => None,
+        News::Junk => None,
+    }
+}
+
+fn turns_at_gate(address: u16, point: LookPoint, gate: Gate) -> Option<WhyAgain>
+    ensures { result ≡ reasons.turns address point (SawGate gate) }
+{
+    match point {
+        LookPoint::ReadGate(trail) => gate_turns(trail, gate),
+        _ => None,
+    }
+}
+
+fn turns_at_word(address: u16, point: LookPoint, word: Word) -> Option<WhyAgain>
+    ensures { result ≡ reasons.turns address point (SawWord word) }
+{
+    match point {
+        LookPoint::ConfirmWord(trail) if word == word_of(trail) => None,
+        LookPoint::ConfirmWord(_) => Some(WhyAgain::WordChanged),
+        LookPoint::RecheckWord { trail, status, .. } => word_turns(trail, status, word),
+        _ => None,
+    }
+}
+
+fn turns_at_number(address: u16, point: LookPoint, number: u64) -> Option<WhyAgain>
+    ensures { result ≡ reasons.turns address point (SawNumber number) }
+{
+    match point {
+        LookPoint::FindEntry { entry, .. } => entry_turns(entry, number == u64::from(address)),
+        _ => None,
+    }
+}
+
+fn turns_at_loss(address: u16, point: LookPoint) -> Option<WhyAgain>
+    ensures { result ≡ reasons.turns address point Lost }
+{
+    match point {
+        LookPoint::Pin { .. } => Some(WhyAgain::PinLost),
+        _ => None,
+    }
+}
+
+fn gate_turns(trail: Trail, gate: Gate) -> Option<WhyAgain>
+    ensures { result ≡ reasons.gate_turns trail gate }
+{
+    let seq = seq_of(trail);
+    if seq >= WORN_NUMBER {
+        Some(WhyAgain::NumberWorn)
+    } else if !gate.taken || gate.pins == 0 || gate.seq != seq {
+        Some(WhyAgain::GateDiffers)
+    } else if gate.pins >= MAX_PINS {
+        Some(WhyAgain::GateFull)
+    } else {
+        None
+    }
+}
+
+fn entry_turns(entry: u8, is_the_words: bool) -> Option<WhyAgain>
+    ensures { result ≡ reasons.entry_turns entry is_the_words }
+{
+    if is_the_words || usize::from(entry) < MAX_ENTRIES - 1 {
+        None
+    } else {
+        Some(WhyAgain::EntryMissing)
+    }
+}
+
+fn word_turns(trail: Trail, status: Status, word: Word) -> Option<WhyAgain>
+    ensures { result ≡ reasons.word_turns trail status word }
+{
+    if word != word_of(trail) {
+        return Some(WhyAgain::WordChanged);
+    }
+    match trail {
+        Trail::Held { .. } if status == Status::DoneYes => Some(WhyAgain::ChangeDone),
+        _ => None,
+    }
+}
+
+/// The word with which a trail began.
+fn word_of(trail: Trail) -> Word
+    ensures { result ≡ looks.word_of trail }
+{
+    match trail {
+        Trail::Held { slot, seq } => Word::Held { slot, seq },
+        Trail::Planted {
+            worker,
+            attempt,
+            ..
+        } => Word::Planted { worker, attempt },
+    }
+}
+
+/// The number under which a trail means its slot.
+fn seq_of(trail: Trail) -> u64
+    ensures { result ≡ looks.seq_of trail }
+{
+    match trail {
+        Trail::Held { seq, .. } => seq,
+        Trail::Planted { row, .. } => row.seq,
+    }
+}

@@ -1,0 +1,10 @@
+pub mod Beside
+pub mod Calling
+pub mod Ending
+pub mod Following
+pub mod GoingOn
+pub mod Leaving
+pub mod Starting
+pub mod Telling
+pub mod Tied
+pub mod Waiting

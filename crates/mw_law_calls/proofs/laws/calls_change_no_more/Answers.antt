@@ -1,0 +1,5 @@
+use Rattle.mw_law_calls.proofs.GoingOn.{calls_change_no_more}
+use Rattle.mw_law_calls.proofs.laws.calls_change_no_more.Goals as goal
+
+pub returns : goal.returns
+returns c = calls_change_no_more

@@ -1,0 +1,123 @@
+-- What the thread knows that makes a call on a file, and that the rule is kept by each step of the call.
+use Rattle.std.specs.Prelude.{ℕ, ◌+◌, ◌≡◌, ◌≢◌, ◌≤◌, ◌<◌, ◌==◌, Bool, true, false, List, [], ◌∷◌, ◌++◌, length, map, slice_index, slice_set, Option, Some, None}
+use Rattle.std.proofs.Common.{refl, sym, ap, subst, ◌∙◌, append-nil, ◌⊎◌, inl, inr, arith}
+use Rattle.std.proofs.lemmas.Bool.Decides.{nat_tests}
+use Rattle.std.proofs.lemmas.Option.{same_Some}
+use mathlib.Core.Option.{some}
+use lib.ListN.{get_elem?}
+use Rattle.atomic_table.specs.Table.{State as Table, keeps}
+use Rattle.mw_words.specs.declared.places.At.TheVariants.{Door as AtDoor, Status as AtStatus}
+use Rattle.mw_words.specs.declared.statuses.Status.{Status}
+use Rattle.mw_look.specs.Places.{pack}
+use Rattle.mw_look.specs.Steps.{op_of}
+use Rattle.mw_actor.specs.Acting.{Acting, own_entries}
+use Rattle.mw_world_file.specs.Files.{File, entries_at}
+use Rattle.mw_world_file.specs.declared.outcomes.Outcome.TheVariants.{Good, Fail}
+use Rattle.mw_world_file.specs.Maps.{upd}
+use Rattle.mw_world.specs.declared.config.Config.{Config}
+use Rattle.mw_world.specs.declared.notes.Note.TheVariants.{Nothing}
+use Rattle.mw_world.specs.Definition.Calls.{Called as CallOn, breaks, called_at, can_be_made, device_calls, doubt_of, fails_on, faults, filed, goes_well, is_made, place_for, skips, starts_from}
+use Rattle.mw_world.specs.Definition.Happenings.{Happening, File as FileEvent}
+use Rattle.mw_world.specs.Definition.State.{State, Account, Opening, tenants_of}
+use Rattle.mw_world.specs.Definition.Turns.{Made, accounted, moved}
+use Rattle.mw_law_calls.specs.Ending.{exchange_of, fault_of, load_of}
+use Rattle.mw_law_calls.specs.Rights.{TellsCall, TellsFile, file_told, rights_broken, rights_filed}
+use Rattle.mw_law_calls.specs.Starting.{HasWords, IsAtCall}
+use Rattle.mw_law_calls.specs.declared.rights.FileRights.{FileRights}
+use Rattle.mw_law_calls.proofs.Ending.{calls_end_well, calls_find_faults, calls_meet_faults, calls_skip}
+use Rattle.mw_law_calls.proofs.Following.{rights_follow_calls, rights_follow_faults}
+use Rattle.mw_law_calls.proofs.Starting.{calls_can_start, calls_have_words}
+use Rattle.mw_law_calls.proofs.Telling.{rights_tell_calls}
+use Rattle.mw_law_knowledge.proofs.Deeds.Keeping.{upd_here}
+use Rattle.mw_rule.specs.declared.views.FoundStatus.{FoundStatus}
+use Rattle.mw_rule.specs.declared.views.Held.{Held}
+use Rattle.mw_rule.specs.declared.views.Reins.{Reins}
+use Rattle.mw_rule.specs.declared.views.View.{View}
+use Rattle.mw_rule.specs.Filing.{Calls, broken_so, fails, filed_so, place_held, places_held}
+use Rattle.mw_rule.specs.Layout.{index_of}
+use Rattle.mw_rule.specs.Rule.{Each, Fits, Holds, HoldsFile, Tied, Waits, WaitsIf, holds_of, times_held, weight}
+use Rattle.mw_rule.specs.Seen.{opening_at}
+use Rattle.mw_rule.proofs.Moving.{its_fits, its_holds}
+use Rattle.mw_rule.proofs.Totals.{weight_own}
+
+module _ (config : Config) (begun : (ℕ → Opening) → List Happening → Type 0) (s : Table Acting View) (tied : Tied config begun s) (id : ℕ) (old : View) (at : get_elem? s.views id ≡ some old)
+    (worker : ℕ) (actor : Acting) (called : CallOn) (held : Held) (by : Calls old worker actor called held) where
+  abbrev before : List Happening
+  before = tied.past.before ++ tied.events
+
+  abbrev quota : ℕ
+  quota = (tied.state.accounts actor.tenant).quota
+
+  abbrev the_file : File
+  the_file = (tied.state.accounts actor.tenant).file
+
+  abbrev slot : ℕ
+  slot = called.change.slot
+
+  pub fits : Fits config tied.past.openings tied.state tied.events old
+  fits = its_fits config begun s tied id old at by.reins by.has.only
+
+  pub holds : Holds config tied.past.openings tied.state tied.events by.reins
+  holds = its_holds config begun s tied id old at by.reins by.has.only
+
+  pub at_call : IsAtCall tied.state by.reins.worker actor called
+  at_call = record { sits = holds.actor ∙ by.carries; comes_to = by.comes_to }
+
+  pub words : HasWords config actor called
+  words = calls_have_words config tied.past.openings before tied.state by.reins.worker actor called tied.past.played at_call
+
+  pub held_file : HoldsFile config tied.state held
+  held_file = (subst (Each (HoldsFile config tied.state)) by.only fits.files).0
+
+  pub tells : TellsFile quota config.pool held.file the_file
+  tells = subst (λ (tenant : ℕ). TellsFile (tied.state.accounts tenant).quota config.pool held.file (tied.state.accounts tenant).file) by.its held_file.tells
+
+  pub same_quota : quota ≡ places_held old called held
+  same_quota = ap (λ (tenant : ℕ). (tied.state.accounts tenant).quota) (sym by.its) ∙ (fits.gave held.file.tenant held_file.there).quota
+
+  low_slot : slot < config.pool
+  low_slot = let is = words.slot in grind (arith, nat_tests, is)
+
+  pub tells_call : TellsCall quota slot called.call (own_entries actor) (file_told held.file) the_file
+  tells_call = rights_tell_calls quota config.pool slot called.call (own_entries actor) held.file the_file tells low_slot
+
+  pub own_file : 1 ≤ holds_of actor.tenant old
+  own_file = subst (λ (all : List Held). 1 ≤ times_held actor.tenant all) (sym by.only) (let one = weight_own held.file.tenant actor.tenant by.its in omega (arith, one))
+
+  -- one right for another, to the same file
+  pub same_right : (after : Held) → after.file.tenant ≡ actor.tenant → (tenant : ℕ) → times_held tenant (after ∷ []) ≡ holds_of tenant old
+  same_right after same tenant =
+      ap (λ (one : ℕ). weight (one == tenant) + 0) (same ∙ sym by.its) ∙ ap (times_held tenant) (sym by.only)
+
+  -- what is held of the file after a call
+  pub held_after : (made : Made) (after : FileRights) → after.tenant ≡ actor.tenant → TellsFile quota config.pool after made.file
+      → Each (HoldsFile config (moved tied.state by.reins.worker actor made)) (record held { file = after; found = None } ∷ [])
+  held_after made after same so =
+      let state = tied.state in
+      let account = upd_here state.accounts actor.tenant (accounted (state.accounts actor.tenant) (state.seats by.reins.worker) made state) in
+      let next = moved state by.reins.worker actor made in (
+        record {
+          there = subst (λ (tenant : ℕ). tenant < tenants_of config) (sym same) words.tenant;
+          tells = subst (λ (tenant : ℕ). TellsFile (next.accounts tenant).quota config.pool after (next.accounts tenant).file) (sym same)
+              (subst (λ (one : Account). TellsFile one.quota config.pool after one.file) (sym account) so);
+          waits = tt;
+        },
+        tt,
+      )
+
+  -- the status that was found stands there
+  module _ (status : Status) (found : held.found ≡ Some (record { worker = worker; status = status })) where
+    waits : Waits tied.state held.file.tenant (record { worker = worker; status = status })
+    waits = subst (WaitsIf tied.state held.file.tenant) found held_file.waits
+
+    same_actor : waits.actor ≡ actor
+    same_actor = same_Some waits.actor actor (sym waits.at_call.sits ∙ ap (λ (one : ℕ). (tied.state.seats one).actor) (sym by.has.own) ∙ holds.actor ∙ by.carries)
+
+    same_call : waits.called ≡ called
+    same_call = same_Some waits.called called (sym waits.at_call.comes_to ∙ ap (λ (one : Acting). called_at one.point) same_actor ∙ by.comes_to)
+
+    pub status_is : tied.state.cells.statuses slot ≡ status
+    status_is = ap (λ (one : CallOn). tied.state.cells.statuses one.change.slot) (sym same_call) ∙ waits.is
+
+    pub starts_so : starts_from called.call (tied.state.cells.statuses slot) ≡ true
+    starts_so = ap (starts_from called.call) status_is ∙ ap (λ (one : CallOn). starts_from one.call status) (sym same_call) ∙ waits.starts

@@ -1,0 +1,5 @@
+use Rattle.mw_table.proofs.Meetings.{load_asks}
+use Rattle.mw_table.proofs.shared.Shared.look.Goals as goal
+
+pub load-requires : goal.load-requires
+load-requires c = let asks = load_asks c.args.self.now c.args.seat.now.id c.args.seat.now.me c.requires.live in (c.requires.table, asks.0, asks.1)

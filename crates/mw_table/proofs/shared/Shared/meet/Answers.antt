@@ -1,0 +1,203 @@
+use Rattle.std.proofs.Common.{ap, map, sym, subst, ◌∙◌}
+use Rattle.atomic_table.specs.Table.{Me}
+use Rattle.atomic_table.specs.declared.shared.Seat.{Seat}
+use Rattle.mw_actor.specs.Acting.{Acting}
+use Rattle.mw_rule.specs.declared.views.View.{View}
+use Rattle.mw_rule.specs.Carrying.{Met}
+use Rattle.mw_rule.specs.Dealing.{dealt}
+use Rattle.mw_table.specs.Meeting.{HaveMet}
+use Rattle.mw_table.specs.Numbers.{number_of}
+use Rattle.mw_table.specs.Resting.{has_none}
+use Rattle.mw_table.proofs.Meetings.{Gathered, Heard, first_lives, have_met, its_live, lives, looks_live, one_met, other_met, saw_no_less}
+use Rattle.mw_table.proofs.shared.Shared.meet.Goals as goal
+
+pub look-requires-clause-live : goal.look-requires-clause-live
+look-requires-clause-live c = lives c.args.one.now
+
+pub note-said-requires-clause-live : goal.note-said-requires-clause-live
+note-said-requires-clause-live c = looks_live c.look.ensures.looked.0 c.args.one.now.seat.me.0 c.look.new.seat.me.0 c.look.ensures.looked.1 (lives c.args.one.now)
+
+pub hear-requires-clause-live : goal.hear-requires-clause-live
+hear-requires-clause-live c = lives c.args.other.now
+
+pub gather-requires-clause-live : goal.gather-requires-clause-live
+gather-requires-clause-live c =
+    let one = c.args.one.now in
+    let other = c.args.other.now in
+    let config = c.requires.other.config ∙ sym c.requires.one.config in
+    let told : Heard one.seat.me.0 other.seat.me.0 = record {
+      looked = c.look.new.seat.me.0;
+      bits = c.look.ensures.looked.0;
+      looking = c.look.ensures.looked.1;
+      noted = c.note-said.new.seat.me.0;
+      same = ap (λ (me : Me Acting View). me.0) c.note-said.ensures.same;
+      said = c.note-said.result.me.0;
+      is_note = ap (λ (me : Me Acting View). me.0) c.note-said.ensures.note;
+      heard = c.hear.new.seat.me.0;
+      others = c.hear.ensures.looked.0;
+      hearing = c.hear.ensures.looked.1;
+      its = c.part-its.result.me.0;
+      is_dealt = ap (λ (me : Me Acting View). me.0) c.part-its.ensures.part;
+    } in
+    first_lives one.seat.me.0 other.seat.me.0 (other.worker, other.attempt) other.numbered config told (lives one)
+
+pub gather-requires-clause-its_live : goal.gather-requires-clause-its_live
+gather-requires-clause-its_live c =
+    let one = c.args.one.now in
+    let other = c.args.other.now in
+    let config = c.requires.other.config ∙ sym c.requires.one.config in
+    let told : Heard one.seat.me.0 other.seat.me.0 = record {
+      looked = c.look.new.seat.me.0;
+      bits = c.look.ensures.looked.0;
+      looking = c.look.ensures.looked.1;
+      noted = c.note-said.new.seat.me.0;
+      same = ap (λ (me : Me Acting View). me.0) c.note-said.ensures.same;
+      said = c.note-said.result.me.0;
+      is_note = ap (λ (me : Me Acting View). me.0) c.note-said.ensures.note;
+      heard = c.hear.new.seat.me.0;
+      others = c.hear.ensures.looked.0;
+      hearing = c.hear.ensures.looked.1;
+      its = c.part-its.result.me.0;
+      is_dealt = ap (λ (me : Me Acting View). me.0) c.part-its.ensures.part;
+    } in
+    its_live one.seat.me.0 other.seat.me.0 (other.worker, other.attempt) other.numbered config told
+
+pub gather-requires-clause-no_less : goal.gather-requires-clause-no_less
+gather-requires-clause-no_less c =
+    let one = c.args.one.now in
+    let other = c.args.other.now in
+    let config = c.requires.other.config ∙ sym c.requires.one.config in
+    let told : Heard one.seat.me.0 other.seat.me.0 = record {
+      looked = c.look.new.seat.me.0;
+      bits = c.look.ensures.looked.0;
+      looking = c.look.ensures.looked.1;
+      noted = c.note-said.new.seat.me.0;
+      same = ap (λ (me : Me Acting View). me.0) c.note-said.ensures.same;
+      said = c.note-said.result.me.0;
+      is_note = ap (λ (me : Me Acting View). me.0) c.note-said.ensures.note;
+      heard = c.hear.new.seat.me.0;
+      others = c.hear.ensures.looked.0;
+      hearing = c.hear.ensures.looked.1;
+      its = c.part-its.result.me.0;
+      is_dealt = ap (λ (me : Me Acting View). me.0) c.part-its.ensures.part;
+    } in
+    saw_no_less one.seat.me.0 other.seat.me.0 (other.worker, other.attempt) other.numbered config told
+
+pub invariant_of-one : goal.invariant_of-one
+invariant_of-one c =
+    let one = c.args.one.now in
+    let other = c.args.other.now in
+    let config = c.requires.other.config ∙ sym c.requires.one.config in
+    let openings = c.requires.other.openings ∙ sym c.requires.one.openings in
+    let told : Heard one.seat.me.0 other.seat.me.0 = record {
+      looked = c.look.new.seat.me.0;
+      bits = c.look.ensures.looked.0;
+      looking = c.look.ensures.looked.1;
+      noted = c.note-said.new.seat.me.0;
+      same = ap (λ (me : Me Acting View). me.0) c.note-said.ensures.same;
+      said = c.note-said.result.me.0;
+      is_note = ap (λ (me : Me Acting View). me.0) c.note-said.ensures.note;
+      heard = c.hear.new.seat.me.0;
+      others = c.hear.ensures.looked.0;
+      hearing = c.hear.ensures.looked.1;
+      its = c.part-its.result.me.0;
+      is_dealt = ap (λ (me : Me Acting View). me.0) c.part-its.ensures.part;
+    } in
+    let story : Gathered one.seat.me.0 other.seat.me.0 = record { told = told; all = c.gather.new.seat.me.0; last = c.gather.ensures.looked.0; gathering = c.gather.ensures.looked.1 } in
+    let met = subst (Met one.seat.me.0) (sym (ap (λ (seat : Seat Acting View). seat.me.0) c.replace.ensures.after ∙ ap (λ (me : Me Acting View). me.0) c.part-own.ensures.part)) (one_met one.seat.me.0 other.seat.me.0 (one.worker, one.attempt) (other.worker, other.attempt) one.numbered other.numbered config openings story) in
+    record { numbered = ap (map number_of) met.same_reins ∙ one.numbered; rests = λ idle. ap (map has_none) met.same_reins ∙ one.rests idle }
+
+pub invariant_of-other : goal.invariant_of-other
+invariant_of-other c =
+    let one = c.args.one.now in
+    let other = c.args.other.now in
+    let config = c.requires.other.config ∙ sym c.requires.one.config in
+    let openings = c.requires.other.openings ∙ sym c.requires.one.openings in
+    let told : Heard one.seat.me.0 other.seat.me.0 = record {
+      looked = c.look.new.seat.me.0;
+      bits = c.look.ensures.looked.0;
+      looking = c.look.ensures.looked.1;
+      noted = c.note-said.new.seat.me.0;
+      same = ap (λ (me : Me Acting View). me.0) c.note-said.ensures.same;
+      said = c.note-said.result.me.0;
+      is_note = ap (λ (me : Me Acting View). me.0) c.note-said.ensures.note;
+      heard = c.hear.new.seat.me.0;
+      others = c.hear.ensures.looked.0;
+      hearing = c.hear.ensures.looked.1;
+      its = c.part-its.result.me.0;
+      is_dealt = ap (λ (me : Me Acting View). me.0) c.part-its.ensures.part;
+    } in
+    let story : Gathered one.seat.me.0 other.seat.me.0 = record { told = told; all = c.gather.new.seat.me.0; last = c.gather.ensures.looked.0; gathering = c.gather.ensures.looked.1 } in
+    let met = subst (Met other.seat.me.0) (sym (ap (λ (seat : Seat Acting View). seat.me.0) c.replace.ensures.value ∙ c.part-own.ensures.rest)) (other_met one.seat.me.0 other.seat.me.0 (one.worker, one.attempt) (other.worker, other.attempt) one.numbered other.numbered config openings story) in
+    record { numbered = ap (map number_of) met.same_reins ∙ other.numbered; rests = λ idle. ap (map has_none) met.same_reins ∙ other.rests idle }
+
+pub returns-clause-one_met : goal.returns-clause-one_met
+returns-clause-one_met c =
+    let one = c.args.one.now in
+    let other = c.args.other.now in
+    let config = c.requires.other.config ∙ sym c.requires.one.config in
+    let openings = c.requires.other.openings ∙ sym c.requires.one.openings in
+    let told : Heard one.seat.me.0 other.seat.me.0 = record {
+      looked = c.look.new.seat.me.0;
+      bits = c.look.ensures.looked.0;
+      looking = c.look.ensures.looked.1;
+      noted = c.note-said.new.seat.me.0;
+      same = ap (λ (me : Me Acting View). me.0) c.note-said.ensures.same;
+      said = c.note-said.result.me.0;
+      is_note = ap (λ (me : Me Acting View). me.0) c.note-said.ensures.note;
+      heard = c.hear.new.seat.me.0;
+      others = c.hear.ensures.looked.0;
+      hearing = c.hear.ensures.looked.1;
+      its = c.part-its.result.me.0;
+      is_dealt = ap (λ (me : Me Acting View). me.0) c.part-its.ensures.part;
+    } in
+    let story : Gathered one.seat.me.0 other.seat.me.0 = record { told = told; all = c.gather.new.seat.me.0; last = c.gather.ensures.looked.0; gathering = c.gather.ensures.looked.1 } in
+    subst (Met one.seat.me.0) (sym (ap (λ (seat : Seat Acting View). seat.me.0) c.replace.ensures.after ∙ ap (λ (me : Me Acting View). me.0) c.part-own.ensures.part)) (one_met one.seat.me.0 other.seat.me.0 (one.worker, one.attempt) (other.worker, other.attempt) one.numbered other.numbered config openings story)
+
+pub returns-clause-other_met : goal.returns-clause-other_met
+returns-clause-other_met c =
+    let one = c.args.one.now in
+    let other = c.args.other.now in
+    let config = c.requires.other.config ∙ sym c.requires.one.config in
+    let openings = c.requires.other.openings ∙ sym c.requires.one.openings in
+    let told : Heard one.seat.me.0 other.seat.me.0 = record {
+      looked = c.look.new.seat.me.0;
+      bits = c.look.ensures.looked.0;
+      looking = c.look.ensures.looked.1;
+      noted = c.note-said.new.seat.me.0;
+      same = ap (λ (me : Me Acting View). me.0) c.note-said.ensures.same;
+      said = c.note-said.result.me.0;
+      is_note = ap (λ (me : Me Acting View). me.0) c.note-said.ensures.note;
+      heard = c.hear.new.seat.me.0;
+      others = c.hear.ensures.looked.0;
+      hearing = c.hear.ensures.looked.1;
+      its = c.part-its.result.me.0;
+      is_dealt = ap (λ (me : Me Acting View). me.0) c.part-its.ensures.part;
+    } in
+    let story : Gathered one.seat.me.0 other.seat.me.0 = record { told = told; all = c.gather.new.seat.me.0; last = c.gather.ensures.looked.0; gathering = c.gather.ensures.looked.1 } in
+    subst (Met other.seat.me.0) (sym (ap (λ (seat : Seat Acting View). seat.me.0) c.replace.ensures.value ∙ c.part-own.ensures.rest)) (other_met one.seat.me.0 other.seat.me.0 (one.worker, one.attempt) (other.worker, other.attempt) one.numbered other.numbered config openings story)
+
+pub returns-clause-both : goal.returns-clause-both
+returns-clause-both c =
+    let one = c.args.one.now in
+    let other = c.args.other.now in
+    let config = c.requires.other.config ∙ sym c.requires.one.config in
+    let openings = c.requires.other.openings ∙ sym c.requires.one.openings in
+    let told : Heard one.seat.me.0 other.seat.me.0 = record {
+      looked = c.look.new.seat.me.0;
+      bits = c.look.ensures.looked.0;
+      looking = c.look.ensures.looked.1;
+      noted = c.note-said.new.seat.me.0;
+      same = ap (λ (me : Me Acting View). me.0) c.note-said.ensures.same;
+      said = c.note-said.result.me.0;
+      is_note = ap (λ (me : Me Acting View). me.0) c.note-said.ensures.note;
+      heard = c.hear.new.seat.me.0;
+      others = c.hear.ensures.looked.0;
+      hearing = c.hear.ensures.looked.1;
+      its = c.part-its.result.me.0;
+      is_dealt = ap (λ (me : Me Acting View). me.0) c.part-its.ensures.part;
+    } in
+    let story : Gathered one.seat.me.0 other.seat.me.0 = record { told = told; all = c.gather.new.seat.me.0; last = c.gather.ensures.looked.0; gathering = c.gather.ensures.looked.1 } in
+    let first = ap (λ (seat : Seat Acting View). seat.me.0) c.replace.ensures.after ∙ ap (λ (me : Me Acting View). me.0) c.part-own.ensures.part in
+    let second = ap (λ (seat : Seat Acting View). seat.me.0) c.replace.ensures.value ∙ c.part-own.ensures.rest in
+    subst (λ (view : View). HaveMet view c.replace.result.me.0) (sym first) (subst (λ (view : View). HaveMet (dealt c.gather.new.seat.me.0) view) (sym second) (have_met one.seat.me.0 other.seat.me.0 (one.worker, one.attempt) (other.worker, other.attempt) one.numbered other.numbered config openings story))

@@ -1,0 +1,6 @@
+use Rattle.mw_rule.proofs.Parting.{notes_keep}
+use Rattle.mw_table.proofs.Meetings.{some_word}
+use Rattle.mw_table.proofs.shared.Shared.note.Goals as goal
+
+pub split_seat-requires : goal.split_seat-requires
+split_seat-requires c = (c.requires.table, some_word c.args.self.now, notes_keep _ _ c.args.seat.now.id c.args.seat.now.me.0 c.requires.live)

@@ -1,0 +1,59 @@
+-- What a table begins with that is made at a start: what the opening of each tenant's file gave.
+use Rattle.std.specs.Prelude.{ℕ, ◌≡◌, Bool, true, not, is_some, List, [], ◌∷◌, Option, Some, None, Vec}
+use Rattle.std.specs.declared.alloc.Global.{Global}
+use Rattle.mw_words.specs.Change.{word_at}
+use Rattle.mw_words.specs.Patterns.{packed_door}
+use Rattle.mw_world.specs.declared.config.Config.{Config}
+use Rattle.mw_world.specs.declared.config.Tenant.{Tenant}
+use Rattle.mw_world.specs.Definition.Happenings.{Happening}
+use Rattle.mw_world.specs.Definition.State.{Opening, State, idle_seat, world_at}
+use Rattle.mw_world_memory.specs.Openings.{first_words}
+use Rattle.mw_rule.specs.Seen.{opening_at}
+use Rattle.mw_table.specs.declared.origin.FileOpening.{FileOpening}
+use Rattle.mw_table.specs.Beginning.{Basis}
+
+-- What the start gives a tenant. Where its file didn't open, zeros stand for its words, of which nobody is told.
+abbrev pub opening_given : Tenant → FileOpening → Opening
+opening_given tenant found = record { quota = found.quota; words = first_words tenant found.words; is_up = is_some found.words }
+
+-- the same by tenant
+abbrev pub openings_given : List Tenant → List FileOpening → List Opening
+openings_given [] found = []
+openings_given (tenant ∷ tenants) [] = []
+openings_given (tenant ∷ tenants) (one ∷ found) = opening_given tenant one ∷ openings_given tenants found
+
+-- the openings of a start, as a world takes them
+abbrev pub start_given : Config → List FileOpening → ℕ → Opening
+start_given config found = opening_at (openings_given config.tenants.items found)
+
+-- the world at the start
+abbrev pub world_given : Config → List FileOpening → State
+world_given config found = world_at config (start_given config found)
+
+-- what a table of that world begins with: no worker has a request
+abbrev pub basis_of_start : Config → List FileOpening → Basis
+basis_of_start config found = record { config = config; openings = openings_given config.tenants.items found; seats = λ worker. idle_seat }
+
+-- The start gave this, and nothing has happened since.
+pub record StartedWith (config : Config) (found : List FileOpening) (openings : ℕ → Opening) (before : List Happening) : Type 0 where
+  pub given : openings ≡ start_given config found
+  pub nothing : before ≡ []
+
+-- whether a tenant's file opened; past the last tenant nothing has failed
+abbrev pub is_opened : Option FileOpening → Bool
+is_opened None = true
+is_opened (Some found) = is_some found.words
+
+-- the bits of a tenant's door at the start
+abbrev pub door_given : Option FileOpening → ℕ
+door_given found = packed_door (record { fault = not (is_opened found); used = 0 })
+
+-- a word of a file that opened; 0 of one that didn't
+abbrev pub word_given : Option (Vec ℕ Global) → ℕ → ℕ
+word_given None address = 0
+word_given (Some words) address = word_at words.items address
+
+-- the bits of a tenant's word at the start
+abbrev pub value_given : Option FileOpening → ℕ → ℕ
+value_given None address = 0
+value_given (Some found) address = word_given found.words address

@@ -1,0 +1,6 @@
+use Rattle.mw_table.specs.Carried.{IsCarried}
+use Rattle.mw_table.specs.Passes.{IsOf}
+use Rattle.mw_table_tests.proofs.race_tests.drive.Given as goal
+
+abbrev pub invariant-loop : goal.invariant-loop
+invariant-loop l = record { own : IsOf l.core.shared l.pass; carried : IsCarried l.pass l.actor }

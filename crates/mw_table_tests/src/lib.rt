@@ -1,0 +1,10 @@
+//! Tests of the table of shared words, and of two threads that drive requests on one. They stand apart from the
+//! crates that they test, so that those are proved once.
+#![tactic(auto)]
+
+#[cfg(test)]
+mod making_tests;
+#[cfg(test)]
+mod race_tests;
+#[cfg(test)]
+mod worlds;

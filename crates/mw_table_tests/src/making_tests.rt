@@ -1,0 +1,141 @@
+//! A table of a world in memory, and one at a start.
+ghost use Rattle.std.specs.Prelude.{◌≡◌, [], ◌∷◌, ℕ, IfOk, None, Some, Vec};
+ghost use Rattle.std.specs.declared.alloc.Global.{Global};
+ghost use Rattle.mw_world.specs.Definition.State.{IsConfig, no_tenant, tenant_at, tenants_of};
+ghost use Rattle.mw_table.specs.Origins.{config_of};
+ghost use Rattle.mw_table.specs.Passes.{IsOf};
+
+use crate::worlds::{config, new_world};
+use arrayvec::ArrayVec;
+use mw_table::{FileOpening, Pass, Shared};
+use mw_words::{At, Door};
+use mw_world::{Config, Tenant};
+use std::alloc::{AllocError, Global};
+use std::test::Fail;
+
+/// What the passes of a new world's table find at its door and at its gate, before they meet. None where there
+/// isn't an idle pass for each worker and the place of a request for each, or where memory is refused.
+fn found_in_a_new_world(alloc: Global) -> Option<[u64; 2]> {
+    let world = new_world(alloc, config(1, 2, 1))?;
+    let Ok((shared, mut passes, actors)) = Shared::of_world(alloc, &world) else {
+        return None;
+    };
+    let mut other = passes.pop()?;
+    let mut one = passes.pop()?;
+    let door = shared.figure(&mut one, At::Door(0));
+    let gate = shared.figure(&mut other, At::Gate(0));
+    shared.meet(&mut one, &mut other);
+    if one.idle() && other.idle() && passes.is_empty() && actors.len() == 2 {
+        Some([door, gate])
+    } else {
+        None
+    }
+}
+
+#[test]
+fn a_new_world_in_a_table(rt: HostRuntime) -> Result<(), Fail> {
+    let door = Door {
+        used: 0,
+        fault: false,
+    };
+    assert!(rt; found_in_a_new_world(rt.alloc()) == Some([door.pack(), 0]));
+    Ok(())
+}
+
+/// Two tenants of one word and one slot each, two workers.
+fn two_tenants() -> Config
+    ensures made { IsConfig result }
+    ensures pool { result.pool ≡ 2 }
+    ensures tenants { result.tenants.items ≡ record no_tenant { words = 1; quota = 1 } ∷ record no_tenant { words = 1; quota = 1 } ∷ [] }
+{
+    let mut tenants = ArrayVec::new();
+    tenants.push(Tenant {
+        name: ArrayVec::new(),
+        words: 1,
+        quota: 1,
+    });
+    tenants.push(Tenant {
+        name: ArrayVec::new(),
+        words: 1,
+        quota: 1,
+    });
+    Config {
+        pool: 2,
+        workers: 2,
+        seq: 0,
+        tenants,
+    }
+}
+
+/// What their files gave: the first has the word 7, the other didn't open.
+fn one_of_two(alloc: Global) -> Result<Vec<FileOpening>, AllocError>
+    ensures { IfOk result (λ found. (words : Vec ℕ Global) × (words.items ≡ 7 ∷ []) × (found.items ≡ record { quota = 1; words = Some words } ∷ record { quota = 1; words = None } ∷ [])) }
+{
+    let words = vec![in alloc; 7]?;
+    let opened = FileOpening {
+        quota: 1,
+        words: Some(words),
+    };
+    let failed = FileOpening {
+        quota: 1,
+        words: None,
+    };
+    let openings = vec![in alloc; opened, failed]?;
+    Ok(openings)
+}
+
+/// What stands at the doors of two tenants, and at the first word of each.
+fn figures(shared: &Shared, pass: &mut Pass) -> [u64; 4]
+    requires own { IsOf shared.now pass.old }
+    requires tenants { tenants_of (config_of shared.now.table.shared.key) ≡ 2 }
+    requires first { (tenant_at (config_of shared.now.table.shared.key) 0).words ≡ 1 }
+    requires second { (tenant_at (config_of shared.now.table.shared.key) 1).words ≡ 1 }
+{
+    let first = At::Data {
+        tenant: 0,
+        address: 0,
+    };
+    let second = At::Data {
+        tenant: 1,
+        address: 0,
+    };
+    [
+        shared.figure(pass, At::Door(0)),
+        shared.figure(pass, At::Door(1)),
+        shared.figure(pass, first),
+        shared.figure(pass, second),
+    ]
+}
+
+/// What stands at the doors and first words of the table of two tenants, of whom one has a file. None where there
+/// isn't an idle pass for each worker, by worker, or where memory is refused.
+fn found_at_a_start(alloc: Global) -> Option<[u64; 4]> {
+    let config = two_tenants();
+    let Ok(openings) = one_of_two(alloc) else {
+        return None;
+    };
+    let Ok((shared, mut passes)) = Shared::new(alloc, &config, &openings) else {
+        return None;
+    };
+    let other = passes.pop()?;
+    let mut one = passes.pop()?;
+    if one.idle() && other.idle() && one.worker() == 0 && other.worker() == 1 {
+        Some(figures(&shared, &mut one))
+    } else {
+        None
+    }
+}
+
+#[test]
+fn a_fresh_table(rt: HostRuntime) -> Result<(), Fail> {
+    let sound = Door {
+        used: 0,
+        fault: false,
+    };
+    let failed = Door {
+        used: 0,
+        fault: true,
+    };
+    assert!(rt; found_at_a_start(rt.alloc()) == Some([sound.pack(), failed.pack(), 7, 0]));
+    Ok(())
+}

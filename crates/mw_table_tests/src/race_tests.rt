@@ -1,0 +1,299 @@
+//! Two threads drive two requests on one table.
+ghost use Rattle.std.specs.Prelude.{◌≡◌, ◌≤◌, All, IfSome};
+ghost use Rattle.mw_world.specs.Definition.State.{tenant_at};
+ghost use Rattle.mw_table.specs.Beginning.{basis_of_world};
+ghost use Rattle.mw_table.specs.Carried.{IsCarried};
+ghost use Rattle.mw_table.specs.Dealt.{IsDealt};
+ghost use Rattle.mw_table.specs.Origins.{basis_of, config_of};
+ghost use Rattle.mw_table.specs.Passes.{IsOf};
+ghost use Rattle.mw_table_tests.specs.Reached.{IsReached};
+
+use crate::worlds::{MANY_STEPS, change_one, change_two, come, config, new_world, play_to, step};
+use mw_actor::Actor;
+use mw_core::{Advance, Core};
+use mw_look::Kind;
+use mw_simulator::World;
+use mw_table::{Pass, Shared};
+use mw_words::{At, Door, Gate, Job, Reply, Status, Word};
+use std::alloc::Global;
+use std::test::Fail;
+use std::thread::{Threads, join};
+
+/// A worker's pass, with the request that it carries.
+#[derive(Drop)]
+struct Side {
+    pass: Pass,
+    actor: Actor,
+}
+
+/// A core on the shared words of a world, and the workers' passes.
+struct Opened {
+    core: Core,
+    passes: Vec<Pass>,
+}
+
+/// How far a thread drove its request.
+#[derive(Drop)]
+struct Driven {
+    pass: Pass,
+    end: Advance,
+    reply: Option<Reply>,
+}
+
+/// The request that a pass of a new table carries, if it has one without a reply.
+fn request_of(core: &Core, world: &World, pass: &Pass) -> Option<Actor>
+    requires reached { IsReached world.now }
+    requires dealt { IsDealt core.now.shared (basis_of_world world.now) pass.now }
+    ensures { IfSome result (λ actor. IsCarried pass.now actor) }
+{
+    let actor = world.actor(pass.worker())?;
+    match actor.reply() {
+        Some(_) => None,
+        None => Some(actor.copy()),
+    }
+}
+
+/// The world's shared words, and a pass for each worker. None where memory is refused.
+fn open(alloc: Global, world: &World) -> Option<Opened>
+    requires reached { IsReached world.now }
+    ensures world { IfSome result (λ opened. basis_of opened.core.shared.table.shared.key ≡ basis_of_world world.now) }
+    ensures dealt { IfSome result (λ opened. All (IsDealt opened.core.shared (basis_of_world world.now)) opened.passes.items) }
+{
+    match Shared::of_world(alloc, world) {
+        Ok((shared, passes, _)) => Some(Opened {
+            core: Core::new(shared),
+            passes,
+        }),
+        Err(_) => None,
+    }
+}
+
+/// The last of the passes, with the request that it carries. None where it carries none, or none is left.
+fn take(core: &Core, world: &World, passes: &mut Vec<Pass>) -> Option<Side>
+    requires reached { IsReached world.now }
+    requires dealt { All (IsDealt core.now.shared (basis_of_world world.now)) passes.old.items }
+    ensures left { All (IsDealt core.now.shared (basis_of_world world.now)) passes.new.items }
+    ensures own { IfSome result (λ side. IsOf core.now.shared side.pass) }
+    ensures carried { IfSome result (λ side. IsCarried side.pass side.actor) }
+{
+    let pass = passes.pop()?;
+    let actor = request_of(core, world, &pass)?;
+    Some(Side { pass, actor })
+}
+
+/// The last two of the passes, each with the request that it carries, the lower worker's first. None where one
+/// carries none, or there are no two.
+fn both(core: &Core, world: &World, mut passes: Vec<Pass>) -> Option<(Side, Side)>
+    requires reached { IsReached world.now }
+    requires dealt { All (IsDealt core.now.shared (basis_of_world world.now)) passes.items }
+    ensures own_lower { IfSome result (λ sides. IsOf core.now.shared sides.0.pass) }
+    ensures carried_lower { IfSome result (λ sides. IsCarried sides.0.pass sides.0.actor) }
+    ensures own_higher { IfSome result (λ sides. IsOf core.now.shared sides.1.pass) }
+    ensures carried_higher { IfSome result (λ sides. IsCarried sides.1.pass sides.1.actor) }
+{
+    let higher = take(core, world, &mut passes)?;
+    let lower = take(core, world, &mut passes)?;
+    Some((lower, higher))
+}
+
+/// Makes the steps of a request until its reply stands, or its file is to be called.
+fn drive(core: &Core, side: Side) -> Driven
+    requires own { IsOf core.now.shared side.pass }
+    requires carried { IsCarried side.pass side.actor }
+    ensures { IsOf core.now.shared result.pass }
+{
+    let Side {
+        mut pass,
+        mut actor,
+    } = side;
+    let mut end = Advance::Stepped;
+    for _ in 0..MANY_STEPS {
+        end = core.advance(&mut pass, &mut actor);
+        if end != Advance::Stepped {
+            break;
+        }
+    }
+    Driven {
+        pass,
+        end,
+        reply: actor.reply(),
+    }
+}
+
+/// Two threads drive their requests at once.
+fn drive_both<R: Threads + Sync>(rt: &R, core: &Core, one: Side, two: Side) -> (Driven, Driven)
+    requires own_one { IsOf core.now.shared one.pass }
+    requires carried_one { IsCarried one.pass one.actor }
+    requires own_two { IsOf core.now.shared two.pass }
+    requires carried_two { IsCarried two.pass two.actor }
+    ensures one { IsOf core.now.shared result.0.pass }
+    ensures two { IsOf core.now.shared result.1.pass }
+{
+    join(rt, || drive(core, one), || drive(core, two))
+}
+
+/// A world of one word and one slot: worker 0 has changed the word, and is about to give back its pin of the
+/// slot; worker 1 reads the word, and is about to pin the slot. None where it can't be played so.
+fn before_unpin(alloc: Global) -> Option<World>
+    ensures reached { IfSome result IsReached }
+    ensures config { IfSome result (λ world. world.config.pool ≡ 1) }
+{
+    let world = new_world(alloc, config(1, 2, 1))?;
+    let world = come(world, 0, change_one(1))?;
+    let world = play_to(world, 0, Kind::Resolve)?;
+    let world = step(world, 0)?;
+    let world = come(world, 1, Job::Get(0))?;
+    let world = play_to(world, 1, Kind::Pin)?;
+    play_to(world, 0, Kind::Unpin)
+}
+
+/// The writer's YES, the reader's VAL 1, a free slot under its next number, and no slot in use.
+fn pin_raced(core: &Core, mut wrote: Driven, read: Driven) -> bool
+    requires own { IsOf core.now.shared wrote.pass }
+    requires pool { (config_of core.now.shared.table.shared.key).pool ≡ 1 }
+{
+    let gate = core.shared().figure(&mut wrote.pass, At::Gate(0));
+    let door = core.shared().figure(&mut wrote.pass, At::Door(0));
+    let free = Gate {
+        taken: false,
+        pins: 0,
+        seq: 1,
+    };
+    let unused = Door {
+        used: 0,
+        fault: false,
+    };
+    let replies = wrote.reply == Some(Reply::Yes) && read.reply == Some(Reply::Val(1));
+    replies && gate == free.pack() && door == unused.pack()
+}
+
+/// Whether a race to a pin ends as it must.
+fn pin_race_ends<R: Threads + Sync>(rt: &R, alloc: Global) -> Option<bool> {
+    let world = before_unpin(alloc)?;
+    let Opened { core, passes } = open(alloc, &world)?;
+    let (writer, reader) = both(&core, &world, passes)?;
+    let (wrote, read) = drive_both(rt, &core, writer, reader);
+    let ends = pin_raced(&core, wrote, read);
+    Some(ends)
+}
+
+#[test]
+fn pin_race(rt: HostRuntime) -> Result<(), Fail> {
+    for _ in 0..1000 {
+        assert!(rt; pin_race_ends(&rt, rt.alloc()) == Some(true));
+    }
+    Ok(())
+}
+
+/// A world of two words and three slots: worker 0 is about to attempt to hold word 0 for a change of both
+/// words, worker 1 for a change of word 0 alone. None where it can't be played so.
+fn before_plants(alloc: Global) -> Option<World>
+    ensures reached { IfSome result IsReached }
+    ensures pool { IfSome result (λ world. world.config.pool ≡ 3) }
+    ensures words { IfSome result (λ world. (tenant_at world.config 0).words ≡ 2) }
+{
+    let world = new_world(alloc, config(3, 3, 2))?;
+    let world = come(world, 0, change_two(1))?;
+    let world = play_to(world, 0, Kind::Plant)?;
+    let world = come(world, 1, change_one(2))?;
+    play_to(world, 1, Kind::Plant)
+}
+
+/// What stands at the gates and the statuses of slots 0 and 1, and at words 0 and 1.
+fn figures(core: &Core, pass: &mut Pass) -> [u64; 6]
+    requires own { IsOf core.now.shared pass.old }
+    requires pool { (config_of core.now.shared.table.shared.key).pool ≡ 3 }
+    requires words { (tenant_at (config_of core.now.shared.table.shared.key) 0).words ≡ 2 }
+{
+    let shared = core.shared();
+    [
+        shared.figure(pass, At::Gate(0)),
+        shared.figure(pass, At::Gate(1)),
+        shared.figure(pass, At::Status(0)),
+        shared.figure(pass, At::Status(1)),
+        shared.figure(
+            pass,
+            At::Data {
+                tenant: 0,
+                address: 0,
+            },
+        ),
+        shared.figure(
+            pass,
+            At::Data {
+                tenant: 0,
+                address: 1,
+            },
+        ),
+    ]
+}
+
+/// The gate of a slot in use, under its first number.
+fn pinned(pins: u16) -> u64
+    requires { pins ≤ 2 }
+{
+    let gate = Gate {
+        taken: true,
+        pins,
+        seq: 0,
+    };
+    gate.pack()
+}
+
+/// The figures where worker 0's change is decided: it holds both words, and worker 1 has pinned it.
+fn first_decided() -> [u64; 6] {
+    let held = Word::Held { slot: 0, seq: 0 };
+    [
+        pinned(2),
+        pinned(1),
+        Status::YesDirty.pack(),
+        Status::Open.pack(),
+        held.pack(),
+        held.pack(),
+    ]
+}
+
+/// The figures where worker 1's change is decided: it holds word 0, and worker 0 has pinned it.
+fn second_decided() -> [u64; 6] {
+    let held = Word::Held { slot: 1, seq: 0 };
+    [
+        pinned(1),
+        pinned(2),
+        Status::Open.pack(),
+        Status::YesDirty.pack(),
+        held.pack(),
+        Word::Plain(0).pack(),
+    ]
+}
+
+/// Whether both threads stopped at the seal of one and the same change.
+fn plants_raced(core: &Core, mut one: Driven, two: Driven) -> bool
+    requires own { IsOf core.now.shared one.pass }
+    requires pool { (config_of core.now.shared.table.shared.key).pool ≡ 3 }
+    requires words { (tenant_at (config_of core.now.shared.table.shared.key) 0).words ≡ 2 }
+{
+    let stopped = one.end == Advance::NeedsFile && two.end == Advance::NeedsFile;
+    let found = figures(core, &mut one.pass);
+    stopped && (found == first_decided() || found == second_decided())
+}
+
+/// Whether a race to hold a word ends as it must. Worker 2 has no request.
+fn plant_race_ends<R: Threads + Sync>(rt: &R, alloc: Global) -> Option<bool> {
+    let world = before_plants(alloc)?;
+    let Opened { core, mut passes } = open(alloc, &world)?;
+    if take(&core, &world, &mut passes).is_some() {
+        return None;
+    }
+    let (first, second) = both(&core, &world, passes)?;
+    let (one, two) = drive_both(rt, &core, first, second);
+    let ends = plants_raced(&core, one, two);
+    Some(ends)
+}
+
+#[test]
+fn plant_race(rt: HostRuntime) -> Result<(), Fail> {
+    for _ in 0..1000 {
+        assert!(rt; plant_race_ends(&rt, rt.alloc()) == Some(true));
+    }
+    Ok(())
+}

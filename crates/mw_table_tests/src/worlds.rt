@@ -1,0 +1,134 @@
+//! Worlds in memory, played up to the moment at which threads go on.
+ghost use Rattle.std.specs.Prelude.{◌≡◌, ◌≤◌, ◌<◌, IfSome};
+ghost use Rattle.mw_words.specs.declared.limits.TheConstants.{MAX_POOL, MAX_QUOTA, MAX_WORDS, MAX_WORKERS};
+ghost use Rattle.mw_world.specs.Definition.State.{IsConfig, tenant_at};
+ghost use Rattle.mw_table_tests.specs.Reached.{IsReached};
+
+use arrayvec::ArrayVec;
+use mw_look::{Kind, Op};
+use mw_simulator::World;
+use mw_words::{Entries, Entry, Job};
+use mw_world::{Config, Event, Outcome, Tenant};
+use std::alloc::Global;
+
+/// More steps than a request makes.
+pub(crate) const MANY_STEPS: u32 = 100_000;
+
+/// One tenant of so many words, which may use all slots.
+pub(crate) fn config(pool: u8, workers: u8, words: u16) -> Config
+    requires pool { (1 ≤ pool) × (pool ≤ MAX_QUOTA) }
+    requires workers { (1 ≤ workers) × (workers ≤ MAX_WORKERS) }
+    requires words { (1 ≤ words) × (words ≤ MAX_WORDS) }
+    ensures made { IsConfig result }
+    ensures pool { result.pool ≡ pool }
+    ensures workers { result.workers ≡ workers }
+    ensures words { (tenant_at result 0).words ≡ words }
+{
+    let mut tenants = ArrayVec::new();
+    tenants.push(Tenant {
+        name: ArrayVec::new(),
+        words,
+        quota: pool,
+    });
+    Config {
+        pool: u16::from(pool),
+        workers,
+        seq: 0,
+        tenants,
+    }
+}
+
+/// A new world of one tenant. None where memory is refused.
+pub(crate) fn new_world(alloc: Global, config: Config) -> Option<World>
+    requires { IsConfig config }
+    ensures reached { IfSome result IsReached }
+    ensures config { IfSome result (λ world. world.config ≡ config) }
+{
+    match World::new(alloc, config) {
+        Ok(world) => Some(world),
+        Err(_) => None,
+    }
+}
+
+/// A change of word 0 from 0.
+pub(crate) fn change_one(new: u64) -> Job {
+    let mut entries = Entries::new();
+    entries.push(from_zero(0, new));
+    Job::Cas(entries)
+}
+
+/// A change of words 0 and 1 from 0.
+pub(crate) fn change_two(new: u64) -> Job {
+    let mut entries = Entries::new();
+    entries.push(from_zero(0, new));
+    entries.push(from_zero(1, new));
+    Job::Cas(entries)
+}
+
+fn from_zero(addr: u16, new: u64) -> Entry {
+    Entry {
+        addr,
+        expected: 0,
+        new,
+    }
+}
+
+/// The world once an event happened. None where it can't.
+fn after(mut world: World, event: Event) -> Option<World>
+    requires reached { IsReached world }
+    ensures reached { IfSome result IsReached }
+    ensures config { IfSome result (λ next. next.config ≡ world.config) }
+{
+    match world.step(event) {
+        Ok(()) => Some(world),
+        Err(_) => None,
+    }
+}
+
+/// The world once a request came. None where it can't come.
+pub(crate) fn come(world: World, worker: u8, job: Job) -> Option<World>
+    requires reached { IsReached world }
+    ensures reached { IfSome result IsReached }
+    ensures config { IfSome result (λ next. next.config ≡ world.config) }
+{
+    after(world, Event::Come(worker, 0, job))
+}
+
+/// The world once the worker's request made its next step, or its call on its file, which goes well. None where it
+/// can't.
+pub(crate) fn step(mut world: World, worker: u8) -> Option<World>
+    requires reached { IsReached world }
+    ensures reached { IfSome result IsReached }
+    ensures config { IfSome result (λ next. next.config ≡ world.config) }
+{
+    match world.step(Event::Step(worker)) {
+        Ok(()) => Some(world),
+        Err(_) => after(world, Event::File(worker, Outcome::Good)),
+    }
+}
+
+/// Whether the next step of a worker's request is a change of this kind.
+fn is_next(world: &World, worker: u8, kind: Kind) -> bool
+    requires { worker < world.now.config.workers }
+{
+    let Some(actor) = world.actor(worker) else {
+        return false;
+    };
+    matches!(actor.ask(), Op::Change { kind: found, .. } if found == kind)
+}
+
+/// The world where a worker's request has come to a step of a kind. None where it doesn't come there.
+pub(crate) fn play_to(mut world: World, worker: u8, kind: Kind) -> Option<World>
+    requires worker { worker < world.config.workers }
+    requires reached { IsReached world }
+    ensures reached { IfSome result IsReached }
+    ensures config { IfSome result (λ next. next.config ≡ world.config) }
+{
+    for _ in 0..MANY_STEPS {
+        if is_next(&world, worker, kind) {
+            return Some(world);
+        }
+        world = step(world, worker)?;
+    }
+    None
+}
