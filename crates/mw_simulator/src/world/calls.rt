@@ -28,7 +28,7 @@ use mw_world::{Note, Outcome};
 use mw_world_file::{Book, BookFault};
 
 /// A call on a tenant's file, for a change.
-#[derive(Clone, Copy, Debug)]
+#[derive(Clone, Copy)]
 pub(crate) struct Called {
     /// The call.
     pub(crate) call: Call,
@@ -37,7 +37,7 @@ pub(crate) struct Called {
 }
 
 /// How a call on a tenant's file ended.
-#[derive(Clone, Copy, Debug)]
+#[derive(Clone, Copy)]
 pub(crate) struct Ended {
     /// Whether it went well.
     went_well: bool,
