@@ -8,7 +8,7 @@ use Rattle.mw_world.specs.Definition.Happenings.{Happening, Come, Step, File as 
 use Rattle.mw_world.specs.Definition.Restarts.{may_all_be_found, restarted}
 use Rattle.mw_world.specs.Definition.State.{State, Account, tenants_of}
 use Rattle.mw_world.specs.Definition.World.{run, step}
-use Rattle.mw_law_knowledge.proofs.Deeds.Keeping.{upd_here, upd_else}
+use Rattle.mw_law_runs.proofs.Knowledge.Deeds.Keeping.{upd_here, upd_else}
 use Rattle.mw_law_runs.proofs.Numbers.{same_or_other}
 use Rattle.mw_law_calls.specs.Beside.{EventsLeaveQuotas, IsBesideFile, KeepsFile, OthersLeaveFiles, OthersLeaveFilesLong}
 use Rattle.mw_law_calls.proofs.Leaving.{call_leads, come_leads, hand_leads, let_there, turn_leads}

@@ -18,7 +18,7 @@ use Rattle.mw_world.specs.Definition.Calls.{Called, breaks, device_calls, faults
 use Rattle.mw_world.specs.Definition.Happenings.{Happening}
 use Rattle.mw_world.specs.Definition.State.{Account, Opening, State}
 use Rattle.mw_world.specs.Definition.Turns.{Made, moved}
-use Rattle.mw_law_knowledge.proofs.Deeds.Keeping.{upd_else, upd_here}
+use Rattle.mw_law_runs.proofs.Knowledge.Deeds.Keeping.{upd_else, upd_here}
 use Rattle.mw_law_runs.proofs.Numbers.{same_or_other}
 use Rattle.mw_law_calls.specs.declared.rights.FileRights.{FileRights}
 use Rattle.mw_law_calls.specs.Beside.{AreBesideFile, IsBesideFile}

@@ -27,7 +27,7 @@ use Rattle.mw_world.specs.Definition.History.{History}
 use Rattle.mw_world.specs.Definition.Noting.{noted, poised, seated}
 use Rattle.mw_world.specs.Definition.State.{Seat, State}
 use Rattle.mw_world.specs.Definition.Turns.{Made, moved, next_attempt}
-use Rattle.mw_law_knowledge.proofs.Deeds.Keeping.{upd_here, upd_else}
+use Rattle.mw_law_runs.proofs.Knowledge.Deeds.Keeping.{upd_here, upd_else}
 use Rattle.mw_law_calls.specs.Ending.{CallsChangeNoMore, RequestsGoOnFromCalls}
 use Rattle.mw_law_calls.proofs.Waiting.{none_yet}
 

@@ -18,10 +18,10 @@ use Rattle.mw_world.specs.Definition.State.{State, tenant_at, tenants_of}
 use Rattle.mw_law_runs.specs.Sound.{IsSound}
 use Rattle.mw_law_runs.proofs.Running.{runs_are_sound}
 use Rattle.mw_law_runs.proofs.Tests.{first_holds, second_holds}
-use Rattle.mw_law_files.specs.Files.{HasFiles}
-use Rattle.mw_law_files.proofs.Filed.{empty_there}
-use Rattle.mw_law_files.proofs.Making.{calls_can_be_made}
-use Rattle.mw_law_files.proofs.Running.{runs_have_files}
+use Rattle.mw_law_store.specs.Files.Files.{HasFiles}
+use Rattle.mw_law_store.proofs.Files.Filed.{empty_there}
+use Rattle.mw_law_store.proofs.Files.Making.{calls_can_be_made}
+use Rattle.mw_law_store.proofs.Files.Running.{runs_have_files}
 use Rattle.mw_law_calls.specs.Starting.{CallsCanStart, CallsHaveWords, CanStart, HasPrepared, IsFitFor}
 
 below : (n limit : ℕ) → nat_lt n limit ≡ true → n < limit

@@ -16,9 +16,9 @@ use Rattle.mw_world.specs.Definition.Calls.{Called, called_at, starts_from}
 use Rattle.mw_world.specs.Definition.Happenings.{Happening, Come, Step, File as FileEvent, Hand, Restart}
 use Rattle.mw_world.specs.Definition.State.{State, Opening, Seat, world_at}
 use Rattle.mw_world.specs.Definition.World.{run, step}
-use Rattle.mw_law_files.specs.Ready.{MayCall}
-use Rattle.mw_law_files.proofs.Readiness.{other_events_do_not}
-use Rattle.mw_law_knowledge.proofs.Deeds.Keeping.{upd_else}
+use Rattle.mw_law_store.specs.Files.Ready.{MayCall}
+use Rattle.mw_law_store.proofs.Files.Readiness.{other_events_do_not}
+use Rattle.mw_law_runs.proofs.Knowledge.Deeds.Keeping.{upd_else}
 use Rattle.mw_law_runs.proofs.Statuses.{callers_status_stays}
 use Rattle.mw_law_calls.specs.Beside.{AreBesideFile, IsBesideFile}
 use Rattle.mw_law_calls.specs.Starting.{IsAtCall}

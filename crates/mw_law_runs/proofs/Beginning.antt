@@ -32,7 +32,7 @@ use Rattle.mw_law_moves.proofs.Starting.{starts_have_memory}
 use Rattle.mw_law_moves.proofs.Stepping.{comes_leave, hands_leave, restarts_have}
 use Rattle.mw_law_moves.proofs.Telling.{events_tell_points}
 use Rattle.mw_law_counts.proofs.Keeping.{openings_stand, step_keeps}
-use Rattle.mw_law_knowledge.proofs.Deeds.Keeping.{upd_here, upd_else}
+use Rattle.mw_law_runs.proofs.Knowledge.Deeds.Keeping.{upd_here, upd_else}
 use Rattle.mw_law_runs.specs.Owed.{WordsAreOwed, IsOwnerOf, IsCleanerOf}
 use Rattle.mw_law_runs.specs.Laws.{ComesKeepSound, HandsKeepSound, RestartsKeepSound, StartsAreSound}
 use Rattle.mw_law_runs.specs.Sound.{IsSound, IsSoundRequest}

@@ -11,7 +11,7 @@ use Rattle.mw_world.specs.Definition.Calls.{Called, called_at}
 use Rattle.mw_world.specs.Definition.Counting.{pins_held}
 use Rattle.mw_world.specs.Definition.State.{State}
 use Rattle.mw_law_counts.proofs.GateSteps.{has_pin}
-use Rattle.mw_law_knowledge.specs.Told.{KnowsItsPoint}
+use Rattle.mw_law_runs.specs.Knowledge.Told.{KnowsItsPoint}
 use Rattle.mw_law_moves.specs.Guards.{IsLive}
 use Rattle.mw_law_runs.specs.Sound.{IsSound}
 use Rattle.mw_law_runs.proofs.Owed.Pins.{counted_once, none_some, some_same, target_pinned}

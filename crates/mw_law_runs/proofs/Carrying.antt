@@ -26,13 +26,13 @@ use Rattle.mw_world.specs.Definition.State.{State}
 use Rattle.mw_law_moves.specs.Moves.{made_all}
 use Rattle.mw_law_moves.specs.Relying.{Later}
 use Rattle.mw_law_moves.specs.Stepped.{give_up_moves, pose}
-use Rattle.mw_law_knowledge.specs.Informed.{IsInformed, ChangesNoWord, ChangesAWord}
-use Rattle.mw_law_knowledge.specs.Laws.{StaysTaken}
-use Rattle.mw_law_knowledge.specs.Points.{without_point}
-use Rattle.mw_law_knowledge.specs.Told.{KnowsItsPoint, told, world_told}
-use Rattle.mw_law_knowledge.proofs.StayingFacts.{works_stays}
-use Rattle.mw_law_knowledge.proofs.Deeds.Holding.{task_live}
-use Rattle.mw_law_knowledge.proofs.Deeds.Keeping.{carries_on, keeps_all, gates_same, gate_set, gate_set_else}
+use Rattle.mw_law_runs.specs.Knowledge.Informed.{IsInformed, ChangesNoWord, ChangesAWord}
+use Rattle.mw_law_runs.specs.Knowledge.Laws.{StaysTaken}
+use Rattle.mw_law_runs.specs.Knowledge.Points.{without_point}
+use Rattle.mw_law_runs.specs.Knowledge.Told.{KnowsItsPoint, told, world_told}
+use Rattle.mw_law_runs.proofs.Knowledge.StayingFacts.{works_stays}
+use Rattle.mw_law_runs.proofs.Knowledge.Deeds.Holding.{task_live}
+use Rattle.mw_law_runs.proofs.Knowledge.Deeds.Keeping.{carries_on, keeps_all, gates_same, gate_set, gate_set_else}
 
 no_store : Store ≡ Exchange → ⊥
 no_store e = cc

@@ -22,9 +22,9 @@ use Rattle.mw_law_moves.specs.Moves.{Move, made_all}
 use Rattle.mw_law_moves.specs.Stepped.{SameMemory, moves_of_turn, moves_told}
 use Rattle.mw_law_moves.proofs.Stepping.{exchanges_are_typed}
 use Rattle.mw_law_moves.proofs.Turned.{point_turns}
-use Rattle.mw_law_knowledge.specs.Informed.{IsInformed, ChangesNoWord, Changes, ChangesAWord}
-use Rattle.mw_law_knowledge.specs.Told.{told}
-use Rattle.mw_law_knowledge.proofs.Deeds.Keeping.{upd_here, upd_else}
+use Rattle.mw_law_runs.specs.Knowledge.Informed.{IsInformed, ChangesNoWord, Changes, ChangesAWord}
+use Rattle.mw_law_runs.specs.Knowledge.Told.{told}
+use Rattle.mw_law_runs.proofs.Knowledge.Deeds.Keeping.{upd_here, upd_else}
 use Rattle.mw_law_runs.specs.Owed.{OneStepped}
 use Rattle.mw_law_runs.proofs.Tests.{second_holds}
 use Rattle.mw_law_runs.proofs.Fitting.{ExpectsInRange, expects_in_range}

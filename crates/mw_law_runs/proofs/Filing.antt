@@ -32,12 +32,12 @@ use Rattle.mw_law_moves.proofs.Relied.{others_rely_on_all}
 use Rattle.mw_law_moves.proofs.Shared.{memory_is_shared, reliance_is_shared}
 use Rattle.mw_law_moves.proofs.Telling.{events_tell_points}
 use Rattle.mw_law_counts.proofs.Keeping.{step_keeps}
-use Rattle.mw_law_knowledge.specs.Informed.{IsInformed}
-use Rattle.mw_law_knowledge.specs.Laws.{StaysTaken}
-use Rattle.mw_law_knowledge.proofs.Deeds.Keeping.{gates_same, upd_here, upd_else}
-use Rattle.mw_law_knowledge.specs.Calls.{told_of_call}
-use Rattle.mw_law_knowledge.proofs.Calls.Calling.{calls_inform}
-use Rattle.mw_law_knowledge.proofs.Calls.Guarding.{calls_have_guards}
+use Rattle.mw_law_runs.specs.Knowledge.Informed.{IsInformed}
+use Rattle.mw_law_runs.specs.Knowledge.Laws.{StaysTaken}
+use Rattle.mw_law_runs.proofs.Knowledge.Deeds.Keeping.{gates_same, upd_here, upd_else}
+use Rattle.mw_law_runs.specs.Knowledge.Calls.{told_of_call}
+use Rattle.mw_law_runs.proofs.Knowledge.Calls.Calling.{calls_inform}
+use Rattle.mw_law_runs.proofs.Knowledge.Calls.Guarding.{calls_have_guards}
 use Rattle.mw_law_runs.specs.Owed.{OneStepped}
 use Rattle.mw_law_runs.proofs.Owed.Calling.{calls_keep_owed}
 use Rattle.mw_law_runs.specs.Laws.{CallsKeepSound}

@@ -20,9 +20,9 @@ use Rattle.mw_world.specs.declared.config.Config.{Config}
 use Rattle.mw_world.specs.Definition.Changes.{Exchange, Store, Fetch, shape_of}
 use Rattle.mw_world.specs.Definition.State.{State}
 use Rattle.mw_law_moves.specs.Guards.{IsLive}
-use Rattle.mw_law_knowledge.specs.Facts.{AtEntry}
-use Rattle.mw_law_knowledge.specs.Informed.{IsInformed}
-use Rattle.mw_law_knowledge.specs.Points.{without_point}
+use Rattle.mw_law_runs.specs.Knowledge.Facts.{AtEntry}
+use Rattle.mw_law_runs.specs.Knowledge.Informed.{IsInformed}
+use Rattle.mw_law_runs.specs.Knowledge.Points.{without_point}
 
 -- what an exchange expects is in range; a store and a fetch expect nothing
 abbrev pub ExpectsInRange : Step → Type 0

@@ -30,9 +30,9 @@ use Rattle.mw_world.specs.Definition.Changes.{Fetch}
 use Rattle.mw_world.specs.Definition.Counting.{pins_held, waits_at}
 use Rattle.mw_world.specs.Definition.State.{State}
 use Rattle.mw_law_counts.proofs.GateSteps.{has_pin, has_waited}
-use Rattle.mw_law_knowledge.specs.Facts.{AtEntry}
-use Rattle.mw_law_knowledge.specs.Informed.{IsInformed}
-use Rattle.mw_law_knowledge.specs.Points.{without_point}
+use Rattle.mw_law_runs.specs.Knowledge.Facts.{AtEntry}
+use Rattle.mw_law_runs.specs.Knowledge.Informed.{IsInformed}
+use Rattle.mw_law_runs.specs.Knowledge.Points.{without_point}
 use Rattle.mw_law_moves.specs.Guards.{IsLive}
 use Rattle.mw_law_runs.specs.Sound.{IsSound}
 use Rattle.mw_law_runs.proofs.Fitting.{entry_in_range, expected_fits, held_fits, of_either, slot_fits}

@@ -5,6 +5,7 @@ pub mod Ending
 pub mod Files
 pub mod Filing
 pub mod Fitting
+pub mod Knowledge
 pub mod Lawful
 pub mod Numbers
 pub mod Others

@@ -7,10 +7,10 @@ use Rattle.mw_world.specs.Definition.Counting.{pins_held, frees_at}
 use Rattle.mw_world.specs.Definition.State.{State}
 use Rattle.mw_law_moves.specs.Relying.{Later}
 use Rattle.mw_law_counts.proofs.Room.{who-frees-is-alone}
-use Rattle.mw_law_knowledge.specs.Laws.{StaysTaken}
-use Rattle.mw_law_knowledge.specs.Points.{without_point}
-use Rattle.mw_law_knowledge.proofs.Staying.{others_keep_own}
-use Rattle.mw_law_knowledge.proofs.Deeds.Keeping.{carries_on}
+use Rattle.mw_law_runs.specs.Knowledge.Laws.{StaysTaken}
+use Rattle.mw_law_runs.specs.Knowledge.Points.{without_point}
+use Rattle.mw_law_runs.proofs.Knowledge.Staying.{others_keep_own}
+use Rattle.mw_law_runs.proofs.Knowledge.Deeds.Keeping.{carries_on}
 use Rattle.mw_law_runs.specs.Owed.{OneStepped}
 use Rattle.mw_law_runs.specs.Sound.{IsSound, IsSoundRequest}
 use Rattle.mw_law_runs.proofs.Numbers.{same_or_other, nothing_or_some}

@@ -15,7 +15,7 @@ use Rattle.mw_world.specs.Definition.World.{step}
 use Rattle.mw_law_moves.specs.Stepped.{SameMemory}
 use Rattle.mw_law_moves.proofs.Stepping.{comes_leave, hands_leave}
 use Rattle.mw_law_counts.proofs.Sums.{over_at, of_actor}
-use Rattle.mw_law_knowledge.specs.Laws.{StaysTaken}
+use Rattle.mw_law_runs.specs.Knowledge.Laws.{StaysTaken}
 use Rattle.mw_law_runs.specs.Laws.{IsNoStart, IsPinHolder, KeepsItsNumber, PinnedGatesKeepTheirNumbers}
 use Rattle.mw_law_runs.specs.Sound.{IsSound}
 use Rattle.mw_law_runs.proofs.Filing.{gates_stay}

@@ -26,7 +26,7 @@ use Rattle.mw_actor.specs.Stages.{Stage, Reading, Outside, Entering, Seeking, Cl
 use Rattle.mw_world.specs.Definition.Cells.{Cells, read, AllFit}
 use Rattle.mw_world.specs.Definition.Changes.{Shape, Exchange, Store, Fetch, shape_of}
 use Rattle.mw_law_counts.specs.Exact.{IsLookInRange}
-use Rattle.mw_law_knowledge.specs.Informed.{IsPointFor, Changes}
+use Rattle.mw_law_runs.specs.Knowledge.Informed.{IsPointFor, Changes}
 use Rattle.mw_law_runs.proofs.Ending.{Ends}
 
 -- what is seen of what is in range is in range

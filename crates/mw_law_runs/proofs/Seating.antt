@@ -19,7 +19,7 @@ use Rattle.mw_world.specs.Definition.State.{State}
 use Rattle.mw_law_counts.specs.Ready.{IsReady}
 use Rattle.mw_law_counts.specs.Standing.{CountsRestOn, IsFirstToLeave}
 use Rattle.mw_law_counts.proofs.Exact.{exchanges-are-exact}
-use Rattle.mw_law_knowledge.specs.Told.{KnowsItsPoint}
+use Rattle.mw_law_runs.specs.Knowledge.Told.{KnowsItsPoint}
 use Rattle.mw_law_runs.specs.Owed.{AreSeated}
 use Rattle.mw_law_runs.specs.Laws.{CountsHaveRest}
 use Rattle.mw_law_runs.specs.Sound.{IsSound}

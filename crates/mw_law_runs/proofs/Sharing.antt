@@ -10,9 +10,9 @@ use Rattle.mw_law_moves.specs.Memory.{Memory}
 use Rattle.mw_law_moves.specs.Stepped.{SameMemory}
 use Rattle.mw_law_moves.proofs.Relied.{others_rely_on_all}
 use Rattle.mw_law_moves.proofs.Shared.{reliance_is_shared}
-use Rattle.mw_law_knowledge.specs.Points.{without_point}
-use Rattle.mw_law_knowledge.specs.Told.{KnowsItsPoint}
-use Rattle.mw_law_knowledge.proofs.Deeds.Keeping.{carries_on, keeps_all, gates_same}
+use Rattle.mw_law_runs.specs.Knowledge.Points.{without_point}
+use Rattle.mw_law_runs.specs.Knowledge.Told.{KnowsItsPoint}
+use Rattle.mw_law_runs.proofs.Knowledge.Deeds.Keeping.{carries_on, keeps_all, gates_same}
 
 pub stands_shared : (config : Config) (one other : State) (next : Acting) → Memory config other → SameMemory one other → KnowsItsPoint other next → KnowsItsPoint one next
 stands_shared config one other next memory same stands =

@@ -35,7 +35,7 @@ use Rattle.mw_world.specs.Definition.Turns.{Made, turn, turned, may_make, moved,
 use Rattle.mw_world.specs.Definition.World.{run, step}
 use Rattle.mw_law_moves.specs.Stepped.{SameMemory}
 use Rattle.mw_law_moves.proofs.Stepping.{comes_leave, hands_leave}
-use Rattle.mw_law_knowledge.specs.Told.{KnowsItsPoint}
+use Rattle.mw_law_runs.specs.Knowledge.Told.{KnowsItsPoint}
 use Rattle.mw_law_runs.specs.Files.{FilesFit}
 use Rattle.mw_law_runs.specs.Sound.{IsSound}
 use Rattle.mw_law_runs.proofs.Beginning.{starts_are_sound}

@@ -39,9 +39,9 @@ use Rattle.mw_law_moves.specs.Moves.{SetDoor, made_all}
 use Rattle.mw_law_moves.specs.Stepped.{broken_moves, faulted, moves_called, moves_of_call, next_of, pose, status_moves}
 use Rattle.mw_law_moves.proofs.Called.{calls_are_moves}
 use Rattle.mw_law_moves.proofs.Stepping.{exchanges_are_typed}
-use Rattle.mw_law_knowledge.specs.Informed.{IsInformed}
-use Rattle.mw_law_knowledge.specs.Told.{KnowsItsPoint}
-use Rattle.mw_law_knowledge.proofs.Deeds.Keeping.{upd_else}
+use Rattle.mw_law_runs.specs.Knowledge.Informed.{IsInformed}
+use Rattle.mw_law_runs.specs.Knowledge.Told.{KnowsItsPoint}
+use Rattle.mw_law_runs.proofs.Knowledge.Deeds.Keeping.{upd_else}
 use Rattle.mw_law_runs.specs.Sound.{IsSound}
 use Rattle.mw_law_runs.proofs.Callers.{of_caller}
 use Rattle.mw_law_runs.proofs.Numbers.{same_or_other}

@@ -20,13 +20,13 @@ use Rattle.mw_law_moves.proofs.Relied.{others_rely_on_all}
 use Rattle.mw_law_moves.proofs.Shared.{memory_is_shared, reliance_is_shared}
 use Rattle.mw_law_moves.proofs.Telling.{events_tell_points}
 use Rattle.mw_law_counts.proofs.Keeping.{step_keeps}
-use Rattle.mw_law_knowledge.specs.Informed.{IsInformed}
-use Rattle.mw_law_knowledge.specs.Laws.{StaysTaken}
-use Rattle.mw_law_knowledge.specs.Told.{KnowsItsPoint, told, world_told}
-use Rattle.mw_law_knowledge.proofs.Looks.Looking.{looks_inform}
-use Rattle.mw_law_knowledge.proofs.Deeds.Doing.{deeds_inform}
-use Rattle.mw_law_knowledge.proofs.Guards.Looking.{looks_have_guards}
-use Rattle.mw_law_knowledge.proofs.Guards.Doing.{deeds_have_guards}
+use Rattle.mw_law_runs.specs.Knowledge.Informed.{IsInformed}
+use Rattle.mw_law_runs.specs.Knowledge.Laws.{StaysTaken}
+use Rattle.mw_law_runs.specs.Knowledge.Told.{KnowsItsPoint, told, world_told}
+use Rattle.mw_law_runs.proofs.Knowledge.Looks.Looking.{looks_inform}
+use Rattle.mw_law_runs.proofs.Knowledge.Deeds.Doing.{deeds_inform}
+use Rattle.mw_law_runs.proofs.Knowledge.Guards.Looking.{looks_have_guards}
+use Rattle.mw_law_runs.proofs.Knowledge.Guards.Doing.{deeds_have_guards}
 use Rattle.mw_law_runs.specs.Owed.{WordsAreOwed}
 use Rattle.mw_law_runs.proofs.Owed.Leaving.{last_pins_are_free}
 use Rattle.mw_law_runs.proofs.Owed.Keeping.{steps_keep_owed}

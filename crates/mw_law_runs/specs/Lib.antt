@@ -1,4 +1,5 @@
 pub mod Files
+pub mod Knowledge
 pub mod Laws
 pub mod Owed
 pub mod Owing

@@ -15,7 +15,7 @@ use Rattle.mw_words.specs.declared.statuses.Status.TheVariants.{DoneYes, DoneNo}
 use Rattle.mw_world.specs.Claim.Invariant.{IsRefused}
 use Rattle.mw_world.specs.Claim.Owing.{IsOwed, CleansAt}
 use Rattle.mw_world.specs.Definition.State.{State}
-use Rattle.mw_law_knowledge.specs.Informed.{IsInformed}
+use Rattle.mw_law_runs.specs.Knowledge.Informed.{IsInformed}
 
 -- the request's own change where this follows, as long as the request has one
 abbrev pub own_after : After → Option Slot

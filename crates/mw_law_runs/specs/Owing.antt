@@ -13,10 +13,10 @@ use Rattle.mw_law_moves.specs.Moves.{made_all}
 use Rattle.mw_law_moves.specs.Stepped.{SameMemory, moves_of_call, moves_told, next_of}
 use Rattle.mw_law_moves.specs.Steps.{PointsAreTold}
 use Rattle.mw_law_counts.specs.Standing.{CountsStand}
-use Rattle.mw_law_knowledge.specs.Informed.{ChangesNoWord, ChangesAWord}
-use Rattle.mw_law_knowledge.specs.Leaving.{MayLeave}
-use Rattle.mw_law_knowledge.specs.Told.{told, world_told}
-use Rattle.mw_law_knowledge.specs.Calls.{told_of_call}
+use Rattle.mw_law_runs.specs.Knowledge.Informed.{ChangesNoWord, ChangesAWord}
+use Rattle.mw_law_runs.specs.Knowledge.Leaving.{MayLeave}
+use Rattle.mw_law_runs.specs.Knowledge.Told.{told, world_told}
+use Rattle.mw_law_runs.specs.Knowledge.Calls.{told_of_call}
 use Rattle.mw_law_runs.specs.Owed.{WordsAreOwed, AreSeated, OneStepped}
 
 -- Where the change of each taken slot that isn't done with has its own worker's request, or its pin was left behind, each such word is owed as is to

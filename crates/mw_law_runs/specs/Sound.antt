@@ -9,8 +9,8 @@ use Rattle.mw_law_moves.specs.Memory.{Memory}
 use Rattle.mw_law_moves.specs.Steps.{PointsAreTold}
 use Rattle.mw_law_counts.specs.Exact.{IsLookInRange}
 use Rattle.mw_law_counts.specs.Standing.{CountsStand}
-use Rattle.mw_law_knowledge.specs.Informed.{IsPointFor}
-use Rattle.mw_law_knowledge.specs.Told.{KnowsItsPoint}
+use Rattle.mw_law_runs.specs.Knowledge.Informed.{IsPointFor}
+use Rattle.mw_law_runs.specs.Knowledge.Told.{KnowsItsPoint}
 use Rattle.mw_law_runs.specs.Owed.{WordsAreOwed}
 
 -- A request is in range, and at a point for its job; its slots are live, each taken under the number by which it knows it, and it knows what it is to

@@ -6,8 +6,13 @@
 //! it has written names its slot, its worker is there, or has left its pin.
 #![tactic(auto)]
 
+mod knowledge_laws;
 mod laws;
 
+pub use knowledge_laws::{
+    calls_inform, deeds_inform, facts_stay, live_slots_go_on, live_slots_stay, looks_inform,
+    moves_have_guards, others_keep_own,
+};
 pub use laws::{
     callers_status_stays, calls_keep_owed, calls_keep_sound, comes_keep_sound, counts_have_rest,
     events_keep_sound, hands_keep_sound, last_pins_are_free, owed_words_are_owed, places_are_there,

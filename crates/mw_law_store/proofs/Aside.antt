@@ -19,7 +19,7 @@ use Rattle.mw_world.specs.Definition.Noting.{noted}
 use Rattle.mw_world.specs.Definition.Requests.{came, gave}
 use Rattle.mw_world.specs.Definition.State.{State, Seat, Account}
 use Rattle.mw_world.specs.Definition.Turns.{Made, moved_to}
-use Rattle.mw_law_knowledge.proofs.Deeds.Keeping.{upd_here, upd_else, upd_two_here, upd_two_next, upd_two_else}
+use Rattle.mw_law_runs.proofs.Knowledge.Deeds.Keeping.{upd_here, upd_else, upd_two_here, upd_two_next, upd_two_else}
 use Rattle.mw_law_runs.specs.Sound.{IsSound}
 use Rattle.mw_law_runs.proofs.Owed.Knowing.{own_known}
 use Rattle.mw_law_store.proofs.Claims.{OwnsAreBorn}

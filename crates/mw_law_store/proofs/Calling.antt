@@ -24,7 +24,7 @@ use Rattle.mw_world.specs.Definition.Cells.{Cells}
 use Rattle.mw_world.specs.Definition.Noting.{fated, spoiled}
 use Rattle.mw_world.specs.Definition.State.{State, Seat}
 use Rattle.mw_world.specs.Definition.Turns.{Made, moved, next_attempt}
-use Rattle.mw_law_knowledge.proofs.Deeds.Keeping.{upd_here, upd_two_here}
+use Rattle.mw_law_runs.proofs.Knowledge.Deeds.Keeping.{upd_here, upd_two_here}
 use Rattle.mw_law_runs.proofs.Owed.Pins.{some_same, none_some}
 use Rattle.mw_law_store.proofs.Ends.{EndsBy, Same}
 use Rattle.mw_law_store.proofs.Frames.{Puts, puts}

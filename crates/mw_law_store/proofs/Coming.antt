@@ -22,7 +22,7 @@ use Rattle.mw_actor.specs.Program.{replied, reply_at}
 use Rattle.mw_world.specs.declared.config.Config.{Config}
 use Rattle.mw_world.specs.Definition.Requests.{came, gave}
 use Rattle.mw_world.specs.Definition.State.{State, Seat, Account}
-use Rattle.mw_law_knowledge.proofs.Deeds.Keeping.{upd_here}
+use Rattle.mw_law_runs.proofs.Knowledge.Deeds.Keeping.{upd_here}
 use Rattle.mw_law_runs.specs.Owed.{own_of}
 use Rattle.mw_law_store.proofs.Frames.{puts}
 use Rattle.mw_law_store.proofs.Marks.{is_his, own_put, row_of, two_of, spared_handed}

@@ -12,7 +12,7 @@ use Rattle.mw_actor.specs.Acting.{Acting, own_entries, entry_at}
 use Rattle.mw_actor.specs.Finishing.{gave_up}
 use Rattle.mw_world.specs.declared.notes.Note.TheVariants.{GaveUp}
 use Rattle.mw_world.specs.Definition.Notes.{give_up_note}
-use Rattle.mw_law_knowledge.specs.Facts.{IsOver}
+use Rattle.mw_law_runs.specs.Knowledge.Facts.{IsOver}
 use Rattle.mw_law_store.proofs.Meant.{is_no_answer}
 use Rattle.mw_law_store.specs.Due.{Answers, due_reply, told}
 

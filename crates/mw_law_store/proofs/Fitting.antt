@@ -20,10 +20,10 @@ use Rattle.mw_world.specs.Definition.Logical.{held_value}
 use Rattle.mw_world.specs.Definition.State.{State, tenant_at, tenants_of}
 use Rattle.mw_law_moves.specs.Values.{told_at, value_told}
 use Rattle.mw_law_moves.proofs.Valued.{words_tell}
-use Rattle.mw_law_knowledge.specs.Facts.{IsKnown}
-use Rattle.mw_law_knowledge.proofs.Looks.Memory.{has_word_at}
+use Rattle.mw_law_runs.specs.Knowledge.Facts.{IsKnown}
+use Rattle.mw_law_runs.proofs.Knowledge.Looks.Memory.{has_word_at}
 use Rattle.mw_law_runs.specs.Sound.{IsSound}
-use Rattle.mw_law_files.specs.Files.{HasFiles}
+use Rattle.mw_law_store.specs.Files.Files.{HasFiles}
 use Rattle.mw_law_store.specs.Grounds.{HasGrounds}
 use Rattle.mw_law_store.specs.Laws.{DecidedChangesFit}
 use Rattle.mw_law_store.proofs.Seeing.{found_here}

@@ -13,7 +13,7 @@ use Rattle.mw_actor.specs.declared.points.Slot.{Slot}
 use Rattle.mw_actor.specs.Acting.{Acting}
 use Rattle.mw_world_file.specs.Maps.{upd}
 use Rattle.mw_world.specs.Definition.State.{Seat}
-use Rattle.mw_law_knowledge.proofs.Deeds.Keeping.{upd_here, upd_else}
+use Rattle.mw_law_runs.proofs.Knowledge.Deeds.Keeping.{upd_here, upd_else}
 use Rattle.mw_law_runs.specs.Owed.{own_of}
 use Rattle.mw_law_store.specs.Due.{Due, Waits, Works, Answers, Quits, due, waits, Lowering, Retiring, lowers}
 use Rattle.mw_law_store.proofs.Ends.{OwnGoes}

@@ -20,16 +20,16 @@ use Rattle.mw_world.specs.Definition.Restarts.{may_all_be_found, restarted}
 use Rattle.mw_world.specs.Definition.State.{State, Account, IsConfig, Seat, started, tenants_of, world_at}
 use Rattle.mw_world.specs.Definition.World.{come, hand, handed, may_come, run, step}
 use Rattle.mw_world_file.specs.Maps.{upd}
-use Rattle.mw_law_knowledge.proofs.Deeds.Keeping.{upd_else, upd_here}
+use Rattle.mw_law_runs.proofs.Knowledge.Deeds.Keeping.{upd_else, upd_here}
 use Rattle.mw_law_runs.specs.Files.{FilesFit}
 use Rattle.mw_law_runs.specs.Sound.{IsSound}
 use Rattle.mw_law_runs.proofs.Numbers.{same_or_other}
 use Rattle.mw_law_runs.proofs.Owed.Pins.{none_some, some_same}
 use Rattle.mw_law_runs.proofs.Running.{events_keep_sound, runs_are_sound}
 use Rattle.mw_law_runs.proofs.Tests.{guarded}
-use Rattle.mw_law_files.specs.Files.{HasFiles}
-use Rattle.mw_law_files.proofs.Beginning.{first_starts_have_files}
-use Rattle.mw_law_files.proofs.Running.{events_keep_files}
+use Rattle.mw_law_store.specs.Files.Files.{HasFiles}
+use Rattle.mw_law_store.proofs.Files.Beginning.{first_starts_have_files}
+use Rattle.mw_law_store.proofs.Files.Running.{events_keep_files}
 use Rattle.mw_law_store.specs.Grounds.{HasGrounds, HasSeenAt, IsGrounded}
 use Rattle.mw_law_store.specs.Laws.{EventsKeepGrounds, RunsHaveGrounds}
 use Rattle.mw_law_store.proofs.Grounding.Calls.{calls_keep_grounds}

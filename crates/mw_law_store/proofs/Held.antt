@@ -15,7 +15,7 @@ use Rattle.mw_world.specs.Definition.Cells.{Cells}
 use Rattle.mw_world.specs.Definition.Noting.{noted, seated}
 use Rattle.mw_world.specs.Definition.State.{State, Seat, Account}
 use Rattle.mw_world.specs.Definition.Turns.{Made, moved_to, accounted, goes_on, next_attempt}
-use Rattle.mw_law_knowledge.proofs.Deeds.Keeping.{upd_here}
+use Rattle.mw_law_runs.proofs.Knowledge.Deeds.Keeping.{upd_here}
 use Rattle.mw_law_runs.specs.Owed.{own_of}
 use Rattle.mw_law_store.proofs.Ends.{OwnGoes}
 use Rattle.mw_law_store.proofs.Frames.{Puts, sits, seat_goes, tied_actor, apart_goes}

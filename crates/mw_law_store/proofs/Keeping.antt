@@ -21,8 +21,8 @@ use Rattle.mw_world.specs.Definition.History.{History, entry_for}
 use Rattle.mw_world.specs.Definition.Logical.{held_value}
 use Rattle.mw_world.specs.Definition.State.{State, Seat}
 use Rattle.mw_law_moves.specs.Relying.{Later}
-use Rattle.mw_law_knowledge.specs.Facts.{CameBy}
-use Rattle.mw_law_knowledge.specs.Points.{Knows, ReadKnows}
+use Rattle.mw_law_runs.specs.Knowledge.Facts.{CameBy}
+use Rattle.mw_law_runs.specs.Knowledge.Points.{Knows, ReadKnows}
 use Rattle.mw_law_store.specs.Going.{Saying, Silent, Says, KeepsPlace, SaysLate, lines_after, StoreGoes}
 use Rattle.mw_law_store.specs.Kept.{keeps, keeps_by, keeps_in_read, PlacedBy, PlacedInRead, PlacedAt, Refusals, IsKeeping, Kept}
 use Rattle.mw_law_store.specs.Moments.{Moment, CouldLook, CouldMiss}

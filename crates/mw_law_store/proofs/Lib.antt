@@ -9,6 +9,7 @@ pub mod Dues
 pub mod Elsewhere
 pub mod Ends
 pub mod Fates
+pub mod Files
 pub mod Fitting
 pub mod Frames
 pub mod GoingOn

@@ -20,7 +20,7 @@ use Rattle.mw_world.specs.Definition.Cells.{Cells}
 use Rattle.mw_world.specs.Definition.Noting.{fated, spoiled, left}
 use Rattle.mw_world.specs.Definition.State.{State, Seat}
 use Rattle.mw_world.specs.Definition.Turns.{Made, accounted, next_attempt}
-use Rattle.mw_law_knowledge.proofs.Deeds.Keeping.{upd_two_here}
+use Rattle.mw_law_runs.proofs.Knowledge.Deeds.Keeping.{upd_two_here}
 use Rattle.mw_law_runs.specs.Owed.{own_of}
 use Rattle.mw_law_store.proofs.Ends.{EndsBy, Same, Enters, Lowered, Dropped, Settles, Placed}
 use Rattle.mw_law_store.proofs.Frames.{Puts, puts}

@@ -34,7 +34,7 @@ use Rattle.mw_world.specs.Definition.State.{State, Seat, tenants_of}
 use Rattle.mw_world.specs.Definition.Turns.{Made, turn, turned, may_make, moved, made_of, next_attempt}
 use Rattle.mw_world.specs.Definition.World.{come, hand, handed, may_come, step}
 use Rattle.mw_law_moves.proofs.Stepping.{comes_leave, hands_leave}
-use Rattle.mw_law_knowledge.proofs.Deeds.Keeping.{upd_here, upd_else}
+use Rattle.mw_law_runs.proofs.Knowledge.Deeds.Keeping.{upd_here, upd_else}
 use Rattle.mw_law_runs.specs.Owed.{OneStepped}
 use Rattle.mw_law_runs.specs.Sound.{IsSound}
 use Rattle.mw_law_runs.proofs.Ending.{Ends}

@@ -22,7 +22,7 @@ use Rattle.mw_world.specs.Definition.Restarts.{may_all_be_found, restarted}
 use Rattle.mw_world.specs.Definition.State.{State, Seat, Account, Opening, marks_of, tenants_of, world_at}
 use Rattle.mw_world.specs.Definition.Turns.{Made, made_of, moved, turn}
 use Rattle.mw_world.specs.Definition.World.{asked, hand, may_come, run, step}
-use Rattle.mw_law_knowledge.proofs.Deeds.Keeping.{upd_here, upd_else}
+use Rattle.mw_law_runs.proofs.Knowledge.Deeds.Keeping.{upd_here, upd_else}
 use Rattle.mw_law_runs.proofs.Running.{runs_are_sound}
 use Rattle.mw_law_runs.proofs.Tests.{first_holds, guarded, second_holds}
 use Rattle.mw_law_store.proofs.Acknowledging.{marks_more}

@@ -36,8 +36,8 @@ use Rattle.mw_world.specs.Definition.Restarts.{may_all_be_found, restarted}
 use Rattle.mw_world.specs.Definition.State.{State, Seat, Account, marks_in, marks_of, tenants_of, world_at}
 use Rattle.mw_world.specs.Definition.Turns.{Made, made_of, may_make, moved, turn, turned}
 use Rattle.mw_world.specs.Definition.World.{come, hand, handed, may_come, run, step}
-use Rattle.mw_law_files.proofs.Turning.{follows}
-use Rattle.mw_law_knowledge.proofs.Deeds.Keeping.{upd_here, upd_else}
+use Rattle.mw_law_store.proofs.Files.Turning.{follows}
+use Rattle.mw_law_runs.proofs.Knowledge.Deeds.Keeping.{upd_here, upd_else}
 use Rattle.mw_law_runs.proofs.Tests.{guarded, if_slot}
 use Rattle.mw_law_store.proofs.Beginnings.{played_by_events}
 use Rattle.mw_law_store.proofs.Histories as histories

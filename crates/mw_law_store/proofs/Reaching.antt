@@ -21,7 +21,7 @@ use Rattle.mw_world.specs.Definition.Restarts.{may_all_be_found, restarted}
 use Rattle.mw_world.specs.Definition.State.{State, Seat, Opening, IsConfig, tenants_of, world_at}
 use Rattle.mw_world.specs.Definition.Turns.{Made, moved, next_attempt, turn}
 use Rattle.mw_world.specs.Definition.World.{come, hand, handed, may_come, run, step}
-use Rattle.mw_law_knowledge.proofs.Deeds.Keeping.{upd_else, upd_here}
+use Rattle.mw_law_runs.proofs.Knowledge.Deeds.Keeping.{upd_else, upd_here}
 use Rattle.mw_law_runs.specs.Files.{FilesFit}
 use Rattle.mw_law_runs.specs.Sound.{IsSound}
 use Rattle.mw_law_runs.proofs.Ending.{TurnEnds, turn_ends}

@@ -11,8 +11,8 @@ use Rattle.mw_world.specs.declared.config.Config.{Config}
 use Rattle.mw_world.specs.Definition.Happenings.{Found}
 use Rattle.mw_world.specs.Definition.Restarts.{takes, may_find, may_fail, may_interrupt, may_be_found, may_all_be_found, opened_file, found_of, under_way, doubt_then, is_sealed_then, interrupted_request, reopened, restarted, restart}
 use Rattle.mw_world.specs.Definition.State.{State, tenants_of}
-use Rattle.mw_law_files.specs.Files.{HasFiles}
-use Rattle.mw_law_files.proofs.Beginning.{among_all}
+use Rattle.mw_law_store.specs.Files.Files.{HasFiles}
+use Rattle.mw_law_store.proofs.Files.Beginning.{among_all}
 use Rattle.mw_law_runs.specs.Sound.{IsSound}
 use Rattle.mw_law_runs.proofs.Tests.{first_holds, second_holds}
 use Rattle.mw_law_store.proofs.Starting.{started_tied, leaves_in_doubt, could_be_cut}

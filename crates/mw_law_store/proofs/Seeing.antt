@@ -33,12 +33,12 @@ use Rattle.mw_law_moves.specs.Guards.{IsLive}
 use Rattle.mw_law_moves.specs.Memory.{Memory}
 use Rattle.mw_law_moves.specs.Relying.{Later}
 use Rattle.mw_law_moves.proofs.Finding.{entry_found}
-use Rattle.mw_law_knowledge.specs.Facts.{CameBy, IsKnown}
-use Rattle.mw_law_knowledge.specs.Informed.{ChangesAWord, ChangesNoWord}
-use Rattle.mw_law_knowledge.specs.Live.{AreLiveInRead}
-use Rattle.mw_law_knowledge.specs.Points.{Knows, ReadKnows}
-use Rattle.mw_law_knowledge.proofs.Guards.Memory.{index_of}
-use Rattle.mw_law_knowledge.proofs.Looks.Memory.{entry_told}
+use Rattle.mw_law_runs.specs.Knowledge.Facts.{CameBy, IsKnown}
+use Rattle.mw_law_runs.specs.Knowledge.Informed.{ChangesAWord, ChangesNoWord}
+use Rattle.mw_law_runs.specs.Knowledge.Live.{AreLiveInRead}
+use Rattle.mw_law_runs.specs.Knowledge.Points.{Knows, ReadKnows}
+use Rattle.mw_law_runs.proofs.Knowledge.Guards.Memory.{index_of}
+use Rattle.mw_law_runs.proofs.Knowledge.Looks.Memory.{entry_told}
 use Rattle.mw_law_store.specs.Grounds.{HasSeen, HasSeenAt, IsSoughtFrom}
 
 -- It stays so.

@@ -29,8 +29,8 @@ use Rattle.mw_law_store.specs.Going.{Saying, Silent, Says, KeepsPlace, SaysLate,
 use Rattle.mw_law_runs.specs.Files.{FilesFit}
 use Rattle.mw_law_runs.specs.Sound.{IsSound}
 use Rattle.mw_law_runs.proofs.Running.{runs_are_sound}
-use Rattle.mw_law_files.specs.Files.{HasFiles}
-use Rattle.mw_law_files.proofs.Running.{runs_have_files}
+use Rattle.mw_law_store.specs.Files.Files.{HasFiles}
+use Rattle.mw_law_store.proofs.Files.Running.{runs_have_files}
 use Rattle.mw_law_store.specs.Grounds.{HasGrounds}
 use Rattle.mw_law_store.specs.History.{IsNoStart}
 use Rattle.mw_law_store.specs.Laws.{RunsHaveGrounds}

@@ -31,7 +31,7 @@ use Rattle.mw_world.specs.Definition.State.{State, Account, Opening, account_at,
 use Rattle.mw_law_moves.specs.Guards.{IsLive}
 use Rattle.mw_law_runs.specs.Sound.{IsSound, IsSoundRequest}
 use Rattle.mw_law_runs.proofs.Tests.{first_holds, second_holds}
-use Rattle.mw_law_files.specs.Files.{HasFiles}
+use Rattle.mw_law_store.specs.Files.Files.{HasFiles}
 use Rattle.mw_law_store.specs.Due.{told}
 use Rattle.mw_law_store.specs.Grounds.{HasGrounds}
 use Rattle.mw_law_store.specs.Laws.{DecidedChangesFit}

@@ -20,8 +20,8 @@ use Rattle.mw_world.specs.Definition.Cells.{Cells, read, write}
 use Rattle.mw_world.specs.Definition.Changes.{Shape, Exchange, Store, Fetch, changed, done, shape_of, fetched}
 use Rattle.mw_world.specs.Definition.State.{State}
 use Rattle.mw_world.specs.Definition.Turns.{turn, turned, may_make, moved, made_of}
-use Rattle.mw_law_knowledge.specs.Informed.{IsInformed}
-use Rattle.mw_law_knowledge.proofs.Deeds.Keeping.{upd_here, upd_else}
+use Rattle.mw_law_runs.specs.Knowledge.Informed.{IsInformed}
+use Rattle.mw_law_runs.proofs.Knowledge.Deeds.Keeping.{upd_here, upd_else}
 use Rattle.mw_law_runs.proofs.Ending.{Ends, IsNoCall, ends_so}
 use Rattle.mw_law_runs.proofs.Fitting.{expects_in_range}
 use Rattle.mw_law_runs.proofs.Tests.{guarded, second_holds}

@@ -28,7 +28,7 @@ use Rattle.mw_world.specs.declared.notes.Note.TheVariants.{Nothing, Admitted, Cl
 use Rattle.mw_world.specs.Definition.Cells.{Cells, write}
 use Rattle.mw_world.specs.Definition.Notes.{door_note, inspect_note, resolve_note, release_note, give_up_note, read_door_note, read_word_note, read_status_note, answer_note, recheck_note, read_note, read_point, won_note, exchange_note, note_of}
 use Rattle.mw_law_counts.specs.Ready.{IsReady, IsReadReady}
-use Rattle.mw_law_knowledge.proofs.Deeds.Keeping.{upd_here, upd_else}
+use Rattle.mw_law_runs.proofs.Knowledge.Deeds.Keeping.{upd_here, upd_else}
 use Rattle.mw_law_runs.proofs.Ending.{Ends}
 use Rattle.mw_law_store.proofs.Stepped.{Left, same_gates, same_doors, live_same, live_set}
 use Rattle.mw_law_store.specs.Tied.{is_live}

@@ -21,7 +21,7 @@ use Rattle.mw_world.specs.Definition.Noting.{born, fated, spoiled, left}
 use Rattle.mw_world.specs.Definition.History.{History}
 use Rattle.mw_world.specs.Definition.State.{State, Seat}
 use Rattle.mw_world.specs.Definition.Turns.{Made, accounted, next_attempt}
-use Rattle.mw_law_knowledge.proofs.Deeds.Keeping.{upd_two_here}
+use Rattle.mw_law_runs.proofs.Knowledge.Deeds.Keeping.{upd_two_here}
 use Rattle.mw_law_store.proofs.Claims.{OwnsAreBorn, IsOld, claims, frees}
 use Rattle.mw_law_store.proofs.Ends.{EndsBy, Same, Claiming, Freeing, Settles, Quitting}
 use Rattle.mw_law_store.proofs.Frames.{fewer_of_its, retold}

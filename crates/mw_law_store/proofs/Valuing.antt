@@ -27,13 +27,13 @@ use Rattle.mw_world.specs.Definition.History.{expected, new}
 use Rattle.mw_world.specs.Definition.Logical.{held_value}
 use Rattle.mw_world.specs.Definition.State.{State, tenant_at}
 use Rattle.mw_law_moves.specs.Values.{value_told}
-use Rattle.mw_law_knowledge.specs.Facts.{IsKnown}
-use Rattle.mw_law_knowledge.proofs.Guards.Memory.{index_of}
-use Rattle.mw_law_knowledge.proofs.Looks.Memory.{status_told}
+use Rattle.mw_law_runs.specs.Knowledge.Facts.{IsKnown}
+use Rattle.mw_law_runs.proofs.Knowledge.Guards.Memory.{index_of}
+use Rattle.mw_law_runs.proofs.Knowledge.Looks.Memory.{status_told}
 use Rattle.mw_law_runs.specs.Sound.{IsSound}
 use Rattle.mw_law_runs.proofs.Seating.{are_seated}
 use Rattle.mw_law_runs.proofs.Tests.{first_holds}
-use Rattle.mw_law_files.specs.Files.{HasFiles}
+use Rattle.mw_law_store.specs.Files.Files.{HasFiles}
 use Rattle.mw_law_store.specs.Grounds.{HasGrounds}
 use Rattle.mw_law_store.proofs.Fitting.{value_is_now, word_within}
 

@@ -16,7 +16,7 @@ use Rattle.mw_world.specs.Definition.World.{step}
 use Rattle.mw_law_moves.specs.Guards.{IsLive}
 use Rattle.mw_law_runs.specs.Files.{FilesFit}
 use Rattle.mw_law_runs.specs.Sound.{IsSound}
-use Rattle.mw_law_files.specs.Files.{HasFiles}
+use Rattle.mw_law_store.specs.Files.Files.{HasFiles}
 use Rattle.mw_law_store.specs.Acknowledged.{begun}
 use Rattle.mw_law_store.specs.Followed.{IsFollowed, IsFollowedBy, GoesOn}
 use Rattle.mw_law_store.specs.Going.{Saying, lines_after, StoreGoes}

@@ -1,5 +1,6 @@
 pub mod Acknowledged
 pub mod Due
+pub mod Files
 pub mod Followed
 pub mod Going
 pub mod Grounds

@@ -22,7 +22,7 @@ use Rattle.mw_world.specs.Definition.State.{State, Opening, Seat}
 use Rattle.mw_world.specs.Definition.Turns.{Made, moved, next_attempt}
 use Rattle.mw_world.specs.Definition.World.{run, step}
 use Rattle.mw_law_calls.proofs.GoingOn.{requests_go_on_from_calls}
-use Rattle.mw_law_knowledge.proofs.Deeds.Keeping.{upd_here, upd_else}
+use Rattle.mw_law_runs.proofs.Knowledge.Deeds.Keeping.{upd_here, upd_else}
 use Rattle.mw_law_store.proofs.OverCalls.{on_with, requests_stay_begun}
 use Rattle.mw_rule.specs.declared.views.Deed.TheVariants.{Called}
 use Rattle.mw_rule.specs.declared.views.Reins.{Reins}

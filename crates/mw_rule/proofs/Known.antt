@@ -28,7 +28,7 @@ use Rattle.mw_law_calls.proofs.Ending.{calls_end_well, calls_find_faults, calls_
 use Rattle.mw_law_calls.proofs.Following.{rights_follow_calls, rights_follow_faults}
 use Rattle.mw_law_calls.proofs.Starting.{calls_can_start, calls_have_words}
 use Rattle.mw_law_calls.proofs.Telling.{rights_tell_calls}
-use Rattle.mw_law_knowledge.proofs.Deeds.Keeping.{upd_here}
+use Rattle.mw_law_runs.proofs.Knowledge.Deeds.Keeping.{upd_here}
 use Rattle.mw_rule.specs.declared.views.FoundStatus.{FoundStatus}
 use Rattle.mw_rule.specs.declared.views.Held.{Held}
 use Rattle.mw_rule.specs.declared.views.Reins.{Reins}

@@ -12,7 +12,7 @@ use Rattle.mw_world.specs.Claim.Headline.{IsPlayed}
 use Rattle.mw_world.specs.Definition.Happenings.{Happening}
 use Rattle.mw_world.specs.Definition.State.{State, Account, Opening, Seat, tenants_of, world_at}
 use Rattle.mw_world.specs.Definition.World.{step, run}
-use Rattle.mw_law_knowledge.proofs.Deeds.Keeping.{upd_here, upd_else}
+use Rattle.mw_law_runs.proofs.Knowledge.Deeds.Keeping.{upd_here, upd_else}
 use Rattle.mw_law_runs.proofs.Numbers.{same_or_other}
 use Rattle.mw_law_runs.proofs.Running.{runs_are_sound}
 use Rattle.mw_law_store.specs.Followed.{start_of}

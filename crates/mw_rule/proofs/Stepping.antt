@@ -27,7 +27,7 @@ use Rattle.mw_world.specs.Definition.Noting.{more, seated}
 use Rattle.mw_world.specs.Definition.State.{State, Opening, Seat, tenant_at, tenants_of}
 use Rattle.mw_world.specs.Definition.Turns.{may_make, made_of, moved, next_attempt, turn, turned}
 use Rattle.mw_world.specs.Definition.World.{begun, asked, hand, handed, may_come, run, step}
-use Rattle.mw_law_knowledge.proofs.Deeds.Keeping.{upd_here, upd_else}
+use Rattle.mw_law_runs.proofs.Knowledge.Deeds.Keeping.{upd_here, upd_else}
 use Rattle.mw_law_runs.proofs.Numbers.{same_or_other}
 use Rattle.mw_law_store.specs.Moments.{Moment}
 use Rattle.mw_law_store.specs.OverCalls.{IsRightAt, IsRightSince, sealed_of, words_at_start}

@@ -1,7 +1,7 @@
 -- What holds of every run holds of a world in memory.
 use Rattle.mw_world.specs.Definition.State.{first_openings}
 use Rattle.mw_world.proofs.FirstInvariant.{new_worlds_start}
-use Rattle.mw_law_files.proofs.Enabling.{every_run_holds}
+use Rattle.mw_law_store.proofs.Files.Enabling.{every_run_holds}
 use Rattle.mw_simulator.specs.declared.world.World.{World}
 use Rattle.mw_simulator.specs.Holding.{Holds}
 

@@ -25,9 +25,9 @@ use Rattle.mw_law_moves.specs.Stepped.{SameMemory, moves_called, moves_of_call, 
 use Rattle.mw_law_moves.proofs.Keeping.{moves_keep}
 use Rattle.mw_law_moves.proofs.Relied.{others_rely_on_all}
 use Rattle.mw_law_moves.proofs.Shared.{is_shared}
-use Rattle.mw_law_knowledge.specs.Informed.{IsInformed}
-use Rattle.mw_law_knowledge.specs.Calls.{told_of_call}
-use Rattle.mw_law_knowledge.proofs.Calls.Guarding.{calls_have_guards, same_some}
+use Rattle.mw_law_runs.specs.Knowledge.Informed.{IsInformed}
+use Rattle.mw_law_runs.specs.Knowledge.Calls.{told_of_call}
+use Rattle.mw_law_runs.proofs.Knowledge.Calls.Guarding.{calls_have_guards, same_some}
 use Rattle.mw_law_runs.specs.Owing.{CallsKeepOwed}
 use Rattle.mw_law_runs.specs.Owed.{own_of, WordsAreOwed, OneStepped}
 use Rattle.mw_law_runs.proofs.Owed.Changing.{StepsOn, Inks, untouched, one_fate}

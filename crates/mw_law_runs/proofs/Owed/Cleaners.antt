@@ -25,11 +25,11 @@ use Rattle.mw_world.specs.declared.config.Config.{Config}
 use Rattle.mw_world.specs.Definition.History.{new, entry_for}
 use Rattle.mw_world.specs.Claim.Owing.{IsFrom, CleansFrom, CleansAt}
 use Rattle.mw_world.specs.Definition.State.{State}
-use Rattle.mw_law_knowledge.specs.Facts.{WorksOn, IsDecidedAs, Releases}
-use Rattle.mw_law_knowledge.specs.Informed.{IsInformed, ChangesNoWord, ChangesAWord}
-use Rattle.mw_law_knowledge.specs.Points.{Knows, without_point}
-use Rattle.mw_law_knowledge.specs.Told.{told, world_told}
-use Rattle.mw_law_knowledge.proofs.Looks.Memory.{new_at}
+use Rattle.mw_law_runs.specs.Knowledge.Facts.{WorksOn, IsDecidedAs, Releases}
+use Rattle.mw_law_runs.specs.Knowledge.Informed.{IsInformed, ChangesNoWord, ChangesAWord}
+use Rattle.mw_law_runs.specs.Knowledge.Points.{Knows, without_point}
+use Rattle.mw_law_runs.specs.Knowledge.Told.{told, world_told}
+use Rattle.mw_law_runs.proofs.Knowledge.Looks.Memory.{new_at}
 use Rattle.mw_law_runs.specs.Owed.{IsUnfinished, own_of}
 use Rattle.mw_law_runs.proofs.Owed.Apart.{plain_dirty, lost_won, of_word, done_undone}
 use Rattle.mw_law_runs.proofs.Owed.Changing.{upd_two_here}

@@ -21,9 +21,9 @@ use Rattle.mw_world.specs.Claim.Owing.{OwesAt, Owes, IsOwed, CleansAt}
 use Rattle.mw_world.specs.Definition.History.{has}
 use Rattle.mw_world.specs.Definition.State.{State}
 use Rattle.mw_world.specs.Definition.Turns.{next_attempt}
-use Rattle.mw_law_knowledge.specs.Informed.{IsInformed, ChangesNoWord, ChangesAWord}
-use Rattle.mw_law_knowledge.specs.Points.{Knows}
-use Rattle.mw_law_knowledge.specs.Told.{told, world_told}
+use Rattle.mw_law_runs.specs.Knowledge.Informed.{IsInformed, ChangesNoWord, ChangesAWord}
+use Rattle.mw_law_runs.specs.Knowledge.Points.{Knows}
+use Rattle.mw_law_runs.specs.Knowledge.Told.{told, world_told}
 use Rattle.mw_law_moves.specs.Guards.{Guards}
 use Rattle.mw_law_moves.specs.Memory.{Memory}
 use Rattle.mw_law_moves.specs.Relying.{Later}

@@ -8,8 +8,8 @@ use Rattle.mw_actor.specs.declared.points.Slot.{Slot}
 use Rattle.mw_actor.specs.declared.points.Task.{Task}
 use Rattle.mw_actor.specs.Acting.{Acting}
 use Rattle.mw_world.specs.Definition.State.{State}
-use Rattle.mw_law_knowledge.specs.Facts.{IsOwn, IsAtWork}
-use Rattle.mw_law_knowledge.specs.Points.{Knows, without_point}
+use Rattle.mw_law_runs.specs.Knowledge.Facts.{IsOwn, IsAtWork}
+use Rattle.mw_law_runs.specs.Knowledge.Points.{Knows, without_point}
 use Rattle.mw_law_runs.specs.Owed.{own_of}
 use Rattle.mw_law_runs.proofs.Owed.Pins.{some_same, none_some}
 

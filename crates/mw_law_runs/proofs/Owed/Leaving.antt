@@ -26,9 +26,9 @@ use Rattle.mw_world.specs.Claim.Owing.{Owes, IsOwed, GoesOn, CleansAt}
 use Rattle.mw_world.specs.Definition.State.{State}
 use Rattle.mw_law_counts.proofs.Sums.{over_at, over_two, of_actor}
 use Rattle.mw_law_counts.specs.Standing.{CountsStand}
-use Rattle.mw_law_knowledge.specs.Facts.{IsOver}
-use Rattle.mw_law_knowledge.specs.Leaving.{IsFreeOfWords, MayLeave, ReadMayLeave}
-use Rattle.mw_law_knowledge.specs.Points.{Knows, without_point}
+use Rattle.mw_law_runs.specs.Knowledge.Facts.{IsOver}
+use Rattle.mw_law_runs.specs.Knowledge.Leaving.{IsFreeOfWords, MayLeave, ReadMayLeave}
+use Rattle.mw_law_runs.specs.Knowledge.Points.{Knows, without_point}
 use Rattle.mw_law_moves.specs.Guards.{NoWordRefers}
 use Rattle.mw_law_moves.specs.Memory.{Memory}
 use Rattle.mw_law_moves.specs.Steps.{PointsAreTold}

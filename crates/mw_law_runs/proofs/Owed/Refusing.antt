@@ -30,11 +30,11 @@ use Rattle.mw_world.specs.Definition.History.{entry_for}
 use Rattle.mw_world.specs.Claim.Invariant.{IsRefused}
 use Rattle.mw_world.specs.Claim.Owing.{IsFrom, ComesTo, OwesAt}
 use Rattle.mw_world.specs.Definition.State.{State}
-use Rattle.mw_law_knowledge.specs.Facts.{WorksOn}
-use Rattle.mw_law_knowledge.specs.Informed.{IsInformed, ChangesNoWord, ChangesAWord}
-use Rattle.mw_law_knowledge.specs.Points.{without_point}
-use Rattle.mw_law_knowledge.specs.Told.{told, world_told}
-use Rattle.mw_law_knowledge.proofs.Looks.Memory.{status_told}
+use Rattle.mw_law_runs.specs.Knowledge.Facts.{WorksOn}
+use Rattle.mw_law_runs.specs.Knowledge.Informed.{IsInformed, ChangesNoWord, ChangesAWord}
+use Rattle.mw_law_runs.specs.Knowledge.Points.{without_point}
+use Rattle.mw_law_runs.specs.Knowledge.Told.{told, world_told}
+use Rattle.mw_law_runs.proofs.Knowledge.Looks.Memory.{status_told}
 use Rattle.mw_law_runs.proofs.Owed.Apart.{plain_held, planted_held, dirty_held, lost_won, of_word, of_status}
 use Rattle.mw_law_runs.proofs.Owed.Changing.{upd_two_here}
 use Rattle.mw_law_runs.proofs.Owed.Rounds.{from_first, none_from, comes_next}

@@ -20,8 +20,8 @@ use Rattle.mw_world.specs.Definition.History.{standing_at, arm_at}
 use Rattle.mw_world.specs.Definition.State.{State}
 use Rattle.mw_law_moves.specs.Guards.{Guards}
 use Rattle.mw_law_moves.specs.Stepped.{moves_told}
-use Rattle.mw_law_knowledge.specs.Points.{Knows}
-use Rattle.mw_law_knowledge.specs.Told.{told, world_told}
+use Rattle.mw_law_runs.specs.Knowledge.Points.{Knows}
+use Rattle.mw_law_runs.specs.Knowledge.Told.{told, world_told}
 use Rattle.mw_law_runs.proofs.Owed.Apart.{plain_held, plain_dirty, planted_held, planted_dirty}
 use Rattle.mw_law_runs.proofs.Owed.Changing.{StepsOn, LeftBehind, untouched, one_gate, one_word, one_held, one_written, one_fate, one_claimed, left_behind}
 

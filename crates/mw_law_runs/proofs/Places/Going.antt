@@ -51,9 +51,9 @@ use Rattle.mw_world.specs.declared.config.Config.{Config}
 use Rattle.mw_world.specs.Definition.Cells.{Cells, read as read_cell}
 use Rattle.mw_world.specs.Definition.State.{State, tenant_at}
 use Rattle.mw_law_moves.specs.Memory.{Memory}
-use Rattle.mw_law_knowledge.specs.Facts.{CameBy}
-use Rattle.mw_law_knowledge.specs.Informed.{IsInformed}
-use Rattle.mw_law_knowledge.specs.Points.{ReadKnows}
+use Rattle.mw_law_runs.specs.Knowledge.Facts.{CameBy}
+use Rattle.mw_law_runs.specs.Knowledge.Informed.{IsInformed}
+use Rattle.mw_law_runs.specs.Knowledge.Points.{ReadKnows}
 use Rattle.mw_law_runs.specs.Places.{IsWithin, ReadIsWithin}
 
 -- what a request is told of a load is what stands there

@@ -24,7 +24,7 @@ use Rattle.mw_world.specs.Definition.Turns.{turn, next_attempt}
 use Rattle.mw_world.specs.Definition.World.{come, hand, handed, may_come, run, step}
 use Rattle.mw_world.specs.Claim.Headline.{IsPlayed}
 use Rattle.mw_law_moves.proofs.Stepping.{comes_leave, hands_leave}
-use Rattle.mw_law_knowledge.proofs.Deeds.Keeping.{upd_here, upd_else}
+use Rattle.mw_law_runs.proofs.Knowledge.Deeds.Keeping.{upd_here, upd_else}
 use Rattle.mw_law_runs.specs.Files.{FilesFit}
 use Rattle.mw_law_runs.specs.Owed.{OneStepped}
 use Rattle.mw_law_runs.specs.Places.{AreWithin, IsWithin, PlacesAreThere}

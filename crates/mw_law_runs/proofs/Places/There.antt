@@ -25,9 +25,9 @@ use Rattle.mw_world.specs.Definition.Extent.{has_place}
 use Rattle.mw_world.specs.Definition.State.{State, tenant_at, tenants_of}
 use Rattle.mw_world.specs.Definition.Turns.{may_make}
 use Rattle.mw_law_moves.specs.Guards.{IsLive}
-use Rattle.mw_law_knowledge.specs.Facts.{AtEntry, CameBy}
-use Rattle.mw_law_knowledge.specs.Informed.{IsInformed, IsPointFor}
-use Rattle.mw_law_knowledge.specs.Points.{ReadKnows, without_point}
+use Rattle.mw_law_runs.specs.Knowledge.Facts.{AtEntry, CameBy}
+use Rattle.mw_law_runs.specs.Knowledge.Informed.{IsInformed, IsPointFor}
+use Rattle.mw_law_runs.specs.Knowledge.Points.{ReadKnows, without_point}
 use Rattle.mw_law_runs.specs.Places.{IsWithin, ReadIsWithin}
 use Rattle.mw_law_runs.proofs.Places.Going.{few_entries}
 

@@ -14,7 +14,7 @@ use Rattle.mw_law_moves.specs.Guards.{Guard, Guards, MayClaim}
 use Rattle.mw_law_moves.specs.Memory.{Memory}
 use Rattle.mw_law_moves.specs.Moves.{Move, SetDoor, Claim, Prepare, SayYes, SayNo, Seal, Settle, Cancel, Spoil, decide, made, made_all}
 use Rattle.mw_law_moves.proofs.Keeping.{move_keeps}
-use Rattle.mw_law_knowledge.proofs.Deeds.Keeping.{upd_else}
+use Rattle.mw_law_runs.proofs.Knowledge.Deeds.Keeping.{upd_else}
 use Rattle.mw_law_runs.proofs.Numbers.{same_or_other}
 use Rattle.mw_law_store.specs.Due.{told}
 use Rattle.mw_law_store.specs.Tied.{born_of, told_of}

@@ -14,8 +14,8 @@ use Rattle.mw_actor.specs.declared.points.Sweep.{Sweep}
 use Rattle.mw_actor.specs.declared.points.Sweep.TheVariants.{Yes as SweepYes}
 use Rattle.mw_actor.specs.Acting.{Acting, entry_of}
 use Rattle.mw_world.specs.declared.config.Config.{Config}
-use Rattle.mw_law_knowledge.specs.Informed.{IsInformed}
-use Rattle.mw_law_knowledge.specs.Told.{told}
+use Rattle.mw_law_runs.specs.Knowledge.Informed.{IsInformed}
+use Rattle.mw_law_runs.specs.Knowledge.Told.{told}
 use Rattle.mw_world.specs.Definition.State.{State}
 use Rattle.mw_law_moves.specs.Stepped.{give_up_moves, moves_at, moves_told, pose, read_moves, release_moves, resolve_moves}
 use Rattle.mw_law_store.proofs.Beside.Moves.{AllFor}

@@ -10,11 +10,11 @@ use Rattle.mw_world.specs.declared.config.Config.{Config}
 use Rattle.mw_world.specs.Definition.Cells.{Cells}
 use Rattle.mw_world.specs.Definition.State.{State, Account}
 use Rattle.mw_world.specs.Definition.Turns.{Made, made_of, may_make, moved, turn, turned}
-use Rattle.mw_law_knowledge.specs.Informed.{IsInformed}
-use Rattle.mw_law_knowledge.specs.Told.{told, world_told}
-use Rattle.mw_law_knowledge.proofs.Deeds.Keeping.{upd_else}
-use Rattle.mw_law_knowledge.proofs.Guards.Doing.{deeds_have_guards}
-use Rattle.mw_law_knowledge.proofs.Guards.Looking.{looks_have_guards}
+use Rattle.mw_law_runs.specs.Knowledge.Informed.{IsInformed}
+use Rattle.mw_law_runs.specs.Knowledge.Told.{told, world_told}
+use Rattle.mw_law_runs.proofs.Knowledge.Deeds.Keeping.{upd_else}
+use Rattle.mw_law_runs.proofs.Knowledge.Guards.Doing.{deeds_have_guards}
+use Rattle.mw_law_runs.proofs.Knowledge.Guards.Looking.{looks_have_guards}
 use Rattle.mw_law_moves.specs.Guards.{Guards}
 use Rattle.mw_law_moves.specs.Memory.{Memory}
 use Rattle.mw_law_moves.specs.Relying.{Later}
@@ -28,7 +28,7 @@ use Rattle.mw_law_runs.proofs.Owed.Pins.{some_same}
 use Rattle.mw_law_runs.proofs.Seating.{are_seated}
 use Rattle.mw_law_runs.proofs.Tests.{guarded, second_holds}
 use Rattle.mw_law_runs.proofs.Turning as turning
-use Rattle.mw_law_files.proofs.Turning.{follows}
+use Rattle.mw_law_store.proofs.Files.Turning.{follows}
 use Rattle.mw_law_store.proofs.Beside.Moves.{SameFor, moves_aside, moves_doors}
 use Rattle.mw_law_store.proofs.Beside.Points.{turn_for}
 use Rattle.mw_law_store.proofs.Elsewhere.{StepsAside}

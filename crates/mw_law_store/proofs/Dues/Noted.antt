@@ -23,7 +23,7 @@ use Rattle.mw_world.specs.Definition.Calls.{Called, called_at}
 use Rattle.mw_world.specs.Definition.Cells.{Cells}
 use Rattle.mw_world.specs.Definition.Changes.{Exchange, Store, Fetch}
 use Rattle.mw_world.specs.Definition.Notes.{note_of}
-use Rattle.mw_law_knowledge.specs.Informed.{IsPointFor}
+use Rattle.mw_law_runs.specs.Knowledge.Informed.{IsPointFor}
 use Rattle.mw_law_runs.proofs.Ending.{Ends}
 use Rattle.mw_law_runs.proofs.Owed.Pins.{none_some}
 use Rattle.mw_law_store.proofs.Dues.Ending.{IsToldInRead, IsToldAt, EndOf, elsewhere}

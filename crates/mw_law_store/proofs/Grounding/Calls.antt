@@ -23,10 +23,10 @@ use Rattle.mw_world.specs.Definition.Extent.{has_slot}
 use Rattle.mw_world.specs.Definition.Noting.{fated, noted}
 use Rattle.mw_world.specs.Definition.State.{State, Seat}
 use Rattle.mw_world.specs.Definition.Turns.{Made, moved, next_attempt}
-use Rattle.mw_law_knowledge.specs.Calls.{told_of_call}
-use Rattle.mw_law_knowledge.specs.Informed.{IsInformed}
-use Rattle.mw_law_knowledge.proofs.Calls.Guarding.{cancels, seal_guards}
-use Rattle.mw_law_knowledge.proofs.Deeds.Keeping.{upd_here}
+use Rattle.mw_law_runs.specs.Knowledge.Calls.{told_of_call}
+use Rattle.mw_law_runs.specs.Knowledge.Informed.{IsInformed}
+use Rattle.mw_law_runs.proofs.Knowledge.Calls.Guarding.{cancels, seal_guards}
+use Rattle.mw_law_runs.proofs.Knowledge.Deeds.Keeping.{upd_here}
 use Rattle.mw_law_moves.specs.Stepped.{next_of}
 use Rattle.mw_law_runs.specs.Owed.{OneStepped}
 use Rattle.mw_law_runs.specs.Sound.{IsSound}
@@ -34,7 +34,7 @@ use Rattle.mw_law_runs.proofs.Filing.{calls_keep_sound, later, stepped}
 use Rattle.mw_law_runs.proofs.Owed.Pins.{none_some, some_same}
 use Rattle.mw_law_runs.proofs.Seating.{are_seated}
 use Rattle.mw_law_runs.proofs.Tests.{if_slot}
-use Rattle.mw_law_files.proofs.Calling.{ended}
+use Rattle.mw_law_store.proofs.Files.Calling.{ended}
 use Rattle.mw_law_store.specs.Grounds.{HasGrounds, IsGrounded, is_inside, says_fault}
 use Rattle.mw_law_store.proofs.Grounding.Histories.{LeavesIfSpoiled, Spoils, after_spoiling, after_status, failed_of, leaves_at, more_fail, up_of}
 use Rattle.mw_law_store.proofs.Grounding.Inside.{is_of_change, unread}

@@ -22,7 +22,7 @@ use Rattle.mw_actor.specs.Asks.{asks_at}
 use Rattle.mw_actor.specs.Program.{goes}
 use Rattle.mw_world.specs.Definition.History.{History}
 use Rattle.mw_law_counts.specs.Ready.{IsReady}
-use Rattle.mw_law_knowledge.specs.Informed.{IsPointFor}
+use Rattle.mw_law_runs.specs.Knowledge.Informed.{IsPointFor}
 use Rattle.mw_law_store.specs.Grounds.{HasSeenAt, is_inside, read_is_inside}
 
 false_true : false ≡ true → ⊥

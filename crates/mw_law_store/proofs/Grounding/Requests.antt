@@ -19,14 +19,14 @@ use Rattle.mw_world.specs.Definition.Changes.{Shape, Exchange, Store, Fetch, sha
 use Rattle.mw_world.specs.Definition.State.{State, Account, tenants_of}
 use Rattle.mw_world_file.specs.Maps.{upd}
 use Rattle.mw_law_moves.specs.Relying.{Later}
-use Rattle.mw_law_knowledge.specs.Informed.{Changes}
+use Rattle.mw_law_runs.specs.Knowledge.Informed.{Changes}
 use Rattle.mw_law_runs.specs.Owed.{OneStepped}
 use Rattle.mw_law_runs.specs.Sound.{IsSound}
 use Rattle.mw_law_runs.proofs.Ending.{Ends}
 use Rattle.mw_law_runs.proofs.Numbers.{same_or_other}
 use Rattle.mw_law_runs.proofs.Owed.Pins.{some_same}
 use Rattle.mw_law_runs.proofs.Seating.{are_seated}
-use Rattle.mw_law_files.specs.Files.{HasFiles}
+use Rattle.mw_law_store.specs.Files.Files.{HasFiles}
 use Rattle.mw_law_store.specs.Grounds.{HasGrounds, IsGrounded}
 use Rattle.mw_law_store.proofs.Grounding.Histories.{Spoils, failed_of, up_of}
 use Rattle.mw_law_store.proofs.Grounding.Inside.{FindsNoFault}

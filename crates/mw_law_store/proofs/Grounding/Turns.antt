@@ -21,12 +21,12 @@ use Rattle.mw_world.specs.Definition.Cells.{Cells}
 use Rattle.mw_world.specs.Definition.History.{History}
 use Rattle.mw_world.specs.Definition.State.{State}
 use Rattle.mw_world.specs.Definition.Turns.{may_make, made_of, moved, next_attempt, turn, turned}
-use Rattle.mw_law_knowledge.specs.Informed.{IsInformed, IsPointFor}
-use Rattle.mw_law_knowledge.specs.Told.{told}
-use Rattle.mw_law_knowledge.proofs.Deeds.Keeping.{upd_two_here}
-use Rattle.mw_law_knowledge.proofs.Guards.Doing.{deeds_have_guards}
-use Rattle.mw_law_knowledge.proofs.Guards.Looking.{looks_have_guards}
-use Rattle.mw_law_knowledge.proofs.Looks.Looking.{looks_inform}
+use Rattle.mw_law_runs.specs.Knowledge.Informed.{IsInformed, IsPointFor}
+use Rattle.mw_law_runs.specs.Knowledge.Told.{told}
+use Rattle.mw_law_runs.proofs.Knowledge.Deeds.Keeping.{upd_two_here}
+use Rattle.mw_law_runs.proofs.Knowledge.Guards.Doing.{deeds_have_guards}
+use Rattle.mw_law_runs.proofs.Knowledge.Guards.Looking.{looks_have_guards}
+use Rattle.mw_law_runs.proofs.Knowledge.Looks.Looking.{looks_inform}
 use Rattle.mw_law_moves.specs.Guards.{Guards}
 use Rattle.mw_law_moves.specs.Relying.{Later}
 use Rattle.mw_law_moves.specs.Stepped.{give_up_moves, moves_at, moves_told, next_of, pose, read_moves, release_moves, resolve_moves}
@@ -37,9 +37,9 @@ use Rattle.mw_law_runs.proofs.Owed.Pins.{none_some}
 use Rattle.mw_law_runs.proofs.Seating.{are_seated}
 use Rattle.mw_law_runs.proofs.Tests.{guarded}
 use Rattle.mw_law_runs.proofs.Turning.{later, turns_keep_sound}
-use Rattle.mw_law_files.specs.Files.{HasFiles}
-use Rattle.mw_law_files.proofs.Staying.{SameAccount, same_account}
-use Rattle.mw_law_files.proofs.Turning.{follows}
+use Rattle.mw_law_store.specs.Files.Files.{HasFiles}
+use Rattle.mw_law_store.proofs.Files.Staying.{SameAccount, same_account}
+use Rattle.mw_law_store.proofs.Files.Turning.{follows}
 use Rattle.mw_law_store.specs.Grounds.{HasGrounds, HasSeen, HasSeenAt, IsGrounded, is_inside, says_fault}
 use Rattle.mw_law_store.proofs.Grounding.Histories.{AllKeep, IsOfFailed, Spoils, failed_of, more_fail, moves_spoil, up_of}
 use Rattle.mw_law_store.proofs.Grounding.Inside.{FindsNoFault, inside_goes, is_of_change, unread}

@@ -24,9 +24,9 @@ use Rattle.mw_world.specs.Definition.Happenings.{File as FileEvent}
 use Rattle.mw_world.specs.Definition.State.{State, Opening}
 use Rattle.mw_world.specs.Definition.Turns.{moved, next_attempt}
 use Rattle.mw_law_moves.specs.Stepped.{call_news, next_of}
-use Rattle.mw_law_knowledge.specs.Calls.{told_of_call}
-use Rattle.mw_law_knowledge.specs.Informed.{IsInformed}
-use Rattle.mw_law_knowledge.proofs.Calls.Guarding.{cancels, seal_guards, settle_guards}
+use Rattle.mw_law_runs.specs.Knowledge.Calls.{told_of_call}
+use Rattle.mw_law_runs.specs.Knowledge.Informed.{IsInformed}
+use Rattle.mw_law_runs.proofs.Knowledge.Calls.Guarding.{cancels, seal_guards, settle_guards}
 use Rattle.mw_law_runs.proofs.Filing.{later, stepped}
 use Rattle.mw_law_runs.proofs.Owed.Pins.{none_some, some_same}
 use Rattle.mw_law_runs.proofs.Seating.{are_seated}

@@ -27,15 +27,15 @@ use Rattle.mw_world.specs.declared.notes.Note.TheVariants.{Admitted, Claimed, De
 use Rattle.mw_world.specs.Definition.Notes.{door_note, inspect_note}
 use Rattle.mw_world.specs.Definition.State.{State}
 use Rattle.mw_law_moves.specs.Guards.{MayClaim, MaySayYes, MaySayNo}
-use Rattle.mw_law_knowledge.specs.Facts.{AtEntry}
-use Rattle.mw_law_knowledge.specs.Informed.{IsInformed}
-use Rattle.mw_law_knowledge.specs.Points.{Knows, without_point}
-use Rattle.mw_law_knowledge.specs.Told.{told as told_news}
-use Rattle.mw_law_knowledge.proofs.Looks.Looking.{looks_inform}
+use Rattle.mw_law_runs.specs.Knowledge.Facts.{AtEntry}
+use Rattle.mw_law_runs.specs.Knowledge.Informed.{IsInformed}
+use Rattle.mw_law_runs.specs.Knowledge.Points.{Knows, without_point}
+use Rattle.mw_law_runs.specs.Knowledge.Told.{told as told_news}
+use Rattle.mw_law_runs.proofs.Knowledge.Looks.Looking.{looks_inform}
 use Rattle.mw_law_runs.specs.Sound.{IsSound}
 use Rattle.mw_law_runs.proofs.Owed.Pins.{counted_once}
 use Rattle.mw_law_runs.proofs.Seating.{are_seated}
-use Rattle.mw_law_files.specs.Files.{HasFiles}
+use Rattle.mw_law_store.specs.Files.Files.{HasFiles}
 use Rattle.mw_law_store.specs.Due.{told}
 use Rattle.mw_law_store.specs.Grounds.{HasGrounds}
 use Rattle.mw_law_store.proofs.Dues.Ending.{is_quiet_on}

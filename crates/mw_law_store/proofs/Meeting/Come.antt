@@ -14,7 +14,7 @@ use Rattle.mw_world.specs.Definition.Happenings.{Come}
 use Rattle.mw_world.specs.Definition.Requests.{came}
 use Rattle.mw_world.specs.Definition.State.{State, Seat, Account, Opening, tenant_at, tenants_of}
 use Rattle.mw_world.specs.Definition.World.{come, may_come}
-use Rattle.mw_law_knowledge.proofs.Deeds.Keeping.{upd_here, upd_else}
+use Rattle.mw_law_runs.proofs.Knowledge.Deeds.Keeping.{upd_here, upd_else}
 use Rattle.mw_law_runs.proofs.Tests.{guarded, second_holds}
 use Rattle.mw_law_store.specs.Followed.{IsFollowedBy}
 use Rattle.mw_law_store.specs.Going.{Silent, Says}

@@ -22,7 +22,7 @@ use Rattle.mw_world.specs.Definition.Calls.{breaks, fault_note, faults, good_not
 use Rattle.mw_world.specs.Definition.State.{State}
 use Rattle.mw_world.specs.Definition.Turns.{moved}
 use Rattle.mw_law_moves.specs.Stepped.{next_of}
-use Rattle.mw_law_knowledge.proofs.Deeds.Keeping.{upd_here, upd_else}
+use Rattle.mw_law_runs.proofs.Knowledge.Deeds.Keeping.{upd_here, upd_else}
 use Rattle.mw_law_store.specs.Due.{told}
 use Rattle.mw_law_store.specs.Tied.{Tied}
 use Rattle.mw_law_store.proofs.Aside.{IsAside}

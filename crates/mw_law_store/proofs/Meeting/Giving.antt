@@ -21,14 +21,14 @@ use Rattle.mw_world.specs.Definition.Notes.{give_up_note, note_of, release_note,
 use Rattle.mw_world.specs.Definition.State.{State}
 use Rattle.mw_law_moves.specs.Guards.{Guards}
 use Rattle.mw_law_moves.specs.Stepped.{moves_told}
-use Rattle.mw_law_knowledge.specs.Facts.{IsOwn}
-use Rattle.mw_law_knowledge.specs.Informed.{IsInformed}
-use Rattle.mw_law_knowledge.specs.Points.{without_point}
-use Rattle.mw_law_knowledge.specs.Told.{told as told_news}
+use Rattle.mw_law_runs.specs.Knowledge.Facts.{IsOwn}
+use Rattle.mw_law_runs.specs.Knowledge.Informed.{IsInformed}
+use Rattle.mw_law_runs.specs.Knowledge.Points.{without_point}
+use Rattle.mw_law_runs.specs.Knowledge.Told.{told as told_news}
 use Rattle.mw_law_runs.specs.Sound.{IsSound}
 use Rattle.mw_law_runs.proofs.Ending.{Ends}
 use Rattle.mw_law_runs.proofs.Seating.{are_seated}
-use Rattle.mw_law_files.specs.Files.{HasFiles}
+use Rattle.mw_law_store.specs.Files.Files.{HasFiles}
 use Rattle.mw_law_store.specs.Due.{Answers, due, due_reply, told}
 use Rattle.mw_law_store.specs.Grounds.{HasGrounds}
 use Rattle.mw_law_store.proofs.Grounding.Inside.{is_of_change}

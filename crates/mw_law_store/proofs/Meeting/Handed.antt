@@ -22,7 +22,7 @@ use Rattle.mw_world.specs.Definition.Happenings.{Hand}
 use Rattle.mw_world.specs.Definition.Requests.{gave}
 use Rattle.mw_world.specs.Definition.State.{State, Seat, Account, Opening}
 use Rattle.mw_world.specs.Definition.World.{hand, handed, outgoing, reply_for}
-use Rattle.mw_law_knowledge.proofs.Deeds.Keeping.{upd_here, upd_else}
+use Rattle.mw_law_runs.proofs.Knowledge.Deeds.Keeping.{upd_here, upd_else}
 use Rattle.mw_law_store.specs.Followed.{IsFollowedBy}
 use Rattle.mw_law_store.specs.Going.{Silent, Says, HandsAny}
 use Rattle.mw_law_store.specs.Tied.{is_live, told_of, born_of, IsDue, HasReply, Tied}

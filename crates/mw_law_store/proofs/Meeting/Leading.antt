@@ -12,7 +12,7 @@ use Rattle.mw_world.specs.Definition.Noting.{marked}
 use Rattle.mw_world.specs.Definition.State.{State, Account, Opening}
 use Rattle.mw_world.specs.Definition.Turns.{Made, moved}
 use Rattle.mw_world.specs.Definition.World.{outgoing}
-use Rattle.mw_law_knowledge.proofs.Deeds.Keeping.{upd_here, upd_else}
+use Rattle.mw_law_runs.proofs.Knowledge.Deeds.Keeping.{upd_here, upd_else}
 use Rattle.mw_law_moves.specs.Relying.{Later}
 use Rattle.mw_law_runs.specs.Sound.{IsSound}
 use Rattle.mw_law_runs.proofs.Owed.Pins.{some_same}

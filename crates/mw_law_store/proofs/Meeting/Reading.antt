@@ -36,14 +36,14 @@ use Rattle.mw_world.specs.Definition.State.{State, tenant_at}
 use Rattle.mw_law_counts.specs.Alone.{IsAloneWith}
 use Rattle.mw_law_counts.proofs.Room.{who-frees-is-alone}
 use Rattle.mw_law_moves.specs.Values.{value_told}
-use Rattle.mw_law_knowledge.specs.Facts.{CameByPlanted}
-use Rattle.mw_law_knowledge.specs.Informed.{IsInformed, IsPointFor}
+use Rattle.mw_law_runs.specs.Knowledge.Facts.{CameByPlanted}
+use Rattle.mw_law_runs.specs.Knowledge.Informed.{IsInformed, IsPointFor}
 use Rattle.mw_law_runs.specs.Owed.{IsOwnerOf, IsUnfinished}
 use Rattle.mw_law_runs.specs.Sound.{IsSound}
 use Rattle.mw_law_runs.proofs.Ending.{Ends}
 use Rattle.mw_law_runs.proofs.Owed.Pins.{counted_once}
 use Rattle.mw_law_runs.proofs.Seating.{are_seated}
-use Rattle.mw_law_files.specs.Files.{HasFiles}
+use Rattle.mw_law_store.specs.Files.Files.{HasFiles}
 use Rattle.mw_law_store.specs.Due.{Answers, Dropping, Retiring, told}
 use Rattle.mw_law_store.specs.Grounds.{HasGrounds}
 use Rattle.mw_law_store.specs.Tied.{told_of}

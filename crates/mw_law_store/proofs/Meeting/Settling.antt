@@ -19,12 +19,12 @@ use Rattle.mw_world.specs.Definition.History.{History}
 use Rattle.mw_world.specs.Definition.State.{State}
 use Rattle.mw_law_moves.specs.Guards.{Guards}
 use Rattle.mw_law_moves.specs.Stepped.{moves_told}
-use Rattle.mw_law_knowledge.specs.Facts.{IsOver}
-use Rattle.mw_law_knowledge.specs.Informed.{ChangesAWord, IsInformed}
-use Rattle.mw_law_knowledge.specs.Points.{Knows, without_point}
-use Rattle.mw_law_knowledge.specs.Told.{told as told_news, world_told}
-use Rattle.mw_law_knowledge.proofs.Deeds.Doing.{deeds_inform}
-use Rattle.mw_law_knowledge.proofs.Looks.Looking.{looks_inform}
+use Rattle.mw_law_runs.specs.Knowledge.Facts.{IsOver}
+use Rattle.mw_law_runs.specs.Knowledge.Informed.{ChangesAWord, IsInformed}
+use Rattle.mw_law_runs.specs.Knowledge.Points.{Knows, without_point}
+use Rattle.mw_law_runs.specs.Knowledge.Told.{told as told_news, world_told}
+use Rattle.mw_law_runs.proofs.Knowledge.Deeds.Doing.{deeds_inform}
+use Rattle.mw_law_runs.proofs.Knowledge.Looks.Looking.{looks_inform}
 use Rattle.mw_law_runs.specs.Owed.{own_of}
 use Rattle.mw_law_runs.specs.Sound.{IsSound}
 use Rattle.mw_law_runs.proofs.Ending.{Ends}

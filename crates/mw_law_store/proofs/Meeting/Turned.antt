@@ -36,12 +36,12 @@ use Rattle.mw_world.specs.Definition.Turns.{turn, may_make, next_attempt}
 use Rattle.mw_law_moves.specs.Guards.{Guards}
 use Rattle.mw_law_moves.specs.Relying.{Later}
 use Rattle.mw_law_moves.specs.Stepped.{moves_told}
-use Rattle.mw_law_knowledge.specs.Informed.{IsInformed, IsPointFor}
-use Rattle.mw_law_knowledge.specs.Points.{Knows}
-use Rattle.mw_law_knowledge.specs.Told.{told}
-use Rattle.mw_law_knowledge.proofs.Deeds.Keeping.{upd_here}
-use Rattle.mw_law_knowledge.proofs.Guards.Looking.{looks_have_guards}
-use Rattle.mw_law_knowledge.proofs.Guards.Doing.{deeds_have_guards}
+use Rattle.mw_law_runs.specs.Knowledge.Informed.{IsInformed, IsPointFor}
+use Rattle.mw_law_runs.specs.Knowledge.Points.{Knows}
+use Rattle.mw_law_runs.specs.Knowledge.Told.{told}
+use Rattle.mw_law_runs.proofs.Knowledge.Deeds.Keeping.{upd_here}
+use Rattle.mw_law_runs.proofs.Knowledge.Guards.Looking.{looks_have_guards}
+use Rattle.mw_law_runs.proofs.Knowledge.Guards.Doing.{deeds_have_guards}
 use Rattle.mw_law_runs.proofs.Ending.{Ends}
 use Rattle.mw_law_runs.proofs.Owed.Leaving.{last_pins_are_free}
 use Rattle.mw_law_runs.proofs.Ranging.{job_goes}

@@ -35,8 +35,8 @@ use Rattle.mw_world.specs.Definition.Noting.{marked, seated, poised, more_unless
 use Rattle.mw_world.specs.Definition.State.{State, Seat, Account, Opening}
 use Rattle.mw_world.specs.Definition.Turns.{goes_on, moved_to, next_attempt}
 use Rattle.mw_law_moves.specs.Relying.{Later}
-use Rattle.mw_law_knowledge.specs.Points.{Knows}
-use Rattle.mw_law_knowledge.proofs.Deeds.Keeping.{upd_here, upd_else}
+use Rattle.mw_law_runs.specs.Knowledge.Points.{Knows}
+use Rattle.mw_law_runs.proofs.Knowledge.Deeds.Keeping.{upd_here, upd_else}
 use Rattle.mw_law_store.specs.Due.{Dropping, due, lowers, lowers_then, lowers_in_read, waits}
 use Rattle.mw_law_store.specs.Followed.{start_of, IsFollowedBy, IsLegalTo}
 use Rattle.mw_law_store.specs.Going.{Saying, Silent, Says, KeepsPlace, SaysLate, lines_after, StoreGoes, StoreDoes, GivesBack, Decides, given_out}

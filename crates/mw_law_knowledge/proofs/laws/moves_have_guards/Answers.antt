@@ -1,9 +1,0 @@
-use Rattle.mw_law_knowledge.proofs.Guards.Doing.{deeds_have_guards}
-use Rattle.mw_law_knowledge.proofs.Guards.Looking.{looks_have_guards}
-use Rattle.mw_law_knowledge.proofs.laws.moves_have_guards.Goals as goal
-
-pub returns-clause-looks : goal.returns-clause-looks
-returns-clause-looks c = looks_have_guards
-
-pub returns-clause-deeds : goal.returns-clause-deeds
-returns-clause-deeds c = deeds_have_guards

@@ -1,0 +1,5 @@
+use Rattle.mw_law_store.proofs.Files.Running.{events_keep_files}
+use Rattle.mw_law_store.proofs.file_laws.events_keep_files.Goals as goal
+
+pub returns : goal.returns
+returns c = events_keep_files
