@@ -27,7 +27,7 @@ use Rattle.mw_rule.specs.declared.views.View.{View}
 use Rattle.mw_rule.specs.Carrying.{GoesOn, Precede, StoodThere}
 use Rattle.mw_rule.specs.Continuing.{JoinsOn, LooksGoOn, PartsOn}
 use Rattle.mw_rule.specs.Layout.{index_of}
-use Rattle.mw_rule.specs.Dealing.{bereft, borrows, dealt, entrusted, gathers, head_of, hears, left_over, maker, meets, note, of_head, of_rest, reins_from, reins_of, rest_of, spent}
+use Rattle.mw_rule.specs.Dealing.{bereft, borrows, dealt, entrusted, first_held, gathers, head_of, hears, left_over, maker, meets, note, of_head, of_rest, other_held, reins_from, reins_of, rest_of, spent}
 use Rattle.mw_rule.specs.Laws.{BorrowingKeepsTheRule, DealsKeepTheRule, EntrustingKeepsTheRule, GatheringKeepsTheRule, HearingKeepsTheRule, LooksKeepTheRule, MeetingKeepsTheRule, NotesKeepTheRule, StartsUnderTheRule}
 use Rattle.mw_rule.specs.Rule.{Continues, Each, Fits, has, HasGroundFor, Holds, holds_of, HoldsFile, IsLive, IsOver, IsRight, IsSpent, notes_of, Tied, Ties, times, times_held, total, weight}
 use Rattle.mw_rule.specs.Seen.{Gave, HasBegunFor, opening_at, seen_at}
@@ -200,18 +200,46 @@ notes_on config begun id view live = parts_on config begun id view view (note vi
 pub notes_keep : (config : Config) (begun : (ℕ → Opening) → List Happening → Type 0) → NotesKeepTheRule config begun
 notes_keep config begun id view live s tied at = (notes_on config begun id view live s tied at).after
 
--- The files go, and nothing else.
-pub entrusting_on : (config : Config) (begun : (ℕ → Opening) → List Happening → Type 0) → PartsOn config begun (λ view. Unit {0}) bereft entrusted
-entrusting_on config begun id view any = parts_on config begun id view (bereft view) (entrusted view) (λ openings state events fit. elim fit [
-  | inl gone ↦ (inl (record { flag = gone.flag; no_reins = gone.no_reins; no_mine = gone.no_mine }), inl (record { flag = gone.flag; no_reins = refl; no_mine = refl }))
-  | inr fits ↦ (
-    inr (record { same_config = fits.same_config; gave = fits.gave; reins = fits.reins; seen = fits.seen; told = fits.told; right = bereft_right view fits.right; over = fits.over; files = tt }),
-    inr (record { same_config = fits.same_config; gave = fits.gave; reins = tt; seen = fits.seen; told = fits.told; right = entrusted_right view fits.right; over = tt; files = fits.files }),
-  )
-]) (λ worker. omega arith) (λ tenant request. omega arith) (λ tenant. omega arith)
+-- One right to a file goes, and no reins.
+held_apart : (tenant : ℕ) (all : List Held) → times_held tenant (other_held all) + times_held tenant (first_held all) ≡ times_held tenant all
+held_apart tenant [] = refl
+held_apart tenant (one ∷ rest) = omega arith
+
+first_holds : (P : Held → Type 0) (all : List Held) → Each P all → Each P (first_held all)
+first_holds P [] holds = tt
+first_holds P (one ∷ rest) holds = (holds.0, tt)
+
+others_hold_files : (P : Held → Type 0) (all : List Held) → Each P all → Each P (other_held all)
+others_hold_files P [] holds = tt
+others_hold_files P (one ∷ rest) holds = holds.1
+
+pub entrusting_on : (config : Config) (begun : (ℕ → Opening) → List Happening → Type 0) → PartsOn config begun IsLive bereft entrusted
+entrusting_on config begun id view live = parts_on config begun id view (bereft view) (entrusted view) (λ openings state events fit.
+    let fits = live_fits config openings state events view live fit in (
+      inr (record {
+        same_config = fits.same_config;
+        gave = fits.gave;
+        reins = fits.reins;
+        seen = fits.seen;
+        told = fits.told;
+        right = bereft_right view fits.right;
+        over = fits.over;
+        files = others_hold_files (HoldsFile config state) view.files fits.files;
+      }),
+      inr (record {
+        same_config = fits.same_config;
+        gave = fits.gave;
+        reins = tt;
+        seen = fits.seen;
+        told = fits.told;
+        right = entrusted_right view fits.right;
+        over = tt;
+        files = first_holds (HoldsFile config state) view.files fits.files;
+      }),
+    )) (λ worker. omega arith) (λ tenant request. omega arith) (λ tenant. held_apart tenant view.files)
 
 pub entrusting_keeps : (config : Config) (begun : (ℕ → Opening) → List Happening → Type 0) → EntrustingKeepsTheRule config begun
-entrusting_keeps config begun id view s tied at = (entrusting_on config begun id view tt s tied at).after
+entrusting_keeps config begun id view live s tied at = (entrusting_on config begun id view live s tied at).after
 
 -- Two threads' knowledge becomes one that fits where both fit, and has no reins but theirs.
 joins_on : (config : Config) (begun : (ℕ → Opening) → List Happening → Type 0) (id other : ℕ) (view its both : View) → IsLive view → IsLive its

@@ -111,7 +111,7 @@ module _ (config : Config) (begun : (ℕ → Opening) → List Happening → Typ
       → Continues config begun s tied [] (record { words = s.words; homes = s.homes; views = slice_set s.views id (left view) ++ right view ∷ [] })
 
   abbrev pub PartsGoOn : Type 0
-  PartsGoOn = PartsOn (λ view. Unit {0}) left_over dealt × PartsOn IsLive (λ view. view) note × PartsOn (λ view. Unit {0}) bereft entrusted
+  PartsGoOn = PartsOn (λ view. Unit {0}) left_over dealt × PartsOn IsLive (λ view. view) note × PartsOn IsLive bereft entrusted
 
   -- Nor does putting together what two know.
   abbrev pub JoinsOn : (View → View → Type 0) → (View → View → View) → Type 0

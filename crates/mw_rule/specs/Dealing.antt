@@ -73,12 +73,20 @@ meets view other = record view { seen = other.seen; told = other.seen }
 abbrev pub gathers : View → View → View
 gathers view other = record view { reins = view.reins ++ other.reins; seen = other.seen; told = other.seen; mine = view.mine ++ other.mine; files = view.files ++ other.files }
 
--- a thread gives the files that it has to another, which knows no more than it does of all else
+-- the first right to a file is given away, and with it a note of what was seen
+abbrev pub first_held : List Held → List Held
+first_held [] = []
+first_held (one ∷ rest) = one ∷ []
+
+abbrev pub other_held : List Held → List Held
+other_held [] = []
+other_held (one ∷ rest) = rest
+
 abbrev pub entrusted : View → View
-entrusted view = record view { reins = []; mine = [] }
+entrusted view = record view { reins = []; mine = []; files = first_held view.files; is_spent = false }
 
 abbrev pub bereft : View → View
-bereft view = record view { files = [] }
+bereft view = record view { files = other_held view.files }
 
 -- a thread takes another's files, and nothing else of what it knew
 abbrev pub borrows : View → View → View

@@ -75,9 +75,9 @@ module _ (config : Config) (begun : (ℕ → Opening) → List Happening → Typ
   GatheringKeepsTheRule = (id other : ℕ) (view its : View) → IsLive view → IsLive its → Precede (tenants_of view.config) view.seen its.seen
       → Joins {S = Acting} (Tied config begun) id view other its (gathers view its) spent
 
-  -- A thread may give its files to another, which makes no steps; and a thread takes the files of another.
+  -- A thread may give its first right to a file to another, which makes no steps; and a thread takes the rights of another.
   abbrev pub EntrustingKeepsTheRule : Type 0
-  EntrustingKeepsTheRule = (id : ℕ) (view : View) → Splits {S = Acting} (Tied config begun) id view (bereft view) (entrusted view)
+  EntrustingKeepsTheRule = (id : ℕ) (view : View) → IsLive view → Splits {S = Acting} (Tied config begun) id view (bereft view) (entrusted view)
 
   abbrev pub BorrowingKeepsTheRule : Type 0
   BorrowingKeepsTheRule = (id other : ℕ) (view its : View) → IsLive view → IsLive its → Joins {S = Acting} (Tied config begun) id view other its (borrows view its) spent

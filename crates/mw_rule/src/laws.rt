@@ -65,7 +65,7 @@ pub fn the_run_goes_on<B: Begins>()
 
 /// Reins may be given to a new thread, with what their worker finished, and a note of what was seen; and a thread
 /// may be told what a note says, or take it for its own where it saw no more; or one takes over all that another
-/// knew. The right to call files may be given to a new thread alone, and be taken back.
+/// knew. A right to call a file may be given to a new thread alone, and be taken back.
 pub fn what_is_known_is_parted<B: Begins>()
     ensures deals { (key : B) → DealsKeepTheRule (B.config key) (B.begun key) }
     ensures notes { (key : B) → NotesKeepTheRule (B.config key) (B.begun key) }

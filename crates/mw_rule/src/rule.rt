@@ -77,7 +77,7 @@ impl Join<View> for Gathers {
     ghost spent = { spent };
 }
 
-/// The right to call files is given to a new thread.
+/// The first right to call a file is given to a new thread.
 pub struct Entrusts;
 
 impl Split<View> for Entrusts {
@@ -86,7 +86,7 @@ impl Split<View> for Entrusts {
     ghost right = { entrusted };
 }
 
-/// A thread takes another's right to call files.
+/// A thread takes another's rights to call files.
 pub struct Borrows;
 
 impl Join<View> for Borrows {
