@@ -58,13 +58,15 @@ other_views config begun s now tied same fits alone once one_hand = record { aft
 -- what stands at an index, told by the configuration that the thread knows
 stood_there : (config : Config) (openings : ℕ → Opening) (events : List Happening) (state : State) (view : View) (index bits : ℕ) → view.config ≡ config → IsPlayed config openings events state
     → ((tenant : ℕ) → tenant < tenants_of config → Gave openings state tenant (opening_at view.openings tenant))
+    → ((tenant : ℕ) → tenant < tenants_of config → seen_at view.seen tenant ≡ sealed_of openings state tenant)
     → ((at : At) → has_place config at ≡ true → index_of config.pool at ≡ index → bits ≡ pack at (read state.cells at)) → StoodThere view index bits
-stood_there config openings events state view index bits same played gave is = record {
+stood_there config openings events state view index bits same played gave all is = record {
   openings = openings;
   events = events;
   state = state;
   played = subst (λ (one : Config). IsPlayed one openings events state) (sym same) played;
   gave = subst (λ (one : Config). (tenant : ℕ) → tenant < tenants_of one → Gave openings state tenant (opening_at view.openings tenant)) (sym same) gave;
+  seen = subst (λ (one : Config). (tenant : ℕ) → tenant < tenants_of one → seen_at view.seen tenant ≡ sealed_of openings state tenant) (sym same) all;
   same_bits = subst (λ (one : Config). (at : At) → has_place one at ≡ true → index_of one.pool at ≡ index → bits ≡ pack at (read state.cells at)) (sym same) is;
 }
 
@@ -97,7 +99,7 @@ looks_as config begun id index view make files live makes s tied at same_rights 
     record {
       view = new;
       goes_on = sees_on config sealed view view.reins view.mine files fits.same_config fits.seen fits.told;
-      stood = stood_there config openings before tied.state new index bits fits.same_config tied.past.played fits.gave (λ place there is. sym (ap (slice_index s.words) is) ∙ tied.ties place there);
+      stood = stood_there config openings before tied.state new index bits fits.same_config tied.past.played fits.gave (all_at sealed (tenants_of config)) (λ place there is. sym (ap (slice_index s.words) is) ∙ tied.ties place there);
       right = right;
       same_reins = refl;
       same_mine = refl;

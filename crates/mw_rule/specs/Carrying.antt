@@ -22,6 +22,7 @@ use Rattle.mw_world.specs.Definition.Happenings.{Happening}
 use Rattle.mw_world.specs.Definition.State.{State, Opening, tenant_at, tenants_of}
 use Rattle.mw_world.specs.Definition.Turns.{may_make, next_attempt}
 use Rattle.mw_law_store.specs.Moments.{SealedChange}
+use Rattle.mw_law_store.specs.OverCalls.{sealed_of}
 use Rattle.mw_rule.specs.declared.views.Deed.TheVariants.{Came, Stepped, Handed}
 use Rattle.mw_rule.specs.declared.views.Finished.{Finished}
 use Rattle.mw_rule.specs.declared.views.Reins.{Reins}
@@ -115,13 +116,15 @@ pub record GoesOn (old new : View) : Type 0 where
   pub seen : Precede (tenants_of old.config) old.seen new.seen
   pub told : Precede (tenants_of old.config) old.told new.seen
 
--- These bits stand at an index of the table, in a world after some run whose latest start gave the tenants what the thread knows of it.
+-- These bits stand at an index of the table, in a world after some run whose latest start gave the tenants what the thread knows of it, and in which just those changes were sealed that
+-- it has seen.
 pub record StoodThere (view : View) (index bits : ℕ) : Type 0 where
   pub openings : ℕ → Opening
   pub events : List Happening
   pub state : State
   pub played : IsPlayed view.config openings events state
   pub gave : (tenant : ℕ) → tenant < tenants_of view.config → Gave openings state tenant (opening_at view.openings tenant)
+  pub seen : (tenant : ℕ) → tenant < tenants_of view.config → seen_at view.seen tenant ≡ sealed_of openings state tenant
   pub same_bits : (at : At) → has_place view.config at ≡ true → index_of view.config.pool at ≡ index → bits ≡ pack at (read state.cells at)
 
 -- the request of these reins, of this tenant and for this job, with its reply at its place
