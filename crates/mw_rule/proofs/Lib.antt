@@ -1,15 +1,17 @@
 pub mod Apart
 pub mod Calling
+pub mod FileCalls
+pub mod Filed
+pub mod Filing
+pub mod FromLaws
 pub mod Grounded
 pub mod GroundsInRuns
 pub mod GroundsOfReads
 pub mod GroundsOn
+pub mod Holding
 pub mod Keeping
 pub mod Known
 pub mod Layouts
-pub mod FileCalls
-pub mod Filed
-pub mod Filing
 pub mod Leading
 pub mod Moving
 pub mod Owning
@@ -19,4 +21,3 @@ pub mod Stepping
 pub mod Totals
 pub mod Viewing
 pub mod Words
-pub mod Holding

@@ -3,6 +3,7 @@ pub mod Carrying
 pub mod Continuing
 pub mod Dealing
 pub mod Filing
+pub mod FromLaws
 pub mod Grounds
 pub mod Layout
 pub mod Laws

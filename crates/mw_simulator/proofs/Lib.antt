@@ -4,6 +4,7 @@ pub mod Crashes
 pub mod Entering
 pub mod FirstWorlds
 pub mod Frames
+pub mod FromMemory
 pub mod GoingOn
 pub mod Halting
 pub mod Holding

@@ -1,6 +1,7 @@
 pub mod Crashes
 pub mod Ending
 pub mod Faults
+pub mod FromMemory
 pub mod Holding
 pub mod Images
 pub mod Running

@@ -8,7 +8,7 @@ use Rattle.mw_actor.specs.Acting.{Acting}
 use Rattle.mw_world.specs.declared.config.Config.{Config}
 use Rattle.mw_world.specs.declared.config.Tenant.{Tenant}
 use Rattle.mw_world.specs.Definition.State.{IsConfig, IsStart, Opening, idle_seat}
-use Rattle.mw_world_memory.specs.Openings.{first_words}
+use Rattle.mw_simulator.specs.FromMemory.{first_words}
 use Rattle.mw_rule.specs.Dealing.{maker}
 use Rattle.mw_rule.specs.Layout.{words_of}
 use Rattle.mw_rule.specs.Rule.{Tied, Ties}

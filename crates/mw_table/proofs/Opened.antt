@@ -21,8 +21,7 @@ use Rattle.mw_world.specs.Definition.Restarts.{doubt_then, found_of, interrupted
 use Rattle.mw_world.specs.Definition.State.{Account, State, marks_in, tenants_of}
 use Rattle.mw_world.specs.Definition.Turns.{Made, made_of, may_make, moved, turn, turned}
 use Rattle.mw_world.specs.Definition.World.{asked, hand, handed, may_come, run, step}
-use Rattle.mw_law_moves.proofs.Stepping.{if_some}
-use Rattle.mw_world_memory.proofs.MadeSteps.{done_is}
+use Rattle.mw_simulator.proofs.FromMemory.{done_is}
 use Rattle.mw_table.specs.Beginning.{up_after}
 
 -- so is told of an account
@@ -48,7 +47,8 @@ some_same : (one next : State) → Some one ≡ Some next → one ≡ next
 some_same one next is = cc
 
 if_told : (test : Bool) (one next : State) → AreTold one → (if test then Some one else None) ≡ Some next → AreTold next
-if_told test one next all is = subst (λ (state : State). AreTold state) (if_some test one next is) all
+if_told true one next all is = let same : one ≡ next = cc in subst (λ (state : State). AreTold state) same all
+if_told false one next all is = let same : one ≡ next = cc in subst (λ (state : State). AreTold state) same all
 
 turned_told : (state : State) (worker : ℕ) (actor : Acting) → AreTold state → AreTold (turned state worker actor)
 turned_told state worker actor all =

@@ -11,13 +11,11 @@ use Rattle.mw_world.specs.Claim.Headline.{IsPlayed}
 use Rattle.mw_world.specs.Definition.Happenings.{Happening}
 use Rattle.mw_world.specs.Definition.State.{Opening, Seat, State, first_openings, idle_seat, new_world, tenant_at, tenants_of}
 use Rattle.mw_world.proofs.FirstInvariant.{new_worlds_start}
-use Rattle.mw_law_runs.proofs.Lawful.{runs_are_lawful}
-use Rattle.mw_law_store.specs.Moments.{after_marks, first_moment}
-use Rattle.mw_world_memory.specs.declared.accounts.Account.{Account as AccountInMemory}
-use Rattle.mw_world_memory.specs.declared.seats.Seat.{Seat as SeatInMemory}
+use Rattle.mw_rule.proofs.FromLaws.{runs_are_lawful}
+use Rattle.mw_rule.specs.FromLaws.{after_marks, first_moment}
+use Rattle.mw_simulator.specs.FromMemory.{Account as AccountInMemory, Seat as SeatInMemory, seat_of}
 use Rattle.mw_simulator.specs.declared.world.World.{World}
 use Rattle.mw_simulator.specs.Running.{Stands}
-use Rattle.mw_world_memory.specs.Seats.{seat_of}
 use Rattle.mw_simulator.specs.Shows.{Shows, ShowsAccount}
 use Rattle.mw_rule.specs.Carrying.{IsReadyFor}
 use Rattle.mw_rule.specs.Layout.{words_of}

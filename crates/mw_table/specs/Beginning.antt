@@ -6,11 +6,10 @@ use Rattle.mw_lone.specs.declared.marks.Mark.TheVariants.{Restart}
 use Rattle.mw_world.specs.declared.config.Config.{Config}
 use Rattle.mw_world.specs.Definition.Happenings.{Happening}
 use Rattle.mw_world.specs.Definition.State.{Opening, Seat, first_openings, idle_seat}
-use Rattle.mw_world_memory.specs.declared.accounts.Account.{Account}
+use Rattle.mw_simulator.specs.FromMemory.{Account, seat_of}
 use Rattle.mw_simulator.specs.declared.world.World.{World}
 use Rattle.mw_simulator.specs.Running.{Stands}
-use Rattle.mw_world_memory.specs.Seats.{seat_of}
-use Rattle.mw_law_store.specs.Moments.{after_marks, first_moment}
+use Rattle.mw_rule.specs.FromLaws.{after_marks, first_moment}
 
 -- What a table begins with: what its world is made of, what the latest start gave each tenant, and the workers.
 pub record Basis : Type 0 where

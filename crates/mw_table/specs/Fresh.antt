@@ -7,7 +7,7 @@ use Rattle.mw_world.specs.declared.config.Config.{Config}
 use Rattle.mw_world.specs.declared.config.Tenant.{Tenant}
 use Rattle.mw_world.specs.Definition.Happenings.{Happening}
 use Rattle.mw_world.specs.Definition.State.{Opening, State, idle_seat, world_at}
-use Rattle.mw_world_memory.specs.Openings.{first_words}
+use Rattle.mw_simulator.specs.FromMemory.{first_words}
 use Rattle.mw_rule.specs.Seen.{opening_at}
 use Rattle.mw_table.specs.declared.origin.FileOpening.{FileOpening}
 use Rattle.mw_table.specs.Beginning.{Basis}
