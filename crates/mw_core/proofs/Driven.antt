@@ -108,10 +108,10 @@ carried_first old new actor got may same began =
     record {
       reins = after;
       carries = record { own = may.has.own ∙ sym same; same_attempt = numbered; only = only };
-      ready = λ run call.
+      ready = λ run.
           let all : Each (IsReady new.seat.me.0.config) (settled after (tells actor news new.attempt) ∷ []) =
           subst (λ (some : List Reins). Each (IsReady new.seat.me.0.config) some) only began.ready in
-          subst (λ (one : Reins). IsReadyFor new.seat.me.0.config one.actor) (running_so after (tells actor news new.attempt) run) all.0 run call;
+          subst (λ (one : Reins). IsReadyFor new.seat.me.0.config one.actor) (running_so after (tells actor news new.attempt) run) all.0 run;
     }
 
 -- it is told of the step in bits

@@ -4,15 +4,18 @@ use Rattle.std.proofs.Common.{refl, sym, ap, subst, ◌∙◌, arith}
 use Rattle.mw_words.specs.declared.jobs.Job.{Job}
 use Rattle.mw_words.specs.declared.replies.Reply.{Reply}
 use Rattle.mw_actor.specs.Acting.{Acting}
-use Rattle.mw_actor.specs.Program.{replied}
+use Rattle.mw_look.specs.declared.news.News.TheVariants.{Filed}
+use Rattle.mw_actor.specs.Program.{replied, tells}
 use Rattle.mw_world.specs.declared.config.Config.{Config}
 use Rattle.mw_world.specs.Definition.State.{tenants_of}
+use Rattle.mw_law_calls.proofs.GoingOn.{requests_go_on_from_calls}
 use Rattle.mw_rule.specs.declared.views.Finished.{Finished}
 use Rattle.mw_rule.specs.declared.views.Reins.{Reins}
 use Rattle.mw_rule.specs.declared.views.View.{View}
-use Rattle.mw_rule.specs.Calling.{CallsBegin, CallsDealt, CallsEnd, CallsGoOn, CallsMeet, CallsStand}
+use Rattle.mw_rule.specs.Calling.{CallsBegin, CallsDealt, CallsEnd, CallsFile, CallsGoOn, CallsMeet, CallsStand}
 use Rattle.mw_rule.specs.Carrying.{GoesOn, Keeps, NotesAs, comes, finished_as, settled, settled_as, stepped, told, told_of}
 use Rattle.mw_rule.specs.Dealing.{reins_of}
+use Rattle.mw_rule.specs.Filing.{after_call, went}
 use Rattle.mw_rule.specs.Rule.{Each, IsFinished}
 use Rattle.mw_rule.specs.Seen.{seen_at}
 use Rattle.mw_rule.proofs.Leading.{begins_itself, begins_on}
@@ -72,6 +75,22 @@ calls_go_on first old new reins actor got serves running took =
       begun = begun;
       noted = subst (λ (mine : List Finished). NotesAs (stepped got reins actor) actor.tenant lower actor.job reply mine new.mine) same
           (notes_from (stepped got reins actor) actor.tenant reins.begun lower actor.job reply old.mine new.mine begun (took.ends carried actor had refl));
+    }
+
+pub calls_file : CallsFile
+calls_file first old new reins actor called went_well held after serves comes_to made =
+    let on = requests_go_on_from_calls actor called comes_to in
+    let had : old.reins ≡ record reins { actor = Some actor } ∷ [] = serves.only ∙ ap (λ (one : Reins). one ∷ []) (running_so reins actor on.unreplied) in
+    let lower = length (seen_at first.seen actor.tenant) in
+    let next = tells actor (Filed went_well) reins.attempt in
+    let silent : replied next ≡ None = on.onward went_well reins.attempt in
+    let same : old.mine ≡ first.mine = subst (λ (reply : Option Reply). NotesAs reins actor.tenant lower actor.job reply first.mine old.mine) on.unreplied serves.noted in
+    record {
+      only = made.reins ∙ ap (map (went went_well)) had ∙ ap (λ (one : Reins). one ∷ []) (sym (running_so (after_call went_well reins actor) next silent));
+      keeps = keeps_on first old new serves.keeps (keeps_so old new made.files.goes_on);
+      right = made.files.right;
+      begun = serves.begun;
+      noted = subst (λ (reply : Option Reply). NotesAs (after_call went_well reins actor) actor.tenant lower actor.job reply first.mine new.mine) (sym silent) (made.files.same_mine ∙ same);
     }
 
 pub calls_meet : CallsMeet

@@ -7,6 +7,8 @@ use Rattle.atomic_table.specs.Table.{State as Table, keeps}
 use Rattle.mw_words.specs.declared.jobs.Entry.{Entry}
 use Rattle.mw_words.specs.declared.places.At.TheVariants.{Door as AtDoor, Status as AtStatus}
 use Rattle.mw_words.specs.declared.statuses.Status.{Status}
+use Rattle.mw_words.specs.Patterns.{unpacked_status}
+use Rattle.mw_words.proofs.PatternLaws.{status_round}
 use Rattle.mw_look.specs.declared.steps.Call.{Call}
 use Rattle.mw_look.specs.declared.steps.Call.TheVariants.{Prepare as PrepareCall, Seal as SealCall, Settle as SettleCall, Cancel as CancelCall}
 use Rattle.mw_look.specs.Places.{pack}
@@ -17,6 +19,7 @@ use Rattle.mw_world_file.specs.declared.outcomes.Outcome.{Outcome}
 use Rattle.mw_world_file.specs.declared.outcomes.Outcome.TheVariants.{Good, Fail}
 use Rattle.mw_world.specs.declared.config.Config.{Config}
 use Rattle.mw_world.specs.declared.notes.Note.TheVariants.{Nothing}
+use Rattle.mw_world.specs.Claim.Lawful.{Lawful}
 use Rattle.mw_world.specs.Definition.Calls.{Called as CallOn, breaks, can_be_made, device_calls, doubt_of, faults, filed, goes_well, is_made, place_for, skips, starts_from}
 use Rattle.mw_world.specs.Definition.Happenings.{Happening, File as FileEvent}
 use Rattle.mw_world.specs.Definition.State.{Opening}
@@ -27,6 +30,7 @@ use Rattle.mw_law_calls.specs.declared.rights.FileRights.{FileRights}
 use Rattle.mw_law_calls.proofs.Ending.{calls_end_well, calls_find_faults, calls_meet_faults, calls_skip}
 use Rattle.mw_law_calls.proofs.Following.{rights_follow_calls, rights_follow_faults}
 use Rattle.mw_law_calls.proofs.Starting.{calls_can_start}
+use Rattle.mw_law_runs.proofs.Lawful.{runs_are_lawful}
 use Rattle.mw_rule.specs.declared.views.Finished.{Finished}
 use Rattle.mw_rule.specs.declared.views.FoundStatus.{FoundStatus}
 use Rattle.mw_rule.specs.declared.views.Held.{Held}
@@ -53,6 +57,7 @@ went_of config begun s tied more id index bits old went_well held after moved = 
     same_mine = moved.mine ∙ ap (λ (more : List Finished). old.mine ++ more) moved.ends ∙ append-nil old.mine;
   };
   reins = moved.reins;
+  ready = moved.ready;
   keeps = moved.same_files;
 }
 
@@ -195,6 +200,9 @@ module _ (config : Config) (begun : (ℕ → Opening) → List Happening → Typ
         tt,
       )
 
+  lawful_now : Lawful config tied.state
+  lawful_now = runs_are_lawful config tied.past.openings (tied.past.before ++ tied.events) tied.state tied.past.played
+
   loads_so : (starts : Bool) → starts_from called.call (tied.state.cells.statuses called.change.slot) ≡ starts → (make : ℕ → ℕ) → ((bits : ℕ) → make bits ≡ bits)
       → LoadsSo config begun s tied (events_loaded starts worker) id (index_of config.pool (AtStatus called.change.slot)) (make (slice_index s.words (index_of config.pool (AtStatus called.change.slot))))
       (LoadedAs starts worker actor called held (tied.state.cells.statuses called.change.slot) old)
@@ -214,6 +222,7 @@ module _ (config : Config) (begun : (ℕ → Opening) → List Happening → Typ
         run = looks.run;
         told = record {
           files = record { goes_on = looks.goes_on; right = looks.right; same_mine = looks.same_mine };
+          in_range = lawful_now.fit (AtStatus called.change.slot);
           same_reins = looks.same_reins;
           keeps = looks.same_files;
           within = λ sound. (may_start is sound).0;
@@ -284,10 +293,16 @@ module _ (config : Config) (begun : (ℕ → Opening) → List Happening → Typ
   pub calls_load_on : CallsLoadOn config begun
   calls_load_on id worker view actor called held make by makes s tied at =
       let status = tied.state.cells.statuses called.change.slot in
+      let bits = tied.ties (AtStatus called.change.slot) (words config begun s tied id view at worker actor called held by).status in
       let loads = loads_so config begun s tied id view at worker actor called held by (starts_from called.call status) refl make makes in
       record {
         new = loads.view;
-        is_told = record { status = status; is = tied.ties (AtStatus called.change.slot) (words config begun s tied id view at worker actor called held by).status; loaded = loads.told };
+        is_told = record {
+          status = status;
+          is = bits;
+          read = ap unpacked_status bits ∙ status_round status ((lawful_now config begun s tied id view at worker actor called held by).fit (AtStatus called.change.slot));
+          loaded = loads.told;
+        };
         run = loads.run;
       }
 

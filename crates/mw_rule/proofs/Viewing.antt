@@ -11,10 +11,12 @@ use Rattle.mw_actor.specs.Acting.{Acting}
 use Rattle.mw_actor.specs.Program.{replied}
 use Rattle.mw_world.specs.declared.config.Config.{Config}
 use Rattle.mw_world.specs.Claim.Headline.{IsPlayed}
+use Rattle.mw_world.specs.Definition.Calls.{Called as CallOn, called_at}
 use Rattle.mw_world.specs.Definition.Cells.{Cells}
 use Rattle.mw_world.specs.Definition.Happenings.{Happening}
 use Rattle.mw_world.specs.Definition.State.{State, Opening, tenants_of}
 use Rattle.mw_law_calls.specs.Beside.{AreBesideFile}
+use Rattle.mw_law_calls.proofs.Starting.{calls_have_words}
 use Rattle.mw_law_runs.proofs.Lawful.{runs_are_lawful}
 use Rattle.mw_law_store.specs.History.{IsBeginning}
 use Rattle.mw_law_store.specs.Moments.{SealedChange}
@@ -23,7 +25,7 @@ use Rattle.mw_rule.specs.declared.views.Finished.{Finished}
 use Rattle.mw_rule.specs.declared.views.Held.{Held}
 use Rattle.mw_rule.specs.declared.views.Reins.{Reins}
 use Rattle.mw_rule.specs.declared.views.View.{View}
-use Rattle.mw_rule.specs.Carrying.{GoesOn, IsReady, IsReadyFor, settled_as, stepped, told, told_as, told_of}
+use Rattle.mw_rule.specs.Carrying.{GoesOn, IsReady, IsReadyAt, IsReadyFor, settled_as, stepped, told, told_as, told_of}
 use Rattle.mw_rule.specs.Rule.{Continues, Each, Fits, has, Holds, holds_of, HoldsFile, IsLive, IsOfThese, IsOver, IsRight, IsSpent, notes_of, Tied, Ties, times, times_held, times_noted, total, weight}
 use Rattle.mw_rule.specs.Seen.{ComeFirst, all_of, opening_at, seen_at}
 use Rattle.mw_rule.proofs.Keeping.{keep}
@@ -98,14 +100,18 @@ live_fits config openings state events view (inl flag) (inl spent) = absurd (tru
 live_fits config openings state events view (inr has_some) (inl spent) = absurd (no_reins has_some.0 has_some.1 (sym has_some.2 ∙ spent.no_reins))
 live_fits config openings state events view live (inr fits) = fits
 
--- the next step of a request of which reins tell is at a place that is there
+-- the words of the next step, or of the call, of a request of which reins tell are there
 ready_of : (config : Config) (openings : ℕ → Opening) (all events : List Happening) (state : State) (reins : Reins) → IsPlayed config openings all state → Holds config openings state events reins
     → IsReady config reins
 ready_of config openings all events state reins played holds = by reins.actor refl
   where
     by : (actor : Option Acting) → reins.actor ≡ actor → IsReadyFor config actor
     by None is = tt
-    by (Some actor) is = λ running no_call. ((runs_are_lawful config openings all state played).steps reins.worker actor (holds.actor ∙ is) running no_call).there
+    by (Some actor) is = λ running. at_point running (called_at actor.point) refl
+      where
+        at_point : replied actor ≡ None → (called : Option CallOn) → called_at actor.point ≡ called → IsReadyAt config actor called
+        at_point running None no_call = ((runs_are_lawful config openings all state played).steps reins.worker actor (holds.actor ∙ is) running no_call).there
+        at_point running (Some called) comes_to = calls_have_words config openings all state reins.worker actor called played (record { sits = holds.actor ∙ is; comes_to = comes_to })
 
 -- A step leaves reins those of their worker.
 same_worker_as : (reins : Reins) (actor : Acting) (reply : Option Reply) → (settled_as reins actor reply).worker ≡ reins.worker

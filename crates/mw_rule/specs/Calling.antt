@@ -1,17 +1,22 @@
 -- A whole call of a thread: from what it knew when a request came to what it knows once the request has its reply.
-use Rattle.std.specs.Prelude.{ℕ, ◌≡◌, ◌≤◌, true, List, [], ◌∷◌, ◌++◌, length, Some, None}
+use Rattle.std.specs.Prelude.{ℕ, ◌≡◌, ◌≤◌, Bool, true, List, [], ◌∷◌, ◌++◌, length, Some, None}
 use Rattle.mw_words.specs.declared.jobs.Job.{Job}
 use Rattle.mw_words.specs.declared.replies.Reply.{Reply}
 use Rattle.mw_look.specs.declared.news.Got.{Got}
+use Rattle.mw_look.specs.declared.news.News.TheVariants.{Filed}
 use Rattle.mw_actor.specs.Acting.{Acting}
-use Rattle.mw_actor.specs.Program.{replied}
+use Rattle.mw_actor.specs.Program.{replied, tells}
 use Rattle.mw_world.specs.declared.config.Config.{Config}
+use Rattle.mw_world.specs.Definition.Calls.{Called as CallOn, called_at}
 use Rattle.mw_world.specs.Definition.State.{Opening, Seat}
+use Rattle.mw_law_calls.specs.declared.rights.FileRights.{FileRights}
 use Rattle.mw_law_store.specs.OverCalls.{IsRightAt}
+use Rattle.mw_rule.specs.declared.views.Held.{Held}
 use Rattle.mw_rule.specs.declared.views.Reins.{Reins}
 use Rattle.mw_rule.specs.declared.views.View.{View}
 use Rattle.mw_rule.specs.Carrying.{Began, Keeps, Looked, MayCome, Met, NotesAs, Took, comes, finished_as, settled, stepped, told_of}
 use Rattle.mw_rule.specs.Dealing.{knows, reins_of}
+use Rattle.mw_rule.specs.Filing.{Went, after_call}
 use Rattle.mw_rule.specs.Grounds.{HasGround}
 use Rattle.mw_rule.specs.Rule.{IsRight, quota_given, words_given}
 use Rattle.mw_rule.specs.Seen.{seen_at}
@@ -35,7 +40,7 @@ pub record Answered (first now : View) (reins : Reins) (tenant : ℕ) (job : Job
   pub right : IsRightAt (words_given now tenant) (seen_at now.seen tenant) place reins.request job reply
   pub ground : reins.is_whole ≡ true → HasGround reins.found reins.attempt tenant (quota_given now tenant) reply
 
--- So it is once a request came and made its first step; and it stays so over each further step, over loads that are no step, and where the thread meets others.
+-- So it is once a request came and made its first step; and it stays so over each further step, over each call on its file, over loads that are no step, and where the thread meets others.
 abbrev pub CallsBegin : Type 0
 CallsBegin = (old new : View) (worker : ℕ) (actor : Acting) (got : Got) (may : MayCome old worker actor) (began : Began actor got old new)
     → Serves old new (stepped got (comes actor began.request began.begun may.reins) actor) (told_of got may.reins.attempt actor)
@@ -43,6 +48,11 @@ CallsBegin = (old new : View) (worker : ℕ) (actor : Acting) (got : Got) (may :
 abbrev pub CallsGoOn : Type 0
 CallsGoOn = (first old new : View) (reins : Reins) (actor : Acting) (got : Got) → Serves first old reins actor → replied actor ≡ None → Took got old new
     → Serves first new (stepped got reins actor) (told_of got reins.attempt actor)
+
+-- So it does over a call on its file, after which it has no reply yet.
+abbrev pub CallsFile : Type 0
+CallsFile = (first old new : View) (reins : Reins) (actor : Acting) (called : CallOn) (went_well : Bool) (held : Held) (after : FileRights) → Serves first old reins actor
+    → called_at actor.point ≡ Some called → Went went_well held after old new → Serves first new (after_call went_well reins actor) (tells actor (Filed went_well) reins.attempt)
 
 abbrev pub CallsStand : Type 0
 CallsStand = (first old new : View) (reins : Reins) (actor : Acting) (index bits : ℕ) → Serves first old reins actor → Looked index bits old new → Serves first new reins actor

@@ -14,13 +14,14 @@ use Rattle.mw_actor.specs.Asks.{asks}
 use Rattle.mw_actor.specs.Program.{replied, tells}
 use Rattle.mw_world.specs.declared.config.Config.{Config}
 use Rattle.mw_world.specs.Claim.Headline.{IsPlayed}
-use Rattle.mw_world.specs.Definition.Calls.{called_at}
+use Rattle.mw_world.specs.Definition.Calls.{Called as CallOn, called_at}
 use Rattle.mw_world.specs.Definition.Cells.{Cells, read}
 use Rattle.mw_world.specs.Definition.Changes.{done}
 use Rattle.mw_world.specs.Definition.Extent.{has_place}
 use Rattle.mw_world.specs.Definition.Happenings.{Happening}
 use Rattle.mw_world.specs.Definition.State.{State, Opening, tenant_at, tenants_of}
 use Rattle.mw_world.specs.Definition.Turns.{may_make, next_attempt}
+use Rattle.mw_law_calls.specs.Starting.{HasWords}
 use Rattle.mw_law_store.specs.Moments.{SealedChange}
 use Rattle.mw_law_store.specs.OverCalls.{sealed_of}
 use Rattle.mw_rule.specs.declared.views.Deed.TheVariants.{Came, Stepped, Handed}
@@ -64,10 +65,15 @@ told got reins = told_as got reins reins.actor
 abbrev pub comes : Acting → ℕ → ℕ → Reins → Reins
 comes actor request begun reins = record reins { actor = Some actor; request = request; begun = begun; made = reins.made ++ Came ∷ []; found = []; is_whole = true }
 
--- The next step of the worker's request, if it has one without a reply that has come to no call on a file, is at a place that is there.
+-- Where a request has come to no call on a file, its next step is at a place that is there; where it has come to one, the words with which that may end are there.
+abbrev pub IsReadyAt : Config → Acting → Option CallOn → Type 0
+IsReadyAt config actor None = may_make config (asks actor) ≡ true
+IsReadyAt config actor (Some called) = HasWords config actor called
+
+-- So it is of the worker's request, if it has one without a reply.
 abbrev pub IsReadyFor : Config → Option Acting → Type 0
 IsReadyFor config None = Unit {0}
-IsReadyFor config (Some actor) = replied actor ≡ None → called_at actor.point ≡ None → may_make config (asks actor) ≡ true
+IsReadyFor config (Some actor) = replied actor ≡ None → IsReadyAt config actor (called_at actor.point)
 
 abbrev pub IsReady : Config → Reins → Type 0
 IsReady config reins = IsReadyFor config reins.actor

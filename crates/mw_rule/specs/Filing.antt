@@ -2,6 +2,7 @@
 use Rattle.std.specs.Prelude.{ℕ, ◌≡◌, ◌<◌, Bool, true, false, List, [], ◌∷◌, ◌++◌, map, Option, Some, None}
 use Rattle.mw_words.specs.declared.places.At.TheVariants.{Status as AtStatus}
 use Rattle.mw_words.specs.declared.statuses.Status.{Status}
+use Rattle.mw_words.specs.Patterns.{IsStatusInRange, unpacked_status}
 use Rattle.mw_look.specs.declared.news.Got.TheVariants.{File as GotFile}
 use Rattle.mw_look.specs.declared.news.News.TheVariants.{Filed}
 use Rattle.mw_look.specs.Places.{pack}
@@ -18,18 +19,22 @@ use Rattle.mw_rule.specs.declared.views.FoundStatus.{FoundStatus}
 use Rattle.mw_rule.specs.declared.views.Held.{Held}
 use Rattle.mw_rule.specs.declared.views.Reins.{Reins}
 use Rattle.mw_rule.specs.declared.views.View.{View}
-use Rattle.mw_rule.specs.Carrying.{GoesOn, Has}
-use Rattle.mw_rule.specs.Rule.{IsRight}
+use Rattle.mw_rule.specs.Carrying.{GoesOn, Has, IsReady}
+use Rattle.mw_rule.specs.Rule.{Each, IsRight}
 use Rattle.mw_rule.specs.Seen.{opening_at}
 
--- the reins once their worker's call was made, and its request was told how it went
-abbrev pub went_as : Bool → Reins → Option Acting → Reins
-went_as went_well reins None = reins
-went_as went_well reins (Some actor) = record reins {
+-- the reins once their worker's call was made, and this request was told how it went
+abbrev pub after_call : Bool → Reins → Acting → Reins
+after_call went_well reins actor = record reins {
   actor = Some (tells actor (Filed went_well) reins.attempt);
   made = reins.made ++ Called ∷ [];
   found = reins.found ++ record { op = op_of (asks actor); got = GotFile went_well } ∷ [];
 }
+
+-- so it is of the worker's request, if it has one
+abbrev pub went_as : Bool → Reins → Option Acting → Reins
+went_as went_well reins None = reins
+went_as went_well reins (Some actor) = after_call went_well reins actor
 
 abbrev pub went : Bool → Reins → Reins
 went went_well reins = went_as went_well reins reins.actor
@@ -60,21 +65,23 @@ pub record Files (old new : View) : Type 0 where
   pub right : IsRight new
   pub same_mine : new.mine ≡ old.mine
 
--- The status is the one that the call starts from. That is kept in mind, and nothing has happened yet. The call can be made, if the file hasn't failed.
+-- The status is one that the call starts from, and in range. It is kept in mind, and nothing has happened yet. The call can be made, if the file hasn't failed.
 pub record Starts (worker : ℕ) (actor : Acting) (called : CallOn) (held : Held) (status : Status) (old new : View) : Type 0 where
   pub files : Files old new
+  pub in_range : IsStatusInRange status
   pub same_reins : new.reins ≡ old.reins
   pub keeps : new.files ≡ record held { found = Some (record { worker = worker; status = status }) } ∷ []
   pub within : fails old called held ≡ false → place_held old called held < places_held old called held
   pub can : fails old called held ≡ false → can_be_made called.call (file_told held.file) (places_held old called held) (place_held old called held) (own_entries actor) ≡ true
 
--- The call is made: the request was told how it went, and this is known of the file.
+-- The call is made: the request was told how it went, and the words of its next step, or of its next call, are there; and this is known of the file.
 pub record Went (went_well : Bool) (held : Held) (after : FileRights) (old new : View) : Type 0 where
   pub files : Files old new
   pub reins : new.reins ≡ map (went went_well) old.reins
+  pub ready : Each (IsReady new.config) new.reins
   pub keeps : new.files ≡ record held { file = after; found = None } ∷ []
 
--- A load of the status of the call's change. Where the call doesn't start from it, that is the call, which does nothing.
+-- A load of the status of the call's change, which the bits tell that were found. Where the call doesn't start from it, that is the call, which does nothing.
 abbrev pub LoadedAs : Bool → (worker : ℕ) (actor : Acting) (called : CallOn) (held : Held) (status : Status) (old new : View) → Type 0
 LoadedAs true worker actor called held status old new = Starts worker actor called held status old new
 LoadedAs false worker actor called held status old new = Went true held held.file old new
@@ -82,6 +89,7 @@ LoadedAs false worker actor called held status old new = Went true held held.fil
 pub record Loaded (worker : ℕ) (actor : Acting) (called : CallOn) (held : Held) (bits : ℕ) (old new : View) : Type 0 where
   pub status : Status
   pub is : bits ≡ pack (AtStatus called.change.slot) status
+  pub read : unpacked_status bits ≡ Some status
   pub loaded : LoadedAs (starts_from called.call status) worker actor called held status old new
 
 -- what is known of the file after a call that went well, and after one in which the device failed

@@ -16,7 +16,7 @@ use Rattle.mw_world.specs.Definition.Calls.{called_at}
 use Rattle.mw_world.specs.Definition.Extent.{has_place}
 use Rattle.mw_world.specs.Definition.Turns.{may_make, next_attempt}
 use Rattle.mw_rule.specs.declared.views.Reins.{Reins}
-use Rattle.mw_rule.specs.Carrying.{Drives, IsReady, IsReadyFor, Took, settled, settled_as, stepped, told}
+use Rattle.mw_rule.specs.Carrying.{Drives, IsReady, IsReadyAt, IsReadyFor, Took, settled, settled_as, stepped, told}
 use Rattle.mw_rule.specs.Rule.{Each}
 use Rattle.mw_table.specs.declared.shared.Pass.{Pass}
 use Rattle.mw_table.specs.Carried.{IsCarried}
@@ -57,7 +57,7 @@ drives_so pass actor op carried running is plain =
       running = running;
       no_call = no_call;
       is = is;
-      there = ap (λ (one : Op). has_place config (place_of one)) (sym is) ∙ there_so config (asks actor) (carried.ready running no_call);
+      there = ap (λ (one : Op). has_place config (place_of one)) (sym is) ∙ there_so config (asks actor) (subst (IsReadyAt config actor) no_call (carried.ready running));
     }
 
 abbrev second_of : List (ℕ × ℕ) → ℕ
@@ -81,8 +81,8 @@ carried_on old new actor got carried running same took =
     record {
       reins = after;
       carries = record { own = carried.carries.own ∙ sym same; same_attempt = numbered; only = only };
-      ready = λ run call.
+      ready = λ run.
           let all : Each (IsReady new.seat.me.0.config) (settled after (tells actor news new.attempt) ∷ []) =
           subst (λ (some : List Reins). Each (IsReady new.seat.me.0.config) some) only took.ready in
-          subst (λ (one : Reins). IsReadyFor new.seat.me.0.config one.actor) (running_so after (tells actor news new.attempt) run) all.0 run call;
+          subst (λ (one : Reins). IsReadyFor new.seat.me.0.config one.actor) (running_so after (tells actor news new.attempt) run) all.0 run;
     }

@@ -7,17 +7,19 @@ use Rattle.std.proofs.lemmas.Option.{slice_get_cases}
 use Rattle.atomic_table.specs.Table.{opening}
 use Rattle.mw_lone.specs.declared.marks.Mark.{Mark}
 use Rattle.mw_actor.specs.Acting.{Acting}
+use Rattle.mw_actor.specs.Program.{replied}
 use Rattle.mw_world.specs.Claim.Headline.{IsPlayed}
+use Rattle.mw_world.specs.Definition.Calls.{Called, called_at}
 use Rattle.mw_world.specs.Definition.Happenings.{Happening}
 use Rattle.mw_world.specs.Definition.State.{Opening, Seat, State, first_openings, idle_seat, new_world, tenant_at, tenants_of}
 use Rattle.mw_world.proofs.FirstInvariant.{new_worlds_start}
-use Rattle.mw_rule.proofs.FromLaws.{runs_are_lawful}
+use Rattle.mw_rule.proofs.FromLaws.{calls_have_words, runs_are_lawful}
 use Rattle.mw_rule.specs.FromLaws.{after_marks, first_moment}
 use Rattle.mw_simulator.specs.FromMemory.{Account as AccountInMemory, Seat as SeatInMemory, seat_of}
 use Rattle.mw_simulator.specs.declared.world.World.{World}
 use Rattle.mw_simulator.specs.Running.{Stands}
 use Rattle.mw_simulator.specs.Shows.{Shows, ShowsAccount}
-use Rattle.mw_rule.specs.Carrying.{IsReadyFor}
+use Rattle.mw_rule.specs.Carrying.{IsReadyAt, IsReadyFor}
 use Rattle.mw_rule.specs.Layout.{words_of}
 use Rattle.mw_rule.specs.Rule.{Tied, Ties}
 use Rattle.mw_rule.specs.Seen.{Gave, no_opening, opening_at}
@@ -41,15 +43,20 @@ seats_same world state worker shows low = by_seat (slice_get_cases world.seats.i
 pub played : (world : World) (before : List Happening) (stands : Stands world before) → IsPlayed world.config (first_openings world.config) before stands.state
 played world before stands = record { made = world.configured; starts = new_worlds_start world.config world.configured; runs = stands.runs }
 
--- the next step of a worker's request is at a place that is there
+-- the words of a worker's request's next step, or of its call, are there
 pub ready : (world : World) (before : List Happening) (worker : ℕ) → Stands world before → worker < world.config.workers → IsReadyFor world.config (seat_in world worker).actor
 ready world before worker stands low =
     subst (λ (seat : Seat). IsReadyFor world.config seat.actor) (sym (seats_same world stands.state worker stands.shows low)) (by_actor (stands.state.seats worker).actor refl)
   where
     by_actor : (found : Option Acting) → (stands.state.seats worker).actor ≡ found → IsReadyFor world.config found
     by_actor None is = tt
-    by_actor (Some actor) is = λ running no_call.
-        ((runs_are_lawful world.config (first_openings world.config) before stands.state (played world before stands)).steps worker actor is running no_call).there
+    by_actor (Some actor) is = λ running. at_point running (called_at actor.point) refl
+      where
+        at_point : replied actor ≡ None → (called : Option Called) → called_at actor.point ≡ called → IsReadyAt world.config actor called
+        at_point running None no_call =
+            ((runs_are_lawful world.config (first_openings world.config) before stands.state (played world before stands)).steps worker actor is running no_call).there
+        at_point running (Some called) comes_to =
+            calls_have_words world.config (first_openings world.config) before stands.state worker actor called (played world before stands) (record { sits = is; comes_to = comes_to })
 
 -- what the last start gave is told by the account in memory
 gave_so : (world : World) (before : List Happening) (stands : Stands world before) (tenant : ℕ) → tenant < tenants_of world.config

@@ -2,16 +2,15 @@
 use Rattle.std.specs.Prelude.{ℕ, ◌≡◌, true, List, [], ◌∷◌, ◌++◌, Option, Some, None, Result, Ok, Err}
 use Rattle.std.proofs.Common.{refl, sym, ap, subst, ◌∙◌}
 use Rattle.mw_actor.specs.Acting.{Acting}
-use Rattle.mw_actor.specs.Asks.{asks}
 use Rattle.mw_actor.specs.Program.{replied}
 use Rattle.mw_world.specs.declared.config.Config.{Config}
 use Rattle.mw_world.specs.declared.events.Event.{Event}
+use Rattle.mw_world.specs.Definition.Calls.{called_at}
 use Rattle.mw_world.specs.Definition.Happenings.{Happening}
 use Rattle.mw_world.specs.Definition.State.{Seat, State}
-use Rattle.mw_world.specs.Definition.Turns.{may_make}
 use Rattle.mw_rule.specs.declared.views.Reins.{Reins}
 use Rattle.mw_rule.specs.declared.views.View.{View}
-use Rattle.mw_rule.specs.Carrying.{IsReady, IsReadyFor, settled, settled_as}
+use Rattle.mw_rule.specs.Carrying.{IsReady, IsReadyAt, IsReadyFor, settled, settled_as}
 use Rattle.mw_rule.specs.Dealing.{reins_of}
 use Rattle.mw_rule.specs.Rule.{Each}
 use Rattle.mw_simulator.specs.declared.faults.WorldFault.{WorldFault}
@@ -53,9 +52,9 @@ carried_at_first shared world pass actor reached dealt has running =
         same_attempt = ap second_of (ap numbers (sym dealt.view) ∙ pass.numbered);
         only = ap (λ (view : View). view.reins) dealt.view ∙ ap (λ (one : Reins). one ∷ []) (sym given);
       };
-      ready = λ run call.
+      ready = λ run.
           let config : world.config ≡ pass.seat.me.0.config = sym (ap (λ (view : View). view.config) dealt.view) in
           let all : Each (IsReady world.config) (reins ∷ []) = subst (λ (view : View). Each (IsReady world.config) view.reins) dealt.view dealt.ready in
           let mine : IsReadyFor world.config (Some actor) = subst (λ (one : Option Acting). IsReadyFor world.config one) having all.0 in
-          subst (λ (one : Config). may_make one (asks actor) ≡ true) config (mine run call);
+          subst (λ (one : Config). IsReadyAt one actor (called_at actor.point)) config (mine run);
     }
