@@ -43,14 +43,14 @@ CallingStaysLong = (config : Config) (openings : ℕ → Opening) (events later 
     → IsPlayed config openings events state → IsCalling config state worker actor called status rights → starts_from called.call status ≡ true → AreBesideFile config rights.tenant state later
     → run config state later ≡ Some last → IsCalling config last worker actor called status rights
 
--- How a call ends: it doesn't start; it goes well; a device call of it fails, of this number; or the file had failed before.
+-- How whoever makes a call ends it: it doesn't start; it goes well; a device call of it fails, of this number; or the file had failed before.
 pub data End : Type 0 where
   Skips : End
   GoesWell : End
   MeetsFault : (number : ℕ) → End
   FindsFault : End
 
--- it may end so, by its status and by what the right tells
+-- It may end so, by its status and by what the right tells. These know no device: where it may go well, it may also end as one in which a device call failed, any of those that it makes.
 abbrev pub MayEnd : End → Called → Status → FileRights → Type 0
 MayEnd Skips called status rights = starts_from called.call status ≡ false
 MayEnd GoesWell called status rights = (starts_from called.call status ≡ true) × (fails_on called.call (file_told rights) ≡ false)

@@ -89,7 +89,8 @@ pub fn calls_are_made_by_rights()
 
 /// A call by whoever has the right to the file, told by that right and by the status that was found. While it
 /// is under way each event but a start and a call on the same file leaves what it rests on; and it ends by one
-/// step on one shared word, wherever the right says that it may end so.
+/// step on one shared word, wherever the right says that it may end so. Whether a device call failed is for whoever
+/// makes the call to say.
 pub fn calls_end_by_rights()
     ensures event { CallingStays }
     ensures long { CallingStaysLong }

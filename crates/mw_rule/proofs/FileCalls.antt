@@ -35,9 +35,9 @@ use Rattle.mw_rule.specs.declared.views.Finished.{Finished}
 use Rattle.mw_rule.specs.declared.views.FoundStatus.{FoundStatus}
 use Rattle.mw_rule.specs.declared.views.Held.{Held}
 use Rattle.mw_rule.specs.declared.views.View.{View}
-use Rattle.mw_rule.specs.Continuing.{CallsEndOn, CallsFindFaultsOn, CallsLoadOn, CallsMeetFaultsOn, events_loaded}
+use Rattle.mw_rule.specs.Continuing.{FileCallsEndOn, FileCallsFindFaultsOn, FileCallsLoadOn, FileCallsMeetFaultsOn, events_loaded}
 use Rattle.mw_rule.specs.Filing.{Calls, Loaded, LoadedAs, Starts, Went, broken_so, fails, filed_so, place_held, places_held, went}
-use Rattle.mw_rule.specs.Laws.{CallsEndWell, CallsFindFaults, CallsLoad, CallsMeetFaults}
+use Rattle.mw_rule.specs.Laws.{FileCallsEndWell, FileCallsFindFaults, FileCallsLoad, FileCallsMeetFaults}
 use Rattle.mw_rule.specs.Layout.{index_of}
 use Rattle.mw_rule.specs.Rule.{Continues, Each, HoldsFile, Tied}
 use Rattle.mw_rule.specs.Ways.{made_of_bits}
@@ -243,7 +243,7 @@ module _ (config : Config) (begun : (ℕ → Opening) → List Happening → Typ
           )
 
 module _ (config : Config) (begun : (ℕ → Opening) → List Happening → Type 0) where
-  pub calls_end_on : CallsEndOn config begun
+  pub calls_end_on : FileCallsEndOn config begun
   calls_end_on id worker view actor called held status make by found sound makes s tied at =
       let moved = end_moves config begun s tied id view at worker actor called held by status found sound make makes in
       let index = index_of config.pool (AtStatus called.change.slot) in
@@ -258,11 +258,11 @@ module _ (config : Config) (begun : (ℕ → Opening) → List Happening → Typ
         run = run_of config begun s _ tied by.reins.worker worker Good by.has.own moved.run;
       }
 
-  pub calls_end : CallsEndWell config begun
+  pub calls_end : FileCallsEndWell config begun
   calls_end slots id worker me actor called held status make by found sound makes s tied homes at low =
       let on = calls_end_on id worker me.0 actor called held status make by found sound makes s tied at in (on.new, keeps, tt, on.run.after, on.is_told)
 
-  pub calls_meet_faults_on : CallsMeetFaultsOn config begun
+  pub calls_meet_faults_on : FileCallsMeetFaultsOn config begun
   calls_meet_faults_on id worker number view actor called held status make by found sound is_one makes s tied at =
       let moved = break_moves config begun s tied id view at worker actor called held by status found sound number is_one make makes in
       let index = index_of config.pool (AtDoor actor.tenant) in
@@ -272,11 +272,11 @@ module _ (config : Config) (begun : (ℕ → Opening) → List Happening → Typ
         run = run_of config begun s _ tied by.reins.worker worker (Fail number) by.has.own moved.run;
       }
 
-  pub calls_break : CallsMeetFaults config begun
+  pub calls_break : FileCallsMeetFaults config begun
   calls_break slots id worker number me actor called held status make by found sound is_one makes s tied homes at low =
       let on = calls_meet_faults_on id worker number me.0 actor called held status make by found sound is_one makes s tied at in (on.new, keeps, tt, on.run.after, on.is_told)
 
-  pub calls_find_faults_on : CallsFindFaultsOn config begun
+  pub calls_find_faults_on : FileCallsFindFaultsOn config begun
   calls_find_faults_on id worker view actor called held status make by found failed makes s tied at =
       let moved = fail_moves config begun s tied id view at worker actor called held by status found failed make makes in
       let index = index_of config.pool (AtDoor actor.tenant) in
@@ -286,11 +286,11 @@ module _ (config : Config) (begun : (ℕ → Opening) → List Happening → Typ
         run = run_of config begun s _ tied by.reins.worker worker Good by.has.own moved.run;
       }
 
-  pub calls_fail : CallsFindFaults config begun
+  pub calls_fail : FileCallsFindFaults config begun
   calls_fail slots id worker me actor called held status make by found failed makes s tied homes at low =
       let on = calls_find_faults_on id worker me.0 actor called held status make by found failed makes s tied at in (on.new, keeps, tt, on.run.after, on.is_told)
 
-  pub calls_load_on : CallsLoadOn config begun
+  pub calls_load_on : FileCallsLoadOn config begun
   calls_load_on id worker view actor called held make by makes s tied at =
       let status = tied.state.cells.statuses called.change.slot in
       let bits = tied.ties (AtStatus called.change.slot) (words config begun s tied id view at worker actor called held by).status in
@@ -306,6 +306,6 @@ module _ (config : Config) (begun : (ℕ → Opening) → List Happening → Typ
         run = loads.run;
       }
 
-  pub calls_load : CallsLoad config begun
+  pub calls_load : FileCallsLoad config begun
   calls_load slots id worker me actor called held make by makes s tied homes at low =
       let on = calls_load_on id worker me.0 actor called held make by makes s tied at in (on.new, keeps, tt, on.run.after, on.is_told)

@@ -72,22 +72,22 @@ module _ (config : Config) (begun : (ℕ → Opening) → List Happening → Typ
 
   -- A call on a file adds one event, whatever its thread does for it: that it was made. The event comes with the exchange of the status, with the fault at the door, or with the load of a status from
   -- which the call doesn't start.
-  abbrev pub CallsEndOn : Type 0
-  CallsEndOn = (id worker : ℕ) (view : View) (actor : Acting) (called : CallOn) (held : Held) (status : Status) (make : ℕ → ℕ) → Calls view worker actor called held
+  abbrev pub FileCallsEndOn : Type 0
+  FileCallsEndOn = (id worker : ℕ) (view : View) (actor : Acting) (called : CallOn) (held : Held) (status : Status) (make : ℕ → ℕ) → Calls view worker actor called held
       → held.found ≡ Some (record { worker = worker; status = status }) → fails view called held ≡ false → ((bits : ℕ) → make bits ≡ made_of_bits (op_of (exchange_of called status)) bits)
       → (s : Table Acting View) (tied : Tied config begun s) → get_elem? s.views id ≡ some view
       → StepsOn s tied id (index_of config.pool (AtStatus called.change.slot)) make (λ bits. FileEvent worker Good ∷ [])
       (λ bits new. (bits ≡ pack (AtStatus called.change.slot) status) × Went true held (filed_so view actor called held) view new)
 
-  abbrev pub CallsMeetFaultsOn : Type 0
-  CallsMeetFaultsOn = (id worker number : ℕ) (view : View) (actor : Acting) (called : CallOn) (held : Held) (status : Status) (make : ℕ → ℕ) → Calls view worker actor called held
+  abbrev pub FileCallsMeetFaultsOn : Type 0
+  FileCallsMeetFaultsOn = (id worker number : ℕ) (view : View) (actor : Acting) (called : CallOn) (held : Held) (status : Status) (make : ℕ → ℕ) → Calls view worker actor called held
       → held.found ≡ Some (record { worker = worker; status = status }) → fails view called held ≡ false
       → is_made (device_calls called.call (entries_at (file_told held.file) (place_held view called held))) number ≡ true → ((bits : ℕ) → make bits ≡ made_of_bits (op_of (fault_of actor)) bits)
       → (s : Table Acting View) (tied : Tied config begun s) → get_elem? s.views id ≡ some view
       → StepsOn s tied id (index_of config.pool (AtDoor actor.tenant)) make (λ bits. FileEvent worker (Fail number) ∷ []) (λ bits new. Went false held (broken_so view called held) view new)
 
-  abbrev pub CallsFindFaultsOn : Type 0
-  CallsFindFaultsOn = (id worker : ℕ) (view : View) (actor : Acting) (called : CallOn) (held : Held) (status : Status) (make : ℕ → ℕ) → Calls view worker actor called held
+  abbrev pub FileCallsFindFaultsOn : Type 0
+  FileCallsFindFaultsOn = (id worker : ℕ) (view : View) (actor : Acting) (called : CallOn) (held : Held) (status : Status) (make : ℕ → ℕ) → Calls view worker actor called held
       → held.found ≡ Some (record { worker = worker; status = status }) → fails view called held ≡ true → ((bits : ℕ) → make bits ≡ made_of_bits (op_of (fault_of actor)) bits)
       → (s : Table Acting View) (tied : Tied config begun s) → get_elem? s.views id ≡ some view
       → StepsOn s tied id (index_of config.pool (AtDoor actor.tenant)) make (λ bits. FileEvent worker Good ∷ []) (λ bits new. Went false held held.file view new)
@@ -101,8 +101,8 @@ module _ (config : Config) (begun : (ℕ → Opening) → List Happening → Typ
       views = slice_set s.views id new;
     })
 
-  abbrev pub CallsLoadOn : Type 0
-  CallsLoadOn = (id worker : ℕ) (view : View) (actor : Acting) (called : CallOn) (held : Held) (make : ℕ → ℕ) → Calls view worker actor called held → ((bits : ℕ) → make bits ≡ bits)
+  abbrev pub FileCallsLoadOn : Type 0
+  FileCallsLoadOn = (id worker : ℕ) (view : View) (actor : Acting) (called : CallOn) (held : Held) (make : ℕ → ℕ) → Calls view worker actor called held → ((bits : ℕ) → make bits ≡ bits)
       → (s : Table Acting View) (tied : Tied config begun s) → get_elem? s.views id ≡ some view → LoadsOn s tied id worker view actor called held make
 
   -- Nor does cutting in two what a thread knows, in any of these ways.

@@ -75,7 +75,8 @@ module _ (config : Config) (begun : (ℕ → Opening) → List Happening → Typ
   GatheringKeepsTheRule = (id other : ℕ) (view its : View) → IsLive view → IsLive its → Precede (tenants_of view.config) view.seen its.seen
       → Joins {S = Acting} (Tied config begun) id view other its (gathers view its) spent
 
-  -- A thread may give its first right to a file to another, which makes no steps; and a thread takes the rights of another.
+  -- A thread may give its first right to a file to another, which makes no steps; and a thread takes the rights of another. Of that one nothing else is kept: not what it saw, nor its reins
+  -- with the requests that it noted, if it had any.
   abbrev pub EntrustingKeepsTheRule : Type 0
   EntrustingKeepsTheRule = (id : ℕ) (view : View) → IsLive view → Splits {S = Acting} (Tied config begun) id view (bereft view) (entrusted view)
 
@@ -84,27 +85,28 @@ module _ (config : Config) (begun : (ℕ → Opening) → List Happening → Typ
 
   -- A call on a file, by the thread that has the right to it: first a load of the status of the call's change. Where the call doesn't start from it, that load is the call, which
   -- does nothing.
-  abbrev pub CallsLoad : Type 0
-  CallsLoad = (slots id worker : ℕ) (me : Me Acting View) (actor : Acting) (called : CallOn) (held : Held) (make : ℕ → ℕ) → Calls me.0 worker actor called held → ((bits : ℕ) → make bits ≡ bits)
+  abbrev pub FileCallsLoad : Type 0
+  FileCallsLoad = (slots id worker : ℕ) (me : Me Acting View) (actor : Acting) (called : CallOn) (held : Held) (make : ℕ → ℕ) → Calls me.0 worker actor called held → ((bits : ℕ) → make bits ≡ bits)
       → Allows (Tied config begun) slots id me (index_of config.pool (AtStatus called.change.slot)) make (λ bits next. Loaded worker actor called held bits me.0 next.0)
 
-  -- Where it starts, on a file that hasn't failed, and the device calls went well, it is made by the exchange of the status. That wins: the status that was found stands there.
-  abbrev pub CallsEndWell : Type 0
-  CallsEndWell = (slots id worker : ℕ) (me : Me Acting View) (actor : Acting) (called : CallOn) (held : Held) (status : Status) (make : ℕ → ℕ) → Calls me.0 worker actor called held
+  -- Where it starts, on a file that hasn't failed, the thread may end it as one that went well, by the exchange of the status. That wins: the status that was found stands there.
+  abbrev pub FileCallsEndWell : Type 0
+  FileCallsEndWell = (slots id worker : ℕ) (me : Me Acting View) (actor : Acting) (called : CallOn) (held : Held) (status : Status) (make : ℕ → ℕ) → Calls me.0 worker actor called held
       → held.found ≡ Some (record { worker = worker; status = status }) → fails me.0 called held ≡ false → ((bits : ℕ) → make bits ≡ made_of_bits (op_of (exchange_of called status)) bits)
       → Allows (Tied config begun) slots id me (index_of config.pool (AtStatus called.change.slot)) make
       (λ bits next. (bits ≡ pack (AtStatus called.change.slot) status) × Went true held (filed_so me.0 actor called held) me.0 next.0)
 
-  -- Where a device call failed, of whichever number, it is made by the fault at the tenant's door.
-  abbrev pub CallsMeetFaults : Type 0
-  CallsMeetFaults = (slots id worker number : ℕ) (me : Me Acting View) (actor : Acting) (called : CallOn) (held : Held) (status : Status) (make : ℕ → ℕ) → Calls me.0 worker actor called held
+  -- Or it may end it as one in which the device failed, by the fault at the tenant's door, at whichever of the call's device calls it says. Which of the two it is, and with which number, the thread says:
+  -- the rule knows no device.
+  abbrev pub FileCallsMeetFaults : Type 0
+  FileCallsMeetFaults = (slots id worker number : ℕ) (me : Me Acting View) (actor : Acting) (called : CallOn) (held : Held) (status : Status) (make : ℕ → ℕ) → Calls me.0 worker actor called held
       → held.found ≡ Some (record { worker = worker; status = status }) → fails me.0 called held ≡ false
       → is_made (device_calls called.call (entries_at (file_told held.file) (place_held me.0 called held))) number ≡ true → ((bits : ℕ) → make bits ≡ made_of_bits (op_of (fault_of actor)) bits)
       → Allows (Tied config begun) slots id me (index_of config.pool (AtDoor actor.tenant)) make (λ bits next. Went false held (broken_so me.0 called held) me.0 next.0)
 
-  -- So it is where the file had failed before, which stays as it was.
-  abbrev pub CallsFindFaults : Type 0
-  CallsFindFaults = (slots id worker : ℕ) (me : Me Acting View) (actor : Acting) (called : CallOn) (held : Held) (status : Status) (make : ℕ → ℕ) → Calls me.0 worker actor called held
+  -- Where the file had failed before, it may end it by that fault alone, and the file stays as it was.
+  abbrev pub FileCallsFindFaults : Type 0
+  FileCallsFindFaults = (slots id worker : ℕ) (me : Me Acting View) (actor : Acting) (called : CallOn) (held : Held) (status : Status) (make : ℕ → ℕ) → Calls me.0 worker actor called held
       → held.found ≡ Some (record { worker = worker; status = status }) → fails me.0 called held ≡ true → ((bits : ℕ) → make bits ≡ made_of_bits (op_of (fault_of actor)) bits)
       → Allows (Tied config begun) slots id me (index_of config.pool (AtDoor actor.tenant)) make (λ bits next. Went false held held.file me.0 next.0)
 
@@ -118,7 +120,7 @@ PartsAreRight = (view other : View) → IsRight view → IsRight (left_over view
 abbrev pub MeetingsAreRight : Type 0
 MeetingsAreRight = (view its : View) → IsRight view → IsRight its → its.config ≡ view.config → its.openings ≡ view.openings → Precede (tenants_of view.config) view.seen its.seen → IsRight (meets view its)
 
--- A thread that has no reins has noted no request, so that nothing is lost where another takes its note.
+-- A thread that has no reins has noted no request, so that none is lost where another takes its note, or its rights to files.
 abbrev pub NotesLoseNothing : Type 0
 NotesLoseNothing = (view : View) → IsRight view → view.reins ≡ [] → view.mine ≡ []
 

@@ -1,7 +1,7 @@
 //! What holds of the rule: facts for proofs to cite. The functions do nothing.
 ghost use Rattle.mw_rule.specs.Calling.{CallsBegin, CallsDealt, CallsEnd, CallsFile, CallsGoOn, CallsMeet, CallsStand};
-ghost use Rattle.mw_rule.specs.Continuing.{CallsEndOn, CallsFindFaultsOn, CallsLoadOn, CallsMeetFaultsOn, FirstStepsGoOn, JoinsGoOn, LooksGoOn, PartsGoOn, StepsGoOn};
-ghost use Rattle.mw_rule.specs.Laws.{BorrowingKeepsTheRule, CallsEndWell, CallsFindFaults, CallsLoad, CallsMeetFaults, ChangesAreOwn, DealsKeepTheRule, EntrustingKeepsTheRule, FirstStepsKeepTheRule, GatheredPartsAgain, GatheringKeepsTheRule, HearingKeepsTheRule, LooksKeepTheRule, MeetingKeepsTheRule, MeetingsAreRight, NotesKeepTheRule, NotesLoseNothing, PartsAreRight, StartsUnderTheRule, StepsKeepTheRule};
+ghost use Rattle.mw_rule.specs.Continuing.{FileCallsEndOn, FileCallsFindFaultsOn, FileCallsLoadOn, FileCallsMeetFaultsOn, FirstStepsGoOn, JoinsGoOn, LooksGoOn, PartsGoOn, StepsGoOn};
+ghost use Rattle.mw_rule.specs.Laws.{BorrowingKeepsTheRule, FileCallsEndWell, FileCallsFindFaults, FileCallsLoad, FileCallsMeetFaults, ChangesAreOwn, DealsKeepTheRule, EntrustingKeepsTheRule, FirstStepsKeepTheRule, GatheredPartsAgain, GatheringKeepsTheRule, HearingKeepsTheRule, LooksKeepTheRule, MeetingKeepsTheRule, MeetingsAreRight, NotesKeepTheRule, NotesLoseNothing, PartsAreRight, StartsUnderTheRule, StepsKeepTheRule};
 ghost use Rattle.mw_rule.specs.Layout.{PlacesAreInTable, PlacesAreWithin, PlacesStandApart};
 
 use crate::rule::Begins;
@@ -32,23 +32,25 @@ pub fn steps_keep_the_rule<B: Begins>()
 
 /// A call on a tenant's file, by the one thread that has the right to it, keeps the rule in each of its steps. First
 /// the status of the change is loaded: where the call doesn't start from it, that was the call, which does nothing;
-/// else the call can be made, if the file hasn't failed. After the device calls an exchange of the status ends it,
-/// which wins; where one of them failed, or the file had failed before, the fault is set at the tenant's door.
-/// The request is told how it went, and what is known of the file is what it is then.
+/// else the call can be made, if the file hasn't failed. Then the thread may end it as one that went well, by an
+/// exchange of the status, which wins; or as one in which a device call of it failed, whichever it says, by the
+/// fault at the tenant's door; on a file that had failed before, by that fault alone. Which of these happened is for
+/// the thread to say: the rule knows no device. The request is told how it went, and what is known of the file is
+/// what it is after a call that ended so.
 pub fn file_calls_keep_the_rule<B: Begins>()
-    ensures load { (key : B) → CallsLoad (B.config key) (B.begun key) }
-    ensures end { (key : B) → CallsEndWell (B.config key) (B.begun key) }
-    ensures faults { (key : B) → CallsMeetFaults (B.config key) (B.begun key) }
-    ensures failed { (key : B) → CallsFindFaults (B.config key) (B.begun key) }
+    ensures load { (key : B) → FileCallsLoad (B.config key) (B.begun key) }
+    ensures end { (key : B) → FileCallsEndWell (B.config key) (B.begun key) }
+    ensures faults { (key : B) → FileCallsMeetFaults (B.config key) (B.begun key) }
+    ensures failed { (key : B) → FileCallsFindFaults (B.config key) (B.begun key) }
 {}
 
 /// Each call on a file adds one event to the run on which the rule rests: that this worker's call was made, and
-/// which device call failed in it, if one did.
+/// which device call failed in it, if the thread ended it so.
 pub fn file_calls_are_events<B: Begins>()
-    ensures load { (key : B) → CallsLoadOn (B.config key) (B.begun key) }
-    ensures end { (key : B) → CallsEndOn (B.config key) (B.begun key) }
-    ensures faults { (key : B) → CallsMeetFaultsOn (B.config key) (B.begun key) }
-    ensures failed { (key : B) → CallsFindFaultsOn (B.config key) (B.begun key) }
+    ensures load { (key : B) → FileCallsLoadOn (B.config key) (B.begun key) }
+    ensures end { (key : B) → FileCallsEndOn (B.config key) (B.begun key) }
+    ensures faults { (key : B) → FileCallsMeetFaultsOn (B.config key) (B.begun key) }
+    ensures failed { (key : B) → FileCallsFindFaultsOn (B.config key) (B.begun key) }
 {}
 
 /// The run on which the rule rests goes on from the run before, from the same start: a step of a request adds its
@@ -65,7 +67,8 @@ pub fn the_run_goes_on<B: Begins>()
 
 /// Reins may be given to a new thread, with what their worker finished, and a note of what was seen; and a thread
 /// may be told what a note says, or take it for its own where it saw no more; or one takes over all that another
-/// knew. A right to call a file may be given to a new thread alone, and be taken back.
+/// knew. A right to call a file may be given to a new thread alone, and the rights of another be taken over, of which
+/// nothing else is kept.
 pub fn what_is_known_is_parted<B: Begins>()
     ensures deals { (key : B) → DealsKeepTheRule (B.config key) (B.begun key) }
     ensures notes { (key : B) → NotesKeepTheRule (B.config key) (B.begun key) }
