@@ -12,17 +12,19 @@ use Rattle.mw_world_file.specs.declared.outcomes.Outcome.TheVariants.{Good}
 use Rattle.mw_world_file.specs.Files.{File, entries_at}
 use Rattle.mw_world_file.specs.Maps.{upd}
 use Rattle.mw_world.specs.declared.config.Config.{Config}
+use Rattle.mw_world.specs.declared.notes.Note.{Note}
 use Rattle.mw_world.specs.declared.notes.Note.TheVariants.{Nothing}
 use Rattle.mw_world.specs.Claim.Headline.{IsPlayed}
-use Rattle.mw_world.specs.Definition.Calls.{Called, breaks, device_calls, faults, goes_well, is_made, place_for, skips, starts_from}
+use Rattle.mw_world.specs.Definition.Calls.{Called, breaks, device_calls, faults, good_note, goes_well, is_made, place_for, skips, starts_from, status_after}
 use Rattle.mw_world.specs.Definition.Happenings.{Happening}
+use Rattle.mw_world.specs.Definition.Noting.{marked}
 use Rattle.mw_world.specs.Definition.State.{Account, Opening, State}
 use Rattle.mw_world.specs.Definition.Turns.{Made, moved}
 use Rattle.mw_law_runs.proofs.Knowledge.Deeds.Keeping.{upd_else, upd_here}
 use Rattle.mw_law_runs.proofs.Numbers.{same_or_other}
 use Rattle.mw_law_calls.specs.declared.rights.FileRights.{FileRights}
 use Rattle.mw_law_calls.specs.Beside.{AreBesideFile, IsBesideFile}
-use Rattle.mw_law_calls.specs.Calling.{CallingStays, CallingStaysLong, CallsEndByRights, End, EndsBy, FindsFault, GoesWell, IsCalling, KeepsGifts, MayEnd, MeetsFault, Skips, found_by, outcome_of, rights_by, step_of, went_well}
+use Rattle.mw_law_calls.specs.Calling.{CallingStays, CallingStaysLong, CallsEndByRights, End, EndsBy, FindsFault, GoesWell, IsCalling, KeepsGifts, MayEnd, MeetsFault, Skips, found_by, note_by, outcome_of, rights_by, step_of, went_well}
 use Rattle.mw_law_calls.specs.Ending.{CallEnds, exchange_of, load_of}
 use Rattle.mw_law_calls.specs.Rights.{file_told}
 use Rattle.mw_law_calls.specs.Tied.{HasRights, TellsOfCall, place_by}
@@ -86,10 +88,10 @@ module _ (config : Config) (openings : ℕ → Opening) (events : List Happening
   started starts = ap (starts_from called.call) calling.found ∙ starts
 
   -- the world after a call that ended so
-  ends_by : (end : End) (made : Made) → made.news ≡ Filed (went_well end) → LeavesSeat made.note
+  ends_by : (end : End) (made : Made) → made.news ≡ Filed (went_well end) → made.note ≡ note_by end called status → LeavesSeat made.note
       → CallEnds config state worker actor (outcome_of end) (step_of end actor called status) (found_by end state.cells actor called status) made
       → HasRights config (moved state worker actor made) (rights_by end rights actor called) → EndsBy config state worker actor called status rights end
-  ends_by end made news leaves ended has = record {
+  ends_by end made news note leaves ended has = record {
     next = moved state worker actor made;
     happens = ended.happens;
     words = ended.words;
@@ -98,13 +100,15 @@ module _ (config : Config) (openings : ℕ → Opening) (events : List Happening
     seats = λ other apart. upd_else state.seats worker other _ apart;
     accounts = λ tenant apart. upd_else state.accounts actor.tenant tenant _ apart;
     gifts = same_gifts state.accounts actor.tenant _ (record { quota = refl; is_up = refl; asked = refl; closed = refl });
+    marks = ap (λ (account : Account). account.lines) (upd_here state.accounts actor.tenant _)
+        ∙ ap (λ (one : Note). marked one (state.seats worker) state.history (state.accounts actor.tenant).lines) note;
     has = has;
   }
 
   skips_so : MayEnd Skips called status rights → EndsBy config state worker actor called status rights Skips
   skips_so may =
       let made = skips state actor called.change file in
-      ends_by Skips made refl (λ past lines seat. refl)
+      ends_by Skips made refl refl (λ past lines seat. refl)
       (subst (λ (one : Status). CallEnds config state worker actor Good (load_of called) (seen (AtStatus called.change.slot) one) made) calling.found
       (calls_skip config openings events state worker actor called played calling.at_call (ap (starts_from called.call) calling.found ∙ may)))
       (rights_stay_over_calls config state worker actor made rights refl calling.has)
@@ -113,7 +117,7 @@ module _ (config : Config) (openings : ℕ → Opening) (events : List Happening
   goes_so may =
       let made = goes_well state actor called.change file called.call here place in
       let starts = started may.0 in
-      ends_by GoesWell made refl (good_leaves called.call called.change _)
+      ends_by GoesWell made refl (ap (λ (one : Status). good_note called.call called.change (status_after called.call one)) calling.found) (good_leaves called.call called.change _)
       (subst (λ (one : Status). CallEnds config state worker actor Good (exchange_of called one) Won made) calling.found
       (calls_end_well config openings events state worker actor called played calling.at_call starts (told.fails ∙ may.1)))
       (calls_are_made_by_rights config openings events state worker actor called rights played calling.at_call starts calling.same_tenant calling.has may.1).well
@@ -126,14 +130,14 @@ module _ (config : Config) (openings : ℕ → Opening) (events : List Happening
       let calls : device_calls called.call (entries_at file place) ≡ device_calls called.call (entries_at (file_told rights) (place_by rights called)) =
       ap (λ (places : ℕ). device_calls called.call (entries_at file (place_for called.call file places called.change.slot))) same_places
       ∙ told.calls (subst (λ (places : ℕ). place_for called.call file places called.change.slot < places) same_places within) in
-      ends_by (MeetsFault number) made refl (fault_leaves called.call called.change)
+      ends_by (MeetsFault number) made refl refl (fault_leaves called.call called.change)
       (calls_meet_faults config openings events state worker actor called number played calling.at_call starts (told.fails ∙ may.1) (ap (λ (many : ℕ). is_made many number) calls ∙ may.2))
       (calls_are_made_by_rights config openings events state worker actor called rights played calling.at_call starts calling.same_tenant calling.has may.1).fault
 
   finds_so : MayEnd FindsFault called status rights → EndsBy config state worker actor called status rights FindsFault
   finds_so may =
       let made = faults state actor called.change file file Nothing in
-      ends_by FindsFault made refl (λ past lines seat. refl)
+      ends_by FindsFault made refl refl (λ past lines seat. refl)
       (calls_find_faults config openings events state worker actor called played calling.at_call (started may.0) (told.fails ∙ may.1))
       (rights_stay_over_calls config state worker actor made rights refl calling.has)
 

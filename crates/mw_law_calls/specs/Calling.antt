@@ -13,9 +13,12 @@ use Rattle.mw_world_file.specs.declared.outcomes.Outcome.TheVariants.{Good, Fail
 use Rattle.mw_world_file.specs.Files.{entries_at}
 use Rattle.mw_world.specs.declared.config.Config.{Config}
 use Rattle.mw_world.specs.Claim.Headline.{IsPlayed}
-use Rattle.mw_world.specs.Definition.Calls.{Called, device_calls, fails_on, is_made, starts_from}
+use Rattle.mw_world.specs.declared.notes.Note.{Note}
+use Rattle.mw_world.specs.declared.notes.Note.TheVariants.{Nothing}
+use Rattle.mw_world.specs.Definition.Calls.{Called, device_calls, fails_on, fault_note, good_note, is_made, starts_from, status_after}
 use Rattle.mw_world.specs.Definition.Cells.{Cells}
 use Rattle.mw_world.specs.Definition.Happenings.{Happening, File as FileEvent}
+use Rattle.mw_world.specs.Definition.Noting.{marked}
 use Rattle.mw_world.specs.Definition.State.{State, Account, Opening}
 use Rattle.mw_world.specs.Definition.World.{run, step}
 use Rattle.mw_law_calls.specs.declared.rights.FileRights.{FileRights}
@@ -81,6 +84,12 @@ found_by Skips cells actor called status = seen (AtStatus called.change.slot) st
 found_by GoesWell cells actor called status = Won
 found_by end cells actor called status = seen (AtDoor actor.tenant) (cells.doors actor.tenant)
 
+-- what it means to the tenant's store: its change is sealed, or decided; or its seal failed, or the file did
+abbrev pub note_by : End → Called → Status → Note
+note_by GoesWell called status = good_note called.call called.change (status_after called.call status)
+note_by (MeetsFault number) called status = fault_note called.call called.change
+note_by end called status = Nothing
+
 -- the right after it
 abbrev pub rights_by : End → FileRights → Acting → Called → FileRights
 rights_by GoesWell rights actor called = rights_after rights actor called
@@ -95,7 +104,7 @@ pub record KeepsGifts (old new : Account) : Type 0 where
   pub closed : new.closed ≡ old.closed
 
 -- The call ends so, by one event: in the world after it the shared words are those that its step leaves; its request was told how it went, and its worker has nothing else changed, nor has any other worker; no other
--- tenant has anything changed, and the call's own has what it was given; and there is the right to the file after the call.
+-- tenant has anything changed, and the call's own has what it was given, and the mark more that the end means, if it means one; and there is the right to the file after the call.
 pub record EndsBy (config : Config) (state : State) (worker : ℕ) (actor : Acting) (called : Called) (status : Status) (rights : FileRights) (end : End) : Type 0 where
   pub next : State
   pub happens : step config state (FileEvent worker (outcome_of end)) ≡ Some next
@@ -104,6 +113,7 @@ pub record EndsBy (config : Config) (state : State) (worker : ℕ) (actor : Acti
   pub seats : (other : ℕ) → other ≢ worker → next.seats other ≡ state.seats other
   pub accounts : (tenant : ℕ) → tenant ≢ actor.tenant → next.accounts tenant ≡ state.accounts tenant
   pub gifts : (tenant : ℕ) → KeepsGifts (state.accounts tenant) (next.accounts tenant)
+  pub marks : (next.accounts actor.tenant).lines ≡ marked (note_by end called status) (state.seats worker) state.history (state.accounts actor.tenant).lines
   pub has : HasRights config next (rights_by end rights actor called)
 
 -- After every run a call ends so wherever it may.
