@@ -143,4 +143,5 @@ gathered_parts_again view its one other only theirs apart right its_right =
       ap (λ all. of_head all mine) both ∙ worker_more one.worker view.mine its.mine ∙ (λ i. own.0 i ++ none.0 i) ∙ append-nil view.mine,
       ap rest_of both ∙ sym theirs,
       ap (λ all. of_rest all mine) both ∙ others_more one.worker view.mine its.mine ∙ (λ i. own.1 i ++ none.1 i),
+      λ free its_free. (refl, λ i. free i ++ its_free i),
     )

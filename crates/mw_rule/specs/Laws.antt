@@ -124,10 +124,12 @@ MeetingsAreRight = (view its : View) → IsRight view → IsRight its → its.co
 abbrev pub NotesLoseNothing : Type 0
 NotesLoseNothing = (view : View) → IsRight view → view.reins ≡ [] → view.mine ≡ []
 
--- What one thread took over from another, each with the reins of a worker, it may give back: each then has its own reins and the requests that its worker finished, as before.
+-- What one thread took over from another, each with the reins of a worker, it may give back: each then has its own reins and the requests that its worker finished, as before. Rights to files stay with
+-- the one that gives back; where neither had any, neither has any then.
 abbrev pub GatheredPartsAgain : Type 0
 GatheredPartsAgain = (view its : View) (one other : Reins) → view.reins ≡ one ∷ [] → its.reins ≡ other ∷ [] → one.worker ≢ other.worker → IsRight view → IsRight its
     → ((dealt (gathers view its)).reins ≡ view.reins) × ((dealt (gathers view its)).mine ≡ view.mine) × ((left_over (gathers view its)).reins ≡ its.reins) × ((left_over (gathers view its)).mine ≡ its.mine)
+    × (view.files ≡ [] → its.files ≡ [] → ((dealt (gathers view its)).files ≡ []) × ((left_over (gathers view its)).files ≡ []))
 
 -- The change that a request answered by YES found at its place is its own: no other of these requests found it there.
 abbrev pub HaveOwnChanges : List Finished → Type 0

@@ -149,6 +149,7 @@ module _ (one other : View) (own theirs : ℕ × ℕ) (ones : numbers one ≡ ow
 
   again : ((dealt (gathers story.told.looked (dealt story.told.heard))).reins ≡ story.told.looked.reins) × ((dealt (gathers story.told.looked (dealt story.told.heard))).mine ≡ story.told.looked.mine)
       × ((left_over (gathers story.told.looked (dealt story.told.heard))).reins ≡ (dealt story.told.heard).reins) × ((left_over (gathers story.told.looked (dealt story.told.heard))).mine ≡ (dealt story.told.heard).mine)
+      × (story.told.looked.files ≡ [] → (dealt story.told.heard).files ≡ [] → ((dealt (gathers story.told.looked (dealt story.told.heard))).files ≡ []) × ((left_over (gathers story.told.looked (dealt story.told.heard))).files ≡ []))
   again = gathered_parts_again story.told.looked (dealt story.told.heard) first.0 last_one.0 first.1 last_one.1 apart story.told.looking.right (dealt_right story.told.heard heard_so.right)
 
   keeps_first : Keeps one story.all
