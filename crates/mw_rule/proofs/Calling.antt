@@ -10,15 +10,17 @@ use Rattle.mw_world.specs.declared.config.Config.{Config}
 use Rattle.mw_world.specs.Definition.State.{tenants_of}
 use Rattle.mw_law_calls.proofs.GoingOn.{requests_go_on_from_calls}
 use Rattle.mw_rule.specs.declared.views.Finished.{Finished}
+use Rattle.mw_rule.specs.declared.views.Held.{Held}
 use Rattle.mw_rule.specs.declared.views.Reins.{Reins}
 use Rattle.mw_rule.specs.declared.views.View.{View}
-use Rattle.mw_rule.specs.Calling.{CallsBegin, CallsDealt, CallsEnd, CallsFile, CallsGoOn, CallsMeet, CallsStand}
+use Rattle.mw_rule.specs.Calling.{CallsBegin, CallsBorrow, CallsDealt, CallsEnd, CallsFile, CallsGiveBack, CallsGoOn, CallsMeet, CallsStand, CallsStart}
 use Rattle.mw_rule.specs.Carrying.{GoesOn, Keeps, NotesAs, comes, finished_as, settled, settled_as, stepped, told, told_of}
-use Rattle.mw_rule.specs.Dealing.{reins_of}
+use Rattle.mw_rule.specs.Dealing.{bereft, borrows, other_held, reins_of}
 use Rattle.mw_rule.specs.Filing.{after_call, went}
 use Rattle.mw_rule.specs.Rule.{Each, IsFinished}
 use Rattle.mw_rule.specs.Seen.{seen_at}
 use Rattle.mw_rule.proofs.Leading.{begins_itself, begins_on}
+use Rattle.mw_rule.proofs.Righting.{bereft_right, borrows_right}
 
 -- What is kept from what is kept.
 pub keeps_on : (first between last : View) → Keeps first between → Keeps between last → Keeps first last
@@ -36,6 +38,10 @@ keeps_so old new on = record { same_config = on.same_config; same_openings = on.
 
 pub keeps_all : (view : View) → Keeps view view
 keeps_all view = record { same_config = refl; same_openings = refl; seen = λ tenant low. begins_itself (seen_at view.seen tenant) }
+
+-- whatever files it may call
+keeps_files : (view : View) (files : List Held) → Keeps view (record view { files = files })
+keeps_files view files = record { same_config = refl; same_openings = refl; seen = λ tenant low. begins_itself (seen_at view.seen tenant) }
 
 -- A place that is no smaller than one number is no smaller than a lower one.
 notes_from : (reins : Reins) (tenant begun lower : ℕ) (job : Job) (reply : Option Reply) (old new : List Finished) → lower ≤ begun → NotesAs reins tenant begun job reply old new → NotesAs reins tenant lower job reply old new
@@ -105,6 +111,19 @@ calls_meet first old new reins actor serves met = record {
 pub calls_stand : CallsStand
 calls_stand first old new reins actor index bits serves looked =
     calls_meet first old new reins actor serves (record { keeps = keeps_so old new looked.goes_on; right = looked.right; same_reins = looked.same_reins; same_mine = looked.same_mine })
+
+pub calls_borrow : CallsBorrow
+calls_borrow first old its reins actor serves =
+    calls_meet first old (borrows old its) reins actor serves (record { keeps = keeps_files old (old.files ++ its.files); right = borrows_right old its serves.right; same_reins = refl; same_mine = refl })
+
+pub calls_give_back : CallsGiveBack
+calls_give_back first old reins actor serves =
+    calls_meet first old (bereft old) reins actor serves (record { keeps = keeps_files old (other_held old.files); right = bereft_right old serves.right; same_reins = refl; same_mine = refl })
+
+pub calls_start : CallsStart
+calls_start first old new reins worker actor called held status serves starts =
+    let files = starts.files in
+    calls_meet first old new reins actor serves (record { keeps = keeps_so old new files.goes_on; right = files.right; same_reins = starts.same_reins; same_mine = files.same_mine })
 
 pub calls_dealt : CallsDealt
 calls_dealt config openings worker seat actor carries running right =

@@ -1,6 +1,6 @@
 -- Each step of a call on a file keeps the rule.
-use Rattle.std.specs.Prelude.{ℕ, ◌+◌, ◌≡◌, ◌≤◌, ◌<◌, Bool, true, false, List, [], ◌∷◌, ◌++◌, slice_index, slice_set, Option, Some, None}
-use Rattle.std.proofs.Common.{refl, sym, ap, subst, ◌∙◌, append-nil, inl, inr, arith}
+use Rattle.std.specs.Prelude.{ℕ, ◌≡◌, ◌<◌, Bool, true, false, List, [], ◌∷◌, ◌++◌, slice_index, slice_set, Some, None}
+use Rattle.std.proofs.Common.{refl, sym, ap, subst, ◌∙◌, append-nil, inr}
 use mathlib.Core.Option.{some}
 use lib.ListN.{get_elem?}
 use Rattle.atomic_table.specs.Table.{State as Table, keeps}
@@ -20,7 +20,7 @@ use Rattle.mw_world_file.specs.declared.outcomes.Outcome.TheVariants.{Good, Fail
 use Rattle.mw_world.specs.declared.config.Config.{Config}
 use Rattle.mw_world.specs.declared.notes.Note.TheVariants.{Nothing}
 use Rattle.mw_world.specs.Claim.Lawful.{Lawful}
-use Rattle.mw_world.specs.Definition.Calls.{Called as CallOn, breaks, can_be_made, device_calls, doubt_of, faults, filed, goes_well, is_made, place_for, skips, starts_from}
+use Rattle.mw_world.specs.Definition.Calls.{Called as CallOn, breaks, can_be_made, device_calls, doubt_of, faults, goes_well, is_made, place_for, skips, starts_from}
 use Rattle.mw_world.specs.Definition.Happenings.{Happening, File as FileEvent}
 use Rattle.mw_world.specs.Definition.State.{Opening}
 use Rattle.mw_law_calls.specs.Ending.{exchange_of, fault_of, load_of}
@@ -32,11 +32,10 @@ use Rattle.mw_law_calls.proofs.Following.{rights_follow_calls, rights_follow_fau
 use Rattle.mw_law_calls.proofs.Starting.{calls_can_start}
 use Rattle.mw_law_runs.proofs.Lawful.{runs_are_lawful}
 use Rattle.mw_rule.specs.declared.views.Finished.{Finished}
-use Rattle.mw_rule.specs.declared.views.FoundStatus.{FoundStatus}
 use Rattle.mw_rule.specs.declared.views.Held.{Held}
 use Rattle.mw_rule.specs.declared.views.View.{View}
-use Rattle.mw_rule.specs.Continuing.{FileCallsEndOn, FileCallsFindFaultsOn, FileCallsLoadOn, FileCallsMeetFaultsOn, events_loaded}
-use Rattle.mw_rule.specs.Filing.{Calls, Loaded, LoadedAs, Starts, Went, broken_so, fails, filed_so, place_held, places_held, went}
+use Rattle.mw_rule.specs.Continuing.{FileCallsEndOn, FileCallsFindFaultsOn, FileCallsLoadOn, FileCallsMeetFaultsOn, events_loaded, starts_by}
+use Rattle.mw_rule.specs.Filing.{Calls, LoadedAs, Went, broken_so, fails, filed_so, place_held, places_held, went}
 use Rattle.mw_rule.specs.Laws.{FileCallsEndWell, FileCallsFindFaults, FileCallsLoad, FileCallsMeetFaults}
 use Rattle.mw_rule.specs.Layout.{index_of}
 use Rattle.mw_rule.specs.Rule.{Continues, Each, HoldsFile, Tied}
@@ -293,17 +292,22 @@ module _ (config : Config) (begun : (ℕ → Opening) → List Happening → Typ
   pub calls_load_on : FileCallsLoadOn config begun
   calls_load_on id worker view actor called held make by makes s tied at =
       let status = tied.state.cells.statuses called.change.slot in
+      let index = index_of config.pool (AtStatus called.change.slot) in
+      let found = slice_index s.words index in
       let bits = tied.ties (AtStatus called.change.slot) (words config begun s tied id view at worker actor called held by).status in
+      let read : unpacked_status found ≡ Some status =
+      ap unpacked_status bits ∙ status_round status ((lawful_now config begun s tied id view at worker actor called held by).fit (AtStatus called.change.slot)) in
       let loads = loads_so config begun s tied id view at worker actor called held by (starts_from called.call status) refl make makes in
       record {
         new = loads.view;
         is_told = record {
           status = status;
           is = bits;
-          read = ap unpacked_status bits ∙ status_round status ((lawful_now config begun s tied id view at worker actor called held by).fit (AtStatus called.change.slot));
+          read = read;
           loaded = loads.told;
         };
-        run = loads.run;
+        run = subst (λ (starts : Bool). Continues config begun s tied (events_loaded starts worker) (record { words = slice_set s.words index (make found); homes = s.homes; views = slice_set s.views id loads.view }))
+            (sym (ap (starts_by called.call) read)) loads.run;
       }
 
   pub calls_load : FileCallsLoad config begun

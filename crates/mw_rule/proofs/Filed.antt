@@ -1,7 +1,6 @@
 -- A call on a file by the thread that has the right to it keeps the rule.
-use Rattle.std.specs.Prelude.{ℕ, ◌≡◌, ◌≢◌, ◌≤◌, ◌<◌, Bool, true, false, List, [], ◌∷◌, ◌++◌, length, map, slice_index, slice_set, Option, Some, None}
-use Rattle.std.proofs.Common.{refl, sym, ap, subst, ◌∙◌, append-nil, ◌⊎◌, inl, inr, arith}
-use Rattle.std.proofs.lemmas.Bool.Decides.{nat_tests}
+use Rattle.std.specs.Prelude.{ℕ, ◌≡◌, ◌≤◌, Bool, List, [], ◌∷◌, ◌++◌, slice_index, slice_set, Option, Some, None}
+use Rattle.std.proofs.Common.{refl, sym, ap, subst, ◌∙◌, ◌⊎◌, inl, inr}
 use Rattle.std.proofs.lemmas.Option.{same_Some}
 use mathlib.Core.Option.{some}
 use lib.ListN.{get_elem?}
@@ -15,14 +14,12 @@ use Rattle.mw_world_file.specs.declared.outcomes.Outcome.{Outcome}
 use Rattle.mw_world.specs.declared.config.Config.{Config}
 use Rattle.mw_world.specs.Definition.Calls.{Called as CallOn, called_at}
 use Rattle.mw_world.specs.Definition.Cells.{Cells, read}
-use Rattle.mw_world.specs.Definition.Extent.{has_place}
 use Rattle.mw_world.specs.Definition.Happenings.{Happening, File as FileEvent}
 use Rattle.mw_world.specs.Definition.State.{State, Opening}
 use Rattle.mw_world.specs.Definition.Turns.{Made, moved}
 use Rattle.mw_law_calls.specs.Beside.{AreBesideFile}
 use Rattle.mw_law_calls.specs.Ending.{CallEnds}
 use Rattle.mw_law_runs.proofs.Numbers.{same_or_other}
-use Rattle.mw_rule.specs.declared.views.Finished.{Finished}
 use Rattle.mw_rule.specs.declared.views.Held.{Held}
 use Rattle.mw_rule.specs.declared.views.Reins.{Reins}
 use Rattle.mw_rule.specs.declared.views.View.{View}
@@ -34,7 +31,7 @@ use Rattle.mw_rule.proofs.Filing.{calls}
 use Rattle.mw_rule.proofs.Keeping.{ties_on}
 use Rattle.mw_rule.proofs.Moving.{its_fits, its_holds, place_there}
 use Rattle.mw_rule.proofs.Viewing.{Moved, moves}
-use Rattle.mw_rule.proofs.Words.{cells_after, step_other, step_packs}
+use Rattle.mw_rule.proofs.Words.{step_other, step_packs}
 
 -- a call leaves reins those of their worker
 went_worker : (went_well : Bool) (reins : Reins) → (went went_well reins).worker ≡ reins.worker

@@ -1,5 +1,5 @@
 -- A call on a tenant's file, as an event of one worker.
-use Rattle.std.specs.Prelude.{ℕ, ◌≡◌, ◌≢◌, List, [], ◌∷◌, ◌++◌, Bool, Option, Some, None}
+use Rattle.std.specs.Prelude.{ℕ, ◌≡◌, List, [], ◌∷◌, ◌++◌, Bool, Option, Some}
 use Rattle.std.specs.Option.{option_and_then}
 use Rattle.std.proofs.lemmas.Option.{none-some}
 use Rattle.std.proofs.Common.{refl, sym, ap, subst, ◌∙◌, inl, arith}
@@ -11,16 +11,14 @@ use Rattle.mw_look.specs.Steps.{Step, op_of, place}
 use Rattle.mw_actor.specs.Acting.{Acting}
 use Rattle.mw_actor.specs.Asks.{asks}
 use Rattle.mw_actor.specs.Program.{goes, tells}
-use Rattle.mw_world_file.specs.Maps.{upd}
 use Rattle.mw_world_file.specs.declared.outcomes.Outcome.{Outcome}
 use Rattle.mw_world.specs.declared.config.Config.{Config}
 use Rattle.mw_world.specs.Claim.Headline.{IsPlayed}
 use Rattle.mw_world.specs.Definition.Calls.{Called as CallOn, call, called_at}
-use Rattle.mw_world.specs.Definition.Cells.{Cells}
 use Rattle.mw_world.specs.Definition.Happenings.{Happening, File as FileEvent}
 use Rattle.mw_world.specs.Definition.State.{State, Opening, Seat}
-use Rattle.mw_world.specs.Definition.Turns.{Made, moved, next_attempt}
-use Rattle.mw_world.specs.Definition.World.{run, step}
+use Rattle.mw_world.specs.Definition.Turns.{Made, moved}
+use Rattle.mw_world.specs.Definition.World.{run}
 use Rattle.mw_law_calls.proofs.GoingOn.{requests_go_on_from_calls}
 use Rattle.mw_law_runs.proofs.Knowledge.Deeds.Keeping.{upd_here, upd_else}
 use Rattle.mw_law_store.proofs.OverCalls.{on_with, requests_stay_begun}

@@ -1,5 +1,5 @@
 -- What is held of a file stays over all that happens but a call on it.
-use Rattle.std.specs.Prelude.{ℕ, zero, ◌+◌, ◌≡◌, ◌≤◌, ◌==◌, true, List, [], ◌∷◌, ◌++◌, Option, Some, None}
+use Rattle.std.specs.Prelude.{ℕ, ◌≡◌, ◌≤◌, true, List, [], ◌∷◌, Option, Some, None}
 use Rattle.std.proofs.Common.{refl, sym, subst, ◌∙◌, arith}
 use Rattle.mw_words.specs.declared.jobs.Job.{Job}
 use Rattle.mw_words.specs.declared.replies.Reply.{Reply}
@@ -7,7 +7,7 @@ use Rattle.mw_words.specs.declared.statuses.Status.{Status}
 use Rattle.mw_world.specs.declared.config.Config.{Config}
 use Rattle.mw_world.specs.Claim.Headline.{IsPlayed}
 use Rattle.mw_world.specs.Definition.Calls.{starts_from}
-use Rattle.mw_world.specs.Definition.Happenings.{Happening, Come, Step, Hand}
+use Rattle.mw_world.specs.Definition.Happenings.{Happening, Come, Step}
 use Rattle.mw_world.specs.Definition.State.{State, Opening}
 use Rattle.mw_world.specs.Definition.World.{run}
 use Rattle.mw_world_file.specs.Files.{File}
@@ -18,7 +18,7 @@ use Rattle.mw_law_calls.proofs.Waiting.{statuses_wait_long}
 use Rattle.mw_rule.specs.declared.views.FoundStatus.{FoundStatus}
 use Rattle.mw_rule.specs.declared.views.Held.{Held}
 use Rattle.mw_rule.specs.Continuing.{hand_out}
-use Rattle.mw_rule.specs.Rule.{Each, HoldsFile, Waits, WaitsIf, times_held, weight}
+use Rattle.mw_rule.specs.Rule.{Each, HoldsFile, WaitsIf, times_held}
 use Rattle.mw_rule.proofs.Totals.{weight_own}
 
 -- A step of a request and the reply behind it are no call on a file, nor is that a request comes.

@@ -1,42 +1,29 @@
 -- What the thread knows that makes a call on a file, and that the rule is kept by each step of the call.
-use Rattle.std.specs.Prelude.{ℕ, ◌+◌, ◌≡◌, ◌≢◌, ◌≤◌, ◌<◌, ◌==◌, Bool, true, false, List, [], ◌∷◌, ◌++◌, length, map, slice_index, slice_set, Option, Some, None}
-use Rattle.std.proofs.Common.{refl, sym, ap, subst, ◌∙◌, append-nil, ◌⊎◌, inl, inr, arith}
+use Rattle.std.specs.Prelude.{ℕ, ◌+◌, ◌≡◌, ◌≤◌, ◌<◌, ◌==◌, true, List, [], ◌∷◌, ◌++◌, Some, None}
+use Rattle.std.proofs.Common.{sym, ap, subst, ◌∙◌, arith}
 use Rattle.std.proofs.lemmas.Bool.Decides.{nat_tests}
 use Rattle.std.proofs.lemmas.Option.{same_Some}
 use mathlib.Core.Option.{some}
 use lib.ListN.{get_elem?}
-use Rattle.atomic_table.specs.Table.{State as Table, keeps}
-use Rattle.mw_words.specs.declared.places.At.TheVariants.{Door as AtDoor, Status as AtStatus}
+use Rattle.atomic_table.specs.Table.{State as Table}
 use Rattle.mw_words.specs.declared.statuses.Status.{Status}
-use Rattle.mw_look.specs.Places.{pack}
-use Rattle.mw_look.specs.Steps.{op_of}
 use Rattle.mw_actor.specs.Acting.{Acting, own_entries}
-use Rattle.mw_world_file.specs.Files.{File, entries_at}
-use Rattle.mw_world_file.specs.declared.outcomes.Outcome.TheVariants.{Good, Fail}
-use Rattle.mw_world_file.specs.Maps.{upd}
+use Rattle.mw_world_file.specs.Files.{File}
 use Rattle.mw_world.specs.declared.config.Config.{Config}
-use Rattle.mw_world.specs.declared.notes.Note.TheVariants.{Nothing}
-use Rattle.mw_world.specs.Definition.Calls.{Called as CallOn, breaks, called_at, can_be_made, device_calls, doubt_of, fails_on, faults, filed, goes_well, is_made, place_for, skips, starts_from}
-use Rattle.mw_world.specs.Definition.Happenings.{Happening, File as FileEvent}
-use Rattle.mw_world.specs.Definition.State.{State, Account, Opening, tenants_of}
+use Rattle.mw_world.specs.Definition.Calls.{Called as CallOn, called_at, starts_from}
+use Rattle.mw_world.specs.Definition.Happenings.{Happening}
+use Rattle.mw_world.specs.Definition.State.{Account, Opening, tenants_of}
 use Rattle.mw_world.specs.Definition.Turns.{Made, accounted, moved}
-use Rattle.mw_law_calls.specs.Ending.{exchange_of, fault_of, load_of}
-use Rattle.mw_law_calls.specs.Rights.{TellsCall, TellsFile, file_told, rights_broken, rights_filed}
+use Rattle.mw_law_calls.specs.Rights.{TellsCall, TellsFile, file_told}
 use Rattle.mw_law_calls.specs.Starting.{HasWords, IsAtCall}
 use Rattle.mw_law_calls.specs.declared.rights.FileRights.{FileRights}
-use Rattle.mw_law_calls.proofs.Ending.{calls_end_well, calls_find_faults, calls_meet_faults, calls_skip}
-use Rattle.mw_law_calls.proofs.Following.{rights_follow_calls, rights_follow_faults}
-use Rattle.mw_law_calls.proofs.Starting.{calls_can_start, calls_have_words}
+use Rattle.mw_law_calls.proofs.Starting.{calls_have_words}
 use Rattle.mw_law_calls.proofs.Telling.{rights_tell_calls}
 use Rattle.mw_law_runs.proofs.Knowledge.Deeds.Keeping.{upd_here}
-use Rattle.mw_rule.specs.declared.views.FoundStatus.{FoundStatus}
 use Rattle.mw_rule.specs.declared.views.Held.{Held}
-use Rattle.mw_rule.specs.declared.views.Reins.{Reins}
 use Rattle.mw_rule.specs.declared.views.View.{View}
-use Rattle.mw_rule.specs.Filing.{Calls, broken_so, fails, filed_so, place_held, places_held}
-use Rattle.mw_rule.specs.Layout.{index_of}
+use Rattle.mw_rule.specs.Filing.{Calls, places_held}
 use Rattle.mw_rule.specs.Rule.{Each, Fits, Holds, HoldsFile, Tied, Waits, WaitsIf, holds_of, times_held, weight}
-use Rattle.mw_rule.specs.Seen.{opening_at}
 use Rattle.mw_rule.proofs.Moving.{its_fits, its_holds}
 use Rattle.mw_rule.proofs.Totals.{weight_own}
 

@@ -2,6 +2,7 @@
 use Rattle.std.specs.Prelude.{ℕ, ◌≡◌, ◌≤◌, Bool, true, List, [], ◌∷◌, ◌++◌, length, Some, None}
 use Rattle.mw_words.specs.declared.jobs.Job.{Job}
 use Rattle.mw_words.specs.declared.replies.Reply.{Reply}
+use Rattle.mw_words.specs.declared.statuses.Status.{Status}
 use Rattle.mw_look.specs.declared.news.Got.{Got}
 use Rattle.mw_look.specs.declared.news.News.TheVariants.{Filed}
 use Rattle.mw_actor.specs.Acting.{Acting}
@@ -15,8 +16,8 @@ use Rattle.mw_rule.specs.declared.views.Held.{Held}
 use Rattle.mw_rule.specs.declared.views.Reins.{Reins}
 use Rattle.mw_rule.specs.declared.views.View.{View}
 use Rattle.mw_rule.specs.Carrying.{Began, Keeps, Looked, MayCome, Met, NotesAs, Took, comes, finished_as, settled, stepped, told_of}
-use Rattle.mw_rule.specs.Dealing.{knows, reins_of}
-use Rattle.mw_rule.specs.Filing.{Went, after_call}
+use Rattle.mw_rule.specs.Dealing.{bereft, borrows, knows, reins_of}
+use Rattle.mw_rule.specs.Filing.{Starts, Went, after_call}
 use Rattle.mw_rule.specs.Grounds.{HasGround}
 use Rattle.mw_rule.specs.Rule.{IsRight, quota_given, words_given}
 use Rattle.mw_rule.specs.Seen.{seen_at}
@@ -40,7 +41,7 @@ pub record Answered (first now : View) (reins : Reins) (tenant : ℕ) (job : Job
   pub right : IsRightAt (words_given now tenant) (seen_at now.seen tenant) place reins.request job reply
   pub ground : reins.is_whole ≡ true → HasGround reins.found reins.attempt tenant (quota_given now tenant) reply
 
--- So it is once a request came and made its first step; and it stays so over each further step, over each call on its file, over loads that are no step, and where the thread meets others.
+-- So it is once a request came and made its first step; and it stays so over each further step, over each call on a file, over loads that are no step, and where the thread meets others.
 abbrev pub CallsBegin : Type 0
 CallsBegin = (old new : View) (worker : ℕ) (actor : Acting) (got : Got) (may : MayCome old worker actor) (began : Began actor got old new)
     → Serves old new (stepped got (comes actor began.request began.begun may.reins) actor) (told_of got may.reins.attempt actor)
@@ -49,10 +50,21 @@ abbrev pub CallsGoOn : Type 0
 CallsGoOn = (first old new : View) (reins : Reins) (actor : Acting) (got : Got) → Serves first old reins actor → replied actor ≡ None → Took got old new
     → Serves first new (stepped got reins actor) (told_of got reins.attempt actor)
 
--- So it does over a call on its file, after which it has no reply yet.
+-- over a call on its file, after which it has no reply yet
 abbrev pub CallsFile : Type 0
 CallsFile = (first old new : View) (reins : Reins) (actor : Acting) (called : CallOn) (went_well : Bool) (held : Held) (after : FileRights) → Serves first old reins actor
     → called_at actor.point ≡ Some called → Went went_well held after old new → Serves first new (after_call went_well reins actor) (tells actor (Filed went_well) reins.attempt)
+
+-- and where the thread takes rights to files from another, or gives one away, and over the load of a status from which a call starts
+abbrev pub CallsBorrow : Type 0
+CallsBorrow = (first old its : View) (reins : Reins) (actor : Acting) → Serves first old reins actor → Serves first (borrows old its) reins actor
+
+abbrev pub CallsGiveBack : Type 0
+CallsGiveBack = (first old : View) (reins : Reins) (actor : Acting) → Serves first old reins actor → Serves first (bereft old) reins actor
+
+abbrev pub CallsStart : Type 0
+CallsStart = (first old new : View) (reins : Reins) (worker : ℕ) (actor : Acting) (called : CallOn) (held : Held) (status : Status) → Serves first old reins actor
+    → Starts worker actor called held status old new → Serves first new reins actor
 
 abbrev pub CallsStand : Type 0
 CallsStand = (first old new : View) (reins : Reins) (actor : Acting) (index bits : ℕ) → Serves first old reins actor → Looked index bits old new → Serves first new reins actor

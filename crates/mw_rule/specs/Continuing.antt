@@ -5,9 +5,11 @@ use lib.ListN.{get_elem?}
 use Rattle.atomic_table.specs.Table.{State as Table}
 use Rattle.mw_words.specs.declared.places.At.TheVariants.{Door as AtDoor, Status as AtStatus}
 use Rattle.mw_words.specs.declared.statuses.Status.{Status}
+use Rattle.mw_words.specs.Patterns.{unpacked_status}
 use Rattle.mw_words.specs.declared.replies.Reply.{Reply}
 use Rattle.mw_look.specs.declared.news.Got.{Got}
 use Rattle.mw_look.specs.declared.news.Got.TheVariants.{Word as Bits}
+use Rattle.mw_look.specs.declared.steps.Call.{Call}
 use Rattle.mw_look.specs.declared.steps.Op.{Op}
 use Rattle.mw_look.specs.Places.{pack}
 use Rattle.mw_look.specs.Steps.{op_of, place_of}
@@ -38,6 +40,11 @@ hand_out worker (Some reply) = Hand worker ∷ []
 -- the events of a step of a worker's request, which found this
 abbrev pub events_of : ℕ → Got → ℕ → Acting → List Happening
 events_of worker got attempt actor = Step worker ∷ hand_out worker (replied (told_of got attempt actor))
+
+-- whether a call starts from the status that was told
+abbrev pub starts_by : Call → Option Status → Bool
+starts_by call None = false
+starts_by call (Some status) = starts_from call status
 
 -- the events of a load of a status, by whether the call starts from it
 abbrev pub events_loaded : Bool → ℕ → List Happening
@@ -92,18 +99,11 @@ module _ (config : Config) (begun : (ℕ → Opening) → List Happening → Typ
       → (s : Table Acting View) (tied : Tied config begun s) → get_elem? s.views id ≡ some view
       → StepsOn s tied id (index_of config.pool (AtDoor actor.tenant)) make (λ bits. FileEvent worker Good ∷ []) (λ bits new. Went false held held.file view new)
 
-  pub record LoadsOn (s : Table Acting View) (tied : Tied config begun s) (id worker : ℕ) (view : View) (actor : Acting) (called : CallOn) (held : Held) (make : ℕ → ℕ) : Type 0 where
-    pub new : View
-    pub is_told : Loaded worker actor called held (slice_index s.words (index_of config.pool (AtStatus called.change.slot))) view new
-    pub run : Continues config begun s tied (events_loaded (starts_from called.call is_told.status) worker) (record {
-      words = slice_set s.words (index_of config.pool (AtStatus called.change.slot)) (make (slice_index s.words (index_of config.pool (AtStatus called.change.slot))));
-      homes = s.homes;
-      views = slice_set s.views id new;
-    })
-
   abbrev pub FileCallsLoadOn : Type 0
   FileCallsLoadOn = (id worker : ℕ) (view : View) (actor : Acting) (called : CallOn) (held : Held) (make : ℕ → ℕ) → Calls view worker actor called held → ((bits : ℕ) → make bits ≡ bits)
-      → (s : Table Acting View) (tied : Tied config begun s) → get_elem? s.views id ≡ some view → LoadsOn s tied id worker view actor called held make
+      → (s : Table Acting View) (tied : Tied config begun s) → get_elem? s.views id ≡ some view
+      → StepsOn s tied id (index_of config.pool (AtStatus called.change.slot)) make (λ bits. events_loaded (starts_by called.call (unpacked_status bits)) worker)
+      (λ bits new. Loaded worker actor called held bits view new)
 
   -- Nor does cutting in two what a thread knows, in any of these ways.
   abbrev pub PartsOn : (View → Type 0) → (View → View) → (View → View) → Type 0

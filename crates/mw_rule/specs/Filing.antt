@@ -1,5 +1,5 @@
 -- What a call on a tenant's file asks of the thread that makes it, and what its steps tell the thread.
-use Rattle.std.specs.Prelude.{ℕ, ◌≡◌, ◌<◌, Bool, true, false, List, [], ◌∷◌, ◌++◌, map, Option, Some, None}
+use Rattle.std.specs.Prelude.{ℕ, ◌≡◌, ◌<◌, Bool, true, false, [], ◌∷◌, ◌++◌, map, Option, Some, None}
 use Rattle.mw_words.specs.declared.places.At.TheVariants.{Status as AtStatus}
 use Rattle.mw_words.specs.declared.statuses.Status.{Status}
 use Rattle.mw_words.specs.Patterns.{IsStatusInRange, unpacked_status}
@@ -15,7 +15,6 @@ use Rattle.mw_world.specs.Definition.Calls.{Called as CallOn, called_at, can_be_
 use Rattle.mw_law_calls.specs.declared.rights.FileRights.{FileRights}
 use Rattle.mw_law_calls.specs.Rights.{file_told, rights_broken, rights_filed}
 use Rattle.mw_rule.specs.declared.views.Deed.TheVariants.{Called}
-use Rattle.mw_rule.specs.declared.views.FoundStatus.{FoundStatus}
 use Rattle.mw_rule.specs.declared.views.Held.{Held}
 use Rattle.mw_rule.specs.declared.views.Reins.{Reins}
 use Rattle.mw_rule.specs.declared.views.View.{View}

@@ -1,5 +1,5 @@
 //! What holds of the rule: facts for proofs to cite. The functions do nothing.
-ghost use Rattle.mw_rule.specs.Calling.{CallsBegin, CallsDealt, CallsEnd, CallsFile, CallsGoOn, CallsMeet, CallsStand};
+ghost use Rattle.mw_rule.specs.Calling.{CallsBegin, CallsBorrow, CallsDealt, CallsEnd, CallsFile, CallsGiveBack, CallsGoOn, CallsMeet, CallsStand, CallsStart};
 ghost use Rattle.mw_rule.specs.Continuing.{FileCallsEndOn, FileCallsFindFaultsOn, FileCallsLoadOn, FileCallsMeetFaultsOn, FirstStepsGoOn, JoinsGoOn, LooksGoOn, PartsGoOn, StepsGoOn};
 ghost use Rattle.mw_rule.specs.Laws.{BorrowingKeepsTheRule, FileCallsEndWell, FileCallsFindFaults, FileCallsLoad, FileCallsMeetFaults, ChangesAreOwn, DealsKeepTheRule, EntrustingKeepsTheRule, FirstStepsKeepTheRule, GatheredPartsAgain, GatheringKeepsTheRule, HearingKeepsTheRule, LooksKeepTheRule, MeetingKeepsTheRule, MeetingsAreRight, NotesKeepTheRule, NotesLoseNothing, PartsAreRight, StartsUnderTheRule, StepsKeepTheRule};
 ghost use Rattle.mw_rule.specs.Layout.{PlacesAreInTable, PlacesAreWithin, PlacesStandApart};
@@ -90,13 +90,17 @@ pub fn knowledge_stays_right()
 {}
 
 /// A whole call: from the request's first step on, or from the making of a table where its worker has it then, over
-/// each further step and each call on its file, over loads that are no step and over meetings with others, what the
-/// thread saw goes on and it notes nothing, until the reply is there. Then one request more is noted, and its reply is right at a place that
+/// each further step and each call on its file (for which the thread takes the right to it, and gives it back), over
+/// loads that are no step and over meetings with others, what the thread saw goes on and it notes nothing, until the
+/// reply is there. Then one request more is noted, and its reply is right at a place that
 /// is no smaller than what the thread had seen when the request came.
 pub fn calls_are_noted()
     ensures begin { CallsBegin }
     ensures go_on { CallsGoOn }
+    ensures borrow { CallsBorrow }
+    ensures start { CallsStart }
     ensures file { CallsFile }
+    ensures give_back { CallsGiveBack }
     ensures stand { CallsStand }
     ensures meet { CallsMeet }
     ensures dealt { CallsDealt }
