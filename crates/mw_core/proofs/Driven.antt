@@ -1,5 +1,5 @@
 -- How a step that was made ends a call.
-use Rattle.std.specs.Prelude.{ℕ, ◌≡◌, Bool, true, false, List, [], ◌∷◌, ◌++◌, map, Option, Some, None, is_some}
+use Rattle.std.specs.Prelude.{ℕ, ◌≡◌, Bool, true, false, List, [], ◌∷◌, map, Option, Some, None, is_some}
 use Rattle.std.proofs.Common.{refl, sym, ap, subst, ◌∙◌}
 use Rattle.mw_words.specs.declared.replies.Reply.{Reply}
 use Rattle.mw_look.specs.declared.news.Got.{Got}
