@@ -13,6 +13,7 @@ pub mod Keeping
 pub mod Known
 pub mod Layouts
 pub mod Leading
+pub mod Moves
 pub mod Moving
 pub mod Owning
 pub mod Parting

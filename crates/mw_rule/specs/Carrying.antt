@@ -187,7 +187,7 @@ pub record Looked (index bits : ℕ) (old new : View) : Type 0 where
   pub same_mine : new.mine ≡ old.mine
   pub same_files : new.files ≡ old.files
 
--- A thread met others: what it has seen goes on, and is right with all that it noted, which is the same, as are its reins.
+-- A thread met others: what it has seen goes on, and is right with all that it noted, which is the same, as are its reins. This says nothing of files: where neither of two that meet had any, neither has any then.
 pub record Met (old new : View) : Type 0 where
   pub keeps : Keeps old new
   pub right : IsRight new

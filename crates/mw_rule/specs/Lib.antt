@@ -7,6 +7,7 @@ pub mod FromLaws
 pub mod Grounds
 pub mod Layout
 pub mod Laws
+pub mod Moves
 pub mod Rule
 pub mod Seen
 pub mod Ways

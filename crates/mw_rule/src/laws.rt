@@ -3,6 +3,7 @@ ghost use Rattle.mw_rule.specs.Calling.{CallsBegin, CallsBorrow, CallsDealt, Cal
 ghost use Rattle.mw_rule.specs.Continuing.{FileCallsEndOn, FileCallsFindFaultsOn, FileCallsLoadOn, FileCallsMeetFaultsOn, FirstStepsGoOn, JoinsGoOn, LooksGoOn, PartsGoOn, StepsGoOn};
 ghost use Rattle.mw_rule.specs.Laws.{BorrowingKeepsTheRule, FileCallsEndWell, FileCallsFindFaults, FileCallsLoad, FileCallsMeetFaults, ChangesAreOwn, DealsKeepTheRule, EntrustingKeepsTheRule, FirstStepsKeepTheRule, GatheredPartsAgain, GatheringKeepsTheRule, HearingKeepsTheRule, LooksKeepTheRule, MeetingKeepsTheRule, MeetingsAreRight, NotesKeepTheRule, NotesLoseNothing, PartsAreRight, StartsUnderTheRule, StepsKeepTheRule};
 ghost use Rattle.mw_rule.specs.Layout.{PlacesAreInTable, PlacesAreWithin, PlacesStandApart};
+ghost use Rattle.mw_rule.specs.Moves.{MovesAreAllowed, MovesGoOn};
 
 use crate::rule::Begins;
 
@@ -63,6 +64,14 @@ pub fn the_run_goes_on<B: Begins>()
     ensures looks { (key : B) → LooksGoOn (B.config key) (B.begun key) }
     ensures parts { (key : B) → PartsGoOn (B.config key) (B.begun key) }
     ensures joins { (key : B) → JoinsGoOn (B.config key) (B.begun key) }
+{}
+
+/// All that a thread may do to a word, together. The rule allows each, by a step by which the run goes on by just its
+/// events: a call of the table that is made under this law may tell its thread so, that what it knows then is what it
+/// knows after such a step. No law says more of the run than that there is one.
+pub fn moves_are_of_the_run<B: Begins>()
+    ensures go_on { (key : B) → MovesGoOn (B.config key) (B.begun key) }
+    ensures allowed { (key : B) → MovesAreAllowed (B.config key) (B.begun key) }
 {}
 
 /// Reins may be given to a new thread, with what their worker finished, and a note of what was seen; and a thread

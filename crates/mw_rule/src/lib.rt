@@ -6,7 +6,8 @@
 //! FAULT and WORN rest on; `specs/Carrying` what a step
 //! asks of the thread that makes it, and what it tells the thread; `specs/Calling` what that comes to over a
 //! whole call; `specs/Dealing` how what threads know is parted and put together. `specs/Laws` and
-//! `specs/Continuing` say what is proved of these. `mw_table` has the steps.
+//! `specs/Continuing` say what is proved of these, `specs/Moves` of all that a thread may do at once. `mw_table`
+//! has the steps.
 #![tactic(auto)]
 
 mod indexes;
@@ -18,8 +19,8 @@ mod ways;
 pub use indexes::index_of;
 pub use laws::{
     calls_are_noted, file_calls_are_events, file_calls_keep_the_rule, knowledge_stays_right,
-    places_stand_apart, steps_keep_the_rule, tables_start_under_the_rule, the_run_goes_on,
-    what_is_known_is_parted,
+    moves_are_of_the_run, places_stand_apart, steps_keep_the_rule, tables_start_under_the_rule,
+    the_run_goes_on, what_is_known_is_parted,
 };
 pub use rule::{Begins, Borrows, Deals, Entrusts, Gathers, Hears, Meets, Notes, Tie};
 pub use views::{Deed, Finding, Finished, FoundStatus, Held, Opened, Reins, Sealed, View};

@@ -1,0 +1,8 @@
+use Rattle.mw_rule.proofs.Moves.{moves_are_allowed, moves_go_on}
+use Rattle.mw_rule.proofs.laws.moves_are_of_the_run.Goals as goal
+
+pub returns-clause-go_on : goal.returns-clause-go_on
+returns-clause-go_on g c = λ key. moves_go_on (g.B.Begins.config key) (g.B.Begins.begun key)
+
+pub returns-clause-allowed : goal.returns-clause-allowed
+returns-clause-allowed g c = λ key. moves_are_allowed (g.B.Begins.config key) (g.B.Begins.begun key)

@@ -1,0 +1,104 @@
+-- All that a thread may do to one word of the table, and by which events the run behind the table goes on then.
+use Rattle.std.specs.Prelude.{ℕ, true, false, ◌≡◌, List, [], ◌∷◌, slice_index, slice_set, Some}
+use mathlib.Core.Option.{some}
+use lib.ListN.{get_elem?}
+use Rattle.atomic_table.specs.Table.{State as Table, Allows, Me}
+use Rattle.mw_words.specs.declared.places.At.TheVariants.{Door as AtDoor, Status as AtStatus}
+use Rattle.mw_words.specs.declared.statuses.Status.{Status}
+use Rattle.mw_words.specs.Patterns.{unpacked_status}
+use Rattle.mw_look.specs.declared.news.Got.TheVariants.{Word as Bits}
+use Rattle.mw_look.specs.declared.steps.Op.{Op}
+use Rattle.mw_look.specs.Places.{pack}
+use Rattle.mw_look.specs.Steps.{op_of, place_of}
+use Rattle.mw_actor.specs.Acting.{Acting}
+use Rattle.mw_world_file.specs.Files.{entries_at}
+use Rattle.mw_world_file.specs.declared.outcomes.Outcome.TheVariants.{Good, Fail}
+use Rattle.mw_world.specs.declared.config.Config.{Config}
+use Rattle.mw_world.specs.Definition.Calls.{Called as CallOn, device_calls, is_made}
+use Rattle.mw_world.specs.Definition.Happenings.{Happening, Come, File as FileEvent}
+use Rattle.mw_world.specs.Definition.State.{Opening}
+use Rattle.mw_law_calls.specs.Ending.{exchange_of, fault_of}
+use Rattle.mw_law_calls.specs.Rights.{file_told}
+use Rattle.mw_rule.specs.declared.views.Held.{Held}
+use Rattle.mw_rule.specs.declared.views.View.{View}
+use Rattle.mw_rule.specs.Carrying.{Began, Drives, Looked, MayCome, Took}
+use Rattle.mw_rule.specs.Continuing.{StepsOn, events_loaded, events_of, starts_by}
+use Rattle.mw_rule.specs.Filing.{Calls, Loaded, Went, broken_so, fails, filed_so, place_held}
+use Rattle.mw_rule.specs.Layout.{index_of}
+use Rattle.mw_rule.specs.Rule.{Continues, IsLive, Tied}
+use Rattle.mw_rule.specs.Ways.{finds, made_of_bits}
+
+-- What a thread that knows this may do to a word: a step of the request that it carries; the first step of a request that comes; a load that is no step; and of a call on a file the load of its change's status, the
+-- exchange with which it ends as one that went well, and the fault with which it ends, as one in which this device call failed, or on a file that had failed before.
+pub data Move (view : View) : Type 0 where
+  Steps : (worker : ℕ) (op : Op) → Drives view worker op → Move view
+  Comes : (worker : ℕ) (actor : Acting) → MayCome view worker actor → Move view
+  Looks : (index : ℕ) → IsLive view → Move view
+  Loads : (worker : ℕ) (actor : Acting) (called : CallOn) (held : Held) → Calls view worker actor called held → Move view
+  Exchanges : (worker : ℕ) (actor : Acting) (called : CallOn) (held : Held) (status : Status) → Calls view worker actor called held
+      → held.found ≡ Some (record { worker = worker; status = status }) → fails view called held ≡ false → Move view
+  Breaks : (worker number : ℕ) (actor : Acting) (called : CallOn) (held : Held) (status : Status) → Calls view worker actor called held
+      → held.found ≡ Some (record { worker = worker; status = status }) → fails view called held ≡ false
+      → is_made (device_calls called.call (entries_at (file_told held.file) (place_held view called held))) number ≡ true → Move view
+  FindsFault : (worker : ℕ) (actor : Acting) (called : CallOn) (held : Held) (status : Status) → Calls view worker actor called held
+      → held.found ≡ Some (record { worker = worker; status = status }) → fails view called held ≡ true → Move view
+
+-- where its word stands
+abbrev pub index_by : Config → (view : View) → Move view → ℕ
+index_by config view (Steps worker op drives) = index_of config.pool (place_of op)
+index_by config view (Comes worker actor may) = index_of config.pool (AtDoor actor.tenant)
+index_by config view (Looks index live) = index
+index_by config view (Loads worker actor called held by) = index_of config.pool (AtStatus called.change.slot)
+index_by config view (Exchanges worker actor called held status by found sound) = index_of config.pool (AtStatus called.change.slot)
+index_by config view (Breaks worker number actor called held status by found sound is_one) = index_of config.pool (AtDoor actor.tenant)
+index_by config view (FindsFault worker actor called held status by found failed) = index_of config.pool (AtDoor actor.tenant)
+
+-- what it makes of the word's bits
+abbrev pub made_by : (view : View) → Move view → ℕ → ℕ
+made_by view (Steps worker op drives) bits = made_of_bits op bits
+made_by view (Comes worker actor may) bits = bits
+made_by view (Looks index live) bits = bits
+made_by view (Loads worker actor called held by) bits = bits
+made_by view (Exchanges worker actor called held status by found sound) bits = made_of_bits (op_of (exchange_of called status)) bits
+made_by view (Breaks worker number actor called held status by found sound is_one) bits = made_of_bits (op_of (fault_of actor)) bits
+made_by view (FindsFault worker actor called held status by found failed) bits = made_of_bits (op_of (fault_of actor)) bits
+
+-- the events by which the run goes on, by the bits that stood there
+abbrev pub events_by : (view : View) → Move view → ℕ → List Happening
+events_by view (Steps worker op drives) bits = events_of worker (finds op bits) drives.reins.attempt drives.actor
+events_by view (Comes worker actor may) bits = Come worker actor.tenant actor.job ∷ events_of worker (Bits bits) may.reins.attempt actor
+events_by view (Looks index live) bits = []
+events_by view (Loads worker actor called held by) bits = events_loaded (starts_by called.call (unpacked_status bits)) worker
+events_by view (Exchanges worker actor called held status by found sound) bits = FileEvent worker Good ∷ []
+events_by view (Breaks worker number actor called held status by found sound is_one) bits = FileEvent worker (Fail number) ∷ []
+events_by view (FindsFault worker actor called held status by found failed) bits = FileEvent worker Good ∷ []
+
+-- what the thread is told, which then knows that
+abbrev pub told_by : (view : View) → Move view → ℕ → View → Type 0
+told_by view (Steps worker op drives) bits new = Took (finds op bits) view new
+told_by view (Comes worker actor may) bits new = Began actor (Bits bits) view new
+told_by view (Looks index live) bits new = Looked index bits view new
+told_by view (Loads worker actor called held by) bits new = Loaded worker actor called held bits view new
+told_by view (Exchanges worker actor called held status by found sound) bits new = (bits ≡ pack (AtStatus called.change.slot) status) × Went true held (filed_so view actor called held) view new
+told_by view (Breaks worker number actor called held status by found sound is_one) bits new = Went false held (broken_so view called held) view new
+told_by view (FindsFault worker actor called held status by found failed) bits new = Went false held held.file view new
+
+module _ (config : Config) (begun : (ℕ → Opening) → List Happening → Type 0) where
+  -- There was a table under the rule in which a thread knew so much, and these bits stood at an index. They were changed, the thread came to know that, and the run behind the table went on by these events.
+  pub record WentOn (id index : ℕ) (make : ℕ → ℕ) (more : List Happening) (bits : ℕ) (old new : View) : Type 0 where
+    pub table : Table Acting View
+    pub tied : Tied config begun table
+    pub there : get_elem? table.views id ≡ some old
+    pub stood : slice_index table.words index ≡ bits
+    pub run : Continues config begun table tied more (record { words = slice_set table.words index (make bits); homes = table.homes; views = slice_set table.views id new })
+
+  -- Whatever the table is, whatever a thread may do lets the run go on by its events.
+  abbrev pub MovesGoOn : Type 0
+  MovesGoOn = (id : ℕ) (view : View) (move : Move view) (make : ℕ → ℕ) → ((bits : ℕ) → make bits ≡ made_by view move bits) → (s : Table Acting View) (tied : Tied config begun s)
+      → get_elem? s.views id ≡ some view → StepsOn config begun s tied id (index_by config view move) make (events_by view move) (told_by view move)
+
+  -- The rule allows it; and what the thread then knows is what it knows after a step by which the run went on by just these events.
+  abbrev pub MovesAreAllowed : Type 0
+  MovesAreAllowed = (slots id : ℕ) (me : Me Acting View) (move : Move me.0) (make : ℕ → ℕ) → ((bits : ℕ) → make bits ≡ made_by me.0 move bits)
+      → Allows (Tied config begun) slots id me (index_by config me.0 move) make
+      (λ bits next. told_by me.0 move bits next.0 × WentOn id (index_by config me.0 move) make (events_by me.0 move bits) bits me.0 next.0)
