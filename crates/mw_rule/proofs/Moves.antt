@@ -1,16 +1,108 @@
 -- Whatever a thread may do keeps the rule, by a step by which the run goes on.
-use Rattle.std.specs.Prelude.{ℕ, List}
-use Rattle.std.proofs.Common.{refl}
-use Rattle.atomic_table.specs.Table.{keeps}
+use Rattle.std.specs.Prelude.{ℕ, zero, suc, Bool, true, false, ◌≡◌, List, [], ◌∷◌, ◌++◌, map, slice_index, slice_set}
+use Rattle.std.proofs.Common.{refl, sym, ap, subst, ◌∙◌, inl, inr}
+use mathlib.Core.Option.{some, some-ne-none}
+use lib.ListN.{get_elem?}
+use Rattle.atomic_table.specs.Table.{State as Table, keeps}
+use Rattle.mw_words.specs.declared.statuses.Status.{Status}
+use Rattle.mw_look.specs.declared.news.Got.TheVariants.{Word as Bits}
+use Rattle.mw_actor.specs.Acting.{Acting}
 use Rattle.mw_world.specs.declared.config.Config.{Config}
+use Rattle.mw_world.specs.Claim.Headline.{IsPlayed}
+use Rattle.mw_world.specs.Definition.Calls.{Called as CallOn, starts_from}
 use Rattle.mw_world.specs.Definition.Happenings.{Happening}
-use Rattle.mw_world.specs.Definition.State.{Opening}
-use Rattle.mw_rule.specs.Moves.{Breaks, Comes, Exchanges, FindsFault, Loads, Looks, MovesAreAllowed, MovesGoOn, Steps}
+use Rattle.mw_world.specs.Definition.State.{Opening, State}
+use Rattle.mw_rule.specs.declared.views.Held.{Held}
+use Rattle.mw_rule.specs.declared.views.Reins.{Reins}
+use Rattle.mw_rule.specs.declared.views.View.{View}
+use Rattle.mw_rule.specs.Carrying.{Looked, comes, told}
+use Rattle.mw_rule.specs.Filing.{LoadedAs, went}
+use Rattle.mw_rule.specs.Moves.{Breaks, Comes, Exchanges, FindsFault, Loads, Looks, Move, MovesAreAllowed, MovesGoOn, Steps, WentOn, events_by, index_by, told_by}
+use Rattle.mw_rule.specs.Rule.{Continues, Fits, IsLive, Tied}
+use Rattle.mw_rule.specs.Ways.{finds}
 use Rattle.mw_rule.proofs.FileCalls.{calls_end_on, calls_find_faults_on, calls_load_on, calls_meet_faults_on}
 use Rattle.mw_rule.proofs.Moving.{first_steps_on, steps_on}
 use Rattle.mw_rule.proofs.Parting.{looks_on}
+use Rattle.mw_rule.proofs.Viewing.{live_fits}
+
+-- a thread that has some reins is live, and stays so where these are changed
+by_reins : (view : View) (one : Reins) → view.reins ≡ one ∷ [] → IsLive view
+by_reins view one only = inr (one, [], only)
+
+changed_reins : (old new : View) (one : Reins) (f : Reins → Reins) → old.reins ≡ one ∷ [] → new.reins ≡ map f old.reins → IsLive new
+changed_reins old new one f only is = by_reins new (f one) (is ∙ ap (map f) only)
+
+-- who may do something is live, and is so after it
+lives : (view : View) (move : Move view) → IsLive view
+lives view (Steps worker op drives) = by_reins view drives.reins drives.has.only
+lives view (Comes worker actor may) = by_reins view may.reins may.has.only
+lives view (Looks index live) = live
+lives view (Loads worker actor called held by) = by_reins view by.reins by.has.only
+lives view (Exchanges worker actor called held status by found sound) = by_reins view by.reins by.has.only
+lives view (Breaks worker number actor called held status by found sound is_one) = by_reins view by.reins by.has.only
+lives view (FindsFault worker actor called held status by found failed) = by_reins view by.reins by.has.only
+
+looked_lives : (index bits : ℕ) (old new : View) → Looked index bits old new → IsLive old → IsLive new
+looked_lives index bits old new looked (inl flag) = inl (looked.goes_on.same_spent ∙ flag)
+looked_lives index bits old new looked (inr has_some) = inr (has_some.0, has_some.1, looked.same_reins ∙ has_some.2)
+
+loaded_lives : (starts : Bool) (worker : ℕ) (actor : Acting) (called : CallOn) (held : Held) (status : Status) (old new : View) (one : Reins) → old.reins ≡ one ∷ []
+    → LoadedAs starts worker actor called held status old new → IsLive new
+loaded_lives true worker actor called held status old new one only loaded = by_reins new one (loaded.same_reins ∙ only)
+loaded_lives false worker actor called held status old new one only loaded = changed_reins old new one (went true) only loaded.reins
+
+lives_on : (view : View) (move : Move view) (bits : ℕ) (new : View) → told_by view move bits new → IsLive new
+lives_on view (Steps worker op drives) bits new is_told = changed_reins view new drives.reins (told (finds op bits)) drives.has.only is_told.reins
+lives_on view (Comes worker actor may) bits new is_told =
+    changed_reins view new may.reins (λ one. told (Bits bits) (comes actor is_told.request is_told.begun one)) may.has.only is_told.reins
+lives_on view (Looks index live) bits new is_told = looked_lives index bits view new is_told live
+lives_on view (Loads worker actor called held by) bits new is_told =
+    loaded_lives (starts_from called.call is_told.status) worker actor called held is_told.status view new by.reins by.has.only is_told.loaded
+lives_on view (Exchanges worker actor called held status by found sound) bits new is_told = changed_reins view new by.reins (went true) by.has.only is_told.1.reins
+lives_on view (Breaks worker number actor called held status by found sound is_one) bits new is_told = changed_reins view new by.reins (went false) by.has.only is_told.reins
+lives_on view (FindsFault worker actor called held status by found failed) bits new is_told = changed_reins view new by.reins (went false) by.has.only is_told.reins
+
+-- what stands where it was set
+set_there : (views : List View) (id : ℕ) (old new : View) → get_elem? views id ≡ some old → get_elem? (slice_set views id new) id ≡ some new
+set_there [] id old new is = absurd (some-ne-none old (sym is))
+set_there (one ∷ views) zero old new is = refl
+set_there (one ∷ views) (suc id) old new is = set_there views id old new is
+
+-- what is so is so of the same run, told otherwise
+fits_so : (config its : Config) (openings other : ℕ → Opening) (state : State) (events all : List Happening) (view : View) → config ≡ its → openings ≡ other → events ≡ all
+    → Fits config openings state events view → Fits its other state all view
+fits_so config its openings other state events all view one two three fits =
+    subst (λ (c : Config). Fits c other state all view) one
+    (subst (λ (o : ℕ → Opening). Fits config o state all view) two (subst (λ (e : List Happening). Fits config openings state e view) three fits))
+
+played_so : (config its : Config) (openings other : ℕ → Opening) (state : State) (events all : List Happening) → config ≡ its → openings ≡ other → events ≡ all
+    → IsPlayed config openings events state → IsPlayed its other all state
+played_so config its openings other state events all one two three played =
+    subst (λ (c : Config). IsPlayed c other all state) one
+    (subst (λ (o : ℕ → Opening). IsPlayed config o all state) two (subst (λ (e : List Happening). IsPlayed config openings e state) three played))
 
 module _ (config : Config) (begun : (ℕ → Opening) → List Happening → Type 0) where
+  went_on : (s : Table Acting View) (tied : Tied config begun s) (id index bits : ℕ) (old new : View) (more : List Happening) → get_elem? s.views id ≡ some old → IsLive old → IsLive new
+      → Continues config begun s tied more (record { words = slice_set s.words index bits; homes = s.homes; views = slice_set s.views id new }) → WentOn more old new
+  went_on s tied id index bits old new more at live live_on run =
+      let past = tied.past in
+      let after = run.after in
+      let fits = live_fits config past.openings tied.state tied.events old live (tied.fits id old at) in
+      let same = sym fits.same_config in
+      let later = live_fits config after.past.openings after.state after.events new live_on (after.fits id new (set_there s.views id old new at)) in
+      record {
+        openings = past.openings;
+        before = past.before;
+        events = tied.events;
+        state = tied.state;
+        next = after.state;
+        played = played_so config old.config past.openings past.openings tied.state (past.before ++ tied.events) (past.before ++ tied.events) same refl refl past.played;
+        goes_on = played_so config old.config after.past.openings past.openings after.state (after.past.before ++ after.events) (past.before ++ (tied.events ++ more)) same run.same_openings
+            (λ i. run.same_before i ++ run.events i) after.past.played;
+        knew = fits_so config old.config past.openings past.openings tied.state tied.events tied.events old same refl refl fits;
+        knows = fits_so config old.config after.past.openings past.openings after.state after.events (tied.events ++ more) new same run.same_openings run.events later;
+      }
+
   pub moves_go_on : MovesGoOn config begun
   moves_go_on id view (Steps worker op drives) make makes s tied at = steps_on config begun id worker view op make drives makes s tied at
   moves_go_on id view (Comes worker actor may) make makes s tied at = first_steps_on config begun id worker view actor make may makes s tied at
@@ -25,5 +117,8 @@ module _ (config : Config) (begun : (ℕ → Opening) → List Happening → Typ
 
   pub moves_are_allowed : MovesAreAllowed config begun
   moves_are_allowed slots id me move make makes s tied homes at low =
+      let index = index_by config me.0 move in
+      let bits = slice_index s.words index in
       let on = moves_go_on id me.0 move make makes s tied at in
-      (on.new, keeps, tt, on.run.after, (on.is_told, record { table = s; tied = tied; there = at; stood = refl; run = on.run }))
+      let went = went_on s tied id index (make bits) me.0 on.new (events_by me.0 move bits) at (lives me.0 move) (lives_on me.0 move bits on.new on.is_told) on.run in
+      (on.new, keeps, tt, on.run.after, (on.is_told, went))

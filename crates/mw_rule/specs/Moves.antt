@@ -1,5 +1,5 @@
 -- All that a thread may do to one word of the table, and by which events the run behind the table goes on then.
-use Rattle.std.specs.Prelude.{ℕ, true, false, ◌≡◌, List, [], ◌∷◌, slice_index, slice_set, Some}
+use Rattle.std.specs.Prelude.{ℕ, true, false, ◌≡◌, List, [], ◌∷◌, ◌++◌, Some}
 use mathlib.Core.Option.{some}
 use lib.ListN.{get_elem?}
 use Rattle.atomic_table.specs.Table.{State as Table, Allows, Me}
@@ -14,9 +14,10 @@ use Rattle.mw_actor.specs.Acting.{Acting}
 use Rattle.mw_world_file.specs.Files.{entries_at}
 use Rattle.mw_world_file.specs.declared.outcomes.Outcome.TheVariants.{Good, Fail}
 use Rattle.mw_world.specs.declared.config.Config.{Config}
+use Rattle.mw_world.specs.Claim.Headline.{IsPlayed}
 use Rattle.mw_world.specs.Definition.Calls.{Called as CallOn, device_calls, is_made}
 use Rattle.mw_world.specs.Definition.Happenings.{Happening, Come, File as FileEvent}
-use Rattle.mw_world.specs.Definition.State.{Opening}
+use Rattle.mw_world.specs.Definition.State.{Opening, State}
 use Rattle.mw_law_calls.specs.Ending.{exchange_of, fault_of}
 use Rattle.mw_law_calls.specs.Rights.{file_told}
 use Rattle.mw_rule.specs.declared.views.Held.{Held}
@@ -25,7 +26,7 @@ use Rattle.mw_rule.specs.Carrying.{Began, Drives, Looked, MayCome, Took}
 use Rattle.mw_rule.specs.Continuing.{StepsOn, events_loaded, events_of, starts_by}
 use Rattle.mw_rule.specs.Filing.{Calls, Loaded, Went, broken_so, fails, filed_so, place_held}
 use Rattle.mw_rule.specs.Layout.{index_of}
-use Rattle.mw_rule.specs.Rule.{Continues, IsLive, Tied}
+use Rattle.mw_rule.specs.Rule.{Fits, IsLive, Tied}
 use Rattle.mw_rule.specs.Ways.{finds, made_of_bits}
 
 -- What a thread that knows this may do to a word: a step of the request that it carries; the first step of a request that comes; a load that is no step; and of a call on a file the load of its change's status, the
@@ -83,22 +84,25 @@ told_by view (Exchanges worker actor called held status by found sound) bits new
 told_by view (Breaks worker number actor called held status by found sound is_one) bits new = Went false held (broken_so view called held) view new
 told_by view (FindsFault worker actor called held status by found failed) bits new = Went false held held.file view new
 
-module _ (config : Config) (begun : (ℕ → Opening) → List Happening → Type 0) where
-  -- There was a table under the rule in which a thread knew so much, and these bits stood at an index. They were changed, the thread came to know that, and the run behind the table went on by these events.
-  pub record WentOn (id index : ℕ) (make : ℕ → ℕ) (more : List Happening) (bits : ℕ) (old new : View) : Type 0 where
-    pub table : Table Acting View
-    pub tied : Tied config begun table
-    pub there : get_elem? table.views id ≡ some old
-    pub stood : slice_index table.words index ≡ bits
-    pub run : Continues config begun table tied more (record { words = slice_set table.words index (make bits); homes = table.homes; views = slice_set table.views id new })
+-- A run of a world goes on by these events, from a moment at which what a thread knew was so to one at which what it knows then is so. What happened before the table was made, and since then, is told apart.
+pub record WentOn (more : List Happening) (old new : View) : Type 0 where
+  pub openings : ℕ → Opening
+  pub before : List Happening
+  pub events : List Happening
+  pub state : State
+  pub next : State
+  pub played : IsPlayed old.config openings (before ++ events) state
+  pub goes_on : IsPlayed old.config openings (before ++ (events ++ more)) next
+  pub knew : Fits old.config openings state events old
+  pub knows : Fits old.config openings next (events ++ more) new
 
+module _ (config : Config) (begun : (ℕ → Opening) → List Happening → Type 0) where
   -- Whatever the table is, whatever a thread may do lets the run go on by its events.
   abbrev pub MovesGoOn : Type 0
   MovesGoOn = (id : ℕ) (view : View) (move : Move view) (make : ℕ → ℕ) → ((bits : ℕ) → make bits ≡ made_by view move bits) → (s : Table Acting View) (tied : Tied config begun s)
       → get_elem? s.views id ≡ some view → StepsOn config begun s tied id (index_by config view move) make (events_by view move) (told_by view move)
 
-  -- The rule allows it; and what the thread then knows is what it knows after a step by which the run went on by just these events.
+  -- The rule allows it; and what the thread then knows is so after a run that went on by just these events.
   abbrev pub MovesAreAllowed : Type 0
   MovesAreAllowed = (slots id : ℕ) (me : Me Acting View) (move : Move me.0) (make : ℕ → ℕ) → ((bits : ℕ) → make bits ≡ made_by me.0 move bits)
-      → Allows (Tied config begun) slots id me (index_by config me.0 move) make
-      (λ bits next. told_by me.0 move bits next.0 × WentOn id (index_by config me.0 move) make (events_by me.0 move bits) bits me.0 next.0)
+      → Allows (Tied config begun) slots id me (index_by config me.0 move) make (λ bits next. told_by me.0 move bits next.0 × WentOn (events_by me.0 move bits) me.0 next.0)

@@ -66,9 +66,9 @@ pub fn the_run_goes_on<B: Begins>()
     ensures joins { (key : B) → JoinsGoOn (B.config key) (B.begun key) }
 {}
 
-/// All that a thread may do to a word, together. The rule allows each, by a step by which the run goes on by just its
-/// events: a call of the table that is made under this law may tell its thread so, that what it knows then is what it
-/// knows after such a step. No law says more of the run than that there is one.
+/// All that a thread may do to a word, together. The rule allows each by a step by which the run goes on by just its
+/// events; and what the thread is told of it goes with that: what it knew was so after some run, and what it knows then
+/// is so after the run with these events more. No law says which of the runs that fit the table is meant.
 pub fn moves_are_of_the_run<B: Begins>()
     ensures go_on { (key : B) → MovesGoOn (B.config key) (B.begun key) }
     ensures allowed { (key : B) → MovesAreAllowed (B.config key) (B.begun key) }
