@@ -9,7 +9,7 @@ use Rattle.mw_look.specs.declared.steps.Call.TheVariants.{Prepare as PrepareCall
 use Rattle.mw_look.specs.Steps.{op_of}
 use Rattle.mw_actor.specs.Acting.{Acting, own_entries}
 use Rattle.mw_actor.specs.Asks.{asks}
-use Rattle.mw_actor.specs.Program.{replied, tells}
+use Rattle.mw_actor.specs.Program.{tells}
 use Rattle.mw_world.specs.Definition.Calls.{Called, called_at}
 use Rattle.mw_law_calls.specs.declared.rights.FileRights.{FileRights}
 use Rattle.mw_law_calls.specs.Rights.{rights_filed}

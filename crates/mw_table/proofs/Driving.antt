@@ -1,5 +1,5 @@
 -- What a pass carries before a step, and after it.
-use Rattle.std.specs.Prelude.{ℕ, ◌≡◌, Bool, true, false, List, [], ◌∷◌, ◌++◌, map, Some, None}
+use Rattle.std.specs.Prelude.{ℕ, ◌≡◌, Bool, true, false, List, [], ◌∷◌, map, Some, None}
 use Rattle.std.proofs.Common.{refl, sym, ap, subst, ◌∙◌}
 use Rattle.mw_look.specs.declared.news.Got.{Got}
 use Rattle.mw_look.specs.declared.steps.Op.{Op}
