@@ -1,5 +1,5 @@
 -- What a table is made of: what it begins with, and which runs may have been before.
-use Rattle.std.specs.Prelude.{ℕ, List, []}
+use Rattle.std.specs.Prelude.{ℕ, List}
 use Rattle.mw_world.specs.declared.config.Config.{Config}
 use Rattle.mw_world.specs.Definition.Happenings.{Happening}
 use Rattle.mw_world.specs.Definition.State.{Opening}
@@ -27,4 +27,4 @@ begun_of (OfStart config found) = StartedWith config.value found.value.items
 
 -- what the first thread knows
 abbrev pub first_of : Origin → View
-first_of origin = maker (config_of origin) (openings_of origin) (basis_of origin).seats []
+first_of origin = maker (config_of origin) (openings_of origin) (basis_of origin).seats (basis_of origin).files
