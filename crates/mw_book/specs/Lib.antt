@@ -1,3 +1,4 @@
+pub mod Answers
 pub mod Crashes
 pub mod Ends
 pub mod Filed
