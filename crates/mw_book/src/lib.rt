@@ -23,4 +23,4 @@ mod tests;
 
 pub use answers::Filed;
 pub use kept::Book;
-pub use laws::{calls_that_can_be_made, crash_between_calls};
+pub use laws::{calls_that_can_be_made, crash_between_calls, files_that_are_alike};
