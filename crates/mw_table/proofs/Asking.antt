@@ -39,12 +39,12 @@ Asks shared pass index make tells =
     × Allows (rule_of shared) shared.table.shared.table_id.slots pass.seat.id pass.seat.me index make tells
 
 -- what is told may be said otherwise
-allows_so : (holds : Table Acting View → Type 0) (slots id : ℕ) (me : Me Acting View) (index : ℕ) (make : ℕ → ℕ) (one other : ℕ → Me Acting View → Type 0)
+pub allows_so : (holds : Table Acting View → Type 0) (slots id : ℕ) (me : Me Acting View) (index : ℕ) (make : ℕ → ℕ) (one other : ℕ → Me Acting View → Type 0)
     → ((bits : ℕ) (next : Me Acting View) → one bits next → other bits next) → Allows holds slots id me index make one → Allows holds slots id me index make other
 allows_so holds slots id me index make one other says allows s so long at low = let r = allows s so long at low in (r.0, r.1, r.2, r.3, says _ _ r.4)
 
 -- a word that is there is in the table
-in_table : (shared : Shared) (pass : Pass) (at : At) (index : ℕ) → IsOf shared pass → has_place pass.seat.me.0.config at ≡ true → index ≡ index_of shared.pool at
+pub in_table : (shared : Shared) (pass : Pass) (at : At) (index : ℕ) → IsOf shared pass → has_place pass.seat.me.0.config at ≡ true → index ≡ index_of shared.pool at
     → (index < shared.table.shared.table_id.words) × (index_of (config_of shared.table.shared.key).pool at ≡ index)
 in_table shared pass at index own there is =
     let config = config_of shared.table.shared.key in

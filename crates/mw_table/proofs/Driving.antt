@@ -41,7 +41,7 @@ there_so config (Load at) is = is
 there_so config (Change kind at from to) is = is
 there_so config (File call slot) is = absurd (cc)
 
-running_so : (reins : Reins) (actor : Acting) → replied actor ≡ None → settled reins actor ≡ record reins { actor = Some actor }
+pub running_so : (reins : Reins) (actor : Acting) → replied actor ≡ None → settled reins actor ≡ record reins { actor = Some actor }
 running_so reins actor running = ap (settled_as reins actor) running
 
 -- the request's next step is one that the pass may make

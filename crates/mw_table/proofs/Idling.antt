@@ -18,7 +18,7 @@ none_of : (found : Option Acting) → is_none found ≡ true → found ≡ None
 none_of None is = refl
 none_of (Some actor) is = absurd (cc)
 
-some_none : (actor : Acting) → Some actor ≡ None → ⊥
+pub some_none : (actor : Acting) → Some actor ≡ None → ⊥
 some_none actor is = cc
 
 one_of : (one other : Bool) → one ∷ [] ≡ other ∷ [] → one ≡ other

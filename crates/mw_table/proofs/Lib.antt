@@ -2,9 +2,12 @@ pub mod Asked
 pub mod Asking
 pub mod Attempting
 pub mod Driving
+pub mod Entrusting
+pub mod FileSteps
 pub mod Finding
 pub mod Fresh
 pub mod Idling
+pub mod Lending
 pub mod Meetings
 pub mod Numbering
 pub mod Opened

@@ -9,13 +9,15 @@ use Rattle.mw_world.specs.Definition.State.{Opening, Seat, first_openings, idle_
 use Rattle.mw_simulator.specs.FromMemory.{Account, seat_of}
 use Rattle.mw_simulator.specs.declared.world.World.{World}
 use Rattle.mw_simulator.specs.Running.{Stands}
+use Rattle.mw_rule.specs.declared.views.Held.{Held}
 use Rattle.mw_rule.specs.FromLaws.{after_marks, first_moment}
 
--- What a table begins with: what its world is made of, what the latest start gave each tenant, and the workers.
+-- What a table begins with: what its world is made of, what the latest start gave each tenant, the workers, and what is known of the files to which it gives rights.
 pub record Basis : Type 0 where
   pub config : Config
   pub openings : List Opening
   pub seats : ℕ → Seat
+  pub files : List Held
 
 -- The run that led to the world began at the first start of all, and these events have happened since.
 pub record LedTo (world : World) (openings : ℕ → Opening) (before : List Happening) : Type 0 where
@@ -40,6 +42,6 @@ opening_of account = record {
 abbrev pub seat_in : World → ℕ → Seat
 seat_in world worker = option_map_or seat_of (slice_get world.seats.items worker) idle_seat
 
--- what a table of the world begins with
+-- What a table of the world begins with. It gives no right to a file.
 abbrev pub basis_of_world : World → Basis
-basis_of_world world = record { config = world.config; openings = map opening_of world.accounts.items; seats = seat_in world }
+basis_of_world world = record { config = world.config; openings = map opening_of world.accounts.items; seats = seat_in world; files = [] }

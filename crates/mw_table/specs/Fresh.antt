@@ -1,13 +1,15 @@
 -- What a table begins with that is made at a start: what the opening of each tenant's file gave.
-use Rattle.std.specs.Prelude.{ℕ, ◌≡◌, Bool, true, not, is_some, List, [], ◌∷◌, Option, Some, None, Vec}
+use Rattle.std.specs.Prelude.{ℕ, zero, suc, ◌+◌, ◌≡◌, Bool, true, not, is_some, List, [], ◌∷◌, Option, Some, None, Vec}
 use Rattle.std.specs.declared.alloc.Global.{Global}
 use Rattle.mw_words.specs.Change.{word_at}
 use Rattle.mw_words.specs.Patterns.{packed_door}
 use Rattle.mw_world.specs.declared.config.Config.{Config}
 use Rattle.mw_world.specs.declared.config.Tenant.{Tenant}
 use Rattle.mw_world.specs.Definition.Happenings.{Happening}
-use Rattle.mw_world.specs.Definition.State.{Opening, State, idle_seat, world_at}
+use Rattle.mw_world.specs.Definition.State.{Opening, State, idle_seat, tenants_of, world_at}
 use Rattle.mw_simulator.specs.FromMemory.{first_words}
+use Rattle.mw_law_calls.specs.Rights.{rights_opened}
+use Rattle.mw_rule.specs.declared.views.Held.{Held}
 use Rattle.mw_rule.specs.Seen.{opening_at}
 use Rattle.mw_table.specs.declared.origin.FileOpening.{FileOpening}
 use Rattle.mw_table.specs.Beginning.{Basis}
@@ -30,9 +32,26 @@ start_given config found = opening_at (openings_given config.tenants.items found
 abbrev pub world_given : Config → List FileOpening → State
 world_given config found = world_at config (start_given config found)
 
--- what a table of that world begins with: no worker has a request
+-- The right to a tenant's file as the start left it: with the words that were found, and all its places empty; or failed, where it didn't open. No call is under way.
+abbrev pub held_given : ℕ → List Opening → ℕ → Held
+held_given pool given tenant = record {
+  file = rights_opened tenant (opening_at given tenant).quota pool (opening_at given tenant).words (not (opening_at given tenant).is_up);
+  found = None;
+}
+
+-- those of so many tenants, from a first one on
+abbrev pub held_from : ℕ → List Opening → ℕ → ℕ → List Held
+held_from pool given first zero = []
+held_from pool given first (suc left) = held_given pool given first ∷ held_from pool given (first + 1) left
+
+-- what a table of that world begins with: no worker has a request, and the rights to all tenants' files are given
 abbrev pub basis_of_start : Config → List FileOpening → Basis
-basis_of_start config found = record { config = config; openings = openings_given config.tenants.items found; seats = λ worker. idle_seat }
+basis_of_start config found = record {
+  config = config;
+  openings = openings_given config.tenants.items found;
+  seats = λ worker. idle_seat;
+  files = held_from config.pool (openings_given config.tenants.items found) 0 (tenants_of config);
+}
 
 -- The start gave this, and nothing has happened since.
 pub record StartedWith (config : Config) (found : List FileOpening) (openings : ℕ → Opening) (before : List Happening) : Type 0 where

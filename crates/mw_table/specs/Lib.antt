@@ -1,9 +1,12 @@
 pub mod Beginning
 pub mod Carried
 pub mod Dealt
+pub mod Filing
 pub mod Fresh
+pub mod Holding
 pub mod Meeting
 pub mod Numbers
+pub mod Opened
 pub mod Origins
 pub mod Passes
 pub mod Places

@@ -7,12 +7,14 @@ ghost use Rattle.mw_rule.specs.Layout.{words_of};
 ghost use Rattle.mw_rule.specs.Rule.{Ties};
 ghost use Rattle.mw_table.specs.Dealt.{AreBearings, AreInOrder, IsDealt};
 ghost use Rattle.mw_table.specs.Fresh.{basis_of_start, door_given, start_given, value_given, word_given, world_given};
+ghost use Rattle.mw_table.specs.Opened.{AreOpened};
 ghost use Rattle.mw_table.specs.Origins.{basis_of};
 ghost use Rattle.mw_table.specs.Places.{IsAt};
 
 use crate::dealing::Bearing;
 use crate::origin::{FileOpening, Origin};
 use crate::places::{has_place, place_at};
+use crate::right::FileRight;
 use crate::shared::{Pass, Shared};
 use mw_rule::index_of;
 use mw_words::{At, Door, Gate};
@@ -21,7 +23,8 @@ use std::alloc::{AllocError, Global};
 use std::snapshot::Snapshot;
 
 impl Shared {
-    /// A table at a start, by what each tenant's file gave, with a pass for each worker, by worker. There is an
+    /// A table at a start, by what each tenant's file gave, with a pass for each worker, by worker, and the right to
+    /// each tenant's file, by tenant, which tells of the file what its opening gave. There is an
     /// opening for each tenant, in the order of the tenants: of an opened file with as many words as the tenant
     /// has, and with quotas of 1 or more slots that the pool has room for together. Each tenant has the words of
     /// its file; where that didn't open, its words are 0 and its door has the fault. No worker has a request, and
@@ -30,7 +33,7 @@ impl Shared {
         alloc: Global,
         config: &Config,
         openings: &Vec<FileOpening>,
-    ) -> Result<(Shared, Vec<Pass>), AllocError>
+    ) -> Result<(Shared, Vec<Pass>, Vec<FileRight>), AllocError>
         requires config { IsConfig config.now }
         requires one_each { length openings.now.items ≡ tenants_of config.now }
         requires start { IsStart config.now (start_given config.now openings.now.items) }
@@ -38,11 +41,14 @@ impl Shared {
         ensures count { IfOk result (λ made. length made.1.items ≡ config.now.workers) }
         ensures passes { IfOk result (λ made. All (IsDealt made.0 (basis_of_start config.now openings.now.items)) made.1.items) }
         ensures order { IfOk result (λ made. AreInOrder made.1.items) }
+        ensures rights { IfOk result (λ made. AreOpened made.0 (basis_of_start config.now openings.now.items) made.2.items) }
     {
         let words = words_at_start(alloc, config, openings)?;
         let bearings = idle_bearings(alloc, config.workers)?;
         let origin = Origin::Start(Snapshot::of(config), Snapshot::of(openings));
-        Shared::open(alloc, &words, &origin, config, &bearings)
+        let (shared, passes, left) = Shared::open(alloc, &words, &origin, config, &bearings)?;
+        let rights = shared.entrust(alloc, left, config.tenants.len() as u8)?;
+        Ok((shared, passes, rights))
     }
 }
 

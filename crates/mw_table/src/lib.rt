@@ -8,28 +8,38 @@
 //! comes by `begin`, with its first step. Each further step is one call: it asks, as its `requires`, that it is the
 //! next step of the request that the pass carries (`Drives` of `mw_rule`), and tells the pass what it found
 //! (`Took`). `step` makes whichever step is next; `load` and the calls of `calls.rt` make one kind each. Where the
-//! reply stands after a step, the reply is handed out with it, and `Pass::rest` makes the pass idle again. No call
-//! makes a step on a tenant's file: a request that has come to one stays there.
+//! reply stands after a step, the reply is handed out with it, and `Pass::rest` makes the pass idle again.
 //!
-//! Two calls are no step of a request: `figure` loads a word, and `meet` lets two passes see what either has seen.
+//! A request that has come to a call on its tenant's file goes on by that call, for which its pass takes the right to
+//! the file. [`Shared::new`] gives one [`FileRight`] for each tenant. `take` takes it; `find_status` loads the status
+//! of the change, from which the call starts or doesn't; once the caller has made its device calls, `end_call` or
+//! `fault` ends it; and `give_back` gives the right back, with what is known of the file then. The table knows no
+//! device: the caller says how the call went.
+//!
+//! Two more calls are no step of a request: `figure` loads a word, and `meet` lets two passes see what either has seen.
 //! None waits, and none but `new` and `of_world` takes memory.
 //!
 //! What to read first: `specs/Passes` and `specs/Dealt` say what a pass of a table is, `specs/Beginning` and
-//! `specs/Fresh` what a table begins with.
+//! `specs/Fresh` what a table begins with, `specs/Opened` and `specs/Filing` what a right to a file is, and what a
+//! call on the file asks.
 #![tactic(auto)]
 
 mod at_start;
 mod begins;
 mod calls;
 mod dealing;
+mod ending;
+mod filing;
 mod making;
 mod meeting;
 mod origin;
 mod passes;
 mod places;
+mod right;
 mod shared;
 mod steps;
 mod turns;
 
 pub use origin::{FileOpening, Origin};
+pub use right::FileRight;
 pub use shared::{Pass, Shared};

@@ -26,7 +26,8 @@ impl Shared {
     /// A table with the shared words of a world that a run from a new world has led to, a pass for each
     /// worker, by worker, and each worker's request, by worker. Passes and requests stand where the world's do:
     /// the pass of a worker that has a request carries it, at the step to which it has come, and the others are
-    /// idle. So play a world to its point with a request for each thread, and go on with threads.
+    /// idle. So play a world to its point with a request for each thread, and go on with threads. It gives no rights
+    /// to files: a request that comes to a call on its file stays there.
     ///
     /// Where a reply stands in the world and hasn't been handed out, its worker's pass is of no use: it isn't
     /// idle, and the request has no step left. Hand it out in the world first. The only error is want of memory;
@@ -45,7 +46,7 @@ impl Shared {
         let words = words_of_world(alloc, world)?;
         let bearings = bearings_of_world(alloc, world)?;
         let origin = Origin::World(Snapshot::of(world));
-        let (shared, passes) = Shared::open(alloc, &words, &origin, world.config(), &bearings)?;
+        let (shared, passes, _) = Shared::open(alloc, &words, &origin, world.config(), &bearings)?;
         let actors = actors_of(alloc, world)?;
         Ok((shared, passes, actors))
     }

@@ -114,7 +114,7 @@ fn found_at_a_start(alloc: Global) -> Option<[u64; 4]> {
     let Ok(openings) = one_of_two(alloc) else {
         return None;
     };
-    let Ok((shared, mut passes)) = Shared::new(alloc, &config, &openings) else {
+    let Ok((shared, mut passes, _)) = Shared::new(alloc, &config, &openings) else {
         return None;
     };
     let other = passes.pop()?;

@@ -7,14 +7,14 @@ use Rattle.mw_world.specs.Definition.State.{idle_seat}
 use Rattle.mw_rule.specs.Dealing.{maker}
 use Rattle.mw_rule.specs.Rule.{Tied, Ties}
 use Rattle.mw_table.specs.declared.origin.FileOpening.{FileOpening}
-use Rattle.mw_table.specs.Fresh.{StartedWith, openings_given, world_given}
+use Rattle.mw_table.specs.Fresh.{StartedWith, basis_of_start, openings_given, world_given}
 use Rattle.mw_table.proofs.Fresh.{fresh_table}
 use Rattle.std.specs.Prelude.{length}
 use Rattle.mw_table.proofs.shared.Shared.new.Goals as goal
 
 -- the rule of a table that these begin with
 abbrev IsTied : List ℕ → Config → List FileOpening → Type 0
-IsTied words config found = Tied config (StartedWith config found) (opening {S = Acting} words [] (maker config (openings_given config.tenants.items found) (λ worker. idle_seat) []))
+IsTied words config found = Tied config (StartedWith config found) (opening {S = Acting} words [] (maker config (openings_given config.tenants.items found) (λ worker. idle_seat) (basis_of_start config found).files))
 
 pub open-requires-clause-tied : goal.open-requires-clause-tied
 open-requires-clause-tied c =

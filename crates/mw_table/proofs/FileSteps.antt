@@ -1,0 +1,194 @@
+-- The steps of a call on a tenant's file.
+use Rattle.std.specs.Prelude.{ℕ, ◌≡◌, ◌==◌, ◌^◌, Bool, true, false, cond, List, [], ◌∷◌, map, Option, Some, None}
+use Rattle.std.specs.Int.Bits.{bit_or}
+use Rattle.std.proofs.Common.{refl, sym, ap, subst, ◌∙◌}
+use prog.Atomic.{either}
+use Rattle.atomic_table.specs.Table.{Allows, Me}
+use Rattle.mw_words.specs.declared.places.At.{At}
+use Rattle.mw_words.specs.declared.places.At.TheVariants.{Door as AtDoor, Status as AtStatus}
+use Rattle.mw_words.specs.declared.statuses.Status.{Status}
+use Rattle.mw_words.specs.Patterns.{packed_status}
+use Rattle.mw_look.specs.declared.steps.Call.{Call}
+use Rattle.mw_look.specs.declared.steps.Call.TheVariants.{Prepare as PrepareCall, Seal as SealCall, Settle as SettleCall, Cancel as CancelCall}
+use Rattle.mw_actor.specs.Acting.{Acting}
+use Rattle.mw_world.specs.declared.config.Config.{Config}
+use Rattle.mw_world.specs.Definition.Calls.{Called, called_at, starts_from, status_after}
+use Rattle.mw_world.specs.Definition.Extent.{has_place}
+use Rattle.mw_world.specs.Definition.Happenings.{Happening}
+use Rattle.mw_world.specs.Definition.State.{Opening}
+use Rattle.mw_law_calls.specs.declared.rights.FileRights.{FileRights}
+use Rattle.mw_law_calls.specs.Ending.{kind_of}
+use Rattle.mw_rule.specs.declared.views.Held.{Held}
+use Rattle.mw_rule.specs.declared.views.Reins.{Reins}
+use Rattle.mw_rule.specs.declared.views.View.{View}
+use Rattle.mw_rule.specs.Carrying.{GoesOn}
+use Rattle.mw_rule.specs.Filing.{Calls, Loaded, LoadedAs, Went, broken_so, fails, filed_so, went, went_as}
+use Rattle.mw_rule.specs.Layout.{index_of}
+use Rattle.mw_rule.specs.Ways.{made_by_way, way_of}
+use Rattle.mw_rule.proofs.FileCalls.{calls_break, calls_end, calls_fail, calls_load}
+use Rattle.mw_table.specs.declared.shared.Pass.{Pass}
+use Rattle.mw_table.specs.declared.shared.Shared.{Shared}
+use Rattle.mw_table.specs.Filing.{EndsWell, FindsStatus, IsAtFile, MayEnd, MayFault, MayFind, MeetsFault, faulted_so}
+use Rattle.mw_table.specs.Numbers.{number_of, numbers}
+use Rattle.mw_table.specs.Origins.{begun_of, config_of}
+use Rattle.mw_table.specs.Passes.{IsOf}
+use Rattle.mw_table.specs.Resting.{IsAtRest}
+use Rattle.mw_table.proofs.Asking.{Asks, allows_so, in_table, rule_of}
+use Rattle.mw_table.proofs.Idling.{none_carried, some_none}
+
+-- The call to which a thread's request has come is one alone.
+abbrev first_reins : Reins → List Reins → Reins
+first_reins other [] = other
+first_reins other (one ∷ rest) = one
+
+abbrev first_held : Held → List Held → Held
+first_held other [] = other
+first_held other (one ∷ rest) = one
+
+abbrev actor_in : Acting → Option Acting → Acting
+actor_in other None = other
+actor_in other (Some one) = one
+
+abbrev called_in : Called → Option Called → Called
+called_in other None = other
+called_in other (Some one) = one
+
+module _ (view : View) (worker_of : ℕ) (actor_of : Acting) (called_of : Called) (held_of : Held) (of : Calls view worker_of actor_of called_of held_of) (worker : ℕ) (actor : Acting) (called : Called) (held : Held)
+    (by : Calls view worker actor called held) where
+  same_reins : of.reins ≡ by.reins
+  same_reins = ap (first_reins of.reins) (sym of.has.only ∙ by.has.only)
+
+  same_worker : worker_of ≡ worker
+  same_worker = sym of.has.own ∙ (ap (λ (reins : Reins). reins.worker) same_reins ∙ by.has.own)
+
+  same_actor : actor_of ≡ actor
+  same_actor = ap (actor_in actor_of) (sym of.carries ∙ (ap (λ (reins : Reins). reins.actor) same_reins ∙ by.carries))
+
+  same_called : called_of ≡ called
+  same_called = ap (called_in called_of) (sym of.comes_to ∙ (ap (λ (one : Acting). called_at one.point) same_actor ∙ by.comes_to))
+
+  same_held : held_of ≡ held
+  same_held = ap (first_held held_of) (sym of.only ∙ by.only)
+
+  pub one_call : (P : ℕ → Acting → Called → Held → Type 0) → P worker_of actor_of called_of held_of → P worker actor called held
+  one_call P so =
+      subst (λ (one : ℕ). P one actor called held) same_worker
+      (subst (λ (one : Acting). P worker_of one called held) same_actor
+      (subst (λ (one : Called). P worker_of actor_of one held) same_called
+      (subst (λ (one : Held). P worker_of actor_of called_of one) same_held so)))
+
+-- What the rule of the table lets be made.
+exchange_makes : (call : Call) (from to bits : ℕ) → made_by_way (way_of (kind_of call)) from to bits ≡ cond (bits == from) to bits
+exchange_makes PrepareCall from to bits = refl
+exchange_makes SealCall from to bits = refl
+exchange_makes SettleCall from to bits = refl
+exchange_makes CancelCall from to bits = refl
+
+module _ (shared : Shared) (pass : Pass) (own : IsOf shared pass) where
+  abbrev me : Me Acting View
+  me = pass.seat.me
+
+  abbrev slots : ℕ
+  slots = shared.table.shared.table_id.slots
+
+  abbrev config : Config
+  config = config_of shared.table.shared.key
+
+  abbrev begun : (ℕ → Opening) → List Happening → Type 0
+  begun = begun_of shared.table.shared.key
+
+  -- said of whichever call it is
+  asks_so : (at : At) (other : At) (index : ℕ) (make : ℕ → ℕ) (one tells : ℕ → Me Acting View → Type 0) → has_place me.0.config at ≡ true → at ≡ other → index ≡ index_of shared.pool other
+      → ((bits : ℕ) (next : Me Acting View) → one bits next → tells bits next) → Allows (rule_of shared) slots pass.seat.id me (index_of config.pool at) make one → Asks shared pass index make tells
+  asks_so at other index make one tells there same is says allows =
+      let placed = in_table shared pass at index own there (is ∙ ap (index_of shared.pool) (sym same)) in (
+        own.table,
+        placed.0,
+        allows_so (rule_of shared) slots pass.seat.id me index make one tells says (subst (λ (k : ℕ). Allows (rule_of shared) slots pass.seat.id me k make one) placed.1 allows),
+      )
+
+  pub find_asks : (slot index : ℕ) → MayFind pass slot → index ≡ index_of shared.pool (AtStatus slot) → Asks shared pass index (λ bits. bits) (λ bits next. FindsStatus bits me.0 next.0)
+  find_asks slot index may is =
+      let at = may.at_file in
+      asks_so (AtStatus at.called.change.slot) (AtStatus slot) index (λ bits. bits) (λ bits next. Loaded pass.worker at.actor at.called at.held bits me.0 next.0) (λ bits next. FindsStatus bits me.0 next.0)
+      at.words.status (ap (λ (n : ℕ). AtStatus n) may.is_slot) is
+      (λ bits next loaded worker actor called held by.
+      one_call me.0 pass.worker at.actor at.called at.held at.calls worker actor called held by (λ w a d h. Loaded w a d h bits me.0 next.0) loaded)
+      (calls_load config begun slots pass.seat.id pass.worker me at.actor at.called at.held (λ bits. bits) at.calls (λ bits. refl))
+
+  pub end_asks : (call : Call) (slot : ℕ) (status : Status) (from to index : ℕ) → MayEnd pass call slot status → index ≡ index_of shared.pool (AtStatus slot) → from ≡ packed_status status
+      → to ≡ packed_status (status_after call status) → Asks shared pass index (λ bits. either (bits == from) to bits) (λ bits next. EndsWell me.0 next.0)
+  end_asks call slot status from to index may is from_is to_is =
+      let at = may.at_file in
+      let after : to ≡ packed_status (status_after at.called.call status) = to_is ∙ ap (λ (one : Call). packed_status (status_after one status)) (sym may.is_call) in
+      asks_so (AtStatus at.called.change.slot) (AtStatus slot) index (λ bits. either (bits == from) to bits)
+      (λ bits next. (bits ≡ packed_status status) × Went true at.held (filed_so me.0 at.actor at.called at.held) me.0 next.0) (λ bits next. EndsWell me.0 next.0)
+      at.words.status (ap (λ (n : ℕ). AtStatus n) may.is_slot) is
+      (λ bits next ended worker actor called held by.
+      one_call me.0 pass.worker at.actor at.called at.held at.calls worker actor called held by (λ w a d h. Went true h (filed_so me.0 a d h) me.0 next.0) ended.1)
+      (calls_end config begun slots pass.seat.id pass.worker me at.actor at.called at.held status (λ bits. either (bits == from) to bits) at.calls may.found may.sound
+      (λ bits. (λ i. either (bits == from_is i) (after i) bits) ∙ sym (exchange_makes at.called.call (packed_status status) (packed_status (status_after at.called.call status)) bits)))
+
+  pub fault_asks : (tenant index : ℕ) → MayFault pass tenant → index ≡ index_of shared.pool (AtDoor tenant) → Asks shared pass index (λ bits. bit_or bits (2 ^ 63)) (λ bits next. MeetsFault me.0 next.0)
+  fault_asks tenant index may is =
+      let at = may.at_file in
+      asks_so (AtDoor at.actor.tenant) (AtDoor tenant) index (λ bits. bit_or bits (2 ^ 63)) (λ bits next. Went false at.held (faulted_so me.0 at.called at.held) me.0 next.0) (λ bits next. MeetsFault me.0 next.0)
+      at.words.door (ap (λ (n : ℕ). AtDoor n) may.is_tenant) is
+      (λ bits next faulted worker actor called held by.
+      one_call me.0 pass.worker at.actor at.called at.held at.calls worker actor called held by (λ w a d h. Went false h (faulted_so me.0 d h) me.0 next.0) faulted)
+      (by_file (fails me.0 at.called at.held) refl)
+    where
+      by_file : (failed : Bool) → fails me.0 may.at_file.called may.at_file.held ≡ failed
+          → Allows (rule_of shared) slots pass.seat.id me (index_of config.pool (AtDoor may.at_file.actor.tenant)) (λ bits. bit_or bits (2 ^ 63))
+          (λ bits next. Went false may.at_file.held (faulted_so me.0 may.at_file.called may.at_file.held) me.0 next.0)
+      by_file true failed =
+          let at = may.at_file in
+          subst (λ (test : Bool). Allows (rule_of shared) slots pass.seat.id me (index_of config.pool (AtDoor at.actor.tenant)) (λ bits. bit_or bits (2 ^ 63))
+          (λ bits next. Went false at.held (cond test at.held.file (broken_so me.0 at.called at.held)) me.0 next.0)) (sym failed)
+          (calls_fail config begun slots pass.seat.id pass.worker me at.actor at.called at.held may.status (λ bits. bit_or bits (2 ^ 63)) at.calls may.found failed (λ bits. refl))
+      by_file false sound =
+          let at = may.at_file in
+          let which = may.failed sound in
+          subst (λ (test : Bool). Allows (rule_of shared) slots pass.seat.id me (index_of config.pool (AtDoor at.actor.tenant)) (λ bits. bit_or bits (2 ^ 63))
+          (λ bits next. Went false at.held (cond test at.held.file (broken_so me.0 at.called at.held)) me.0 next.0)) (sym sound)
+          (calls_break config begun slots pass.seat.id pass.worker which.0 me at.actor at.called at.held may.status (λ bits. bit_or bits (2 ^ 63)) at.calls may.found sound which.1 (λ bits. refl))
+
+-- What stays of a pass over these.
+went_number : (well : Bool) (reins : Reins) (found : Option Acting) → number_of (went_as well reins found) ≡ number_of reins
+went_number well reins None = refl
+went_number well reins (Some actor) = refl
+
+busy_at_call : (view : View) (worker : ℕ) (actor : Acting) (called : Called) (held : Held) → Calls view worker actor called held → IsAtRest view → ⊥
+busy_at_call view worker actor called held by rests = some_none actor (sym by.carries ∙ none_carried view worker by.reins by.has rests)
+
+module _ (view : View) (worker : ℕ) (actor : Acting) (called : Called) (held : Held) (by : Calls view worker actor called held) (new : View) where
+  went_numbers : (well : Bool) (after : FileRights) → Went well held after view new → numbers new ≡ numbers view
+  went_numbers well after is =
+      ap (map number_of) (is.reins ∙ ap (map (went well)) by.has.only)
+      ∙ (ap (λ (n : ℕ × ℕ). n ∷ []) (went_number well by.reins by.reins.actor) ∙ sym (ap (map number_of) by.has.only))
+
+  loaded_as : (starts : Bool) (status : Status) → LoadedAs starts worker actor called held status view new → GoesOn view new × (numbers new ≡ numbers view)
+  loaded_as true status is = (is.files.goes_on, ap (map number_of) is.same_reins)
+  loaded_as false status is = (is.files.goes_on, went_numbers true held.file is)
+
+-- What a pass goes on with after each of these steps: with what it saw, and with the same number.
+abbrev StaysNumbered : View → View → Type 0
+StaysNumbered old new = GoesOn old new × (numbers new ≡ numbers old)
+
+pub find_stays : (pass : Pass) (bits : ℕ) (new : View) → IsAtFile pass → FindsStatus bits pass.seat.me.0 new → StaysNumbered pass.seat.me.0 new
+find_stays pass bits new at finds =
+    let loaded = finds pass.worker at.actor at.called at.held at.calls in
+    loaded_as pass.seat.me.0 pass.worker at.actor at.called at.held at.calls new (starts_from at.called.call loaded.status) loaded.status loaded.loaded
+
+pub end_stays : (pass : Pass) (new : View) → IsAtFile pass → EndsWell pass.seat.me.0 new → StaysNumbered pass.seat.me.0 new
+end_stays pass new at ends =
+    let is = ends pass.worker at.actor at.called at.held at.calls in
+    (is.files.goes_on, went_numbers pass.seat.me.0 pass.worker at.actor at.called at.held at.calls new true (filed_so pass.seat.me.0 at.actor at.called at.held) is)
+
+pub fault_stays : (pass : Pass) (new : View) → IsAtFile pass → MeetsFault pass.seat.me.0 new → StaysNumbered pass.seat.me.0 new
+fault_stays pass new at meets =
+    let is = meets pass.worker at.actor at.called at.held at.calls in
+    (is.files.goes_on, went_numbers pass.seat.me.0 pass.worker at.actor at.called at.held at.calls new false (faulted_so pass.seat.me.0 at.called at.held) is)
+
+pub busy_at_file : (pass : Pass) → IsAtFile pass → IsAtRest pass.seat.me.0 → ⊥
+busy_at_file pass at rests = busy_at_call pass.seat.me.0 pass.worker at.actor at.called at.held at.calls rests

@@ -1,0 +1,52 @@
+-- A right to a file is taken and given back.
+use Rattle.std.specs.Prelude.{ℕ, ◌≡◌, true, false, List, [], ◌∷◌, ◌++◌, length, map, Option, Some, None, is_none}
+use Rattle.std.proofs.Common.{refl, sym, ap, subst, ◌∙◌, inl, arith}
+use Rattle.mw_actor.specs.Acting.{Acting}
+use Rattle.mw_rule.specs.declared.views.FoundStatus.{FoundStatus}
+use Rattle.mw_rule.specs.declared.views.Held.{Held}
+use Rattle.mw_rule.specs.declared.views.View.{View}
+use Rattle.mw_rule.specs.Dealing.{borrows, entrusted, first_held, other_held}
+use Rattle.mw_rule.specs.Rule.{IsLive}
+use Rattle.mw_table.specs.declared.right.FileRight.{FileRight}
+use Rattle.mw_table.specs.Holding.{HasFile, is_idle, tenant_held, tenants_held}
+
+-- there is nothing in a list without length
+pub nothing_in : {A : Type 0} (all : List A) → length all ≡ 0 → all ≡ []
+nothing_in [] is = refl
+nothing_in (one ∷ rest) is = absurd (omega (arith, is))
+
+none_of : (found : Option FoundStatus) → is_none found ≡ true → found ≡ None
+none_of None is = refl
+none_of (Some one) is = absurd (cc)
+
+abbrev head_of : List ℕ → ℕ
+head_of [] = 0
+head_of (one ∷ rest) = one
+
+-- by what is known of each file that a thread may call
+pub has_file_so : (view : View) (files : List Held) (tenant : ℕ) → view.files ≡ files → map tenant_held files ≡ tenant ∷ [] → map is_idle files ≡ true ∷ [] → HasFile view tenant
+has_file_so view [] tenant are its idle = absurd (cc)
+has_file_so view (held ∷ []) tenant are its idle = record { held = held; only = are; its = ap head_of its; idle = none_of held.found (cc) }
+has_file_so view (held ∷ other ∷ rest) tenant are its idle = absurd (cc)
+
+-- what a right knows
+pub right_has : (right : FileRight) → HasFile right.seat.me.0 right.tenant
+right_has right = has_file_so right.seat.me.0 right.seat.me.0.files right.tenant refl right.its right.idle
+
+pub right_lives : (right : FileRight) → IsLive right.seat.me.0
+right_lives right = inl right.live
+
+-- the pass that took it
+pub taken_has : (view its : View) (tenant : ℕ) → view.files ≡ [] → HasFile its tenant → HasFile (borrows view its) tenant
+taken_has view its tenant free has = record { held = has.held; only = (λ i. free i ++ has.only i); its = has.its; idle = has.idle }
+
+-- what is given back
+pub given_its : (view : View) (tenant : ℕ) → HasFile view tenant → tenants_held (entrusted view) ≡ tenant ∷ []
+given_its view tenant has = ap (λ (files : List Held). map tenant_held (first_held files)) has.only ∙ ap (λ (n : ℕ). n ∷ []) has.its
+
+pub given_idle : (view : View) (tenant : ℕ) → HasFile view tenant → map is_idle (entrusted view).files ≡ true ∷ []
+given_idle view tenant has =
+    ap (λ (files : List Held). map is_idle (first_held files)) has.only ∙ ap (λ (found : Option FoundStatus). is_none found ∷ []) has.idle
+
+pub none_left : (view : View) (tenant : ℕ) → HasFile view tenant → other_held view.files ≡ []
+none_left view tenant has = ap other_held has.only

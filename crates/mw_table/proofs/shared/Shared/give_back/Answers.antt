@@ -1,0 +1,23 @@
+use Rattle.std.proofs.Common.{ap, map, length, refl, subst, sym, ◌∙◌}
+use Rattle.atomic_table.specs.Table.{Me}
+use Rattle.mw_actor.specs.Acting.{Acting}
+use Rattle.mw_rule.specs.declared.views.View.{View}
+use Rattle.mw_rule.proofs.Parting.{entrusting_keeps}
+use Rattle.mw_table.specs.Numbers.{numbers}
+use Rattle.mw_table.specs.Resting.{has_none}
+use Rattle.mw_table.specs.Holding.{is_idle, tenants_held}
+use Rattle.mw_table.proofs.Lending.{given_idle, given_its, none_left}
+use Rattle.mw_table.proofs.Meetings.{lives, some_word}
+use Rattle.mw_table.proofs.shared.Shared.give_back.Goals as goal
+
+pub split_seat-seat-requires : goal.split_seat-seat-requires
+split_seat-seat-requires c =
+    let pass = c.args.pass.now in
+    (c.requires.own.table, some_word c.args.self.now, entrusting_keeps _ _ pass.seat.id pass.seat.me.0 (lives pass))
+
+pub invariant_of-pass : goal.invariant_of-pass
+invariant_of-pass c =
+    let is = c.split_seat-seat.ensures.2 in record {
+      numbered = ap (λ (me : Me Acting View). numbers me.0) is ∙ c.args.pass.now.numbered;
+      rests = λ idle. ap (λ (me : Me Acting View). map has_none me.0.reins) is ∙ c.args.pass.now.rests idle;
+    }

@@ -1,0 +1,70 @@
+-- What the calls of a table on tenants' files ask of a pass, and what they tell it.
+use Rattle.std.specs.Prelude.{ℕ, ◌≡◌, true, false, cond, [], Some}
+use Rattle.mw_words.specs.declared.statuses.Status.{Status}
+use Rattle.mw_words.specs.Patterns.{IsStatusInRange}
+use Rattle.mw_look.specs.declared.steps.Call.{Call}
+use Rattle.mw_actor.specs.Acting.{Acting}
+use Rattle.mw_world_file.specs.Files.{entries_at}
+use Rattle.mw_world.specs.Definition.Calls.{Called, device_calls, is_made}
+use Rattle.mw_law_calls.specs.declared.rights.FileRights.{FileRights}
+use Rattle.mw_law_calls.specs.Rights.{file_told}
+use Rattle.mw_law_calls.specs.Starting.{HasWords}
+use Rattle.mw_rule.specs.declared.views.Held.{Held}
+use Rattle.mw_rule.specs.declared.views.View.{View}
+use Rattle.mw_rule.specs.Filing.{Calls, Loaded, Went, broken_so, fails, filed_so, place_held}
+use Rattle.mw_table.specs.declared.right.FileRight.{FileRight}
+use Rattle.mw_table.specs.declared.shared.Pass.{Pass}
+use Rattle.mw_table.specs.declared.shared.Shared.{Shared}
+
+-- The right is one of this table.
+abbrev pub IsRightOf : Shared → FileRight → Type 0
+IsRightOf shared right = right.seat.table_id ≡ shared.table.shared.table_id
+
+-- The pass has no right to a file: so it is but for the time of a call on one.
+abbrev pub IsFree : Pass → Type 0
+IsFree pass = pass.seat.me.0.files ≡ []
+
+-- The pass carries a request that has come to a call on its tenant's file, and has the right to that file and to no other. The words with which the call may end are in the table.
+pub record IsAtFile (pass : Pass) : Type 0 where
+  pub actor : Acting
+  pub called : Called
+  pub held : Held
+  pub calls : Calls pass.seat.me.0 pass.worker actor called held
+  pub words : HasWords pass.seat.me.0.config actor called
+
+-- It is a call for the change of this slot.
+pub record MayFind (pass : Pass) (slot : ℕ) : Type 0 where
+  pub at_file : IsAtFile pass
+  pub is_slot : at_file.called.change.slot ≡ slot
+
+-- It is this call, for the change of this slot, of which this status was found, and the file hasn't failed: or it is a call that makes no device call, so that it doesn't fail.
+pub record MayEnd (pass : Pass) (call : Call) (slot : ℕ) (status : Status) : Type 0 where
+  pub at_file : IsAtFile pass
+  pub is_call : at_file.called.call ≡ call
+  pub is_slot : at_file.called.change.slot ≡ slot
+  pub found : at_file.held.found ≡ Some (record { worker = pass.worker; status = status })
+  pub sound : fails pass.seat.me.0 at_file.called at_file.held ≡ false
+  pub in_range : IsStatusInRange status
+
+-- It is a call on this tenant's file, which started, and fails on the file, which had failed before; else one of its device calls failed, whichever of them.
+pub record MayFault (pass : Pass) (tenant : ℕ) : Type 0 where
+  pub at_file : IsAtFile pass
+  pub is_tenant : at_file.actor.tenant ≡ tenant
+  pub status : Status
+  pub found : at_file.held.found ≡ Some (record { worker = pass.worker; status = status })
+  pub failed : fails pass.seat.me.0 at_file.called at_file.held ≡ false → (number : ℕ)
+      × (is_made (device_calls at_file.called.call (entries_at (file_told at_file.held.file) (place_held pass.seat.me.0 at_file.called at_file.held))) number ≡ true)
+
+-- What is known of a file after a call on it that failed: where the file had failed before, what was known of it.
+abbrev pub faulted_so : View → Called → Held → FileRights
+faulted_so view called held = cond (fails view called held) held.file (broken_so view called held)
+
+-- What these calls tell of the call to which the request has come, which is one alone: the load of its status, by the bits that were found; that it went well; and that it failed.
+abbrev pub FindsStatus : ℕ → View → View → Type 0
+FindsStatus bits old new = (worker : ℕ) (actor : Acting) (called : Called) (held : Held) → Calls old worker actor called held → Loaded worker actor called held bits old new
+
+abbrev pub EndsWell : View → View → Type 0
+EndsWell old new = (worker : ℕ) (actor : Acting) (called : Called) (held : Held) → Calls old worker actor called held → Went true held (filed_so old actor called held) old new
+
+abbrev pub MeetsFault : View → View → Type 0
+MeetsFault old new = (worker : ℕ) (actor : Acting) (called : Called) (held : Held) → Calls old worker actor called held → Went false held (faulted_so old called held) old new

@@ -1,0 +1,55 @@
+//! The right to a tenant's file, and how a pass takes it for a call and gives it back.
+ghost use Rattle.std.specs.Prelude.{◌≡◌};
+ghost use Rattle.mw_rule.specs.Dealing.{bereft, borrows, entrusted};
+ghost use Rattle.mw_table.specs.Filing.{IsFree, IsRightOf};
+ghost use Rattle.mw_table.specs.Holding.{HasFile};
+ghost use Rattle.mw_table.specs.Meeting.{IsSamePass};
+ghost use Rattle.mw_table.specs.Passes.{IsOf};
+
+use crate::right::FileRight;
+use crate::shared::{Pass, Shared};
+use mw_rule::{Borrows, Entrusts};
+
+impl FileRight {
+    /// Whose file it is: the tenant, by its index.
+    pub fn tenant(&self) -> u8
+        ensures { result ≡ self.now.tenant }
+    {
+        self.tenant
+    }
+}
+
+impl Shared {
+    /// The pass takes the right to a file for a call. It had none, and gives this one back after the call. That is
+    /// no step of a request.
+    pub fn take(&self, pass: &mut Pass, right: FileRight)
+        requires own { IsOf self.now pass.old }
+        requires right { IsRightOf self.now right }
+        requires free { IsFree pass.old }
+        ensures own { IsOf self.now pass.new }
+        ensures same { IsSamePass pass.old pass.new }
+        ensures took { pass.new.seat.me.0 ≡ borrows pass.old.seat.me.0 right.seat.me.0 }
+        ensures has { HasFile pass.new.seat.me.0 right.tenant }
+    {
+        self.table
+            .shared
+            .join_seat::<Borrows>(&mut pass.seat, right.seat);
+    }
+
+    /// The pass gives the right to this tenant's file back, with what is known of the file by now. It has none
+    /// then. That is no step of a request.
+    pub fn give_back(&self, pass: &mut Pass, tenant: u8) -> FileRight
+        requires own { IsOf self.now pass.old }
+        requires has { HasFile pass.old.seat.me.0 tenant }
+        ensures own { IsOf self.now pass.new }
+        ensures same { IsSamePass pass.old pass.new }
+        ensures left { pass.new.seat.me.0 ≡ bereft pass.old.seat.me.0 }
+        ensures free { IsFree pass.new }
+        ensures right { IsRightOf self.now result }
+        ensures whose { result.tenant ≡ tenant }
+        ensures is { result.seat.me.0 ≡ entrusted pass.old.seat.me.0 }
+    {
+        let seat = self.table.shared.split_seat::<Entrusts>(&mut pass.seat);
+        FileRight { seat, tenant }
+    }
+}

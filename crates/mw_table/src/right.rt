@@ -1,0 +1,21 @@
+//! The right to call a tenant's file, as it is kept between calls.
+ghost use Rattle.std.specs.Prelude.{◌≡◌, true, false, [], ◌∷◌, length, map};
+ghost use Rattle.mw_table.specs.Holding.{is_idle, tenants_held};
+
+use atomic_table::Seat;
+use mw_actor::Actor;
+use mw_rule::View;
+
+/// The right to call a tenant's file, as it is kept between calls, with what is known of the file. A table gives one
+/// for each tenant, and it can't be copied, so no two threads call one file. A thread's pass takes it for a call and
+/// gives it back after it. Where it is dropped, nobody calls that file any more.
+#[derive(Drop)]
+pub struct FileRight {
+    pub(crate) seat: Seat<Actor, View>,
+    pub(crate) tenant: u8,
+    ghost its: { tenants_held seat.me.0 ≡ tenant ∷ [] },
+    ghost idle: { map is_idle seat.me.0.files ≡ true ∷ [] },
+    ghost no_reins: { length seat.me.0.reins ≡ 0 },
+    ghost no_slots: { length seat.me.1 ≡ 0 },
+    ghost live: { seat.me.0.is_spent ≡ false },
+}
