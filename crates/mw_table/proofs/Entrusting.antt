@@ -16,7 +16,7 @@ use Rattle.mw_table.specs.declared.right.FileRight.{FileRight}
 use Rattle.mw_table.specs.declared.shared.Shared.{Shared}
 use Rattle.mw_table.specs.Beginning.{Basis}
 use Rattle.mw_table.specs.Fresh.{held_from, held_given}
-use Rattle.mw_table.specs.Opened.{AreOpened, IsOpened}
+use Rattle.mw_table.specs.Opened.{IsOpened}
 
 -- Each right tells of its tenant's file in the world at the start, and no tenant has two.
 module _ (config : Config) (given : List Opening) where

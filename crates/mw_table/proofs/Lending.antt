@@ -1,14 +1,18 @@
 -- A right to a file is taken and given back.
-use Rattle.std.specs.Prelude.{ℕ, ◌≡◌, true, false, List, [], ◌∷◌, ◌++◌, length, map, Option, Some, None, is_none}
-use Rattle.std.proofs.Common.{refl, sym, ap, subst, ◌∙◌, inl, arith}
-use Rattle.mw_actor.specs.Acting.{Acting}
+use Rattle.std.specs.Prelude.{ℕ, ◌≡◌, true, List, [], ◌∷◌, ◌++◌, length, map, Option, Some, None, is_none}
+use Rattle.std.proofs.Common.{refl, sym, ap, ◌∙◌, inl, arith}
 use Rattle.mw_rule.specs.declared.views.FoundStatus.{FoundStatus}
 use Rattle.mw_rule.specs.declared.views.Held.{Held}
 use Rattle.mw_rule.specs.declared.views.View.{View}
 use Rattle.mw_rule.specs.Dealing.{borrows, entrusted, first_held, other_held}
 use Rattle.mw_rule.specs.Rule.{IsLive}
 use Rattle.mw_table.specs.declared.right.FileRight.{FileRight}
-use Rattle.mw_table.specs.Holding.{HasFile, is_idle, tenant_held, tenants_held}
+use Rattle.mw_table.specs.declared.shared.Shared.{Shared}
+use Rattle.mw_table.specs.Beginning.{Basis}
+use Rattle.mw_table.specs.Filing.{file_kept}
+use Rattle.mw_table.specs.Fresh.{held_given}
+use Rattle.mw_table.specs.Opened.{IsOpened}
+use Rattle.mw_table.specs.Holding.{HasFile, file_among, is_idle, tenant_held, tenants_held}
 
 -- there is nothing in a list without length
 pub nothing_in : {A : Type 0} (all : List A) → length all ≡ 0 → all ≡ []
@@ -50,3 +54,20 @@ given_idle view tenant has =
 
 pub none_left : (view : View) (tenant : ℕ) → HasFile view tenant → other_held view.files ≡ []
 none_left view tenant has = ap other_held has.only
+
+pub given_file : (files : List Held) → file_among (first_held files) ≡ file_among files
+given_file [] = refl
+given_file (held ∷ rest) = refl
+
+-- what a right knows is this, of its tenant's file
+pub right_is : (right : FileRight) → right.seat.me.0.files ≡ record { file = file_kept right; found = None } ∷ []
+right_is right =
+    let has = right_has right in
+    has.only ∙ ap (λ (held : Held). held ∷ []) (λ i. record { file = sym (ap file_among has.only) i; found = has.idle i })
+
+pub right_its : (right : FileRight) → (file_kept right).tenant ≡ right.tenant
+right_its right = let has = right_has right in ap (λ (files : List Held). (file_among files).tenant) has.only ∙ has.its
+
+-- the right that a start gave
+pub opened_kept : (shared : Shared) (basis : Basis) (tenant : ℕ) (right : FileRight) → IsOpened shared basis tenant right → file_kept right ≡ (held_given basis.config.pool basis.openings tenant).file
+opened_kept shared basis tenant right opened = ap (λ (view : View). file_among view.files) opened.view

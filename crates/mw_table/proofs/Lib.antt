@@ -1,6 +1,7 @@
 pub mod Asked
 pub mod Asking
 pub mod Attempting
+pub mod Called
 pub mod Driving
 pub mod Entrusting
 pub mod FileSteps

@@ -161,6 +161,10 @@ module _ (one other : View) (own theirs : ℕ × ℕ) (ones : numbers one ≡ ow
         (gathering.goes_on.seen tenant low);
   })
 
+  -- a thread that had no right to a file has none then
+  pub none_held : one.files ≡ [] → story.all.files ≡ []
+  none_held free = gathering.same_files ∙ (λ i. (story.told.looking.same_files ∙ free) i ++ [])
+
   pub one_met : Met one (dealt story.all)
   one_met = record {
     keeps = record { same_config = keeps_first.same_config; same_openings = keeps_first.same_openings; seen = keeps_first.seen };

@@ -15,10 +15,15 @@ use Rattle.mw_rule.specs.Filing.{Calls, Loaded, Went, broken_so, fails, filed_so
 use Rattle.mw_table.specs.declared.right.FileRight.{FileRight}
 use Rattle.mw_table.specs.declared.shared.Pass.{Pass}
 use Rattle.mw_table.specs.declared.shared.Shared.{Shared}
+use Rattle.mw_table.specs.Holding.{file_among}
 
 -- The right is one of this table.
 abbrev pub IsRightOf : Shared → FileRight → Type 0
 IsRightOf shared right = right.seat.table_id ≡ shared.table.shared.table_id
+
+-- What is known of the file by whoever has the right.
+abbrev pub file_kept : FileRight → FileRights
+file_kept right = file_among right.seat.me.0.files
 
 -- The pass has no right to a file: so it is but for the time of a call on one.
 abbrev pub IsFree : Pass → Type 0

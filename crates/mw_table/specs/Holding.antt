@@ -1,5 +1,6 @@
 -- Which files a thread may call.
-use Rattle.std.specs.Prelude.{ℕ, ◌≡◌, Bool, List, [], ◌∷◌, map, is_none, None}
+use Rattle.std.specs.Prelude.{ℕ, ◌≡◌, Bool, false, List, [], ◌∷◌, map, is_none, None}
+use Rattle.mw_law_calls.specs.declared.rights.FileRights.{FileRights}
 use Rattle.mw_rule.specs.declared.views.Held.{Held}
 use Rattle.mw_rule.specs.declared.views.View.{View}
 
@@ -13,6 +14,11 @@ tenants_held view = map tenant_held view.files
 -- no call on the file is under way
 abbrev pub is_idle : Held → Bool
 is_idle held = is_none held.found
+
+-- what is known of the first of these files; of none, nothing
+abbrev pub file_among : List Held → FileRights
+file_among [] = record { tenant = 0; contents = []; places = []; place_of = []; has_failed = false; doubt = [] }
+file_among (held ∷ rest) = held.file
 
 -- The thread has the right to call this tenant's file, and no other, and no call on it is under way.
 pub record HasFile (view : View) (tenant : ℕ) : Type 0 where

@@ -1,8 +1,8 @@
 //! The right to a tenant's file, and how a pass takes it for a call and gives it back.
 ghost use Rattle.std.specs.Prelude.{◌≡◌};
 ghost use Rattle.mw_rule.specs.Dealing.{bereft, borrows, entrusted};
-ghost use Rattle.mw_table.specs.Filing.{IsFree, IsRightOf};
-ghost use Rattle.mw_table.specs.Holding.{HasFile};
+ghost use Rattle.mw_table.specs.Filing.{IsFree, IsRightOf, file_kept};
+ghost use Rattle.mw_table.specs.Holding.{HasFile, file_among};
 ghost use Rattle.mw_table.specs.Meeting.{IsSamePass};
 ghost use Rattle.mw_table.specs.Passes.{IsOf};
 
@@ -48,6 +48,7 @@ impl Shared {
         ensures right { IsRightOf self.now result }
         ensures whose { result.tenant ≡ tenant }
         ensures is { result.seat.me.0 ≡ entrusted pass.old.seat.me.0 }
+        ensures file { file_kept result ≡ file_among pass.old.seat.me.0.files }
     {
         let seat = self.table.shared.split_seat::<Entrusts>(&mut pass.seat);
         FileRight { seat, tenant }

@@ -3,6 +3,7 @@ ghost use Rattle.std.specs.Prelude.{◌≡◌, ℕ, []};
 ghost use Rattle.mw_rule.specs.Carrying.{Looked, Met, Precede};
 ghost use Rattle.mw_rule.specs.Dealing.{dealt, gathers, hears, left_over, note as said_by};
 ghost use Rattle.mw_rule.specs.Rule.{IsLive};
+ghost use Rattle.mw_table.specs.Filing.{IsFree};
 ghost use Rattle.mw_table.specs.Meeting.{HaveMet, IsSamePass};
 ghost use Rattle.mw_table.specs.Passes.{IsOf};
 ghost use Rattle.mw_world.specs.Definition.State.{tenants_of};
@@ -17,12 +18,17 @@ use std::mem;
 impl Shared {
     /// Two passes meet: afterwards both have seen the same of what was sealed, which goes on from what each had
     /// seen before. Each has its own worker and the requests that this finished still; and all of these, of both,
-    /// are right among what was seen, with a change of its own for each YES. That is no step of a request.
+    /// are right among what was seen, with a change of its own for each YES. Neither pass has the right to a file,
+    /// since none is lent for longer than a call. That is no step of a request.
     pub fn meet(&self, one: &mut Pass, other: &mut Pass)
         requires one { IsOf self.now one.old }
         requires other { IsOf self.now other.old }
+        requires one_free { IsFree one.old }
+        requires other_free { IsFree other.old }
         ensures one { IsOf self.now one.new }
         ensures other { IsOf self.now other.new }
+        ensures one_free { IsFree one.new }
+        ensures other_free { IsFree other.new }
         ensures one_stays { IsSamePass one.old one.new }
         ensures other_stays { IsSamePass other.old other.new }
         ensures one_met { Met one.old.seat.me.0 one.new.seat.me.0 }

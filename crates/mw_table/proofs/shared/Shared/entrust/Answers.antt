@@ -1,4 +1,4 @@
-use Rattle.std.proofs.Common.{ap, arith, length, map, refl, sym, ◌∙◌}
+use Rattle.std.proofs.Common.{ap, arith, length, map, refl, ◌∙◌}
 use Rattle.atomic_table.specs.Table.{Me}
 use Rattle.mw_actor.specs.Acting.{Acting}
 use Rattle.mw_rule.specs.declared.views.View.{View}

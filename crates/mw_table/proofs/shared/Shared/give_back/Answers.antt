@@ -1,12 +1,12 @@
-use Rattle.std.proofs.Common.{ap, map, length, refl, subst, sym, ◌∙◌}
+use Rattle.std.proofs.Common.{ap, map, ◌∙◌}
 use Rattle.atomic_table.specs.Table.{Me}
 use Rattle.mw_actor.specs.Acting.{Acting}
 use Rattle.mw_rule.specs.declared.views.View.{View}
 use Rattle.mw_rule.proofs.Parting.{entrusting_keeps}
 use Rattle.mw_table.specs.Numbers.{numbers}
 use Rattle.mw_table.specs.Resting.{has_none}
-use Rattle.mw_table.specs.Holding.{is_idle, tenants_held}
-use Rattle.mw_table.proofs.Lending.{given_idle, given_its, none_left}
+use Rattle.mw_table.specs.Holding.{file_among}
+use Rattle.mw_table.proofs.Lending.{given_file}
 use Rattle.mw_table.proofs.Meetings.{lives, some_word}
 use Rattle.mw_table.proofs.shared.Shared.give_back.Goals as goal
 
@@ -21,3 +21,6 @@ invariant_of-pass c =
       numbered = ap (λ (me : Me Acting View). numbers me.0) is ∙ c.args.pass.now.numbered;
       rests = λ idle. ap (λ (me : Me Acting View). map has_none me.0.reins) is ∙ c.args.pass.now.rests idle;
     }
+
+pub returns-clause-file : goal.returns-clause-file
+returns-clause-file c = ap (λ (me : Me Acting View). file_among me.0.files) c.split_seat-seat.ensures.4 ∙ given_file c.args.pass.now.seat.me.0.files

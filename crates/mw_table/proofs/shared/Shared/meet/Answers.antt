@@ -8,7 +8,7 @@ use Rattle.mw_rule.specs.Dealing.{dealt}
 use Rattle.mw_table.specs.Meeting.{HaveMet}
 use Rattle.mw_table.specs.Numbers.{number_of}
 use Rattle.mw_table.specs.Resting.{has_none}
-use Rattle.mw_table.proofs.Meetings.{Gathered, Heard, first_lives, have_met, its_live, lives, looks_live, one_met, other_met, saw_no_less}
+use Rattle.mw_table.proofs.Meetings.{Gathered, Heard, first_lives, have_met, its_live, lives, looks_live, none_held, one_met, other_met, saw_no_less}
 use Rattle.mw_table.proofs.shared.Shared.meet.Goals as goal
 
 pub look-requires-clause-live : goal.look-requires-clause-live
@@ -176,6 +176,36 @@ returns-clause-other_met c =
     } in
     let story : Gathered one.seat.me.0 other.seat.me.0 = record { told = told; all = c.gather.new.seat.me.0; last = c.gather.ensures.looked.0; gathering = c.gather.ensures.looked.1 } in
     subst (Met other.seat.me.0) (sym (ap (λ (seat : Seat Acting View). seat.me.0) c.replace.ensures.value ∙ c.part-own.ensures.rest)) (other_met one.seat.me.0 other.seat.me.0 (one.worker, one.attempt) (other.worker, other.attempt) one.numbered other.numbered config openings story)
+
+pub returns-clause-one_free : goal.returns-clause-one_free
+returns-clause-one_free c =
+    let first = ap (λ (seat : Seat Acting View). seat.me.0) c.replace.ensures.after ∙ ap (λ (me : Me Acting View). me.0) c.part-own.ensures.part in
+    ap (λ (view : View). view.files) first
+
+pub returns-clause-other_free : goal.returns-clause-other_free
+returns-clause-other_free c =
+    let one = c.args.one.now in
+    let other = c.args.other.now in
+    let config = c.requires.other.config ∙ sym c.requires.one.config in
+    let openings = c.requires.other.openings ∙ sym c.requires.one.openings in
+    let told : Heard one.seat.me.0 other.seat.me.0 = record {
+      looked = c.look.new.seat.me.0;
+      bits = c.look.ensures.looked.0;
+      looking = c.look.ensures.looked.1;
+      noted = c.note-said.new.seat.me.0;
+      same = ap (λ (me : Me Acting View). me.0) c.note-said.ensures.same;
+      said = c.note-said.result.me.0;
+      is_note = ap (λ (me : Me Acting View). me.0) c.note-said.ensures.note;
+      heard = c.hear.new.seat.me.0;
+      others = c.hear.ensures.looked.0;
+      hearing = c.hear.ensures.looked.1;
+      its = c.part-its.result.me.0;
+      is_dealt = ap (λ (me : Me Acting View). me.0) c.part-its.ensures.part;
+    } in
+    let story : Gathered one.seat.me.0 other.seat.me.0 = record { told = told; all = c.gather.new.seat.me.0; last = c.gather.ensures.looked.0; gathering = c.gather.ensures.looked.1 } in
+    let second = ap (λ (seat : Seat Acting View). seat.me.0) c.replace.ensures.value ∙ c.part-own.ensures.rest in
+    ap (λ (view : View). view.files) second
+    ∙ none_held one.seat.me.0 other.seat.me.0 (one.worker, one.attempt) (other.worker, other.attempt) one.numbered other.numbered config openings story c.requires.one_free
 
 pub returns-clause-both : goal.returns-clause-both
 returns-clause-both c =
