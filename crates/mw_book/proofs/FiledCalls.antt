@@ -1,5 +1,5 @@
 -- Calls on a book that are made, and calls in which the device fails.
-use Rattle.std.proofs.Common.{◌≡◌, ℕ, ◌+◌, ◌<◌, ◌≤◌, true, false, List, [], length, Some, Result, Ok, Err, is_err, slice_set, nat_le, IsTrue, refl, sym, ap, subst, ◌∙◌, arith}
+use Rattle.std.proofs.Common.{◌≡◌, ℕ, ◌+◌, ◌<◌, ◌≤◌, Bool, true, false, List, [], length, Some, Result, Ok, Err, is_err, slice_set, nat_le, IsTrue, refl, sym, ap, subst, ◌∙◌, arith}
 use Rattle.std.proofs.lemmas.Bool.{and_from, le-leb}
 use Rattle.std.proofs.lemmas.Option.{same_Some}
 use Rattle.mw_words.specs.declared.limits.TheConstants.{MAX_POOL}
@@ -30,6 +30,7 @@ use Rattle.mw_world_file.proofs.KeptPlaces.{set_number}
 use Rattle.mw_book.specs.declared.answers.Filed.{Filed}
 use Rattle.mw_book.specs.declared.answers.Filed.TheVariants.{Made, Broken, Untouched}
 use Rattle.mw_book.specs.declared.kept.Book.{Book}
+use Rattle.mw_book.specs.Answers.{is_refused, NoFault, OneFault}
 use Rattle.mw_book.specs.Crashes.{LeavesEither}
 use Rattle.mw_book.specs.Ends.{FailedAt}
 use Rattle.mw_book.specs.Filed.{IsFiled}
@@ -45,11 +46,19 @@ pub filed_as : {D : Type 0} (facts : D → Facts) (call other : Call) (slot : �
     → IsFiled facts call slot entries old new result
 filed_as facts call other slot entries old new result same is = subst (λ k. IsFiled facts k slot entries old new result) (sym same) is
 
+-- a call that is no cancel is refused where the book has failed
+refused_so : (call : Call) (failed : Bool) → (call ≡ CancelCall → ⊥) → is_refused call failed ≡ failed
+refused_so PrepareCall failed other = refl
+refused_so SealCall failed other = refl
+refused_so SettleCall failed other = refl
+refused_so CancelCall failed other = absurd (other refl)
+
 -- a call on a file that had failed before
 pub refused : {D : Type 0} (facts : D → Facts) (call : Call) (slot : ℕ) (entries : List Entry) (old : Book D) → old.has_failed ≡ true → ((file : File) → fails_on call file ≡ file.has_failed)
     → (call ≡ CancelCall → ⊥) → IsFiled facts call slot entries old old Untouched
 refused facts call slot entries old failed fails other = record {
   ends = λ file shows. record { refused = fails file ∙ shows.same_failed ∙ failed; same = refl };
+  answers = record { refused = refused_so call old.has_failed other ∙ failed; same = refl };
   moments = λ file shows. untouched facts old.held file.contents file.doubt shows.stands;
   later = on_same facts Later old.held later_refl;
   quiet = λ is. absurd (other is);
@@ -117,6 +126,7 @@ module _ {D : Type 0} (facts : D → Facts) (old new : Book D) (held now : Tenan
               stands = still file.contents (pairs_of doubt) (keeps file shows);
             });
           };
+      answers = record { other = other; sound = sound; failed = parts.is_failed; faults = on_disk facts OneFault old.held new.held held now is_old parts.is_held met.made.faults };
       moments = λ file shows.
           on_disk facts (LeavesEither file.contents (at_stake call file (place_for call file old.places slot))) old.held new.held held now is_old parts.is_held (leaves file shows);
       later = on_disk facts Later old.held new.held held now is_old parts.is_held later;
@@ -163,6 +173,7 @@ module _ {D : Type 0} (facts : D → Facts) (old new : Book D) (held now : Tenan
                   stands = still file.contents (pairs_of file.doubt) (λ honest. (stays file shows honest).after);
                 }));
           };
+      answers = record { began = sound; same_failed = parts.is_failed; faults = on_disk facts NoFault old.held new.held held now is_old parts.is_held went.made.faults };
       moments = λ file shows. on_disk facts (LeavesEither file.contents file.doubt) old.held new.held held now is_old parts.is_held (stays_safe file shows);
       later = on_disk facts Later old.held new.held held now is_old parts.is_held later;
       quiet = λ is. absurd (let e : PrepareCall ≡ CancelCall = is in cc);
@@ -194,6 +205,7 @@ module _ {D : Type 0} (facts : D → Facts) (old new : Book D) (held now : Tenan
               (subst (λ d. Good 0 (facts (disk_of held)) (facts d)) (sym same) (good_none (facts (disk_of held))));
           shows = emptied_shown file shows;
         };
+        answers = record { began = refl; same_failed = parts.is_failed; faults = on_disk facts NoFault old.held new.held held now is_old parts.is_held (ap (λ d. (facts d).faults) same) };
         moments = λ file shows. on_disk facts (LeavesEither file.contents file.doubt) old.held new.held held now is_old parts.is_held (stays_safe file shows);
         later = on_disk facts Later old.held new.held held now is_old parts.is_held later;
         quiet = λ is. ap disk_in parts.is_held ∙ ap Some same ∙ sym (ap disk_in is_old);
@@ -212,6 +224,7 @@ module _ {D : Type 0} (facts : D → Facts) (old new : Book D) (held now : Tenan
                   (subst (λ n. Good n (facts (disk_of held)) (facts (disk_of now))) many went.made);
               shows = emptied_shown file shows;
             };
+        answers = record { began = sound; same_failed = parts.is_failed; faults = on_disk facts NoFault old.held new.held held now is_old parts.is_held went.made.faults };
         moments = λ file shows. on_disk facts (LeavesEither file.contents file.doubt) old.held new.held held now is_old parts.is_held (stays_safe file shows);
         later = on_disk facts Later old.held new.held held now is_old parts.is_held later;
         quiet = λ is. absurd (let e : SettleCall ≡ CancelCall = is in cc);
@@ -251,6 +264,7 @@ module _ {D : Type 0} (facts : D → Facts) (old new : Book D) (held now : Tenan
         made = on_disk facts (Good 2) old.held new.held held now is_old parts.is_held went.made;
         shows = shown file shows;
       };
+      answers = record { began = sound; same_failed = parts.is_failed; faults = on_disk facts NoFault old.held new.held held now is_old parts.is_held went.made.faults };
       moments = λ file shows. on_disk facts (LeavesEither file.contents (entries_at file (file.place_of slot))) old.held new.held held now is_old parts.is_held
           (λ honest. leaves_either (facts (disk_of held)) (facts (disk_of now)) (length (states_of held)) file.contents (entries_at file (file.place_of slot)) (done file shows honest).moments);
       later = on_disk facts Later old.held new.held held now is_old parts.is_held later;

@@ -1,3 +1,4 @@
+pub mod AlikeFiles
 pub mod ApartChanges
 pub mod FiledCalls
 pub mod FoundPlaces

@@ -13,6 +13,7 @@ use Rattle.mw_book.specs.Held.{disk_in, OnDisk}
 use Rattle.mw_book.specs.Shown.{Shows}
 
 -- A run of so many device calls went well up to the one with this number, counted from 1; that one failed, and none was made after it.
+-- The outcomes of an honest disk tell the number. Of any other disk it is some number of these calls.
 pub record FailedAt (calls number : ℕ) (old new : Facts) : Type 0 where
   pub failed : Bad calls old new
   pub at : failed.well + 1 ≡ number
@@ -25,7 +26,7 @@ module _ {D : Type 0} (facts : D → Facts) (call : Call) (slot : ℕ) (entries 
   abbrev pub calls_to_make : ℕ
   calls_to_make = device_calls call (entries_at file place_called)
 
-  -- The call was made: all its device calls went well, and the book shows the file after it.
+  -- The call was made: all its device calls went well, as an honest disk counts them, and the book shows the file after it.
   pub record WasMade : Type 0 where
     pub began : fails_on call file ≡ false
     pub made : OnDisk facts (Good calls_to_make) (disk_in old.held) (disk_in new.held)

@@ -1,4 +1,4 @@
--- What a call on a book comes to, whatever file the book showed.
+-- What a call on a book comes to: for whatever file the book showed, and whether it showed one or not.
 use Rattle.std.specs.Prelude.{◌≡◌, ℕ, List}
 use Rattle.mw_words.specs.declared.jobs.Entry.{Entry}
 use Rattle.mw_look.specs.declared.steps.Call.{Call}
@@ -8,6 +8,7 @@ use Rattle.mw_disk.specs.Runs.{Later}
 use Rattle.mw_world_file.specs.Files.{File}
 use Rattle.mw_book.specs.declared.answers.Filed.{Filed}
 use Rattle.mw_book.specs.declared.kept.Book.{Book}
+use Rattle.mw_book.specs.Answers.{Answers}
 use Rattle.mw_book.specs.Crashes.{IsCrashSafe}
 use Rattle.mw_book.specs.Ends.{Ends}
 use Rattle.mw_book.specs.Held.{disk_in, OnDisk}
@@ -16,6 +17,7 @@ use Rattle.mw_book.specs.Shown.{Shows}
 -- A call for the change of a slot made this book of that one, with this answer.
 pub record IsFiled {D : Type 0} (facts : D → Facts) (call : Call) (slot : ℕ) (entries : List Entry) (old new : Book D) (result : Filed) : Type 0 where
   pub ends : (file : File) → Shows facts old file → Ends facts call slot entries file old new result
+  pub answers : Answers facts call old new result
   pub moments : IsCrashSafe facts call slot old new result
   pub later : OnDisk facts Later (disk_in old.held) (disk_in new.held)
   -- a cancel makes no device call

@@ -1,3 +1,5 @@
+pub mod Alike
+pub mod Answers
 pub mod Crashes
 pub mod Ends
 pub mod Filed

@@ -12,6 +12,7 @@ use mw_look::Call;
 use mw_words::Entries;
 
 impl<D: Disk> Book<D> {
+    ghost use Rattle.mw_book.specs.Answers.{Answers};
     ghost use Rattle.mw_book.specs.Held.{disk_in, OnDisk};
     ghost use Rattle.mw_book.specs.Shown.{Shows};
     ghost use Rattle.mw_book.specs.Permits.{MayCall};
@@ -24,10 +25,18 @@ impl<D: Disk> Book<D> {
     /// take no entries. On a file that has failed nothing is done, unless it is a cancel, which makes no
     /// device call and always goes well.
     ///
-    /// A crash at any moment leaves the words as they were, or for a seal these with the change.
+    /// A file that the book showed is afterwards what this call makes of it, by the answer. On any disk the
+    /// answer tells whether a device call failed; which one did, and how many were made, is told of a disk that
+    /// keeps the model of [`Disk`].
+    ///
+    /// On such a disk a crash at any moment since the call began leaves the words that a file had which the
+    /// book showed then, or these with the change at stake put over them: the one that this call seals, else the
+    /// one that stays in doubt since the device failed in an earlier seal. Of a file that didn't open nothing is
+    /// said.
     pub fn call(&mut self, call: Call, slot: u8, entries: &Entries) -> Filed
         requires may { MayCall self.old call slot entries.now.items }
         ensures ends { (file : File) → Shows D.facts self.old file → Ends D.facts call slot entries.now.items file self.old self.new result }
+        ensures answers { Answers D.facts call self.old self.new result }
         ensures moments { IsCrashSafe D.facts call slot self.old self.new result }
         ensures later { OnDisk D.facts Later (disk_in self.old.held) (disk_in self.new.held) }
         ensures quiet { call ≡ Call.Cancel → disk_in self.new.held ≡ disk_in self.old.held }

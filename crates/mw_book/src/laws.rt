@@ -1,4 +1,5 @@
 //! Laws of books. None of these functions does anything.
+ghost use Rattle.mw_book.specs.Alike.{ShowsAlike};
 ghost use Rattle.mw_book.specs.Crashes.{LeavesWords};
 ghost use Rattle.mw_book.specs.Permits.{PermitsCalls};
 
@@ -12,4 +13,10 @@ pub fn calls_that_can_be_made<D: Disk>()
 /// A crash between two calls leaves the words that a book shows, or these with the change in doubt.
 pub fn crash_between_calls<D: Disk>()
     ensures { LeavesWords D.facts }
+{}
+
+/// A book that shows a file shows every other that says the same of the places that are used, of the slots that
+/// there can be, and of all else.
+pub fn files_that_are_alike<D: Disk>()
+    ensures { ShowsAlike D.facts }
 {}

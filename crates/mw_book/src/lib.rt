@@ -8,8 +8,8 @@
 //! places with their changes, the place of each slot, whether the file has failed, and the change in
 //! doubt. For every file that a book showed before a call it shows afterwards the file that the world
 //! has after that call, whether the device failed or not; and a call that the world can make may be made
-//! here. What is said of bytes is said of a disk that keeps the model of [`mw_disk::Disk`]; what is said
-//! of answers, and of how many device calls were made, of every disk.
+//! here. What is said of bytes, of how many device calls were made, and of which one failed, is said of a
+//! disk that keeps the model of [`mw_disk::Disk`]; what is said of answers and of faults, of every disk.
 #![tactic(auto)]
 
 mod answers;
@@ -23,4 +23,4 @@ mod tests;
 
 pub use answers::Filed;
 pub use kept::Book;
-pub use laws::{calls_that_can_be_made, crash_between_calls};
+pub use laws::{calls_that_can_be_made, crash_between_calls, files_that_are_alike};

@@ -1,3 +1,4 @@
+pub mod Agreeing
 pub mod Driven
 pub mod Reasoned
 pub mod Turned

@@ -1,3 +1,4 @@
 pub mod Advancing
+pub mod Books
 pub mod Looking
 pub mod Reasons

@@ -12,7 +12,9 @@
 #![tactic(auto)]
 
 mod calls;
+mod laws;
 mod looking;
 
 pub use calls::{Advance, Core};
+pub use laws::{books_follow_rights, new_books_agree};
 pub use looking::WhyAgain;

@@ -1,0 +1,25 @@
+-- A book shows all files that say the same of what it keeps.
+use Rattle.std.proofs.Common.{ℕ, List, length, sym, ap, subst, ◌∙◌}
+use Rattle.mw_words.specs.declared.jobs.Entry.{Entry}
+use Rattle.mw_disk.specs.Facts.{Facts}
+use Rattle.mw_record.specs.Layout.{pairs_of}
+use Rattle.mw_world_file.specs.Devices.{stage_told}
+use Rattle.mw_world_file.specs.Files.{Place, entries_in, is_empty}
+use Rattle.mw_book.specs.Alike.{ShowsAlike}
+use Rattle.mw_book.specs.Held.{StandsFor}
+
+pub shows_alike : {D : Type 0} (facts : D → Facts) → ShowsAlike facts
+shows_alike facts book one other shows alike = record {
+  same_words = ap length (sym alike.contents) ∙ shows.same_words;
+  same_places = record {
+    stages = λ place low. shows.same_places.stages place low ∙ ap stage_told (alike.same_places place low);
+    further = shows.same_places.further;
+    writes = λ place low busy.
+        let same = alike.same_places place low in
+        shows.same_places.writes place low (ap is_empty same ∙ busy) ∙ ap (λ (p : Place). pairs_of (entries_in p)) same;
+  };
+  same_place_of = λ slot low. sym (alike.same_place_of slot low) ∙ shows.same_place_of slot low;
+  same_failed = sym alike.same_failed ∙ shows.same_failed;
+  stands = subst (λ (doubt : List Entry). StandsFor facts book.held other.contents (pairs_of doubt)) alike.same_doubt
+      (subst (λ (contents : List ℕ). StandsFor facts book.held contents (pairs_of one.doubt)) alike.contents shows.stands);
+}

@@ -1,0 +1,46 @@
+-- What the answer to a call on a book tells, whatever the book shows.
+use Rattle.std.specs.Prelude.{◌≡◌, ◌≢◌, ◌+◌, Bool, true, false, min}
+use Rattle.mw_look.specs.declared.steps.Call.{Call}
+use Rattle.mw_look.specs.declared.steps.Call.TheVariants.{Cancel as CancelCall}
+use Rattle.mw_disk.specs.Facts.{Facts, most_counted}
+use Rattle.mw_book.specs.declared.answers.Filed.{Filed}
+use Rattle.mw_book.specs.declared.answers.Filed.TheVariants.{Made, Broken, Untouched}
+use Rattle.mw_book.specs.declared.kept.Book.{Book}
+use Rattle.mw_book.specs.Held.{disk_in, OnDisk}
+
+-- whether nothing is done for a call, by whether the book has failed: a cancel is made all the same
+abbrev pub is_refused : Call → Bool → Bool
+is_refused CancelCall failed = false
+is_refused call failed = failed
+
+-- the device counts no fault more; or one more, up to the last value of its counter
+abbrev pub NoFault : Facts → Facts → Type 0
+NoFault old new = new.faults ≡ old.faults
+
+abbrev pub OneFault : Facts → Facts → Type 0
+OneFault old new = new.faults ≡ min (old.faults + 1) most_counted
+
+module _ {D : Type 0} (facts : D → Facts) (call : Call) (old new : Book D) where
+  -- No device call failed.
+  pub record NoneFailed : Type 0 where
+    pub began : is_refused call old.has_failed ≡ false
+    pub same_failed : new.has_failed ≡ old.has_failed
+    pub faults : OnDisk facts NoFault (disk_in old.held) (disk_in new.held)
+
+  -- One failed, of a book that hadn't failed before, and has from now on.
+  pub record OneFailed : Type 0 where
+    pub other : call ≢ CancelCall
+    pub sound : old.has_failed ≡ false
+    pub failed : new.has_failed ≡ true
+    pub faults : OnDisk facts OneFault (disk_in old.held) (disk_in new.held)
+
+  -- The book had failed before, and nothing was done.
+  pub record IsRefused : Type 0 where
+    pub refused : is_refused call old.has_failed ≡ true
+    pub same : new ≡ old
+
+  -- what each answer tells
+  abbrev pub Answers : Filed → Type 0
+  Answers Made = NoneFailed
+  Answers Broken = OneFailed
+  Answers Untouched = IsRefused
