@@ -5,7 +5,7 @@ use Rattle.mw_words.specs.declared.limits.TheConstants.{MAX_POOL}
 use Rattle.mw_disk.specs.Facts.{Facts}
 use Rattle.mw_file.specs.declared.tenant_file.TenantFile.{TenantFile}
 use Rattle.mw_file.specs.File.{disk_of, words_of, states_of}
-use Rattle.mw_file.specs.Free.{stage_of-all_free}
+use Rattle.mw_file.proofs.Free.{stage_of-all_free}
 use Rattle.mw_file.specs.Keeps.{Keeps}
 use Rattle.mw_file.specs.PlaceStates.{all_free, is_free}
 use Rattle.mw_world_file.specs.Files.{File, empty_from, file_of}

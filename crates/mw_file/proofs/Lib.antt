@@ -1,5 +1,7 @@
 pub mod Bytes
 pub mod Changing
+pub mod Ended
+pub mod Free
 pub mod Looping
 pub mod Opened
 pub mod Places
@@ -10,4 +12,5 @@ pub mod Rolled
 pub mod Rolling
 pub mod Safety
 pub mod Settling
+pub mod Taken
 pub mod Writing

@@ -5,7 +5,7 @@ use Rattle.std.proofs.lemmas.List.{get_or-set_same, get_or-set_other, length-set
 use Rattle.mw_file.specs.declared.place_states.PlaceState.{PlaceState}
 use Rattle.mw_file.specs.declared.place_states.Stage.{Stage}
 use Rattle.mw_file.specs.declared.place_states.Stage.TheVariants.{Free, Sealed}
-use Rattle.mw_file.specs.Free.{free_stage_at}
+use Rattle.mw_file.proofs.Free.{free_stage_at}
 use Rattle.mw_file.specs.PlaceStates.{free_place, stage_at, stage_of, writes_in, writes_of_place, if_sealed, roll_calls, IsStaged}
 
 -- what is read at a place that isn't free is its state

@@ -11,7 +11,7 @@ use Rattle.mw_file.specs.declared.place_states.PlaceState.{PlaceState}
 use Rattle.mw_file.specs.declared.place_states.Stage.{Stage}
 use Rattle.mw_file.specs.declared.place_states.Stage.TheVariants.{Free, Prepared, Sealed}
 use Rattle.mw_file.specs.PlaceStates.{stage_of, stage_at, writes_in, writes_of_place, if_sealed, home_writes, home_writes_of, commit_writes, commit_writes_of, roll_calls, all_free}
-use Rattle.mw_file.specs.Free.{stage_of-all_free}
+use Rattle.mw_file.proofs.Free.{stage_of-all_free}
 use Rattle.mw_file.specs.Stores.{PlacedAs, Stores, IsDurable}
 use Rattle.mw_file.specs.Rolls.{if_open, IsRecalled, CanRoll, CanFinish, IsRolled}
 use Rattle.mw_file.specs.Opening.{entries_in, entries_below, records_below, open_entries, open_records, repair_calls}

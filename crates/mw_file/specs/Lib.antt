@@ -1,6 +1,5 @@
 pub mod Again
 pub mod File
-pub mod Free
 pub mod Keeps
 pub mod Opening
 pub mod Rolls

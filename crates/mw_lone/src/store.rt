@@ -51,6 +51,10 @@ impl Model for Lone {
 
 impl Lone {
     /// A store with these words, of which nothing was asked.
+    ///
+    /// # Errors
+    ///
+    /// [`AllocError`] for want of memory.
     pub fn new(alloc: Global, words: &[u64], quota: u8) -> Result<Lone, AllocError>
         ensures { IfOk result (λ lone. lone ≡ spec.new_store words.now quota) }
     {

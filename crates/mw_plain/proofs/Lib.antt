@@ -7,6 +7,7 @@ mod Making
 mod Opens
 mod Ready
 mod Restarting
-pub mod Runs
 mod Serves
 mod Starting
+pub mod Joined
+pub mod Runs

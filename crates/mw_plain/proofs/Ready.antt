@@ -6,8 +6,9 @@ use Rattle.mw_file.specs.declared.place_states.PlaceState.{PlaceState}
 use Rattle.mw_file.specs.declared.place_states.Stage.{Stage}
 use Rattle.mw_file.specs.declared.place_states.Stage.TheVariants.{Free, Prepared, Sealed}
 use Rattle.mw_file.specs.PlaceStates.{is_free, all_free, stage_of, stage_at, free_place, IsStaged, MaySeal}
-use Rattle.mw_file.specs.Free.{free_stage_at, stage_of-all_free}
-use Rattle.mw_file.specs.Taken.{taken, if_taken, has_free, taken_staged}
+use Rattle.mw_file.proofs.Free.{free_stage_at, stage_of-all_free}
+use Rattle.mw_file.specs.Taken.{taken, if_taken}
+use Rattle.mw_file.proofs.Taken.{has_free, taken_staged}
 
 -- no place is sealed
 abbrev pub NoneSealed : List PlaceState → Type 0

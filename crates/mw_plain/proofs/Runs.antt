@@ -20,7 +20,8 @@ use Rattle.mw_lone.specs.Store.{Store, RequestState, step, run, outgoing, replie
 use Rattle.mw_lone.specs.declared.marks.Mark.{Mark}
 use Rattle.mw_lone.specs.declared.marks.Mark.TheVariants.{Ask, Admit, Busy, Look, Miss, Seal, SealFail, FileFail, GiveUp, Retire, Reply as HandOut}
 use Rattle.mw_plain.specs.Cases.{StartCase, FinishCase, AskCase, Faulted, Looked, Full, Unprepared, Prepared, GaveUp, Missed, Unsealed, Unsettled, Changed, AtStart, AtFinish, CanChange, StartFits, FinishFits, start_marks, finish_marks, ask_marks, start_reply, finish_reply, after_start, after_finish, after_ask, request_after_start, under_way, ended, gives_back, refusal, after_served, after_all, marks_of_all, replies_to_all}
-use Rattle.mw_plain.specs.Marks.{Goes, Alone, StartGoes, FinishGoes, AskGoes, AllGo, MayStop, reply_to, goes-nowhere, goes-then}
+use Rattle.mw_plain.specs.Marks.{Goes, Alone, StartGoes, FinishGoes, AskGoes, AllGo, MayStop, reply_to}
+use Rattle.mw_plain.proofs.Joined.{goes-nowhere, goes-then}
 
 -- Requests under their numbers.
 

@@ -14,7 +14,7 @@ use Rattle.mw_file.specs.declared.tenant_file.Place.{Place}
 use Rattle.mw_file.specs.declared.tenant_file.FileFault.{FileFault}
 use Rattle.mw_file.specs.declared.tenant_file.FileFault.TheVariants.{Disk, Failed}
 use Rattle.mw_file.specs.File.{disk_of, states_of, has_failed, Ends, MetFault, WentWell}
-use Rattle.mw_file.specs.Free.{free_stage_at}
+use Rattle.mw_file.proofs.Free.{free_stage_at}
 use Rattle.mw_file.specs.Keeps.{ContentsStay}
 use Rattle.mw_file.specs.PlaceStates.{stage_of, free_place, IsStaged}
 use Rattle.mw_record.specs.Layout.{pairs_of}

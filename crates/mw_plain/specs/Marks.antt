@@ -1,14 +1,12 @@
 -- What the marks of a call do to the store alone: they are legal, they hand out the call's reply, and after them the
 -- store is the one that the case says.
-use Rattle.std.specs.Prelude.{ℕ, ◌≡◌, ◌≢◌, Bool, if◌then◌else◌, List, [], ◌∷◌, ◌++◌, length, Option, Some, None, IsTrue}
-use Rattle.std.specs.Option.{option_and_then, option_map, option_to_list, unwrap_or}
-use Rattle.std.proofs.Common.{refl, sym, ap, ◌∙◌, append_assoc}
-use Rattle.std.proofs.lemmas.Option.{none-some, same_Some}
+use Rattle.std.specs.Prelude.{ℕ, ◌≡◌, ◌≢◌, Bool, if◌then◌else◌, List, [], ◌∷◌, ◌++◌, length, Option, Some, IsTrue}
+use Rattle.std.specs.Option.{option_and_then, option_map, option_to_list}
 use Rattle.mw_words.specs.declared.jobs.Job.{Job}
 use Rattle.mw_words.specs.declared.replies.Reply.{Reply}
 use Rattle.mw_words.specs.Change.{is_well_formed, put}
 use Rattle.mw_lone.specs.declared.marks.Mark.{Mark}
-use Rattle.mw_lone.specs.Store.{Store, RequestState, step, run, outgoing, replies_from, request, store_after_start, entries_of}
+use Rattle.mw_lone.specs.Store.{Store, RequestState, step, run, replies_from, request, store_after_start, entries_of}
 use Rattle.mw_lone.specs.declared.marks.Mark.TheVariants.{Restart}
 use Rattle.mw_plain.specs.Cases.{StartCase, FinishCase, AskCase, StartFits, FinishFits, AskFits, CanChange, start_marks, finish_marks, ask_marks, start_reply, finish_reply, ask_reply, after_start, after_finish, after_ask, request_after_start, under_way, ended, gives_back, Served, ServedFits, AllFit, after_served, after_all, marks_of_all, replies_to_all}
 
@@ -69,38 +67,3 @@ RunsJoin = (s : Store) (first second : List Mark) → run s (first ++ second) �
 -- and the replies of both are those of the one and then those of the other
 abbrev pub RepliesJoin : Type 0
 RepliesJoin = (s t : Store) (first second : List Mark) → run s first ≡ Some t → replies_from s (first ++ second) ≡ replies_from s first ++ replies_from t second
-
-run_on : (o : Option Store) (first second : List Mark) → ((t : Store) → run t (first ++ second) ≡ option_and_then (λ u. run u second) (run t first)) → option_and_then (λ t. run t (first ++ second)) o ≡ option_and_then (λ u. run u second) (option_and_then (λ t. run t first) o)
-run_on None first second h = refl
-run_on (Some t) first second h = h t
-
-pub runs-join : RunsJoin
-runs-join s [] second = refl
-runs-join s (mark ∷ first) second = run_on (step s mark) first second (λ t. runs-join t first second)
-
-replies_on : (o : Option Store) (t : Store) (first second : List Mark) → option_and_then (λ u. run u first) o ≡ Some t → ((u : Store) → run u first ≡ Some t → replies_from u (first ++ second) ≡ replies_from u first ++ replies_from t second) → unwrap_or (option_map (λ u. replies_from u (first ++ second)) o) [] ≡ unwrap_or (option_map (λ u. replies_from u first) o) [] ++ replies_from t second
-replies_on None t first second e h = absurd (none-some t e)
-replies_on (Some u) t first second e h = h u e
-
-pub replies-join : RepliesJoin
-replies-join s t [] second e = ap (λ u. replies_from u second) (same_Some s t e)
-replies-join s t (mark ∷ first) second e =
-    let said = option_to_list (outgoing s mark) in
-    ap (λ rest. said ++ rest) (replies_on (step s mark) t first second e (λ u at. replies-join u t first second at)) ∙ sym (append_assoc said _ _)
-
--- where nothing happens, nothing changes
-pub goes-nowhere : (s : Store) → Goes s [] [] s
-goes-nowhere s = record { ran = refl; said = refl }
-
--- one list of marks, and then another
-pub goes-then : (s t u : Store) (first second : List Mark) (early late : List (ℕ × Reply)) → Goes s first early t → Goes t second late u → Goes s (first ++ second) (early ++ late) u
-goes-then s t u first second early late g h = record {
-  ran = runs-join s first second ∙ ap (option_and_then (λ t. run t second)) g.ran ∙ h.ran;
-  said = replies-join s t first second g.ran ∙ ap (λ xs. xs ++ replies_from t second) g.said ∙ ap (λ xs. early ++ xs) h.said;
-}
-
-pub one-more-fits : OneMoreFits
-one-more-fits s [] last fit fits = ((fits, tt), refl)
-one-more-fits s (served ∷ more) last fit fits =
-    let rest = one-more-fits (after_served s served) more last fit.1 fits in
-    ((fit.0, rest.0), rest.1)

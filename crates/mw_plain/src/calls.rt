@@ -54,6 +54,7 @@ impl<D: Disk> Book<D> {
             return Begun::Done(Reply::Busy);
         }
         let Ok(place) = self.file.prepare(entries) else {
+            // What the file has of the change is known at the next start only, so its slot stays counted.
             self.used += 1;
             self.faulted = true;
             return Begun::Done(Reply::Fault);
@@ -105,6 +106,7 @@ impl<D: Disk> Book<D> {
             self.faulted = true;
             return Reply::Fault;
         }
+        // The seal ended well: no crash takes the change back.
         put(&mut self.words, entries);
         if self.file.settle(place).is_err() {
             self.faulted = true;

@@ -75,7 +75,11 @@ impl Player {
         })
     }
 
-    /// Plays a line, and writes to `out` what is told of it. Where it halts, the steps before stay made.
+    /// Plays a line, and writes to `out` what is told of it.
+    ///
+    /// # Errors
+    ///
+    /// [`Halt`] says why the schedule ends here. The steps before stay made.
     pub fn obey<W: Write>(&mut self, command: Command, out: &mut W) -> Result<(), Halt>
         ensures same { IsSame self.old self.new }
         ensures plays { Plays self.old self.new (W.contents out.old) (W.contents out.new) (Obeys command) result }

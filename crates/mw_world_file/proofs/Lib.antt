@@ -7,5 +7,6 @@ pub mod OpenedFiles
 pub mod RestartedFiles
 pub mod SealedFiles
 pub mod ShutFiles
+pub mod SoundBooks
 pub mod StoppedFiles
 pub mod WorkedFiles

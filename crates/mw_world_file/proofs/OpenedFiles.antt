@@ -13,7 +13,7 @@ use Rattle.mw_file.specs.declared.tenant_file.TenantFile.{TenantFile}
 use Rattle.mw_file.specs.File.{states_of}
 use Rattle.mw_file.specs.Opening.{IsOpened, entries_below, records_below, open_entries, open_records, repair_calls, read_calls, open_calls}
 use Rattle.mw_file.specs.PlaceStates.{all_free}
-use Rattle.mw_file.specs.Free.{stage_of-all_free}
+use Rattle.mw_file.proofs.Free.{stage_of-all_free}
 use Rattle.mw_file.specs.Keeps.{Keeps, IsFile}
 use Rattle.mw_world_file.specs.declared.device.Device.TheVariants.{Open}
 use Rattle.mw_world_file.specs.declared.places.Place.{Place as KeptPlace}

@@ -1,14 +1,9 @@
 -- What is known of a book, whatever happens to it.
-use Rattle.std.specs.Prelude.{ℕ, ◌≡◌, List, length, slice_index, Bool, Option, Ok}
-use Rattle.std.proofs.Common.{refl, ◌∙◌}
-use Rattle.std.proofs.Math.Logic.{∥∥₁_map}
-use Rattle.mw_world_file.specs.declared.cut.Cut.{Cut}
+use Rattle.std.specs.Prelude.{ℕ, ◌≡◌, length, slice_index}
 use Rattle.mw_world_file.specs.declared.kept.Book.{Book}
 use Rattle.mw_world_file.specs.Books.{Shows}
 use Rattle.mw_world_file.specs.Devices.{place_in}
 use Rattle.mw_world_file.specs.Files.{File}
-use Rattle.mw_world_file.specs.Reopening.{Restarts}
-use Rattle.mw_world_file.specs.Working.{Turns}
 
 -- the file that a book tells of
 abbrev pub file_in : Book → File
@@ -28,36 +23,3 @@ pub record IsSound (words : ℕ) (book : Book) : Type 0 where
 -- the same, with no more known than that it is so
 abbrev pub HasSound : ℕ → Book → Type 0
 HasSound words book = ∥ IsSound words book ∥₁
-
--- a book that shows a file shows the one that it tells of
-own_file : (book : Book) (file : File) → Shows book file → Shows book (file_in book)
-own_file book file shows = record {
-  same_contents = refl;
-  same_places = λ place low. refl;
-  same_place_of = λ slot low. refl;
-  same_failed = refl;
-  same_doubt = refl;
-  stands = shows.stands;
-}
-
--- and then it does so with as many words as it has
-pub sound_by : (words : ℕ) (book : Book) (file : File) → Shows book file → length book.contents.items ≡ words → HasSound words book
-sound_by words book file shows long = ∣ record { shows = own_file book file shows; long = long } ∣₁
-
--- after a call
-pub sound_after : (words : ℕ) (old new : Book) (turn : File → Option File) → HasSound words old → Turns old new turn → HasSound words new
-sound_after words old new turn sound turned = ∥∥₁_map sound step
-  where
-    step : IsSound words old → IsSound words new
-    step one =
-        let after = turned.shows (file_in old) one.shows in
-        record { shows = own_file new after.0 after.2; long = turned.words ∙ one.long }
-
--- after a start
-pub sound_again : (words : ℕ) (old : Book) (cut : Option Cut) (torn : List ℕ) (fails_at : Option ℕ) (started : Book × Bool) → HasSound words old → Restarts old cut torn fails_at (Ok started) → HasSound words started.0
-sound_again words old cut torn fails_at started sound restarts = ∥∥₁_map sound step
-  where
-    step : IsSound words old → IsSound words started.0
-    step one =
-        let after = restarts (file_in old) one.shows in
-        record { shows = own_file started.0 _ after.shows; long = after.long ∙ one.long }

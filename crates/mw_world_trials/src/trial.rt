@@ -49,6 +49,10 @@ enum Next {
 }
 
 /// Plays so many events that this seed chooses, and compares.
+///
+/// # Errors
+///
+/// [`TrialFault`] says what differed, or that memory was wanting.
 pub fn play(alloc: Global, seed: u64, events: u64) -> Result<Tally, TrialFault> {
     let mut dice = Dice::new(seed);
     let mut trial = Trial {

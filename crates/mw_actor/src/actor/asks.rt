@@ -46,6 +46,7 @@ impl Actor {
         if let Some(step) = self.step_leaving() {
             return step;
         }
+        // Each point is in one of the parts above.
         unreachable!()
     }
 

@@ -1,5 +1,6 @@
 use Rattle.std.proofs.Common.{ap, ◌∙◌, ◌+◌}
-use Rattle.mw_file.specs.Taken.{taken, if_taken, has_free, taken_staged}
+use Rattle.mw_file.specs.Taken.{taken, if_taken}
+use Rattle.mw_file.proofs.Taken.{has_free, taken_staged}
 use Rattle.mw_file.proofs.laws.places_are_counted.Goals as goal
 
 pub returns-clause-free : goal.returns-clause-free

@@ -1,4 +1,4 @@
-use Rattle.mw_plain.specs.Marks.{runs-join, replies-join, one-more-fits}
+use Rattle.mw_plain.proofs.Joined.{runs-join, replies-join, one-more-fits}
 use Rattle.mw_plain.proofs.Runs.{started, finished, answered, all-go, may-stop}
 use Rattle.mw_plain.proofs.laws.marks_of_a_call.Goals as goal
 

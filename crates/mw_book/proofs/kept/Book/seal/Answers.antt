@@ -1,7 +1,7 @@
 use Rattle.std.proofs.Common.{◌≡◌, refl, sym, ◌∙◌, arith}
 use Rattle.mw_look.specs.declared.steps.Call.TheVariants.{Seal as SealCall, Cancel as CancelCall}
 use Rattle.mw_file.specs.declared.place_states.Stage.TheVariants.{Prepared}
-use Rattle.mw_file.specs.File.{ended_well, went_well}
+use Rattle.mw_file.proofs.Ended.{ended_well, went_well}
 use Rattle.mw_book.proofs.FiledCalls.{refused, busy_in, seal_broken, seal_made}
 use Rattle.mw_book.proofs.kept.Book.seal.Goals as goal
 

@@ -1,7 +1,7 @@
 use Rattle.std.proofs.Common.{◌≡◌, refl, sym, ◌∙◌, arith}
 use Rattle.mw_look.specs.declared.steps.Call.TheVariants.{Settle as SettleCall, Cancel as CancelCall}
 use Rattle.mw_file.specs.declared.place_states.Stage.TheVariants.{Sealed}
-use Rattle.mw_file.specs.File.{ended_well, went_well}
+use Rattle.mw_file.proofs.Ended.{ended_well, went_well}
 use Rattle.mw_book.proofs.FiledCalls.{refused, busy_in, met_fault, settle_broken, settle_made}
 use Rattle.mw_book.proofs.ShownFiles.{failed_as}
 use Rattle.mw_book.proofs.kept.Book.settle.Goals as goal

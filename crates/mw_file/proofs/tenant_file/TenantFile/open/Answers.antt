@@ -7,7 +7,7 @@ use Rattle.mw_record.specs.declared.layout.TheConstants.{MAX_FILE}
 use Rattle.mw_record.specs.Damages.{words_in, words_of, places_of, word_at}
 use Rattle.mw_file.specs.declared.place_states.PlaceState.{PlaceState}
 use Rattle.mw_file.specs.PlaceStates.{all_free}
-use Rattle.mw_file.specs.File.{went_well}
+use Rattle.mw_file.proofs.Ended.{went_well}
 use Rattle.mw_file.specs.Rolls.{Nowhere, CanFinish}
 use Rattle.mw_file.specs.Opening.{front, open_calls, repair_calls, OpensSafely}
 use Rattle.mw_file.proofs.Ran.{ran_well, ran_badly}

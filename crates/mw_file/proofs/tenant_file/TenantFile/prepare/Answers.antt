@@ -7,7 +7,7 @@ use Rattle.mw_record.proofs.Writes.{length-body}
 use Rattle.mw_file.specs.declared.place_states.PlaceState.{PlaceState}
 use Rattle.mw_file.specs.declared.place_states.Stage.TheVariants.{Prepared}
 use Rattle.mw_file.specs.PlaceStates.{IsStaged}
-use Rattle.mw_file.specs.File.{went_well}
+use Rattle.mw_file.proofs.Ended.{went_well}
 use Rattle.mw_file.proofs.Places.{staged, found_free}
 use Rattle.mw_file.proofs.Safety.{safe_failed, safe_well, safe_same, place_fits, prepare_moments, prepare_durable}
 use Rattle.mw_file.proofs.tenant_file.TenantFile.prepare.Goals as goal

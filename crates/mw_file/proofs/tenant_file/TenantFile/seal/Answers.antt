@@ -3,7 +3,7 @@ use Rattle.mw_record.specs.Records.{put_pairs}
 use Rattle.mw_record.proofs.Changes.{length-put_pairs}
 use Rattle.mw_file.specs.declared.place_states.Stage.TheVariants.{Prepared}
 use Rattle.mw_file.specs.PlaceStates.{writes_of_place}
-use Rattle.mw_file.specs.File.{went_well}
+use Rattle.mw_file.proofs.Ended.{went_well}
 use Rattle.mw_file.proofs.Places.{state_there, state_at, staged_as}
 use Rattle.mw_file.proofs.Safety.{safe_failed, safe_well, place_fits, seal_moments, seal_durable}
 use Rattle.mw_file.proofs.tenant_file.TenantFile.seal.Goals as goal

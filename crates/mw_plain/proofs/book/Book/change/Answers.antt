@@ -1,8 +1,9 @@
 use Rattle.std.proofs.Common.{◌≡◌, ◌+◌, vec_len, length, refl, sym, ap, subst, ◌∙◌, arith}
 use Rattle.mw_words.specs.Change.{put}
-use Rattle.mw_file.specs.File.{states_of, Ends, WentWell, ended_well, went_well}
+use Rattle.mw_file.specs.File.{states_of, Ends, WentWell}
+use Rattle.mw_file.proofs.Ended.{ended_well, went_well}
 use Rattle.mw_file.specs.PlaceStates.{writes_of_place, IsStaged}
-use Rattle.mw_file.specs.Free.{staged_on}
+use Rattle.mw_file.proofs.Free.{staged_on}
 use Rattle.mw_file.specs.declared.place_states.Stage.TheVariants.{Free, Sealed}
 use Rattle.mw_plain.specs.Cases.{Unsealed, Unsettled, Changed}
 use Rattle.mw_plain.proofs.Ready.{one_less, none_sealed, may_seal}

@@ -1,5 +1,5 @@
 use Rattle.std.proofs.Common.{refl, ap, ◌∙◌}
-use Rattle.mw_world_file.specs.SoundBooks.{sound_again}
+use Rattle.mw_world_file.proofs.SoundBooks.{sound_again}
 use Rattle.mw_world.specs.Definition.State.{tenant_at}
 use Rattle.mw_simulator.proofs.Reopened.{is_reopened, not_reopened}
 use Rattle.mw_simulator.proofs.Restarted.{none_is}

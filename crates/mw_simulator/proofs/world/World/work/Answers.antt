@@ -6,7 +6,7 @@ use Rattle.mw_actor.specs.Acting.{entries_of_job, own_entries}
 use Rattle.mw_world_file.specs.Files.{File}
 use Rattle.mw_world_file.specs.SoundBooks.{HasSound}
 use Rattle.mw_world_file.specs.Working.{Works}
-use Rattle.mw_world_file.specs.SoundBooks.{sound_after}
+use Rattle.mw_world_file.proofs.SoundBooks.{sound_after}
 use Rattle.mw_world.specs.Definition.State.{tenant_at}
 use Rattle.mw_simulator.specs.Ending.{IsBookOf, called_of, cells_closed}
 use Rattle.mw_simulator.specs.Shows.{Shows}

@@ -7,7 +7,8 @@ use Rattle.mw_world_file.proofs.SealedFiles.{all_clear, not_apart, may_seal_it, 
 use Rattle.mw_look.specs.declared.steps.Call.TheVariants.{Seal}
 use Rattle.mw_world_file.proofs.CalledDisks.{came_to_fault}
 use Rattle.mw_world_file.proofs.CrashedFiles.{seal_safe}
-use Rattle.mw_file.specs.File.{has_failed, ended_well, went_well}
+use Rattle.mw_file.specs.File.{has_failed}
+use Rattle.mw_file.proofs.Ended.{ended_well, went_well}
 use Rattle.mw_disk.specs.Memory.{memory_facts}
 use Rattle.mw_world_file.proofs.kept.Book.seal.Goals as goal
 

@@ -1,6 +1,6 @@
 use Rattle.std.proofs.Common.{◌+◌, ◌∙◌, ◌≡◌, true, false, sym, ap, refl, arith, get_or, is_err}
 use Rattle.mw_disk.specs.Memory.{memory_facts}
-use Rattle.mw_file.specs.File.{ended_well, went_well}
+use Rattle.mw_file.proofs.Ended.{ended_well, went_well}
 use Rattle.mw_look.specs.declared.steps.Call.TheVariants.{Settle}
 use Rattle.mw_world_file.specs.declared.places.Place.TheVariants.{Sealed as KeptSealed}
 use Rattle.mw_world_file.specs.Files.{entries_in}
