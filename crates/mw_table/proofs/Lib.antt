@@ -1,6 +1,7 @@
 pub mod Asked
 pub mod Asking
 pub mod Attempting
+pub mod Coming
 pub mod Driving
 pub mod Finding
 pub mod Fresh
@@ -11,3 +12,4 @@ pub mod Opened
 pub mod Passing
 pub mod Placing
 pub mod Starting
+pub mod TwoTenants
