@@ -1,24 +1,25 @@
 -- Where each shared word stands in the table.
-use Rattle.std.specs.Prelude.{ℕ, ◌≡◌, ◌+◌, ◌*◌, ◌<◌, true}
+use Rattle.std.specs.Prelude.{ℕ, ◌≡◌, ◌+◌, ◌-◌, ◌*◌, ◌/◌, ◌<◌, true}
 use Rattle.mw_words.specs.declared.limits.TheConstants.{MAX_ENTRIES, MAX_TENANTS, MAX_WORDS, MAX_WORKERS}
 use Rattle.mw_words.specs.declared.places.At.{At}
 use Rattle.mw_words.specs.declared.places.At.TheVariants.{Door as AtDoor, Gate as AtGate, Row as AtRow, Data, Status as AtStatus, Count, Addr, Expected, New}
+use Rattle.mw_rule.specs.declared.indexes.TheConstants.{LINE}
 use Rattle.mw_world.specs.declared.config.Config.{Config}
 use Rattle.mw_world.specs.Definition.Extent.{has_place}
 use Rattle.mw_world.specs.Definition.State.{IsConfig, tenants_of}
 
--- the slots' words come after the doors and the rows
+-- the slots' words come after the doors and the rows, each of which begins a line
 abbrev pub slots_from : ℕ
-slots_from = MAX_TENANTS + MAX_WORKERS
+slots_from = LINE * (MAX_TENANTS + MAX_WORKERS)
 
--- a slot's words lie together: its gate, its status, its count, and three of each entry
+-- a slot's words lie together, in whole lines: its gate, its status, its count, and three of each entry
 abbrev pub slot_wide : ℕ
-slot_wide = 3 + 3 * MAX_ENTRIES
+slot_wide = (3 + 3 * MAX_ENTRIES + (LINE - 1)) / LINE * LINE
 
 -- Where a word stands, by the number of slots: first the doors, then the rows, then the slots, then the tenants' words, for each tenant as many as a tenant may have.
 abbrev pub index_of : ℕ → At → ℕ
-index_of pool (AtDoor tenant) = tenant
-index_of pool (AtRow worker) = MAX_TENANTS + worker
+index_of pool (AtDoor tenant) = LINE * tenant
+index_of pool (AtRow worker) = LINE * (MAX_TENANTS + worker)
 index_of pool (AtGate slot) = slots_from + slot_wide * slot
 index_of pool (AtStatus slot) = slots_from + slot_wide * slot + 1
 index_of pool (Count slot) = slots_from + slot_wide * slot + 2

@@ -16,7 +16,7 @@ mod rule;
 mod views;
 mod ways;
 
-pub use indexes::index_of;
+pub use indexes::{LINE, SLOT_WIDE, SLOTS_FROM, index_of};
 pub use laws::{
     calls_are_noted, file_calls_are_events, file_calls_keep_the_rule, knowledge_stays_right,
     moves_are_of_the_run, places_stand_apart, steps_keep_the_rule, tables_start_under_the_rule,

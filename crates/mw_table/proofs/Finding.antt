@@ -1,11 +1,19 @@
 -- The word at the index of a place is the place's.
 use Rattle.std.proofs.Common.{ℕ, ◌≡◌, ◌+◌, ◌-◌, ◌*◌, ◌/◌, ◌%◌, ◌<◌, ap, ◌∙◌, arith}
 use Rattle.std.proofs.lemmas.Bool.Decides.{nat_tests}
-use Rattle.mw_words.specs.declared.limits.TheConstants.{MAX_ENTRIES, MAX_TENANTS, MAX_WORDS}
+use Rattle.mw_words.specs.declared.limits.TheConstants.{MAX_ENTRIES, MAX_TENANTS, MAX_WORDS, MAX_WORKERS}
 use Rattle.mw_words.specs.declared.places.At.{At}
 use Rattle.mw_words.specs.declared.places.At.TheVariants.{Door as AtDoor, Gate as AtGate, Row as AtRow, Data, Status as AtStatus, Count, Addr, Expected, New}
+use Rattle.mw_rule.specs.declared.indexes.TheConstants.{LINE}
 use Rattle.mw_rule.specs.Layout.{Within, index_of, slot_wide, slots_from}
-use Rattle.mw_table.specs.Places.{slot_place, place_at}
+use Rattle.mw_table.specs.Places.{line_place, slot_place, place_at}
+
+-- the place that begins a line
+in_line : (pool line : ℕ) → line < MAX_TENANTS + MAX_WORKERS → place_at pool (LINE * line) ≡ line_place line
+in_line pool line low =
+    let quotient : LINE * line / LINE ≡ line = omega arith in
+    let rest : LINE * line % LINE ≡ 0 = omega arith in
+    grind (arith, nat_tests, quotient, rest)
 
 -- the place of a slot, by the index within the slot's words
 in_slot : (pool slot k : ℕ) → slot < pool → k < slot_wide → place_at pool (slots_from + slot_wide * slot + k) ≡ slot_place slot k
@@ -13,6 +21,12 @@ in_slot pool slot k there within =
     let quotient : (slots_from + slot_wide * slot + k - slots_from) / slot_wide ≡ slot = omega arith in
     let rest : (slots_from + slot_wide * slot + k - slots_from) % slot_wide ≡ k = omega arith in
     grind (arith, nat_tests, quotient, rest)
+
+line_of_door : (tenant : ℕ) → tenant < MAX_TENANTS → line_place tenant ≡ AtDoor tenant
+line_of_door tenant h = grind (arith, nat_tests)
+
+line_of_row : (worker : ℕ) → line_place (MAX_TENANTS + worker) ≡ AtRow worker
+line_of_row worker = let same : MAX_TENANTS + worker - MAX_TENANTS ≡ worker = omega arith in grind (arith, nat_tests, same)
 
 entry_of_address : (slot entry : ℕ) → entry < MAX_ENTRIES → slot_place slot (3 + entry) ≡ Addr slot entry
 entry_of_address slot entry h = let same : 3 + entry - 3 ≡ entry = omega arith in grind (arith, nat_tests, same)
@@ -30,8 +44,8 @@ in_words_of pool tenant address h =
     grind (arith, nat_tests, quotient, rest)
 
 pub finds_place : (pool : ℕ) (at : At) → Within pool at → place_at pool (index_of pool at) ≡ at
-finds_place pool (AtDoor tenant) h = grind (arith, nat_tests)
-finds_place pool (AtRow worker) h = let same : MAX_TENANTS + worker - MAX_TENANTS ≡ worker = omega arith in grind (arith, nat_tests, same)
+finds_place pool (AtDoor tenant) h = in_line pool tenant (omega (arith, h)) ∙ line_of_door tenant h
+finds_place pool (AtRow worker) h = in_line pool (MAX_TENANTS + worker) (omega (arith, h)) ∙ line_of_row worker
 finds_place pool (AtGate slot) h = let same : slots_from + slot_wide * slot ≡ slots_from + slot_wide * slot + 0 = omega arith in ap (place_at pool) same ∙ in_slot pool slot 0 h (omega arith)
 finds_place pool (AtStatus slot) h = in_slot pool slot 1 h (omega arith)
 finds_place pool (Count slot) h = in_slot pool slot 2 h (omega arith)

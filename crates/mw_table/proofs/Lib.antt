@@ -2,6 +2,7 @@ pub mod Asked
 pub mod Asking
 pub mod Attempting
 pub mod Called
+pub mod Coming
 pub mod Driving
 pub mod Entrusting
 pub mod FileSteps
@@ -15,3 +16,4 @@ pub mod Opened
 pub mod Passing
 pub mod Placing
 pub mod Starting
+pub mod TwoTenants

@@ -7,6 +7,7 @@ use Rattle.mw_look.specs.Places.{pack}
 use Rattle.mw_world.specs.declared.config.Config.{Config}
 use Rattle.mw_world.specs.Definition.Cells.{Cells, read}
 use Rattle.mw_world.specs.Definition.Extent.{has_place}
+use Rattle.mw_rule.specs.declared.indexes.TheConstants.{LINE}
 use Rattle.mw_rule.specs.Layout.{index_of, slot_wide, slots_from}
 
 -- by the index within a slot's words
@@ -19,13 +20,20 @@ slot_place slot index =
     else (if nat_lt index (3 + 2 * MAX_ENTRIES) then Expected slot (index - (3 + MAX_ENTRIES))
     else New slot (index - (3 + 2 * MAX_ENTRIES))))))
 
--- The word at an index, whether there is such a word or not: those of tenants, workers and slots that aren't there stand unused.
+-- by the line, before the slots
+abbrev pub line_place : ℕ → At
+line_place line = if nat_lt line MAX_TENANTS then AtDoor line else AtRow (line - MAX_TENANTS)
+
+-- a place that no world has
+abbrev pub nowhere : At
+nowhere = AtDoor MAX_TENANTS
+
+-- The word at an index, whether there is such a word or not: those of tenants, workers and slots that aren't there stand unused, as do those within the lines of doors and rows.
 abbrev pub place_at : ℕ → ℕ → At
 place_at pool index =
-    if nat_lt index MAX_TENANTS then AtDoor index
-    else (if nat_lt index slots_from then AtRow (index - MAX_TENANTS)
+    if nat_lt index slots_from then (if index % LINE == 0 then line_place (index / LINE) else nowhere)
     else (if nat_lt index (slots_from + slot_wide * pool) then slot_place ((index - slots_from) / slot_wide) ((index - slots_from) % slot_wide)
-    else Data ((index - (slots_from + slot_wide * pool)) / MAX_WORDS) ((index - (slots_from + slot_wide * pool)) % MAX_WORDS)))
+    else Data ((index - (slots_from + slot_wide * pool)) / MAX_WORDS) ((index - (slots_from + slot_wide * pool)) % MAX_WORDS))
 
 -- these bits stand at an index, if a shared word does
 abbrev pub IsAt : Config → Cells → ℕ → ℕ → Type 0

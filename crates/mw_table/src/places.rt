@@ -1,31 +1,28 @@
 //! Which shared word stands at an index of the table.
 ghost use Rattle.std.specs.Prelude.{◌≡◌, ◌<◌, ◌≤◌, ◌+◌, ◌*◌, nat_lt};
-ghost use Rattle.mw_words.specs.declared.limits.TheConstants.{MAX_POOL, MAX_TENANTS, MAX_WORDS};
+ghost use Rattle.mw_words.specs.declared.limits.TheConstants.{MAX_POOL, MAX_TENANTS, MAX_WORDS, MAX_WORKERS};
 ghost use Rattle.mw_world.specs.Definition.Extent as extent;
 ghost use Rattle.mw_world.specs.Definition.State.{tenant_at};
 ghost use Rattle.mw_rule.specs.Layout.{slot_wide, slots_from};
 ghost use Rattle.mw_table.specs.Places as spec;
 
-use mw_words::{At, MAX_ENTRIES, MAX_TENANTS, MAX_WORDS, MAX_WORKERS};
+use mw_rule::{LINE, SLOT_WIDE, SLOTS_FROM};
+use mw_words::{At, MAX_ENTRIES, MAX_TENANTS, MAX_WORDS};
 use mw_world::Config;
 
-/// Where the first slot's words begin.
-const SLOTS_FROM: usize = MAX_TENANTS + MAX_WORKERS as usize;
-
-/// How many words a slot has.
-const SLOT_WIDE: usize = 3 + 3 * MAX_ENTRIES;
-
-/// The place whose word stands at an index of a table of so many slots.
+/// The place whose word stands at an index of a table of so many slots. Where none does, it is one that no world has.
 pub(crate) fn place_at(pool: u16, index: usize) -> At
     requires pool { pool ≤ MAX_POOL }
     requires index { index < slots_from + slot_wide * pool + MAX_WORDS * MAX_TENANTS }
     ensures { result ≡ spec.place_at pool index }
 {
     let words_from = SLOTS_FROM + SLOT_WIDE * usize::from(pool);
-    if index < MAX_TENANTS {
-        At::Door(index as u8)
-    } else if index < SLOTS_FROM {
-        At::Row((index - MAX_TENANTS) as u8)
+    if index < SLOTS_FROM {
+        if index % LINE == 0 {
+            line_place(index / LINE)
+        } else {
+            At::Door(MAX_TENANTS as u8)
+        }
     } else if index < words_from {
         let from = index - SLOTS_FROM;
         slot_place((from / SLOT_WIDE) as u8, from % SLOT_WIDE)
@@ -35,6 +32,18 @@ pub(crate) fn place_at(pool: u16, index: usize) -> At
             tenant: (from / usize::from(MAX_WORDS)) as u8,
             address: (from % usize::from(MAX_WORDS)) as u16,
         }
+    }
+}
+
+/// The place whose word begins a line before the slots.
+fn line_place(line: usize) -> At
+    requires { line < MAX_TENANTS + MAX_WORKERS }
+    ensures { result ≡ spec.line_place line }
+{
+    if line < MAX_TENANTS {
+        At::Door(line as u8)
+    } else {
+        At::Row((line - MAX_TENANTS) as u8)
     }
 }
 

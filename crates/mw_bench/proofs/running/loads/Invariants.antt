@@ -1,0 +1,5 @@
+use Rattle.mw_table.specs.Passes.{IsOf}
+use Rattle.mw_bench.proofs.running.loads.Given as goal
+
+abbrev pub invariant-loop : goal.invariant-loop
+invariant-loop l = IsOf l.core.shared l.pass

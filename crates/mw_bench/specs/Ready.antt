@@ -1,0 +1,18 @@
+-- When a pass may read a tenant's first word.
+use Rattle.std.specs.Prelude.{ℕ, ◌≡◌, ◌<◌, true}
+use Rattle.mw_world.specs.Definition.State.{tenant_at, tenants_of}
+use Rattle.mw_rule.specs.Seen.{opening_at}
+use Rattle.mw_table.specs.declared.shared.Pass.{Pass}
+use Rattle.mw_table.specs.declared.shared.Shared.{Shared}
+use Rattle.mw_table.specs.Origins.{config_of, openings_of}
+use Rattle.mw_table.specs.Passes.{IsOf}
+
+-- The pass is idle, on a table of two slots, where the tenant is there, has a word and may use one slot.
+pub record MayGet (shared : Shared) (pass : Pass) (tenant : ℕ) : Type 0 where
+  pub own : IsOf shared pass
+  pub idle : pass.idle ≡ true
+  pub worker : pass.worker < 2
+  pub there : tenant < tenants_of (config_of shared.table.shared.key)
+  pub word : (tenant_at (config_of shared.table.shared.key) tenant).words ≡ 1
+  pub quota : (opening_at (openings_of shared.table.shared.key) tenant).quota ≡ 1
+  pub pool : (config_of shared.table.shared.key).pool ≡ 2

@@ -1,0 +1,80 @@
+//! A table of two tenants.
+ghost use Rattle.std.specs.Prelude.{◌≡◌, [], ◌∷◌, ℕ, IfOk, IfSome, Some, Vec};
+ghost use Rattle.std.specs.declared.alloc.Global.{Global};
+ghost use Rattle.mw_world.specs.Definition.State.{IsConfig, no_tenant};
+ghost use Rattle.mw_bench.specs.Ready.{MayGet};
+
+use arrayvec::ArrayVec;
+use mw_core::Core;
+use mw_table::{FileOpening, Pass, Shared};
+use mw_world::{Config, Tenant};
+use std::alloc::{AllocError, Global};
+
+/// A core on the table, with a pass for each of two threads.
+#[derive(Drop)]
+pub(crate) struct Opened {
+    pub(crate) core: Core,
+    pub(crate) one: Pass,
+    pub(crate) other: Pass,
+}
+
+/// Two tenants of one word and one slot each, two workers.
+fn config() -> Config
+    ensures made { IsConfig result }
+    ensures pool { result.pool ≡ 2 }
+    ensures workers { result.workers ≡ 2 }
+    ensures tenants { result.tenants.items ≡ record no_tenant { words = 1; quota = 1 } ∷ record no_tenant { words = 1; quota = 1 } ∷ [] }
+{
+    let mut tenants = ArrayVec::new();
+    tenants.push(Tenant {
+        name: ArrayVec::new(),
+        words: 1,
+        quota: 1,
+    });
+    tenants.push(Tenant {
+        name: ArrayVec::new(),
+        words: 1,
+        quota: 1,
+    });
+    Config {
+        pool: 2,
+        workers: 2,
+        seq: 0,
+        tenants,
+    }
+}
+
+/// What their files gave: the words 7 and 9.
+fn openings(alloc: Global) -> Result<Vec<FileOpening>, AllocError>
+    ensures { IfOk result (λ found. (one : Vec ℕ Global) × (other : Vec ℕ Global) × (one.items ≡ 7 ∷ []) × (other.items ≡ 9 ∷ []) × (found.items ≡ record { quota = 1; words = Some one } ∷ record { quota = 1; words = Some other } ∷ [])) }
+{
+    let first = FileOpening {
+        quota: 1,
+        words: Some(vec![in alloc; 7]?),
+    };
+    let second = FileOpening {
+        quota: 1,
+        words: Some(vec![in alloc; 9]?),
+    };
+    let openings = vec![in alloc; first, second]?;
+    Ok(openings)
+}
+
+/// The table at a start. None where memory is refused.
+pub(crate) fn open(alloc: Global) -> Option<Opened>
+    ensures one { IfSome result (λ opened. MayGet opened.core.shared opened.one 0) }
+    ensures other { IfSome result (λ opened. MayGet opened.core.shared opened.other 1) }
+{
+    let config = config();
+    let Ok(openings) = openings(alloc) else {
+        return None;
+    };
+    let Ok((shared, mut passes)) = Shared::new(alloc, &config, &openings) else {
+        return None;
+    };
+    let core = Core::new(shared);
+    let (Some(other), Some(one)) = (passes.pop(), passes.pop()) else {
+        return None;
+    };
+    Some(Opened { core, one, other })
+}
