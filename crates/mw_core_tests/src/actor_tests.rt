@@ -1,6 +1,8 @@
+use crate::same::same;
 use mw_actor::*;
 use mw_look::{Call, Got, Kind, Op, Told};
 use mw_words::{At, Entries, Entry, Job, Reply, WORN_NUMBER};
+use std::process::Abort;
 
 // The statuses that have no fields.
 const OPEN: u64 = 0x1000_0000_0000_0000;
@@ -55,6 +57,14 @@ fn follows(actor: &mut Actor, script: &[(Op, Got)]) -> bool {
         actor.tell(Told { got: *got, next });
     }
     true
+}
+
+// The actor asks for these steps, part after part, and ends with this reply.
+fn ends<R: Abort>(rt: &R, actor: &mut Actor, parts: &[&[(Op, Got)]], reply: Option<Reply>) {
+    for (index, part) in parts.iter().enumerate() {
+        assert!(rt; follows(actor, part), "part {index}");
+    }
+    same(rt, &actor.reply(), &reply);
 }
 
 // Worker 2 is to change the word from 5 to 8, for tenant 3 with a quota of 4, in a pool of 2 slots.
@@ -113,10 +123,8 @@ fn a_change_alone_is_made(rt: HostRuntime) {
         change(Kind::Free, At::Gate(1), 0, 8),
         fetch(Kind::Drop, At::Door(3), 2),
     ];
-    assert!(rt; follows(&mut actor, &opening()));
-    assert!(rt; follows(&mut actor, &holding));
-    assert!(rt; follows(&mut actor, &letting_go));
-    assert_eq!(rt; actor.reply(), Some(Reply::Yes));
+    let parts: [&[(Op, Got)]; 3] = [&opening(), &holding, &letting_go];
+    ends(&rt, &mut actor, &parts, Some(Reply::Yes));
 }
 
 #[test]
@@ -133,9 +141,8 @@ fn a_change_of_another_value_is_refused(rt: HostRuntime) {
         load(WORD, 11),
         fetch(Kind::Unpin, At::Gate(1), 0x8002_0000_0000_0007),
     ];
-    assert!(rt; follows(&mut actor, &opening()));
-    assert!(rt; follows(&mut actor, &refusing));
-    assert_eq!(rt; actor.reply(), Some(Reply::No(6, 11)));
+    let reply = Some(Reply::No(6, 11));
+    ends(&rt, &mut actor, &[&opening(), &refusing], reply);
 }
 
 #[test]
@@ -174,11 +181,9 @@ fn another_change_is_helped_first(rt: HostRuntime) {
         load(At::Status(1), OPEN),
         load(WORD, 5),
     ];
-    assert!(rt; follows(&mut actor, &opening()));
-    assert!(rt; follows(&mut actor, &helping));
+    ends(&rt, &mut actor, &[&opening(), &helping], None);
     let (row, _) = change(Kind::Row, At::Row(2), 0, 0x0100_0000_0000_0007);
-    assert_eq!(rt; actor.ask(), row);
-    assert_eq!(rt; actor.copy().ask(), row);
+    same(&rt, &[actor.ask(), actor.copy().ask()], &[row, row]);
 }
 
 #[test]
@@ -189,9 +194,8 @@ fn a_change_gives_up_where_its_file_fails(rt: HostRuntime) {
         file(Call::Seal, 1, false),
         load(At::Status(1), YES_DIRTY),
     ];
-    assert!(rt; follows(&mut actor, &opening()));
-    assert!(rt; follows(&mut actor, &failing));
-    assert_eq!(rt; actor.reply(), Some(Reply::Fault));
+    let reply = Some(Reply::Fault);
+    ends(&rt, &mut actor, &[&opening(), &failing], reply);
 }
 
 #[test]
@@ -205,15 +209,15 @@ fn requests_that_end_at_the_door(rt: HostRuntime) {
         let mut actor = change_of_one_word();
         let got = Got::Word(door);
         actor.tell(Told { got, next });
-        assert_eq!(rt; actor.reply(), Some(reply));
+        same(&rt, &actor.reply(), &Some(reply));
     }
 }
 
 #[test]
 fn a_read_is_handed_through(rt: HostRuntime) {
     let mut actor = Actor::new(2, 3, 4, 2, Job::Get(6));
-    assert!(rt; follows(&mut actor, &[load(At::Door(3), 1), load(WORD, DIRTY)]));
-    assert_eq!(rt; actor.reply(), Some(Reply::Val(8)));
-    assert_eq!(rt; (actor.worker(), actor.tenant()), (2, 3));
+    let reading = [load(At::Door(3), 1), load(WORD, DIRTY)];
+    ends(&rt, &mut actor, &[&reading], Some(Reply::Val(8)));
+    same(&rt, &(actor.worker(), actor.tenant()), &(2, 3));
     assert!(rt; *actor.job() == Job::Get(6));
 }

@@ -8,3 +8,5 @@ mod actor_tests;
 mod look_tests;
 #[cfg(test)]
 mod pool_tests;
+#[cfg(test)]
+mod same;

@@ -1,5 +1,7 @@
+use crate::same::same;
 use mw_look::*;
 use mw_words::{At, Reply};
+use std::process::Abort;
 
 const DOOR: At = At::Door(2);
 
@@ -101,17 +103,26 @@ fn pinned() -> [Play; 4] {
     [door(), load(WORD, HELD), load(GATE, ONE_PIN), pin(Got::Won)]
 }
 
-// A read that begins again.
-fn again(look: &mut Look) -> bool {
-    plays(look, &[door(), load(WORD, PLAIN_5)]) && look.reply() == Some(Reply::Val(5))
+// A read that begins again, and finds the value 5.
+fn again() -> [Play; 2] {
+    [door(), load(WORD, PLAIN_5)]
+}
+
+// The read asks for these steps, part after part, and ends with this value.
+fn ends<R: Abort>(rt: &R, look: &mut Look, parts: &[&[Play]], value: u64) {
+    for (index, part) in parts.iter().enumerate() {
+        assert!(rt; plays(look, part), "part {index}");
+    }
+    same(rt, &look.reply(), &Some(Reply::Val(value)));
 }
 
 #[test]
 fn words_that_say_their_value(rt: HostRuntime) {
-    assert_eq!(rt; answer(&[door(), load(WORD, PLAIN_5)]), Some(Reply::Val(5)));
-    assert_eq!(rt; answer(&[door(), load(WORD, DIRTY_9)]), Some(Reply::Val(9)));
-    let failed = load(DOOR, 0x8000_0000_0000_0001);
-    assert_eq!(rt; answer(&[failed]), Some(Reply::Fault));
+    let plain = answer(&[door(), load(WORD, PLAIN_5)]);
+    let dirty = answer(&[door(), load(WORD, DIRTY_9)]);
+    let failed = answer(&[load(DOOR, 0x8000_0000_0000_0001)]);
+    let told = [Some(Reply::Val(5)), Some(Reply::Val(9)), Some(Reply::Fault)];
+    same(&rt, &[plain, dirty, failed], &told);
 }
 
 #[test]
@@ -119,7 +130,6 @@ fn a_held_word_has_the_value_of_its_status(rt: HostRuntime) {
     let cases: [(u64, u64); 2] = [(YES, 41), (OPEN, 40)];
     for (bits, value) in cases {
         let mut look = Look::new(2, 7);
-        assert!(rt; plays(&mut look, &pinned()));
         let entry = [
             status(bits),
             addr(0, 5),
@@ -127,20 +137,18 @@ fn a_held_word_has_the_value_of_its_status(rt: HostRuntime) {
             expected(1, 40),
             new(1, 41),
         ];
-        assert!(rt; plays(&mut look, &entry));
-        assert!(rt; plays(&mut look, &[load(WORD, HELD), unpin(TWO_PINS)]));
-        assert_eq!(rt; look.reply(), Some(Reply::Val(value)));
+        let back = [load(WORD, HELD), unpin(TWO_PINS)];
+        ends(&rt, &mut look, &[&pinned(), &entry, &back], value);
     }
 }
 
 #[test]
 fn a_held_word_of_a_change_that_is_done_with_is_read_again(rt: HostRuntime) {
     let mut look = Look::new(2, 7);
-    assert!(rt; plays(&mut look, &pinned()));
     let entry = [status(DONE_YES), addr(0, 7), expected(0, 40), new(0, 41)];
-    assert!(rt; plays(&mut look, &entry));
-    assert!(rt; plays(&mut look, &[load(WORD, HELD), unpin(TWO_PINS)]));
-    assert!(rt; again(&mut look));
+    let back = [load(WORD, HELD), unpin(TWO_PINS)];
+    let parts: [&[Play]; 4] = [&pinned(), &entry, &back, &again()];
+    ends(&rt, &mut look, &parts, 5);
 }
 
 #[test]
@@ -152,11 +160,11 @@ fn a_planted_word_has_the_expected_value(rt: HostRuntime) {
         load(At::Row(4), ROW),
         load(WORD, PLANTED),
     ];
-    assert!(rt; plays(&mut look, &row));
-    assert!(rt; plays(&mut look, &[load(GATE, ONE_PIN), pin(Got::Won)]));
-    assert!(rt; plays(&mut look, &[status(YES), expected(2, 40), new(2, 41)]));
-    assert!(rt; plays(&mut look, &[load(WORD, PLANTED), unpin(TWO_PINS)]));
-    assert_eq!(rt; look.reply(), Some(Reply::Val(40)));
+    let gate = [load(GATE, ONE_PIN), pin(Got::Won)];
+    let entry = [status(YES), expected(2, 40), new(2, 41)];
+    let back = [load(WORD, PLANTED), unpin(TWO_PINS)];
+    let parts: [&[Play]; 4] = [&row, &gate, &entry, &back];
+    ends(&rt, &mut look, &parts, 40);
 }
 
 #[test]
@@ -168,16 +176,10 @@ fn a_word_that_changed_is_read_again(rt: HostRuntime) {
         load(At::Row(4), ROW),
         load(WORD, PLAIN_5),
     ];
-    assert!(rt; plays(&mut look, &row));
-    assert!(rt; plays(&mut look, &pinned()));
-    assert!(rt;
-        plays(
-            &mut look,
-            &[status(OPEN), addr(0, 7), expected(0, 40), new(0, 41)]
-        )
-    );
-    assert!(rt; plays(&mut look, &[load(WORD, PLAIN_5), unpin(TWO_PINS)]));
-    assert!(rt; again(&mut look));
+    let entry = [status(OPEN), addr(0, 7), expected(0, 40), new(0, 41)];
+    let back = [load(WORD, PLAIN_5), unpin(TWO_PINS)];
+    let parts: [&[Play]; 5] = [&row, &pinned(), &entry, &back, &again()];
+    ends(&rt, &mut look, &parts, 5);
 }
 
 #[test]
@@ -190,9 +192,13 @@ fn a_gate_that_can_not_be_pinned(rt: HostRuntime) {
     ];
     for gate in gates {
         let mut look = Look::new(2, 7);
-        assert!(rt; plays(&mut look, &[door(), load(WORD, HELD), load(GATE, gate)]));
-        assert!(rt; again(&mut look));
+        let refused = [door(), load(WORD, HELD), load(GATE, gate)];
+        ends(&rt, &mut look, &[&refused, &again()], 5);
     }
+}
+
+#[test]
+fn a_pin_that_is_lost(rt: HostRuntime) {
     let mut look = Look::new(2, 7);
     let lost = [
         door(),
@@ -200,22 +206,18 @@ fn a_gate_that_can_not_be_pinned(rt: HostRuntime) {
         load(GATE, ONE_PIN),
         pin(Got::Lost),
     ];
-    assert!(rt; plays(&mut look, &lost));
     let worn = [
         door(),
         load(WORD, 0x8003_ffff_ffff_ffff),
         load(GATE, 0x8001_ffff_ffff_ffff),
     ];
-    assert!(rt; plays(&mut look, &worn));
-    assert!(rt; again(&mut look));
+    ends(&rt, &mut look, &[&lost, &worn, &again()], 5);
 }
 
 #[test]
 fn a_last_pin_frees_the_slot(rt: HostRuntime) {
     let mut look = Look::new(2, 7);
-    assert!(rt; plays(&mut look, &pinned()));
     let entry = [status(YES), addr(0, 7), expected(0, 40), new(0, 41)];
-    assert!(rt; plays(&mut look, &entry));
     let lower = change(Kind::Drop, DOOR, 0, 0, Got::Word(1));
     let back = [
         load(WORD, HELD),
@@ -223,20 +225,25 @@ fn a_last_pin_frees_the_slot(rt: HostRuntime) {
         change(Kind::Free, GATE, 0, FREE, Got::Won),
         lower,
     ];
-    assert!(rt; plays(&mut look, &back));
-    assert_eq!(rt; look.reply(), Some(Reply::Val(41)));
+    ends(&rt, &mut look, &[&pinned(), &entry, &back], 41);
 }
 
 #[test]
 fn a_slot_without_an_entry_of_the_word(rt: HostRuntime) {
     let mut look = Look::new(2, 7);
-    assert!(rt; plays(&mut look, &pinned()));
-    assert!(rt; plays(&mut look, &[status(OPEN)]));
-    for entry in 0..8 {
-        assert!(rt; plays(&mut look, &[addr(entry, 8)]));
-    }
-    assert!(rt; plays(&mut look, &[unpin(TWO_PINS)]));
-    assert!(rt; again(&mut look));
+    let entries = [
+        addr(0, 8),
+        addr(1, 8),
+        addr(2, 8),
+        addr(3, 8),
+        addr(4, 8),
+        addr(5, 8),
+        addr(6, 8),
+        addr(7, 8),
+        unpin(TWO_PINS),
+    ];
+    let parts: [&[Play]; 4] = [&pinned(), &[status(OPEN)], &entries, &again()];
+    ends(&rt, &mut look, &parts, 5);
 }
 
 #[test]
@@ -245,13 +252,12 @@ fn what_does_not_fit_the_step_changes_nothing(rt: HostRuntime) {
     let told: [Got; 4] = [Got::Word(NO_PATTERN), Got::Won, Got::Lost, Got::File(true)];
     for got in told {
         look.tell(Told { got, next: 9 });
-        assert_eq!(rt; look.ask(), Op::Load(DOOR));
-        assert_eq!(rt; look.reply(), None);
+        same(&rt, &(look.ask(), look.reply()), &(Op::Load(DOOR), None));
     }
-    assert!(rt; again(&mut look));
+    ends(&rt, &mut look, &[&again()], 5);
     look.tell(Told {
         got: Got::Word(1),
         next: 9,
     });
-    assert_eq!(rt; look.reply(), Some(Reply::Val(5)));
+    same(&rt, &look.reply(), &Some(Reply::Val(5)));
 }

@@ -1,3 +1,4 @@
+use crate::same::same;
 use mw_pool::*;
 use mw_words::{Door, Gate, MAX_PINS, WORN_NUMBER};
 
@@ -32,7 +33,7 @@ fn a_door_admits_up_to_its_quota(rt: HostRuntime) {
         (true, 2, 2, Admission::Fault),
     ];
     for (fault, used, quota, said) in cases {
-        assert_eq!(rt; admit(Door { fault, used }, quota), said);
+        same(&rt, &admit(Door { fault, used }, quota), &said);
     }
 }
 
@@ -52,8 +53,7 @@ fn gates_that_are_claimed_and_freed(rt: HostRuntime) {
     ];
     for (from, claimed, freed) in cases {
         assert!(rt; from.is_in_range());
-        assert_eq!(rt; claim(from), claimed);
-        assert_eq!(rt; free(from), freed);
+        same(&rt, &(claim(from), free(from)), &(claimed, freed));
     }
 }
 
@@ -73,9 +73,9 @@ fn gates_that_are_pinned_and_unpinned(rt: HostRuntime) {
     ];
     for (from, seq, pinned) in cases {
         assert!(rt; from.is_in_range());
-        assert_eq!(rt; pin(from, seq), pinned);
+        same(&rt, &pin(from, seq), &pinned);
         if let Some(next) = pin(from, seq) {
-            assert_eq!(rt; unpin(next), from);
+            same(&rt, &unpin(next), &from);
         }
     }
 }

@@ -67,6 +67,15 @@ fn store(alloc: Global, first: MemDisk, second: MemDisk) -> Result<Plain<MemDisk
     Plain::new(alloc, &lines, files, 2)
 }
 
+/// The store of two tenants, t and u, over new disks.
+fn new_store(alloc: Global) -> Result<Plain<MemDisk>, AllocError>
+    ensures count { IfOk result (λ plain. tenants plain ≡ 2) }
+    ensures first { IfOk result (λ plain. words_at plain 0 ≡ 2) }
+    ensures second { IfOk result (λ plain. words_at plain 1 ≡ 2) }
+{
+    store(alloc, new_disk(alloc)?, new_disk(alloc)?)
+}
+
 /// The change of one word from 0 to 1.
 fn change(addr: u16) -> Job
     requires { addr < 2 }
@@ -128,24 +137,30 @@ fn two_at_a_time(store: &mut Plain<MemDisk>) -> [Option<Reply>; 5]
     [busy, Some(made), Some(next), Some(other), None]
 }
 
+/// The replies to two tenants' changes, their words then, and whether both slots are free again.
+type Told = ([Option<Reply>; 5], [Option<Reply>; 4], bool);
+
+fn told_of_tickets(alloc: Global) -> Result<Told, AllocError> {
+    let mut store = new_store(alloc)?;
+    let replies = two_at_a_time(&mut store);
+    let words = words(&mut store);
+    Ok((replies, words, store.figures().pool_free == 2))
+}
+
 #[test]
 fn tickets(rt: HostRuntime) -> Result<(), Fail> {
-    let alloc = rt.alloc();
-    let mut store = store(alloc, new_disk(alloc)?, new_disk(alloc)?)?;
+    let (replies, words, are_free) = told_of_tickets(rt.alloc())?;
     let yes = Some(Reply::Yes);
-    assert_eq!(rt;
-        two_at_a_time(&mut store),
-        [Some(Reply::Busy), yes, yes, yes, None]
-    );
-    assert_eq!(rt; words(&mut store), [val(1), val(1), val(1), val(0)]);
-    assert_eq!(rt; store.figures().pool_free, 2);
+    assert_eq!(rt; replies, [Some(Reply::Busy), yes, yes, yes, None]);
+    assert_eq!(rt; words, [val(1), val(1), val(1), val(0)]);
+    assert!(rt; are_free);
     Ok(())
 }
 
 #[test]
 fn tasks_in_order(rt: HostRuntime) -> Result<(), Fail> {
     let alloc = rt.alloc();
-    let mut store = store(alloc, new_disk(alloc)?, new_disk(alloc)?)?;
+    let mut store = new_store(alloc)?;
     let tasks = [
         Task {
             tenant: 0,
@@ -166,24 +181,45 @@ fn tasks_in_order(rt: HostRuntime) -> Result<(), Fail> {
     Ok(())
 }
 
+/// A new disk that fails at so many calls from the opening.
+fn failing_disk(alloc: Global, calls: u8) -> Result<MemDisk, AllocError> {
+    let mut disk = new_disk(alloc)?;
+    disk.fail_next(u64::from(calls) + 3)?;
+    Ok(disk)
+}
+
+/// What a crash leaves of the first of these disks, if there is one.
+fn left_of_first(alloc: Global, disks: &[Option<MemDisk>]) -> Result<Vec<u8>, AllocError> {
+    match disks.first() {
+        Some(Some(disk)) => disk.crash(&[]),
+        _ => Ok(Vec::new(alloc)),
+    }
+}
+
+/// The reply to t's change where its device fails at so many calls from the opening, and what a crash
+/// leaves then of its disk.
+fn crash_in_trouble(alloc: Global, calls: u8) -> Result<(Option<Reply>, Vec<u8>), AllocError> {
+    let mut first = store(alloc, failing_disk(alloc, calls)?, new_disk(alloc)?)?;
+    let reply = ask(&mut first, 0, &change(1));
+    let disks = first.into_disks(alloc)?;
+    Ok((reply, left_of_first(alloc, &disks)?))
+}
+
+/// The words of t, whose disk has these bytes, and of u, whose disk is new.
+fn words_of_opened(alloc: Global, bytes: Vec<u8>) -> Result<[Option<Reply>; 4], AllocError> {
+    let left = MemDisk::new(alloc, bytes, Vec::new(alloc))?;
+    let mut second = store(alloc, left, new_disk(alloc)?)?;
+    Ok(words(&mut second))
+}
+
 /// The reply to t's change where its device fails at so many calls from the opening, and the words of t
 /// after the next opening.
 fn after_trouble(
     alloc: Global,
     calls: u8,
 ) -> Result<(Option<Reply>, [Option<Reply>; 4]), AllocError> {
-    let mut disk = new_disk(alloc)?;
-    disk.fail_next(u64::from(calls) + 3)?;
-    let mut first = store(alloc, disk, new_disk(alloc)?)?;
-    let reply = ask(&mut first, 0, &change(1));
-    let disks = first.into_disks(alloc)?;
-    let bytes = match disks.first() {
-        Some(Some(disk)) => disk.crash(&[])?,
-        _ => Vec::new(alloc),
-    };
-    let left = MemDisk::new(alloc, bytes, Vec::new(alloc))?;
-    let mut second = store(alloc, left, new_disk(alloc)?)?;
-    Ok((reply, words(&mut second)))
+    let (reply, bytes) = crash_in_trouble(alloc, calls)?;
+    Ok((reply, words_of_opened(alloc, bytes)?))
 }
 
 #[test]
