@@ -2,6 +2,7 @@
 ghost use Rattle.std.specs.Prelude.{IfOk, IfSome};
 ghost use Rattle.mw_config.specs.CommandLine.{ArePermittedArgs, IsPermittedMode, IsUpTo};
 
+use crate::version::VERSION;
 use clap::builder::ValueParser;
 use clap::error::ErrorKind;
 use clap::{Arg, ArgAction, ArgMatches, Command};
@@ -18,6 +19,11 @@ pub struct Args {
     pub pool: u16,
     /// How many workers there are, 1 to [`MAX_WORKERS`].
     pub workers: u8,
+    /// Whether nothing is served where a tenant's file doesn't open.
+    pub strict: bool,
+    /// Whether each note is followed by one that says which file or address it is about, and what the
+    /// system told.
+    pub verbose: bool,
     /// Where the sessions come from.
     pub mode: Mode,
 }
@@ -25,20 +31,38 @@ pub struct Args {
 /// Where a server's sessions come from.
 #[derive(Debug, Drop)]
 pub enum Mode {
-    /// From connections to this address; the server ends after so many, 1 to [`MAX_CONNECTIONS`], if
-    /// a number is given.
-    Listen(String, Option<u32>),
+    /// From connections.
+    Listen(Listening),
     /// From the script with this path, which is one session.
     Script(String),
 }
 
+/// How a server takes connections.
+#[derive(Debug, Drop)]
+pub struct Listening {
+    /// The address.
+    pub address: String,
+    /// A second address, for the administrator, whose clients have a worker of their own.
+    pub admin: Option<String>,
+    /// After how many connections to the first address the server ends, 1 to [`MAX_CONNECTIONS`].
+    pub connections: Option<u32>,
+    /// After how many seconds in which a client sends nothing, or takes nothing of a reply, its session
+    /// is ended, 1 to [`MAX_IDLE`].
+    pub idle: Option<u32>,
+}
+
+/// The most seconds that a session may be told to be idle: a day.
+pub const MAX_IDLE: u32 = 86_400;
+
 /// Why a command line is not served.
 #[derive(Debug, Drop, Error)]
 pub enum ArgFault {
-    /// It isn't of the form that the help tells, a number is out of range, or it asks for the help.
+    /// It isn't of the form that the help tells, a number is out of range, or it asks for the help or
+    /// the version.
     #[error("{0}")]
     Refused(clap::Error),
-    /// It hasn't exactly one of `--listen` and `--script`, or has `--connections` with `--script`.
+    /// It hasn't exactly one of `--listen` and `--script`, or has `--admin`, `--connections` or `--idle`
+    /// with `--script`.
     #[error("mwserve: refused 1 command")]
     Mode,
     /// Memory was refused.
@@ -62,15 +86,17 @@ impl From<clap::Error> for ArgFault {
 }
 
 /// Reads the command line `args`, the program's own name first:
-/// `mwserve --tenants FILE [--pool P] [--workers N]` with either `--listen ADDR [--connections C]` or
-/// `--script FILE`. P is 1 to [`MAX_POOL`], and that where it isn't given; N is 1 to [`MAX_WORKERS`],
-/// and 4 where it isn't given; C is 1 to [`MAX_CONNECTIONS`].
+/// `mwserve --tenants FILE [--pool P] [--workers N] [--strict] [--verbose]` with either
+/// `--listen ADDR [--admin ADDR] [--connections C] [--idle SECONDS]` or `--script FILE`. P is 1 to
+/// [`MAX_POOL`], and that where it isn't given; N is 1 to [`MAX_WORKERS`], and 4 where it isn't given; C
+/// is 1 to [`MAX_CONNECTIONS`], SECONDS 1 to [`MAX_IDLE`].
 ///
 /// # Errors
 ///
-/// [`ArgFault::Refused`] where clap refuses them, or they ask for the help; [`ArgFault::Mode`]
-/// where they haven't exactly one of `--listen` and `--script`, or have `--connections` with
-/// `--script`; [`ArgFault::Memory`] where memory was refused. `args` is only read.
+/// [`ArgFault::Refused`] where clap refuses them, or they ask for the help or the version;
+/// [`ArgFault::Mode`] where they haven't exactly one of `--listen` and `--script`, or have `--admin`,
+/// `--connections` or `--idle` with `--script`; [`ArgFault::Memory`] where memory was refused. `args` is
+/// only read.
 pub fn read_args(alloc: Global, args: &[String]) -> Result<Args, ArgFault>
     ensures permitted { IfOk result (λ args. ArePermittedArgs args) }
 {
@@ -86,6 +112,8 @@ pub fn read_args(alloc: Global, args: &[String]) -> Result<Args, ArgFault>
         tenants: String::from_str(alloc, tenants)?,
         pool: pool as u16,
         workers: workers as u8,
+        strict: matches.get_flag("strict"),
+        verbose: matches.get_flag("verbose"),
         mode: mode_of(alloc, &matches)?,
     })
 }
@@ -93,15 +121,27 @@ pub fn read_args(alloc: Global, args: &[String]) -> Result<Args, ArgFault>
 fn mode_of(alloc: Global, matches: &ArgMatches<'_>) -> Result<Mode, ArgFault>
     ensures { IfOk result (λ mode. IsPermittedMode mode) }
 {
+    let admin = matches.get_str("admin");
     let connections = number_of(matches, "connections", MAX_CONNECTIONS);
+    let idle = number_of(matches, "idle", MAX_IDLE);
+    let limited = admin.is_some() || connections.is_some() || idle.is_some();
     match (matches.get_str("listen"), matches.get_str("script")) {
-        (Some(address), None) => {
-            Ok(Mode::Listen(String::from_str(alloc, address)?, connections))
-        }
-        (None, Some(script)) if connections.is_none() => {
-            Ok(Mode::Script(String::from_str(alloc, script)?))
-        }
+        (Some(address), None) => Ok(Mode::Listen(Listening {
+            address: String::from_str(alloc, address)?,
+            admin: copy_of(alloc, admin)?,
+            connections,
+            idle,
+        })),
+        (None, Some(script)) if !limited => { Ok(Mode::Script(String::from_str(alloc, script)?)) }
         _ => Err(ArgFault::Mode),
+    }
+}
+
+/// A copy of a text, where there is one.
+fn copy_of(alloc: Global, text: Option<&str>) -> Result<Option<String>, AllocError> {
+    match text {
+        Some(text) => Ok(Some(String::from_str(alloc, text)?)),
+        None => Ok(None),
     }
 }
 
@@ -120,9 +160,11 @@ fn command<'a>(alloc: Global) -> Result<Command<'a>, AllocError> {
         .required(true)
         .help("which tenants are served, and from which files");
     let command = Command::new(alloc, "mwserve")
+        .version(VERSION)
         .about("Serves tenants' words.")
         .arg(tenants)?;
-    add_sources(alloc, add_sizes(alloc, command)?)
+    let command = add_sources(alloc, add_sizes(alloc, command)?)?;
+    add_flags(alloc, add_ends(alloc, command)?)
 }
 
 /// The command with the options that say how much there is of what all tenants share.
@@ -141,13 +183,38 @@ fn add_sources<'a>(alloc: Global, command: Command<'a>) -> Result<Command<'a>, A
     let listen = text(alloc, "listen", "ADDR").help(
         "where to wait for connections, each of them a session",
     );
-    let connections = number(alloc, "connections", "C", u64::from(MAX_CONNECTIONS)).help(
-        "after how many connections to end, 1 to 1000000; without it, never",
+    let admin = text(alloc, "admin", "ADDR").help(
+        "where to wait for the administrator, who then has a worker beside the others",
     );
     let script = text(alloc, "script", "FILE").help(
         "the lines of one session, in place of connections",
     );
-    command.arg(listen)?.arg(connections)?.arg(script)
+    command.arg(listen)?.arg(admin)?.arg(script)
+}
+
+/// The command with the options that say how long the server goes on.
+fn add_ends<'a>(alloc: Global, command: Command<'a>) -> Result<Command<'a>, AllocError> {
+    let connections = number(alloc, "connections", "C", u64::from(MAX_CONNECTIONS)).help(
+        "after how many connections to end, 1 to 1000000; without it, never",
+    );
+    let idle = number(alloc, "idle", "SECONDS", u64::from(MAX_IDLE)).help(
+        "after how many seconds of silence to end a session, 1 to 86400; without it, never",
+    );
+    command.arg(connections)?.arg(idle)
+}
+
+/// The command with the options that have no value.
+fn add_flags<'a>(alloc: Global, command: Command<'a>) -> Result<Command<'a>, AllocError> {
+    let strict = flag(alloc, "strict").help("serve nothing where a tenant's file doesn't open");
+    let verbose = flag(alloc, "verbose").help(
+        "say behind each note which file or address it is about, and what the system told",
+    );
+    command.arg(strict)?.arg(verbose)
+}
+
+/// An option without a value.
+fn flag<'a>(alloc: Global, name: &'a str) -> Arg<'a> {
+    Arg::new(alloc, name).long(name).action(ArgAction::SetTrue)
 }
 
 /// An option with a text.

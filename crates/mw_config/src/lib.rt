@@ -1,14 +1,18 @@
-//! What a server is started with: the tenants file and the command line.
+//! What a server is started with: the tenants file and the command line. The version too.
 #![tactic(auto)]
 
 mod command_line;
+mod forms;
 mod laws;
 mod lines;
 mod refusals;
 mod tenants;
+mod version;
 
-pub use command_line::{ArgFault, Args, Mode, read_args};
+pub use command_line::{ArgFault, Args, Listening, MAX_IDLE, Mode, read_args};
+pub use forms::{FormRule, broken_rule};
 pub use laws::one_answer;
 pub use lines::TenantLine;
 pub use refusals::Refusal;
 pub use tenants::read_tenants;
+pub use version::VERSION;

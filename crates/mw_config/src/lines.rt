@@ -88,13 +88,13 @@ fn read_path(text: &[u8]) -> Option<ArrayString<MAX_PATH>>
     ArrayString::from(path).ok()
 }
 
-fn is_path(text: &[u8]) -> bool
+pub(crate) fn is_path(text: &[u8]) -> bool
     ensures { result ≡ spelling.is_path text.now }
 {
     (1..=MAX_PATH).contains(&text.len()) && are_path_bytes(text)
 }
 
-fn are_path_bytes(text: &[u8]) -> bool
+pub(crate) fn are_path_bytes(text: &[u8]) -> bool
     ensures { result ≡ list_all spelling.is_path_byte text.now }
 {
     text.iter().all(|byte| (b'!'..=b'~').contains(byte))

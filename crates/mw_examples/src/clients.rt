@@ -15,18 +15,37 @@ const LOOKS: u32 = 1000;
 
 const PAUSE: u64 = 10;
 
-/// What a server writes, whose port stands at 0 until the server has said that it is ready.
+/// The ports that a server tells, each 0 until it has told it.
+#[derive(Drop)]
+pub struct Ports {
+    /// Where the administrator comes.
+    pub admin: AtomicU16,
+    /// Where clients come. It is told last.
+    pub ready: AtomicU16,
+}
+
+impl Ports {
+    /// Of a server that has told none.
+    pub fn new() -> Self {
+        Ports {
+            admin: AtomicU16::new(0),
+            ready: AtomicU16::new(0),
+        }
+    }
+}
+
+/// What a server writes that tells its ports.
 #[derive(Drop)]
 pub struct Notice<'a> {
     text: Vec<u8>,
-    port: &'a AtomicU16,
+    ports: &'a Ports,
 }
 
 impl<'a> Notice<'a> {
-    pub fn new(alloc: Global, port: &'a AtomicU16) -> Self {
+    pub fn new(alloc: Global, ports: &'a Ports) -> Self {
         Notice {
             text: Vec::new(alloc),
-            port,
+            ports,
         }
     }
 }
@@ -37,20 +56,19 @@ impl Write for Notice<'_> {
     }
 
     fn flush(&mut self) -> io::Result<()> {
-        if let Some(port) = port_in(&self.text) {
-            self.port.store(port, Ordering::SeqCst);
-        }
+        let admin = port_in(&self.text, "admin ").unwrap_or(0);
+        let ready = port_in(&self.text, "ready ").unwrap_or(0);
+        self.ports.admin.store(admin, Ordering::SeqCst);
+        self.ports.ready.store(ready, Ordering::SeqCst);
         Ok(())
     }
 }
 
-/// The port that the line `ready PORT` tells.
-fn port_in(text: &[u8]) -> Option<u16> {
-    let line = str::from_utf8(text).ok()?;
-    line.strip_prefix("ready ")?
-        .strip_suffix("\n")?
-        .parse()
-        .ok()
+/// The port that a line tells behind this word.
+fn port_in(text: &[u8], word: &str) -> Option<u16> {
+    let (_, told) = str::from_utf8(text).ok()?.split_once(word)?;
+    let (port, _) = told.split_once('\n')?;
+    port.parse().ok()
 }
 
 /// The server's port, once the server is ready.

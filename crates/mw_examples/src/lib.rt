@@ -4,6 +4,10 @@
 #[cfg(test)]
 mod clients;
 #[cfg(test)]
+mod folders;
+#[cfg(test)]
 mod locks;
+#[cfg(test)]
+mod stories;
 #[cfg(test)]
 mod tests;

@@ -1,7 +1,8 @@
 -- Files that fit their tenants' lines, one after the other.
-use Rattle.std.proofs.Common.{◌≡◌, ℕ, zero, suc, ◌+◌, List, [], ◌∷◌, ◌++◌, Option, Some, Vec, take, slice_get, get_or, length, All, ◌<◌, ◌∙◌, ap, subst, sym, arith}
+use Rattle.std.proofs.Common.{◌≡◌, ℕ, zero, suc, ◌+◌, List, [], ◌∷◌, ◌++◌, Option, Some, Vec, take, slice_get, get_or, length, All, ◌<◌, ◌∙◌, ap, subst, sym, refl, arith}
 use Rattle.std.specs.declared.alloc.Global.{Global}
 use Rattle.std.proofs.lemmas.Option.{none-some, same_Some, slice_get-get_or}
+use Rattle.std.proofs.lemmas.List.{length-take}
 use Rattle.std.proofs.lemmas.List.Elements.{All-get_or}
 use Rattle.mw_config.specs.declared.lines.TenantLine.{TenantLine}
 use Rattle.mw_file.specs.declared.tenant_file.TenantFile.{TenantFile}
@@ -28,3 +29,17 @@ fit_next lines k line files file lt is each fits so_far =
     let more : FitLines (take (suc k) lines) (files ++ file ∷ []) = fit_more lines k line files file at within fits so_far in
     let next : suc k ≡ k + 1 = omega arith in
     subst (λ (n : ℕ). FitLines (take n lines) (files ++ file ∷ [])) next more
+
+-- as many files as lines
+pub as_many : {D : Type 0} (lines : List TenantLine) (files : List (Option (TenantFile D × Vec ℕ Global))) → FitLines lines files → length files ≡ length lines
+as_many [] [] fits = refl
+as_many [] (f ∷ files) fits = absurd fits
+as_many (l ∷ lines) [] fits = absurd fits
+as_many (l ∷ lines) (f ∷ files) fits = ap suc (as_many lines files fits.2)
+
+-- files for the first so many lines are so many
+pub so_many : {D : Type 0} (lines : List TenantLine) (k : ℕ) (files : List (Option (TenantFile D × Vec ℕ Global))) → k < length lines → FitLines (take k lines) files → length files ≡ k
+so_many lines k files low fits =
+    let many = as_many (take k lines) files fits in
+    let long = length-take k lines in
+    omega (arith, many, long, low)

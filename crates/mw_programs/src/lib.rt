@@ -1,11 +1,14 @@
 //! The programs of the server: `mwinit` makes a tenant's file, and `mwserve` serves tenants' words.
 #![tactic(auto)]
 
+mod clients;
 mod making;
 mod notes;
 mod opening;
 mod served;
 mod serving;
+mod tenants;
+mod watched_file;
 mod worker;
 
 pub use making::init;

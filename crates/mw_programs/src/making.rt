@@ -4,6 +4,7 @@ ghost use Rattle.mw_words.specs.declared.limits.TheConstants.{MAX_WORDS, MAX_PLA
 
 use clap::error::ErrorKind;
 use clap::{Arg, Command, value_parser};
+use mw_config::VERSION;
 use mw_record::{header, size};
 use mw_words::{MAX_PLACES, MAX_WORDS};
 use std::alloc::Global;
@@ -16,7 +17,7 @@ use thiserror::Error;
 /// Why no file was made.
 #[derive(Debug, Drop, Error)]
 enum InitFault {
-    /// The command line is wrong, or asks for help.
+    /// The command line is wrong, or asks for the help or the version.
     #[error("{0}")]
     Args(clap::Error),
     /// The file is there already, a call of the system failed, or memory was refused.
@@ -125,6 +126,7 @@ fn command<'a>(alloc: Global) -> Result<Command<'a>, clap::Error> {
         .help("how many changes it can hold at a time")
         .value_parser(value_parser!(u16).range(1..=i64::from(MAX_PLACES)));
     let command = Command::new(alloc, "mwinit")
+        .version(VERSION)
         .about("Makes a file of words, all 0.")
         .arg(path)?
         .arg(words)?

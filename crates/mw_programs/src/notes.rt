@@ -1,34 +1,43 @@
-//! Notes on tenants, for whoever runs the server.
+//! Notes for whoever runs the server.
 
 use log::kv::Source;
 use log::span::Spans;
-use log::{Log, Metadata, Record};
-use std::cell::RefCell;
+use log::{Level, Log, Metadata, Record};
 use std::fmt::Display;
 use std::io::Write;
+use std::sync::{Mutex, Wait};
 
-/// A sink that writes each note on a line of its own, and nothing but the note.
+/// A sink that writes each note on a line of its own, and nothing but the note. Many threads may write
+/// notes to it.
+///
+/// A warning is written in any case, and what is said more, at [`Level::Info`], only where it is to be
+/// verbose.
 #[derive(Drop)]
-pub struct Notes<'a, W> {
-    out: RefCell<&'a mut W>,
+pub struct Notes<'a, W, R> {
+    rt: &'a R,
+    out: Mutex<&'a mut W>,
+    verbose: bool,
 }
 
-impl<'a, W: Write> Notes<'a, W> {
+impl<'a, W: Write, R: Wait> Notes<'a, W, R> {
     /// A sink over a writer.
-    pub fn new(out: &'a mut W) -> Self {
+    pub fn new(rt: &'a R, out: &'a mut W, verbose: bool) -> Self {
         Notes {
-            out: RefCell::new(out),
+            rt,
+            out: Mutex::new(out),
+            verbose,
         }
     }
 }
 
-impl<W: Write> Log for Notes<'_, W> {
-    fn enabled(&self, _metadata: &Metadata<'_>) -> bool {
-        true
+impl<W: Write, R: Wait> Log for Notes<'_, W, R> {
+    fn enabled(&self, metadata: &Metadata<'_>) -> bool {
+        self.verbose || matches!(metadata.level(), Level::Error | Level::Warn)
     }
 
     fn log<D: Display, K: Source, S: Spans>(&self, record: &Record<'_, D, K, S>) {
-        if let Ok(mut out) = self.out.try_borrow_mut() {
+        if self.enabled(record.metadata()) {
+            let mut out = self.out.lock(self.rt);
             let _ = writeln!(out, "{}", record.args());
         }
     }

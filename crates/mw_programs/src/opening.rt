@@ -1,12 +1,15 @@
 //! What a server opens before it serves: the tenants file and the tenants' own files.
-ghost use Rattle.std.specs.Prelude.{◌≡◌, length, IfOk, All, Some};
+ghost use Rattle.std.specs.Prelude.{◌≡◌, ◌≤◌, length, is_some, IfOk, All, Some};
+ghost use Rattle.std.specs.List.{list_all};
 ghost use Rattle.mw_config.specs.Limits.{ArePermitted};
+ghost use Rattle.mw_words.specs.declared.limits.TheConstants.{MAX_TENANTS};
 ghost use Rattle.mw_plain.specs.Lines.{IsWithin, FitsLine, FitLines};
 
+use crate::watched_file::{LastError, LastErrors, WatchedFile};
 use arrayvec::ArrayVec;
-use log::{Log, warn};
-use mw_config::{Refusal, TenantLine, read_tenants};
-use mw_disk::{Disk, DiskFault, FileDisk};
+use log::{Log, info, warn};
+use mw_config::{FormRule, Refusal, TenantLine, broken_rule, read_tenants};
+use mw_disk::{Disk, FileDisk};
 use mw_file::{OpenFault, TenantFile};
 use mw_words::{MAX_TENANTS, MAX_TENANTS_FILE};
 use std::alloc::{AllocError, Global};
@@ -21,6 +24,54 @@ const TENANTS_ROOM: usize = 8193;
 
 const _: () = prove!(TENANTS_ROOM == MAX_TENANTS_FILE + 1);
 
+/// Why a tenants file is refused.
+#[derive(Debug, Drop)]
+pub struct TenantsFault {
+    pub refusal: Refusal,
+    pub cause: Cause,
+}
+
+/// What more is known of why a tenants file is refused.
+#[derive(Debug, Drop)]
+pub enum Cause {
+    /// What the system told when it was read.
+    System(io::Error),
+    /// It has more than [`MAX_TENANTS_FILE`] bytes.
+    Size,
+    /// The line of this number breaks this rule of the form.
+    Form(u16, FormRule),
+    /// Nothing.
+    Unknown,
+}
+
+impl Cause {
+    /// Of a text that is refused so.
+    fn of_text(refusal: Refusal, text: &[u8]) -> Self {
+        let Refusal::Form(number) = refusal else {
+            return Cause::Unknown;
+        };
+        let mut lines = text.split_inclusive(|byte| *byte == b'\n');
+        let line = lines.nth(usize::from(number).saturating_sub(1));
+        match line.and_then(|line| broken_rule(line)) {
+            Some(rule) => Cause::Form(number, rule),
+            None => Cause::Unknown,
+        }
+    }
+
+    /// Tells it of the tenants file at this path.
+    pub fn tell<L: Log>(&self, notes: &L, path: &str) {
+        match self {
+            Cause::System(error) => info!(notes; "{path}: {error}"),
+            Cause::Size => info!(notes; "{path}: more than {MAX_TENANTS_FILE} bytes"),
+            Cause::Form(number, rule) => {
+                let how = rule.broken();
+                info!(notes; "{path}: line {number} {how}")
+            }
+            Cause::Unknown => info!(notes; "{path}"),
+        }
+    }
+}
+
 /// The tenants that the file at a path tells, whose quotas share a pool of so many slots.
 ///
 /// # Errors
@@ -30,14 +81,21 @@ pub fn read_tenants_file<R: Files>(
     rt: &R,
     path: &str,
     pool: u16,
-) -> Result<ArrayVec<TenantLine, MAX_TENANTS>, Refusal>
+) -> Result<ArrayVec<TenantLine, MAX_TENANTS>, TenantsFault>
     ensures { IfOk result (λ lines. ArePermitted pool lines.items) }
 {
     let mut room = [0; TENANTS_ROOM];
-    match File::open(rt, path).and_then(|mut file| fill(&mut file, &mut room)) {
-        Ok(count) if count <= MAX_TENANTS_FILE => read_tenants(&room[..count], pool),
-        _ => Err(Refusal::File),
-    }
+    let (refusal, cause) = match File::open(rt, path).and_then(|mut file| fill(
+        &mut file, &mut room,
+    )) {
+        Ok(count) if count <= MAX_TENANTS_FILE => match read_tenants(&room[..count], pool) {
+            Ok(lines) => return Ok(lines),
+            Err(refusal) => (refusal, Cause::of_text(refusal, &room[..count])),
+        },
+        Ok(_) => (Refusal::File, Cause::Size),
+        Err(error) => (Refusal::File, Cause::System(error)),
+    };
+    Err(TenantsFault { refusal, cause })
 }
 
 /// Reads until the end, or until the room is full. Gives how many bytes it has read.
@@ -60,16 +118,16 @@ fn fill<F: Read>(file: &mut F, room: &mut [u8]) -> io::Result<usize> {
 /// Why a tenant's file isn't served, as a note tells it.
 #[derive(Debug, Drop, Error)]
 enum FileFault {
-    /// The file can't be opened or locked, or a call on it failed.
+    /// The file can't be opened or locked, or a call on it failed, and what the system told of it.
     #[error("disk")]
-    Disk,
+    Disk(Option<io::Error>),
     /// Another opening of the file holds its lock: of a second server, of `mwinit`, or of this server
     /// for an earlier tenant.
     #[error("in use")]
     InUse,
-    /// The file isn't as the tenants file says it.
+    /// The file isn't as the tenants file says it, but has so many words and places.
     #[error("misfit")]
-    Misfit,
+    Misfit(usize, u16),
     /// The file's bytes are damaged, and this is the damage's number.
     #[error("damage {0}")]
     Damage(u8),
@@ -78,18 +136,23 @@ enum FileFault {
     Memory,
 }
 
-impl From<DiskFault> for FileFault {
-    fn from(_: DiskFault) -> Self {
-        FileFault::Disk
-    }
-}
-
-impl From<OpenFault> for FileFault {
-    fn from(fault: OpenFault) -> Self {
+impl FileFault {
+    /// The fault of an opening, before which, or in which, the system told this.
+    fn of_opening(fault: OpenFault, last: &LastError) -> Self {
         match fault {
             OpenFault::Memory => FileFault::Memory,
-            OpenFault::Disk => FileFault::Disk,
+            OpenFault::Disk => FileFault::Disk(last.error()),
             OpenFault::Damage(damage) => FileFault::Damage(damage.number()),
+        }
+    }
+
+    /// Tells more of it: which file it is, and what the system told, or what the file has.
+    fn tell_more<L: Log>(&self, notes: &L, path: &str) {
+        match self {
+            FileFault::Disk(Some(error)) => info!(notes; "{path}: {error}"),
+            FileFault::Misfit(words, places) =>
+                info!(notes; "{path}: {words} words, {places} places"),
+            _ => info!(notes; "{path}"),
         }
     }
 }
@@ -99,24 +162,33 @@ impl From<OpenFault> for FileFault {
 /// # Errors
 ///
 /// Memory was refused.
-pub fn open_files<R: Files<File = File> + AllocGlobal, L: Log>(
+pub fn open_files<'a, R: Files<File = File> + AllocGlobal, L: Log>(
     rt: &R,
     notes: &L,
     lines: &[TenantLine],
-) -> Result<Vec<Option<Opened>>, AllocError>
-    requires { All IsWithin lines.now }
+    errors: &'a LastErrors,
+) -> Result<Vec<Option<Opened<'a>>>, AllocError>
+    requires few { length lines.now ≤ MAX_TENANTS }
+    requires within { All IsWithin lines.now }
     ensures { IfOk result (λ files. FitLines lines.now files.items) }
 {
     let mut files = Vec::with_capacity(rt.alloc(), lines.len())?;
     for line in lines {
-        let file = open_file(rt, notes, line)?;
+        let file = open_file(rt, notes, line, errors.of(files.len()))?;
         files.push(file)?;
     }
     Ok(files)
 }
 
+/// Whether each tenant's file has opened.
+pub fn are_all_open(files: &[Option<Opened<'_>>]) -> bool
+    ensures { result ≡ list_all (λ file. is_some file) files.now }
+{
+    files.iter().all(|file| file.is_some())
+}
+
 /// A tenant's file with the words that it was opened with.
-pub type Opened = (TenantFile<FileDisk<File>>, Vec<u64>);
+pub type Opened<'a> = (TenantFile<FileDisk<WatchedFile<'a>>>, Vec<u64>);
 
 /// The file of a tenant. None, and a note, where it doesn't open, is in use or isn't as the tenants file
 /// says; then every request of the tenant is answered FAULT.
@@ -124,19 +196,21 @@ pub type Opened = (TenantFile<FileDisk<File>>, Vec<u64>);
 /// # Errors
 ///
 /// Memory was refused.
-pub fn open_file<R: Files<File = File> + AllocGlobal, L: Log>(
+pub fn open_file<'a, R: Files<File = File> + AllocGlobal, L: Log>(
     rt: &R,
     notes: &L,
     line: &TenantLine,
-) -> Result<Option<Opened>, AllocError>
+    last: &'a LastError,
+) -> Result<Option<Opened<'a>>, AllocError>
     ensures { IfOk result (λ file. FitsLine line.now file) }
 {
-    match open_fitting(rt, line) {
+    match open_fitting(rt, line, last) {
         Ok(opened) => Ok(Some(opened)),
         Err(FileFault::Memory) => Err(AllocError),
         Err(fault) => {
             let name = str::from_utf8(&line.name).unwrap_or("?");
             warn!(notes; "tenant {name}: {fault}");
+            fault.tell_more(notes, line.path.as_str());
             Ok(None)
         }
     }
@@ -150,22 +224,26 @@ pub fn open_file<R: Files<File = File> + AllocGlobal, L: Log>(
 /// # Errors
 ///
 /// As [`FileFault`] tells. The file is closed, and its lock with it.
-fn open_fitting<R: Files<File = File> + AllocGlobal>(
+fn open_fitting<'a, R: Files<File = File> + AllocGlobal>(
     rt: &R,
     line: &TenantLine,
-) -> Result<Opened, FileFault>
+    last: &'a LastError,
+) -> Result<Opened<'a>, FileFault>
     ensures { IfOk result (λ opened. FitsLine line.now (Some opened)) }
 {
-    let mut disk = FileDisk::new(open_locked(rt, line.path.as_str())?);
-    disk.sync()?;
+    let file = open_locked(rt, line.path.as_str())?;
+    let mut disk = FileDisk::new(WatchedFile::new(file, last));
+    if disk.sync().is_err() {
+        return Err(FileFault::Disk(last.error()));
+    }
     match TenantFile::open(rt.alloc(), disk) {
         Ok((file, words)) => {
             if words.len() != line.words as usize || file.places() < u16::from(line.quota) {
-                return Err(FileFault::Misfit);
+                return Err(FileFault::Misfit(words.len(), file.places()));
             }
             Ok((file, words))
         }
-        Err((fault, _)) => Err(FileFault::from(fault)),
+        Err((fault, _)) => Err(FileFault::of_opening(fault, last)),
     }
 }
 
@@ -179,12 +257,13 @@ fn open_fitting<R: Files<File = File> + AllocGlobal>(
 fn open_locked<R: Files<File = File>>(rt: &R, path: &str) -> Result<File, FileFault> {
     let mut options = OpenOptions::new();
     options.read(true).write(true);
-    let Ok(file) = options.open(rt, path) else {
-        return Err(FileFault::Disk);
+    let file = match options.open(rt, path) {
+        Ok(file) => file,
+        Err(error) => return Err(FileFault::Disk(Some(error))),
     };
     match file.try_lock() {
         Ok(()) => Ok(file),
         Err(TryLockError::WouldBlock) => Err(FileFault::InUse),
-        Err(TryLockError::Error(_)) => Err(FileFault::Disk),
+        Err(TryLockError::Error(error)) => Err(FileFault::Disk(Some(error))),
     }
 }

@@ -1,4 +1,5 @@
 //! What a session asks of a worker: the engine answers, with the worker's pass.
+use crate::tenants::FaultWatch;
 use crate::worker::Worker;
 use mw_disk::Disk;
 use mw_engine::{Engine, EngineBrand, Hold};
@@ -7,7 +8,8 @@ use mw_session::Service;
 use mw_words::{Job, Name, Reply};
 use std::sync::Wait;
 
-impl<J: EngineBrand, D: Disk + Drop, H: Hold + Drop, R: Wait> Service for Worker<'_, J, D, H, R> {
+impl<J: EngineBrand, D: Disk + Drop, H: Hold + Drop, R: Wait, T: FaultWatch> Service
+    for Worker<'_, J, D, H, R, T> {
     ghost use Rattle.std.specs.Prelude.{false, None, []};
     ghost use Rattle.mw_engine.specs.Identity.{HasWords};
 
@@ -24,7 +26,11 @@ impl<J: EngineBrand, D: Disk + Drop, H: Hold + Drop, R: Wait> Service for Worker
     }
 
     fn ask(&mut self, tenant: u8, job: &Job) -> Reply {
-        self.engine.serve(self.rt, &mut self.pass, tenant, job)
+        let reply = self.engine.serve(self.rt, &mut self.pass, tenant, job);
+        if let Reply::Fault = reply {
+            self.watch.fault(tenant);
+        }
+        reply
     }
 
     fn figures(&mut self) -> Figures {

@@ -1,45 +1,48 @@
 //! `mwserve`: serves tenants' words.
 ghost use Rattle.std.specs.Prelude.{◌≡◌, ◌<◌, All, IfOk, vec_len};
+ghost use Rattle.mw_config.specs.CommandLine.{ArePermittedArgs};
 ghost use Rattle.mw_engine.specs.Passes.{IsIdle};
 ghost use Rattle.mw_engine.specs.Starting.{identity_of};
 
+use crate::clients::serve_clients;
 use crate::notes::Notes;
-use crate::opening::{open_files, read_tenants_file};
+use crate::opening::{Cause, TenantsFault, are_all_open, open_files, read_tenants_file};
+use crate::tenants::{FaultWatch, TenantNotes};
+use crate::watched_file::{LastErrors, WatchedFile};
 use crate::worker::Worker;
-use mw_config::{ArgFault, Mode, Refusal, read_args};
+use log::{Log, info, warn};
+use mw_config::{ArgFault, Args, Mode, Refusal, read_args};
 use mw_disk::FileDisk;
 use mw_engine::{Engine, EngineBrand, EngineParts, NoHold, Pass};
 use mw_session::{Ended, Session};
-use mw_workers::{ServeEnd, listen_at, port_of, serve_all};
 use std::alloc::AllocError;
 use std::fs::File;
+use std::io;
 use std::io::Write;
 use std::marker::Brand;
 use std::net::{Net, TcpListener, TcpStream};
 use std::rt::Files;
 use std::sync::Wait;
 use std::thread::Threads;
+use std::time::Clock;
 use thiserror::Error;
 
 /// Why nothing was served.
 #[derive(Debug, Drop, Error)]
-enum ServeFault {
-    /// The command line is wrong, or asks for help.
+pub(crate) enum ServeFault<'a> {
+    /// The tenants file is refused, and what more is known of it.
     #[error("{0}")]
-    Args(clap::Error),
-    /// The command line doesn't say just one of where to listen and which script to run.
-    #[error("mwserve: refused 1 command")]
-    Mode,
-    /// The tenants file is refused.
-    #[error("{0}")]
-    Refused(Refusal),
-    /// The script can't be opened.
+    Refused(Refusal, Cause),
+    /// A tenant's file didn't open, and none is served without all. Notes tell which.
+    #[error("")]
+    NotAll,
+    /// The script with this path can't be opened.
     #[error("mwserve: cannot read")]
-    CannotRead,
-    /// There is no listening at the address.
+    CannotRead(&'a str, io::Error),
+    /// There is no listening at this address.
     #[error("mwserve: cannot listen")]
-    CannotListen,
-    /// The session ended by a fault, of which nothing is said.
+    CannotListen(&'a str, io::Error),
+    /// The session ended by a fault, or it couldn't be told that the server is ready. Nothing is said.
     #[error("")]
     Ended,
     /// Memory was refused before the first session.
@@ -47,123 +50,171 @@ enum ServeFault {
     Memory,
 }
 
-impl ServeFault {
+impl ServeFault<'_> {
     /// The exit status that tells it.
     fn status(&self) -> u8 {
         match self {
-            ServeFault::Args(_) | ServeFault::Mode | ServeFault::Refused(_) => 2,
-            ServeFault::CannotRead
-            | ServeFault::CannotListen
+            ServeFault::Refused(..) => 2,
+            ServeFault::NotAll
+            | ServeFault::CannotRead(..)
+            | ServeFault::CannotListen(..)
             | ServeFault::Ended
             | ServeFault::Memory => 1,
         }
     }
+
+    /// Tells it, and what more is known of it. The tenants file has this path.
+    fn tell<L: Log>(&self, notes: &L, tenants: &str) {
+        if let ServeFault::NotAll | ServeFault::Ended = self {
+            return;
+        }
+        warn!(notes; "{self}");
+        match self {
+            ServeFault::Refused(_, cause) => cause.tell(notes, tenants),
+            ServeFault::CannotRead(place, error) | ServeFault::CannotListen(place, error) => {
+                info!(notes; "{place}: {error}")
+            }
+            _ => {}
+        }
+    }
 }
 
-impl From<AllocError> for ServeFault {
+impl From<AllocError> for ServeFault<'_> {
     fn from(_: AllocError) -> Self {
         ServeFault::Memory
     }
 }
 
-impl From<Refusal> for ServeFault {
-    fn from(refusal: Refusal) -> Self {
-        ServeFault::Refused(refusal)
-    }
-}
-
-impl From<ArgFault> for ServeFault {
-    fn from(fault: ArgFault) -> Self {
-        match fault {
-            ArgFault::Refused(fault) => ServeFault::Args(fault),
-            ArgFault::Mode => ServeFault::Mode,
-            ArgFault::Memory => ServeFault::Memory,
-        }
+impl From<TenantsFault> for ServeFault<'_> {
+    fn from(fault: TenantsFault) -> Self {
+        ServeFault::Refused(fault.refusal, fault.cause)
     }
 }
 
 /// Serves as the command line `args`, the program's own name first, asks for:
-/// `mwserve --tenants FILE [--pool P] [--workers N]` with either `--script FILE`, which runs one session
-/// from the script to `out`, or `--listen ADDR [--connections C]`, which writes `ready PORT` to `out`
-/// and serves clients by N workers, until C connections are served.
+/// `mwserve --tenants FILE [--pool P] [--workers N] [--strict] [--verbose]` with either `--script FILE`,
+/// which runs one session from the script to `out`, or
+/// `--listen ADDR [--admin ADDR] [--connections C] [--idle SECONDS]`, which writes `ready PORT` to `out`
+/// and serves clients by N workers, until C connections are served. With `--admin` there is one worker
+/// more, for the clients who come there, and `admin PORT` is written before.
 ///
 /// Gives the exit status: 0 where the session ended by `QUIT`, with the script or at a line that was
-/// too long, or all connections were served; 1 where it ended otherwise, the script could not be
-/// opened, nobody can listen there or memory was refused; 2 for a wrong command line or tenants file.
-/// What went wrong before the first session, and a note on each tenant whose file doesn't open or is in
-/// use, is written to `err`. The files stay locked until it returns.
-pub fn serve<R, O: Write, E: Write>(rt: &R, args: &[String], out: &mut O, err: &mut E) -> u8
+/// too long, or all connections were served; 1 where it ended otherwise, a tenant's file didn't open and
+/// `--strict` was given, the script could not be opened, nobody can listen there or memory was refused;
+/// 2 for a wrong command line or tenants file.
+/// What went wrong before the first session, a note on each tenant whose file doesn't open, is in use or
+/// fails, and that there is no room for connections, is written to `err`. The files stay locked until it
+/// returns.
+pub fn serve<R, O: Write, E: Write + Send>(rt: &R, args: &[String], out: &mut O, err: &mut E) -> u8
 where
     R: Files<File = File>
         + AllocGlobal
         + Net<Listener = TcpListener, Stream = TcpStream>
         + Threads
         + Wait
+        + Clock
         + Sync,
 {
-    match serve_args(rt, args, out, err) {
+    let args = match read_args(rt.alloc(), args) {
+        Ok(args) => args,
+        Err(fault) => return refuse(&fault, out, err),
+    };
+    let notes = Notes::new(rt, err, args.verbose);
+    match serve_args(rt, &args, out, &notes) {
         Ok(()) => 0,
-        Err(ServeFault::Args(fault)) if !fault.use_stderr() => {
-            u8::from(write!(out, "{fault}").is_err())
+        Err(fault) => {
+            fault.tell(&notes, args.tenants.as_str());
+            fault.status()
         }
-        Err(fault) => tell(&fault, err),
     }
 }
 
-fn tell<E: Write>(fault: &ServeFault, err: &mut E) -> u8 {
-    let _ = match fault {
+/// Tells why a command line isn't served, or what it asks to be told. Gives the exit status.
+fn refuse<O: Write, E: Write>(fault: &ArgFault, out: &mut O, err: &mut E) -> u8 {
+    match fault {
         // The text that clap makes ends with a line feed.
-        ServeFault::Args(fault) => write!(err, "{fault}"),
-        ServeFault::Ended => Ok(()),
-        _ => writeln!(err, "{fault}"),
-    };
-    fault.status()
+        ArgFault::Refused(text) if !text.use_stderr() => {
+            u8::from(write!(out, "{fault}").is_err())
+        }
+        ArgFault::Refused(_) => {
+            let _ = write!(err, "{fault}");
+            2
+        }
+        ArgFault::Mode => {
+            let _ = writeln!(err, "{fault}");
+            2
+        }
+        ArgFault::Memory => {
+            let _ = writeln!(err, "{fault}");
+            1
+        }
+    }
 }
 
-/// Faults are looked for in this order: the command line, the tenants file, the tenants' files, of
-/// which notes tell, and the script or the listener.
-fn serve_args<R, O: Write, E: Write>(
-    rt: &R,
-    args: &[String],
+/// Faults are looked for in this order: the tenants file, the tenants' files, of which notes tell, and
+/// the script or the listeners.
+fn serve_args<'e, 'a, R, O: Write, L: Log + Sync>(
+    rt: &'e R,
+    args: &'a Args,
     out: &mut O,
-    err: &mut E,
-) -> Result<(), ServeFault>
+    notes: &'e L,
+) -> Result<(), ServeFault<'a>>
 where
     R: Files<File = File>
         + AllocGlobal
         + Net<Listener = TcpListener, Stream = TcpStream>
         + Threads
         + Wait
+        + Clock
         + Sync,
+    requires { ArePermittedArgs args.now }
 {
-    let args = read_args(rt.alloc(), args)?;
     let lines = read_tenants_file(rt, args.tenants.as_str(), args.pool)?;
-    let files = open_files(rt, &Notes::new(err), &lines)?;
+    let errors = LastErrors::new();
+    let files = open_files(rt, notes, &lines, &errors)?;
+    if args.strict && !are_all_open(&files) {
+        return Err(ServeFault::NotAll);
+    }
+    let watch = TenantNotes::new(rt, notes, &lines, &errors, &files);
     let (parts, passes) = EngineParts::new(
         rt.alloc(),
         &lines,
         files,
         args.pool,
-        args.workers,
+        workers_of(args),
         NoHold,
     )?;
-    serve_engine::<Brand, _, _>(rt, parts, passes, &args.mode, out)
+    serve_engine::<Brand, _, _, _, _>(rt, parts, passes, &args.mode, out, notes, &watch)
+}
+
+/// How many workers there are, with that of the administrator's listener.
+fn workers_of(args: &Args) -> u8
+    requires { 0 < args.now.workers }
+    ensures { 0 < result }
+{
+    match &args.mode {
+        Mode::Listen(listening) if listening.admin.is_some() => args.workers.saturating_add(1),
+        _ => args.workers,
+    }
 }
 
 /// Starts the engine, and serves what the command line asks for.
-fn serve_engine<J: EngineBrand + Send + Sync, R, O: Write>(
+fn serve_engine<'a, J: EngineBrand + Send + Sync, R, O: Write, L: Log + Sync, T: FaultWatch + Sync>(
     rt: &R,
-    parts: EngineParts<FileDisk<File>, NoHold>,
+    parts: EngineParts<FileDisk<WatchedFile<'_>>, NoHold>,
     passes: Vec<Pass>,
-    mode: &Mode,
+    mode: &'a Mode,
     out: &mut O,
-) -> Result<(), ServeFault>
+    notes: &L,
+    watch: &T,
+) -> Result<(), ServeFault<'a>>
 where
     R: Files<File = File>
         + AllocGlobal
         + Net<Listener = TcpListener, Stream = TcpStream>
         + Threads
         + Wait
+        + Clock
         + Sync,
     requires identity { identity_of parts ≡ J.identity }
     requires idle { All IsIdle passes.items }
@@ -171,73 +222,37 @@ where
 {
     let engine = parts.into_engine::<J>();
     match mode {
-        Mode::Script(path) => run_script(rt, &engine, passes, path.as_str(), out),
-        Mode::Listen(address, connections) => {
-            serve_clients(rt, &engine, passes, address.as_str(), *connections, out)
+        Mode::Script(path) => run_script(rt, &engine, passes, path.as_str(), out, watch),
+        Mode::Listen(listening) => {
+            serve_clients(rt, &engine, passes, listening, out, notes, watch)
         }
     }
 }
 
 /// Runs one session, from the script to `out`, by the first worker.
-fn run_script<J: EngineBrand, R: Files<File = File> + AllocGlobal + Wait, O: Write>(
-    rt: &R,
-    engine: &Engine<J, FileDisk<File>, NoHold>,
+fn run_script<'e, 'a, J: EngineBrand, R, O: Write, T: FaultWatch>(
+    rt: &'e R,
+    engine: &'e Engine<J, FileDisk<WatchedFile<'_>>, NoHold>,
     passes: Vec<Pass>,
-    path: &str,
+    path: &'a str,
     out: &mut O,
-) -> Result<(), ServeFault>
+    watch: &'e T,
+) -> Result<(), ServeFault<'a>>
+where
+    R: Files<File = File> + AllocGlobal + Wait,
     requires idle { All IsIdle passes.items }
     requires some { 0 < vec_len passes }
 {
-    let Ok(mut script) = File::open(rt, path) else {
-        return Err(ServeFault::CannotRead);
+    let mut script = match File::open(rt, path) {
+        Ok(script) => script,
+        Err(error) => return Err(ServeFault::CannotRead(path, error)),
     };
     let Some(pass) = passes.into_iter().next() else {
         return Err(ServeFault::Memory);
     };
-    let mut worker = Worker::new(engine, pass, rt);
+    let mut worker = Worker::new(engine, pass, rt, watch);
     match Session::run(rt.alloc(), rt, &mut script, out, &mut worker) {
         Ended::Quit | Ended::PeerEnd | Ended::TooLong => Ok(()),
         Ended::ReadFault | Ended::WriteFault(_) | Ended::Memory => Err(ServeFault::Ended),
-    }
-}
-
-/// Tells on `out` at which port it listens, and serves clients by a worker for each pass.
-fn serve_clients<J: EngineBrand + Send + Sync, R, O: Write>(
-    rt: &R,
-    engine: &Engine<J, FileDisk<File>, NoHold>,
-    passes: Vec<Pass>,
-    address: &str,
-    connections: Option<u32>,
-    out: &mut O,
-) -> Result<(), ServeFault>
-where
-    R: Files<File = File>
-        + AllocGlobal
-        + Net<Listener = TcpListener, Stream = TcpStream>
-        + Threads
-        + Wait
-        + Sync,
-    requires idle { All IsIdle passes.items }
-    requires some { 0 < vec_len passes }
-{
-    let mut workers = Vec::with_capacity(rt.alloc(), passes.len())?;
-    for pass in passes {
-        if workers.push(Worker::new(engine, pass, rt)).is_err() {
-            return Err(ServeFault::Memory);
-        }
-    }
-    let Ok(listener) = listen_at(rt, address) else {
-        return Err(ServeFault::CannotListen);
-    };
-    let Ok(port) = port_of(&listener) else {
-        return Err(ServeFault::CannotListen);
-    };
-    if writeln!(out, "ready {port}").is_err() || out.flush().is_err() {
-        return Err(ServeFault::Ended);
-    }
-    match serve_all(rt, rt.alloc(), listener, workers, connections) {
-        (ServeEnd::Served, _) => Ok(()),
-        (ServeEnd::Memory, _) => Err(ServeFault::Memory),
     }
 }

@@ -5,18 +5,24 @@ use mw_engine::{Engine, EngineBrand, Pass};
 
 /// A worker of an engine, with its pass.
 #[derive(Drop)]
-pub struct Worker<'a, J: EngineBrand, D, H, R> {
+pub struct Worker<'a, J: EngineBrand, D, H, R, T> {
     pub(crate) engine: &'a Engine<J, D, H>,
     pub(crate) pass: Pass,
     pub(crate) rt: &'a R,
+    pub(crate) watch: &'a T,
     ghost idle: { IsIdle pass },
 }
 
-impl<'a, J: EngineBrand, D, H, R> Worker<'a, J, D, H, R> {
-    /// A worker with this pass.
-    pub fn new(engine: &'a Engine<J, D, H>, pass: Pass, rt: &'a R) -> Self
+impl<'a, J: EngineBrand, D, H, R, T> Worker<'a, J, D, H, R, T> {
+    /// A worker with this pass, which tells the watch of each request that is answered FAULT.
+    pub fn new(engine: &'a Engine<J, D, H>, pass: Pass, rt: &'a R, watch: &'a T) -> Self
         requires { IsIdle pass }
     {
-        Worker { engine, pass, rt }
+        Worker {
+            engine,
+            pass,
+            rt,
+            watch,
+        }
     }
 }

@@ -183,13 +183,32 @@ fn two_workers(rt: HostRuntime) -> Result<(), Fail> {
         replies: &replies,
         others: &others,
     };
-    let (parts, mut passes) = two_tenants(rt.alloc(), 2, met)?;
-    let last = passes.pop().ok_or("there are two passes")?;
-    let first = passes.pop().ok_or("there are two passes")?;
-    served_by_two::<Brand, _>(&rt, parts, first, last)?;
-    assert_eq!(rt; replies.load(Ordering::SeqCst), 200);
-    assert_eq!(rt; others.load(Ordering::SeqCst), 0);
+    let (parts, passes) = two_tenants(rt.alloc(), 2, met)?;
+    let right = served_by_both(&rt, parts, passes);
+    let counted = (
+        replies.load(Ordering::SeqCst),
+        others.load(Ordering::SeqCst),
+    );
+    assert!(rt; right && counted == (200, 0), "{counted:?}");
     Ok(())
+}
+
+/// Two workers serve at the same time. True if there are so many, and all is answered.
+fn served_by_both<R: Threads + Wait + Sync>(
+    rt: &R,
+    parts: EngineParts<MemDisk, Met<'_, R>>,
+    passes: Vec<Pass>,
+) -> bool
+    requires { All IsIdle passes.items }
+{
+    let mut passes = passes;
+    let Some(last) = passes.pop() else {
+        return false;
+    };
+    let Some(first) = passes.pop() else {
+        return false;
+    };
+    served_by_two::<Brand, _>(rt, parts, first, last)
 }
 
 /// Counts the points, and holds a worker before each reply until another worker comes to one: while a
@@ -213,13 +232,13 @@ impl<R: Wait> Hold for Met<'_, R> {
     }
 }
 
-/// Two workers serve at the same time, each a hundred changes of its own word.
-fn served_by_two<J: EngineBrand + Send + Sync, R: Threads + Wait + Abort + Sync>(
+/// Two workers serve at the same time, each a hundred changes of its own word. True if all are made.
+fn served_by_two<J: EngineBrand + Send + Sync, R: Threads + Wait + Sync>(
     rt: &R,
     parts: EngineParts<MemDisk, Met<'_, R>>,
     mut first: Pass,
     mut last: Pass,
-) -> Result<(), Fail>
+) -> bool
     requires identity { identity_of parts ≡ J.identity }
     requires first { IsIdle first }
     requires last { IsIdle last }
@@ -231,8 +250,7 @@ fn served_by_two<J: EngineBrand + Send + Sync, R: Threads + Wait + Abort + Sync>
         move || count_up(rt, engine, &mut first, 0),
         move || count_up(rt, engine, &mut last, 1),
     );
-    assert_eq!(rt; counts, (100, 100));
-    Ok(())
+    counts == (100, 100)
 }
 
 /// How many of a hundred changes of a tenant's word are made.

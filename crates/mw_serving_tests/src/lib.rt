@@ -9,6 +9,8 @@ mod session_peers;
 #[cfg(test)]
 mod session_tests;
 #[cfg(test)]
+mod silence_tests;
+#[cfg(test)]
 mod test_clients;
 #[cfg(test)]
 mod test_crowd;

@@ -146,7 +146,7 @@ fn two_clients<R: Net<Listener = TcpListener, Stream = TcpStream>>(
 
 #[test]
 fn one_client_after_the_other(rt: HostRuntime) -> io::Result<()> {
-    let listener = listen_at(&rt, "127.0.0.1:0")?;
+    let listener = listen_at(&rt, "127.0.0.1:0", None)?;
     let port = port_of(&listener)?;
     let shelf = Mutex::new(Shelf::new(2));
     let (heard, end) = thread::join(
@@ -270,7 +270,7 @@ fn is_served_on(steady: &mut Caller) -> bool {
 
 #[test]
 fn clients_of_all_kinds_at_once(rt: HostRuntime) -> io::Result<()> {
-    let listener = listen_at(&rt, "127.0.0.1:0")?;
+    let listener = listen_at(&rt, "127.0.0.1:0", None)?;
     let port = port_of(&listener)?;
     let shelf = Mutex::new(Shelf::new(32));
     let (heard, end) = thread::join(

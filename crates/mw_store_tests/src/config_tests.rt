@@ -186,19 +186,19 @@ fn read(alloc: Global, line: &str) -> Result<String, AllocError> {
 const LINES: [(&str, &str); 4] = [
     (
         "mwserve --tenants t --script s",
-        "Args { tenants: \"t\", pool: 256, workers: 4, mode: Script(\"s\") }",
+        "Args { tenants: \"t\", pool: 256, workers: 4, strict: false, verbose: false, mode: Script(\"s\") }",
     ),
     (
         "mwserve --listen a:1 --tenants t",
-        "Args { tenants: \"t\", pool: 256, workers: 4, mode: Listen(\"a:1\", None) }",
+        "Args { tenants: \"t\", pool: 256, workers: 4, strict: false, verbose: false, mode: Listen(Listening { address: \"a:1\", admin: None, connections: None, idle: None }) }",
     ),
     (
-        "mwserve --tenants t --pool 1 --workers 64 --listen a:1 --connections 1000000",
-        "Args { tenants: \"t\", pool: 1, workers: 64, mode: Listen(\"a:1\", Some(1000000)) }",
+        "mwserve --tenants t --pool 1 --workers 64 --listen a:1 --connections 1000000 --idle 86400",
+        "Args { tenants: \"t\", pool: 1, workers: 64, strict: false, verbose: false, mode: Listen(Listening { address: \"a:1\", admin: None, connections: Some(1000000), idle: Some(86400) }) }",
     ),
     (
-        "mwserve --tenants t --pool=256 --workers=1 --listen=a:1 --connections=1",
-        "Args { tenants: \"t\", pool: 256, workers: 1, mode: Listen(\"a:1\", Some(1)) }",
+        "mwserve --tenants t --pool=256 --workers=1 --listen=a:1 --connections=1 --strict --idle=1 --admin=a:2 --verbose",
+        "Args { tenants: \"t\", pool: 256, workers: 1, strict: true, verbose: true, mode: Listen(Listening { address: \"a:1\", admin: Some(\"a:2\"), connections: Some(1), idle: Some(1) }) }",
     ),
 ];
 
@@ -211,11 +211,13 @@ fn command_lines_that_are_accepted(rt: HostRuntime) -> Result<(), Fail> {
     Ok(())
 }
 
-/// Command lines with no mode, with two, and with a number of connections of a script.
+/// Command lines with no mode, with two, and with an option of connections and a script.
 const LINES_WITHOUT_ONE_MODE: &str = "\
 mwserve --tenants t
 mwserve --tenants t --listen a:1 --script s
-mwserve --tenants t --script s --connections 1";
+mwserve --tenants t --script s --connections 1
+mwserve --tenants t --script s --idle 1
+mwserve --tenants t --script s --admin a";
 
 #[test]
 fn command_lines_without_one_mode(rt: HostRuntime) -> Result<(), Fail> {
@@ -226,11 +228,13 @@ fn command_lines_without_one_mode(rt: HostRuntime) -> Result<(), Fail> {
     Ok(())
 }
 
-/// Command lines that are not of the form that the help tells, or with a number out of range.
+/// Command lines that are not of the form that the help tells, with a number out of range, or that ask to
+/// be told something.
 const REFUSED_LINES: &str = "\
 mwserve
 mwserve --script s
 mwserve --help
+mwserve --version
 mwserve --tenants
 mwserve --tenants t --script s --pool 0
 mwserve --tenants t --script s --pool 257
@@ -239,6 +243,8 @@ mwserve --tenants t --script s --workers 0
 mwserve --tenants t --script s --workers 65
 mwserve --tenants t --listen a --connections 0
 mwserve --tenants t --listen a --connections 1000001
+mwserve --tenants t --listen a --idle 0
+mwserve --tenants t --listen a --idle 86401
 mwserve --tenants t --script s --what
 mwserve --tenants t --script s more";
 
@@ -282,6 +288,11 @@ fn the_help_names_each_option(rt: HostRuntime) -> Result<(), Fail> {
         "--listen <ADDR>",
         "--connections <C>",
         "--script <FILE>",
+        "--strict",
+        "--version",
+        "--admin <ADDR>",
+        "--idle <SECONDS>",
+        "--verbose",
     ] {
         assert!(rt; help.as_str().contains(option), "{option}");
     }

@@ -1,3 +1,4 @@
 pub mod Steps
 pub mod Asked
 pub mod Sessions
+pub mod Pauses

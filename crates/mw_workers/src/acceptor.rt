@@ -50,7 +50,7 @@ fn accept_for_ever<L: Listener, W: Intake<L::Connection>, R: Wait>(
 }
 
 /// Asks the listener once, and puts the connection where it waits for a worker.
-fn accept_one<L: Listener, W: Intake<L::Connection>, R: Wait>(
+pub(crate) fn accept_one<L: Listener, W: Intake<L::Connection>, R: Wait>(
     rt: &R,
     listener: &mut L,
     waiting: &mut W,

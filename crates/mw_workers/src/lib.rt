@@ -7,6 +7,9 @@
 //! worker is free. However a session ends, its connection is closed then, and the worker takes the
 //! next.
 //!
+//! With a limit of silence ([`listen_at`]) a session over TCP ends too where its client sends no byte, or
+//! takes none of a reply, for so long; so it holds its worker no longer.
+//!
 //! A TCP connection is closed so that the client can read all that it was told: what it sends behind
 //! the end of its session is read and dropped until it closes its side, within narrow limits of time
 //! and size, for which the worker is held.
@@ -15,18 +18,28 @@
 //! proved that they pass over no connection and change no order. The queue between them is
 //! [`crossbeam_channel`]'s: that a connection comes out of it once is tested.
 //!
+//! [`serve_beside`] serves those of another listener too, by a worker of their own, whom no other client
+//! holds.
+//!
+//! [`Patient`] is a listener over another one, which waits where the system has no room for a
+//! connection, longer each time, and says so once.
+//!
 //! Each reply is sent at once: a TCP connection is told not to hold back what is written to it. Where
 //! the system refuses that, the client is served all the same.
 #![tactic(auto)]
 
 mod acceptor;
+mod desk;
+mod patience;
 mod peer;
 mod serving;
 mod sockets;
 mod worker;
 
 pub use acceptor::accept_all;
+pub use desk::{Desk, serve_beside};
+pub use patience::{FIRST_PAUSE, LONGEST_PAUSE, Patient, RoomWatch};
 pub use peer::{Connection, Intake, Listener};
 pub use serving::{QUEUE, ServeEnd, serve_all};
-pub use sockets::{listen_at, port_of};
+pub use sockets::{Client, Clients, Closer, listen_at, port_of};
 pub use worker::serve_each;

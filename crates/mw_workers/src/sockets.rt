@@ -4,14 +4,18 @@ ghost use Rattle.std.specs.Prelude.{None};
 use crate::peer::{Connection, Listener};
 use mw_session::{Ended, Service, Session};
 use std::alloc::Global;
-use std::io;
-use std::io::Read;
+use std::io::{self, ErrorKind, Read};
 use std::net::{Net, Shutdown, TcpListener, TcpStream};
+use std::os::fd::OwnedFd;
 use std::sync::Wait;
-use std::time::Duration;
+use std::time::{Clock, Duration, Instant};
 
 /// How long a client whose session has ended may be silent before its connection is closed, in seconds.
 const LINGER_SILENCE: u64 = 1;
+
+/// How long after the end of its session such a client is read at most, in seconds. What is read last may
+/// come a silence later.
+const LINGER_TIME: u64 = 3;
 
 /// How many times at most such a client is read.
 const LINGER_READS: u32 = 1024;
@@ -19,16 +23,45 @@ const LINGER_READS: u32 = 1024;
 /// How many bytes are read of it at a time, so that at most 1 MiB of it is read.
 const LINGER_PIECE: usize = 1024;
 
+/// Clients over TCP.
+#[derive(Drop)]
+pub struct Clients<'a, K> {
+    listener: TcpListener,
+    clock: &'a K,
+    /// How long a session waits for a byte, or for its client to take one.
+    idle: Option<Duration>,
+}
+
+/// A client's connection over TCP.
+#[derive(Drop)]
+pub struct Client<'a, K> {
+    stream: TcpStream,
+    clock: &'a K,
+}
+
 /// Listens at an address, such as `127.0.0.1:7000`. At port 0 the system picks a free port.
+///
+/// With a number of seconds, which isn't 0, a session is ended without a reply where its client sends
+/// no byte, or takes none of a reply, for so long.
 ///
 /// # Errors
 ///
 /// The text is no address, or nobody can listen there.
-pub fn listen_at<R: Net<Listener = TcpListener, Stream = TcpStream>>(
-    rt: &R,
+pub fn listen_at<'a, R: Net<Listener = TcpListener, Stream = TcpStream>>(
+    rt: &'a R,
     address: &str,
-) -> io::Result<TcpListener> {
-    TcpListener::bind(rt, address)
+    idle: Option<u32>,
+) -> io::Result<Clients<'a, R>> {
+    let listener = TcpListener::bind(rt, address)?;
+    let idle = match idle {
+        Some(seconds) => Some(Duration::from_secs(u64::from(seconds))),
+        None => None,
+    };
+    Ok(Clients {
+        listener,
+        clock: rt,
+        idle,
+    })
 }
 
 /// The port at which clients find the listener.
@@ -36,34 +69,76 @@ pub fn listen_at<R: Net<Listener = TcpListener, Stream = TcpStream>>(
 /// # Errors
 ///
 /// The system doesn't tell.
-pub fn port_of(listener: &TcpListener) -> io::Result<u16> {
-    Ok(listener.local_addr()?.port())
+pub fn port_of<K>(clients: &Clients<'_, K>) -> io::Result<u16> {
+    Ok(clients.listener.local_addr()?.port())
 }
 
-impl Listener for TcpListener {
-    type Connection = TcpStream;
+/// Ends the wait for clients over TCP, from another thread.
+#[derive(Drop)]
+pub struct Closer(TcpStream);
 
-    ghost accepts = { λ _ _ _. Unit {0} };
-
-    fn accept(&mut self) -> io::Result<TcpStream> {
-        let (stream, _) = TcpListener::accept(self)?;
-        // A client is served in any case, though its replies may then come late.
-        let _ = stream.set_nodelay(true);
-        Ok(stream)
+impl<'a, K> Clients<'a, K> {
+    /// What ends the wait for these clients.
+    ///
+    /// # Errors
+    ///
+    /// The system has no room for it.
+    pub fn closer(&self) -> io::Result<Closer> {
+        Ok(Closer(TcpStream::from(OwnedFd::from(self.listener.try_clone()?))))
     }
 }
 
-impl Connection for TcpStream {
+impl Closer {
+    /// From now on the system gives no client: an accept that waits, and each later one, fails at once.
+    pub fn close(&self) {
+        let _ = self.0.shutdown(Shutdown::Both);
+    }
+}
+
+impl<'a, K: Clock + Sync> Listener for Clients<'a, K> {
+    type Connection = Client<'a, K>;
+
+    ghost accepts = { λ _ _ _. Unit {0} };
+
+    fn accept(&mut self) -> io::Result<Client<'a, K>> {
+        let (stream, _) = self.listener.accept()?;
+        // A client is served in any case, though its replies may then come late.
+        let _ = stream.set_nodelay(true);
+        // One that could hold its worker for ever is not served, but closed.
+        if limit_silence(&stream, self.idle).is_err() {
+            return Err(io::Error::from(ErrorKind::ConnectionAborted));
+        }
+        Ok(Client {
+            stream,
+            clock: self.clock,
+        })
+    }
+}
+
+/// Limits how long a read or a write waits for the client, where there is a limit.
+///
+/// # Errors
+///
+/// The system refuses.
+fn limit_silence(stream: &TcpStream, idle: Option<Duration>) -> io::Result<()> {
+    if idle.is_some() {
+        stream.set_read_timeout(idle)?;
+        stream.set_write_timeout(idle)?;
+    }
+    Ok(())
+}
+
+impl<'a, K: Clock> Connection for Client<'a, K> {
     ghost left = { λ _. None };
 
     ghost sent = { λ _. None };
 
     fn serve<S: Service, R: Wait>(self, rt: &R, alloc: Global, service: &mut S) -> Ended {
-        let mut reader = &self;
-        let mut writer = &self;
+        let mut reader = &self.stream;
+        let mut writer = &self.stream;
         let ended = Session::run(alloc, rt, &mut reader, &mut writer, service);
         // Where the system refuses it, the connection is closed all the same.
-        let _ = say_goodbye(&self);
+        let _ = say_goodbye(self.clock, &self.stream);
         ended
     }
 }
@@ -73,17 +148,20 @@ impl Connection for TcpStream {
 /// read yet.
 ///
 /// Nothing more is written, and what the client still sends is read and dropped until it closes its
-/// side, is silent for [`LINGER_SILENCE`] seconds, or was read [`LINGER_READS`] times.
+/// side, is silent for [`LINGER_SILENCE`] seconds, was read [`LINGER_READS`] times, or
+/// [`LINGER_TIME`] seconds have gone by.
 ///
 /// # Errors
 ///
 /// The system refuses, or the client was silent for so long.
-fn say_goodbye(mut stream: &TcpStream) -> io::Result<()> {
+fn say_goodbye<K: Clock>(clock: &K, mut stream: &TcpStream) -> io::Result<()> {
     stream.shutdown(Shutdown::Write)?;
     stream.set_read_timeout(Some(Duration::from_secs(LINGER_SILENCE)))?;
+    let begun = Instant::now(clock)?;
+    let most = Duration::from_secs(LINGER_TIME);
     let mut piece = [0; LINGER_PIECE];
     for _ in 0..LINGER_READS {
-        if stream.read(&mut piece)? == 0 {
+        if stream.read(&mut piece)? == 0 || begun.elapsed(clock)? >= most {
             break;
         }
     }

@@ -1,7 +1,7 @@
 use Rattle.std.proofs.Common.{◌≡◌, ◌+◌, All, length}
 use Rattle.std.specs.Vec.Iter.{into_iter_items}
 use Rattle.mw_engine.specs.Passes.{IsIdle}
-use Rattle.mw_programs.proofs.serving.serve_clients.Given as goal
+use Rattle.mw_programs.proofs.clients.workers_for.Given as goal
 
 -- there is a worker for each pass so far, and the passes that are left are idle
 abbrev pub invariant-loop-pass : goal.invariant-loop-pass

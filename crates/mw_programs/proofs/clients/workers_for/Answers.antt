@@ -1,9 +1,9 @@
 use Rattle.std.proofs.Common.{◌≡◌, ◌+◌, length, sym, ◌∙◌}
 use Rattle.std.specs.Vec.Iter.{into_iter_items}
 use Rattle.mw_programs.proofs.Workers.{one_more, rest_idle, pushed}
-use Rattle.mw_programs.proofs.serving.serve_clients.Goals as goal
+use Rattle.mw_programs.proofs.clients.workers_for.Goals as goal
 
--- src/serving.rt:218:5
+-- src/clients.rt
 pub loop-pass-preserved : goal.loop-pass-preserved
 loop-pass-preserved g c =
     let left = into_iter_items c.loop-pass.pass-iterator in

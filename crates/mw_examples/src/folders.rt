@@ -1,0 +1,120 @@
+//! Folders for the tests, and the programs run in them.
+use mw_programs::{init, serve};
+use std::alloc::{AllocError, Global};
+use std::fs::File;
+use std::net::{Net, TcpListener, TcpStream};
+use std::rt::Files;
+use std::sync::Wait;
+use std::test::Fail;
+use std::thread::Threads;
+use std::time::Clock;
+use std::{env, fs, process};
+
+/// What a program gave: its exit status, and what it wrote to its two outputs.
+#[derive(Debug, Drop)]
+pub struct Outcome {
+    pub status: u8,
+    pub out: String,
+    pub err: String,
+}
+
+impl Outcome {
+    /// What a program gave that ended with this status.
+    fn new(status: u8, out: Vec<u8>, err: Vec<u8>) -> Result<Outcome, Fail> {
+        Ok(Outcome {
+            status,
+            out: String::from_utf8(out)?,
+            err: String::from_utf8(err)?,
+        })
+    }
+
+    /// What a program gave that has not run.
+    pub fn nothing(alloc: Global) -> Self {
+        Outcome {
+            status: 0,
+            out: String::new(alloc),
+            err: String::new(alloc),
+        }
+    }
+
+    /// True if the program gave just what this text says: `STATUS OUT|ERR`.
+    pub fn suits(&self, text: &str) -> bool {
+        match text.split_once(' ') {
+            Some((status, texts)) => self.has_status(status) && self.wrote(texts),
+            None => false,
+        }
+    }
+
+    fn has_status(&self, text: &str) -> bool {
+        match text.parse::<u8>() {
+            Ok(status) => self.status == status,
+            Err(_) => false,
+        }
+    }
+
+    fn wrote(&self, texts: &str) -> bool {
+        match texts.split_once('|') {
+            Some((out, err)) => self.out.as_str() == out && self.err.as_str() == err,
+            None => false,
+        }
+    }
+}
+
+/// A new folder of a test's own.
+pub fn new_folder(rt: &HostRuntime, name: &str) -> Result<String, Fail> {
+    let id = process::id(rt.process());
+    let parent = env::temp_dir(rt)?;
+    let path = parent.join(rt.alloc(), format!(in rt.alloc(); "mondlexi-{name}-{id}")?)?;
+    fs::create_dir(rt, path.as_path())?;
+    Ok(String::from_str(rt.alloc(), path.as_path().as_str())?)
+}
+
+/// Removes a test's folder.
+pub fn remove_folder<R: Files + AllocGlobal>(rt: &R, folder: &str) -> Result<(), Fail> {
+    fs::remove_dir_all(rt, folder)?;
+    Ok(())
+}
+
+/// The path of a file in a folder.
+pub fn path_in(alloc: Global, folder: &str, name: &str) -> Result<String, AllocError> {
+    format!(in alloc; "{folder}/{name}")
+}
+
+/// The words of a command line, apart by spaces, in which `DIR` stands for a folder.
+pub fn command_line(alloc: Global, folder: &str, line: &str) -> Result<Vec<String>, AllocError> {
+    let mut words = Vec::new(alloc);
+    for word in line.split_ascii_whitespace() {
+        words.push(word.replace(alloc, "DIR", folder)?)?;
+    }
+    Ok(words)
+}
+
+/// Runs `mwinit` with a command line.
+pub fn run_init<R>(rt: &R, folder: &str, line: &str) -> Result<Outcome, Fail>
+where
+    R: Files<File = File> + AllocGlobal,
+{
+    let args = command_line(rt.alloc(), folder, line)?;
+    let mut out = Vec::new(rt.alloc());
+    let mut err = Vec::new(rt.alloc());
+    let status = init(rt, &args, &mut out, &mut err);
+    Outcome::new(status, out, err)
+}
+
+/// Runs `mwserve` with a command line.
+pub fn run_serve<R>(rt: &R, folder: &str, line: &str) -> Result<Outcome, Fail>
+where
+    R: Files<File = File>
+        + AllocGlobal
+        + Net<Listener = TcpListener, Stream = TcpStream>
+        + Threads
+        + Wait
+        + Clock
+        + Sync,
+{
+    let args = command_line(rt.alloc(), folder, line)?;
+    let mut out = Vec::new(rt.alloc());
+    let mut err = Vec::new(rt.alloc());
+    let status = serve(rt, &args, &mut out, &mut err);
+    Outcome::new(status, out, err)
+}

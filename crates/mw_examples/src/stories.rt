@@ -1,0 +1,143 @@
+//! Stories: what is done in a folder and what comes of it, a line each.
+//!
+//! - `mwinit ARGS` and `mwserve ARGS` run a program.
+//! - `serve OPTIONS` has `mwserve` serve the script of the folder to the tenants of its tenants file.
+//! - `gives STATUS OUT|ERR` is what the program gave that ran last.
+//! - `write NAME TEXT` writes a file of the folder.
+//! - `new NAME` says that a file has two words, one place, and no change.
+//!
+//! `DIR` stands for the folder, and in a text `;` for a line's end.
+use crate::folders::{Outcome, path_in, remove_folder, run_init, run_serve};
+use std::alloc::{AllocError, Global};
+use std::fs;
+use std::fs::File;
+use std::net::{Net, TcpListener, TcpStream};
+use std::rt::Files;
+use std::sync::Wait;
+use std::test::Fail;
+use std::thread::Threads;
+use std::time::Clock;
+
+/// Plays a story in this folder, and removes the folder.
+///
+/// # Errors
+///
+/// Something else comes of it, or a call of the system fails. Then the folder stays.
+pub fn play<R>(rt: &R, folder: &str, story: &str) -> Result<(), Fail>
+where
+    R: Files<File = File>
+        + AllocGlobal
+        + Net<Listener = TcpListener, Stream = TcpStream>
+        + Threads
+        + Wait
+        + Clock
+        + Sync,
+{
+    play_in(rt, folder, story)?;
+    remove_folder(rt, folder)
+}
+
+/// Plays a story in this folder.
+///
+/// # Errors
+///
+/// As those of [`play`].
+pub fn play_in<R>(rt: &R, folder: &str, story: &str) -> Result<(), Fail>
+where
+    R: Files<File = File>
+        + AllocGlobal
+        + Net<Listener = TcpListener, Stream = TcpStream>
+        + Threads
+        + Wait
+        + Clock
+        + Sync,
+{
+    let mut ran = Outcome::nothing(rt.alloc());
+    for line in story.split('\n') {
+        if !play_line(rt, folder, &mut ran, line)? {
+            return Err(Fail::new(format!(in rt.alloc(); "{line}: {ran:?}")?));
+        }
+    }
+    Ok(())
+}
+
+/// Plays a line. True if what it says has come of it.
+fn play_line<R>(rt: &R, folder: &str, ran: &mut Outcome, line: &str) -> Result<bool, Fail>
+where
+    R: Files<File = File>
+        + AllocGlobal
+        + Net<Listener = TcpListener, Stream = TcpStream>
+        + Threads
+        + Wait
+        + Clock
+        + Sync,
+{
+    let (verb, rest) = line.split_once(' ').unwrap_or((line, ""));
+    match verb {
+        "mwinit" => *ran = run_init(rt, folder, line)?,
+        "mwserve" => *ran = run_serve(rt, folder, line)?,
+        "serve" => *ran = serve_script(rt, folder, rest)?,
+        "write" => write(rt, folder, rest)?,
+        _ => return looks(rt, folder, ran, verb, rest),
+    }
+    Ok(true)
+}
+
+/// Serves the script of a folder with these options.
+fn serve_script<R>(rt: &R, folder: &str, options: &str) -> Result<Outcome, Fail>
+where
+    R: Files<File = File>
+        + AllocGlobal
+        + Net<Listener = TcpListener, Stream = TcpStream>
+        + Threads
+        + Wait
+        + Clock
+        + Sync,
+{
+    let files = "mwserve --tenants DIR/tenants --script DIR/script";
+    let line = format!(in rt.alloc(); "{files} {options}")?;
+    run_serve(rt, folder, line.as_str())
+}
+
+/// Writes a file of a folder: `NAME TEXT`.
+fn write<R: Files + AllocGlobal>(rt: &R, folder: &str, file: &str) -> Result<(), Fail> {
+    let (name, text) = file.split_once(' ').unwrap_or((file, ""));
+    let path = path_in(rt.alloc(), folder, name)?;
+    let text = spelled(rt.alloc(), folder, text)?;
+    fs::write(rt, path.as_str(), text.as_str())?;
+    Ok(())
+}
+
+/// True if it is as a line says that only looks.
+fn looks<R: Files + AllocGlobal>(
+    rt: &R,
+    folder: &str,
+    ran: &Outcome,
+    verb: &str,
+    rest: &str,
+) -> Result<bool, Fail> {
+    match verb {
+        "gives" => Ok(ran.suits(spelled(rt.alloc(), folder, rest)?.as_str())),
+        "new" => is_new(rt, path_in(rt.alloc(), folder, rest)?.as_str()),
+        _ => Ok(false),
+    }
+}
+
+/// A text with its lines' ends and its folder.
+fn spelled(alloc: Global, folder: &str, text: &str) -> Result<String, AllocError> {
+    let lines = text.replace(alloc, ";", "\n")?;
+    lines.replace(alloc, "DIR", folder)
+}
+
+/// The bytes of a new file of two words and one place.
+pub fn new_file() -> [u8; 184] {
+    let mut bytes = [0; 184];
+    bytes[..16].copy_from_slice(b"MWCASF1\n\x02\0\0\0\x01\0\0\0");
+    bytes
+}
+
+/// True if a file has just the bytes of a new one.
+fn is_new<R: Files + AllocGlobal>(rt: &R, path: &str) -> Result<bool, Fail> {
+    let found = fs::read(rt, path)?;
+    Ok(found.as_slice() == new_file().as_slice())
+}

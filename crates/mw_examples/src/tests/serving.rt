@@ -1,0 +1,157 @@
+//! Clients over loopback, and the locks of files that are served.
+use crate::clients::{Caller, Notice, Ports, come_and_go, port_of_server};
+use crate::folders::{command_line, new_folder, path_in, remove_folder};
+use crate::locks::LockWatch;
+use crate::stories::play_in;
+use mw_programs::{init, serve};
+use std::fs::File;
+use std::net::{Net, TcpListener, TcpStream};
+use std::rt::Files;
+use std::sync::Wait;
+use std::test::Fail;
+use std::thread::Threads;
+use std::time::Clock;
+use std::{io, thread};
+
+/// What `mwinit` is asked for.
+const MAKING: &str = "mwinit DIR/t.mw 2 1";
+
+/// What `mwserve` is asked for.
+const SERVING: &str = "mwserve --tenants DIR/tenants --script DIR/script";
+
+/// Files for `mwserve`.
+const ONE_CHANGE: &str = "\
+write tenants t 2 1 DIR/t.mw;
+write script TENANT t;CAS 0:0:1;";
+
+#[test]
+fn files_stay_locked(rt: HostRuntime) -> Result<(), Fail> {
+    let folder = new_folder(&rt, "files-stay-locked")?;
+    let path = path_in(rt.alloc(), folder.as_str(), "t.mw")?;
+    let mut err = Vec::new(rt.alloc());
+    let args = command_line(rt.alloc(), folder.as_str(), MAKING)?;
+    let mut out = LockWatch::new(&rt, path.as_str());
+    assert_eq!(rt; init(&rt, &args, &mut out, &mut err), 0);
+    assert!(rt; out.was_locked(), "mwinit");
+    play_in(&rt, folder.as_str(), ONE_CHANGE)?;
+    let args = command_line(rt.alloc(), folder.as_str(), SERVING)?;
+    let mut out = LockWatch::new(&rt, path.as_str());
+    assert_eq!(rt; serve(&rt, &args, &mut out, &mut err), 0);
+    assert!(rt; out.was_locked(), "mwserve");
+    remove_folder(&rt, folder.as_str())
+}
+
+/// Serves the tenants of a folder's tenants file over loopback, with these options. Gives the exit status.
+fn serve_clients<R>(rt: &R, folder: &str, options: &str, ports: &Ports) -> io::Result<u8>
+where
+    R: Files<File = File>
+        + AllocGlobal
+        + Net<Listener = TcpListener, Stream = TcpStream>
+        + Threads
+        + Wait
+        + Clock
+        + Sync,
+{
+    let line = format!(in rt.alloc();
+        "mwserve --tenants DIR/tenants --listen 127.0.0.1:0 {options}"
+    )?;
+    let args = command_line(rt.alloc(), folder, line.as_str())?;
+    let mut notice = Notice::new(rt.alloc(), ports);
+    let mut err = Vec::new(rt.alloc());
+    Ok(serve(rt, &args, &mut notice, &mut err))
+}
+
+/// Two clients of the server, of whom the second begins once the first has ended. True if they hear
+/// what they should.
+fn call_in_turn<R: Net<Listener = TcpListener, Stream = TcpStream> + Clock>(
+    rt: &R,
+    port: u16,
+) -> io::Result<bool> {
+    let mut first = Caller::new(rt, port)?;
+    if !first.asks(b"TENANT t\n", b"OK 2\n") {
+        return Ok(false);
+    }
+    if !first.asks(b"CAS 0:0:1\nQUIT\n", b"YES\nBYE\n") || !first.hears_the_end() {
+        return Ok(false);
+    }
+    let mut second = Caller::new(rt, port)?;
+    let answered = second.asks(b"TENANT t\nGET 0\nQUIT\n", b"OK 2\nVAL 1\nBYE\n");
+    Ok(answered && second.hears_the_end())
+}
+
+/// Waits until the server is ready, and calls it.
+fn call_once_ready<R: Net<Listener = TcpListener, Stream = TcpStream> + Clock>(
+    rt: &R,
+    ports: &Ports,
+) -> io::Result<bool> {
+    let port = port_of_server(rt, &ports.ready)?;
+    let heard = call_in_turn(rt, port);
+    come_and_go(rt, port, 2);
+    heard
+}
+
+/// A file for two clients, and what the next session finds in it.
+const BEFORE_TWO_CLIENTS: &str = "\
+mwinit DIR/t.mw 2 2
+write tenants t 2 2 DIR/t.mw;";
+
+const AFTER_TWO_CLIENTS: &str = "\
+write script TENANT t;GET 0;
+serve
+gives 0 OK 2;VAL 1;|";
+
+#[test]
+fn two_clients(rt: HostRuntime) -> Result<(), Fail> {
+    let folder = new_folder(&rt, "two-clients")?;
+    play_in(&rt, folder.as_str(), BEFORE_TWO_CLIENTS)?;
+    let ports = Ports::new();
+    let (heard, status) = thread::join(
+        &rt,
+        || call_once_ready(&rt, &ports),
+        || serve_clients(&rt, folder.as_str(), "--workers 2 --connections 2", &ports),
+    );
+    assert!(rt; heard?, "a client heard something else");
+    assert_eq!(rt; status?, 0);
+    play_in(&rt, folder.as_str(), AFTER_TWO_CLIENTS)?;
+    remove_folder(&rt, folder.as_str())
+}
+
+/// A client has the one worker and is silent. The administrator is told the report all the same, and then
+/// the client is sent away.
+fn call_both<R: Net<Listener = TcpListener, Stream = TcpStream> + Clock>(
+    rt: &R,
+    ports: &Ports,
+) -> io::Result<bool> {
+    let mut client = Caller::new(rt, port_of_server(rt, &ports.ready)?)?;
+    let mut administrator = Caller::new(rt, port_of_server(rt, &ports.admin)?)?;
+    let bound = client.asks(b"TENANT t\n", b"OK 2\n");
+    let report = administrator.asks(
+        b"ADMIN\nREPORT\nQUIT\n",
+        b"OK ADMIN\nt                   2  1  0 up\nfree 256\nBYE\n",
+    );
+    let ended = administrator.hears_the_end();
+    Ok(bound && report && ended && client.hears_the_end())
+}
+
+/// A file for a silent client and the administrator.
+const BEFORE_BOTH: &str = "\
+mwinit DIR/t.mw 2 1
+write tenants t 2 1 DIR/t.mw;";
+
+/// How they are served.
+const ONE_WORKER: &str = "--admin 127.0.0.1:0 --workers 1 --connections 1 --idle 2";
+
+#[test]
+fn the_administrator_waits_for_nobody(rt: HostRuntime) -> Result<(), Fail> {
+    let folder = new_folder(&rt, "administrator")?;
+    play_in(&rt, folder.as_str(), BEFORE_BOTH)?;
+    let ports = Ports::new();
+    let (heard, status) = thread::join(
+        &rt,
+        || call_both(&rt, &ports),
+        || serve_clients(&rt, folder.as_str(), ONE_WORKER, &ports),
+    );
+    assert!(rt; heard?, "a client heard something else");
+    assert_eq!(rt; status?, 0);
+    remove_folder(&rt, folder.as_str())
+}

@@ -1,0 +1,68 @@
+//! What is told of tenants while they are served.
+use crate::opening::Opened;
+use crate::watched_file::LastErrors;
+use log::{Log, info, warn};
+use mw_config::TenantLine;
+use mw_words::MAX_TENANTS;
+use std::str;
+use std::sync::{Mutex, Wait};
+
+/// Who hears that a request was answered FAULT.
+pub trait FaultWatch {
+    /// A request of the tenant of this number was answered FAULT.
+    fn fault(&self, tenant: u8);
+}
+
+/// Notes each tenant whose file has failed while it was served, once.
+#[derive(Drop)]
+pub struct TenantNotes<'r, 'n, 'l, 'e, L, R> {
+    rt: &'r R,
+    notes: &'n L,
+    lines: &'l [TenantLine],
+    errors: &'e LastErrors,
+    /// Of which tenants it was told that they are down.
+    told: Mutex<[bool; MAX_TENANTS]>,
+}
+
+impl<'r, 'n, 'l, 'e, L: Log, R: Wait> TenantNotes<'r, 'n, 'l, 'e, L, R> {
+    /// Notes on the tenants with these lines, of whom each whose file didn't open was noted already.
+    pub fn new(
+        rt: &'r R,
+        notes: &'n L,
+        lines: &'l [TenantLine],
+        errors: &'e LastErrors,
+        files: &[Option<Opened<'_>>],
+    ) -> Self {
+        let mut told = [false; MAX_TENANTS];
+        for (told, file) in told.iter_mut().zip(files) {
+            *told = file.is_none();
+        }
+        TenantNotes {
+            rt,
+            notes,
+            lines,
+            errors,
+            told: Mutex::new(told),
+        }
+    }
+}
+
+impl<L: Log, R: Wait> FaultWatch for TenantNotes<'_, '_, '_, '_, L, R> {
+    fn fault(&self, tenant: u8) {
+        let tenant = usize::from(tenant);
+        let mut all_told = self.told.lock(self.rt);
+        if tenant >= MAX_TENANTS || all_told[tenant] {
+            return;
+        }
+        all_told[tenant] = true;
+        if let Some(line) = self.lines.get(tenant) {
+            let name = str::from_utf8(&line.name).unwrap_or("?");
+            let path = line.path.as_str();
+            warn!(self.notes; "tenant {name}: failed");
+            match self.errors.of(tenant).error() {
+                Some(error) => info!(self.notes; "{path}: {error}"),
+                None => info!(self.notes; "{path}"),
+            }
+        }
+    }
+}
