@@ -1,7 +1,8 @@
 -- What is printed of the bytes of a file, a line for each fact.
-use Rattle.std.specs.Prelude.{ℕ, ◌==◌, ◌||◌, ◌++◌, not, if◌then◌else◌, Bool, List, [], codes, decimal}
+use Rattle.std.specs.Prelude.{ℕ, ◌≡◌, ◌==◌, ◌||◌, ◌++◌, not, if◌then◌else◌, Bool, List, [], Option, codes, decimal, is_none}
 use Rattle.std.specs.List.{flat_map, range_with_len}
 use Rattle.std.specs.Option.{option_map_or}
+use Rattle.std.specs.Io.KnownBytes.{Appends}
 use Rattle.mw_record.specs.declared.damages.Damage.{Damage}
 use Rattle.mw_record.specs.Damages.{damage_of, number_of, pairs_in, places_of, word_at, words_of}
 use Rattle.mw_show.specs.Places.{byte_of}
@@ -45,3 +46,9 @@ damage_line damage byte = codes "damage " ++ decimal (number_of damage) ++ codes
 -- the bytes of any file
 abbrev pub text_of : Bool → List ℕ → List ℕ
 text_of all_words image = option_map_or (λ damage. damage_line damage (byte_of damage image)) (damage_of image) (file_text all_words image)
+
+-- The text of the bytes of some file was written, and it is told whether that file has no damage.
+pub record IsShown (all_words : Bool) (before now : Option (List ℕ)) (sound : Bool) : Type 0 where
+  pub image : List ℕ
+  pub is_sound : sound ≡ is_none (damage_of image)
+  pub wrote : Appends before now (text_of all_words image)

@@ -1,4 +1,5 @@
 //! What is read of a file, and why one is not shown.
+ghost use Rattle.std.specs.Prelude.{◌≤◌};
 
 use clap::error::ErrorKind;
 use mw_record::MAX_FILE;
@@ -33,7 +34,9 @@ pub enum ShowFault {
 
 impl ShowFault {
     /// The exit status that tells it.
-    pub fn status(&self) -> u8 {
+    pub fn status(&self) -> u8
+        ensures { 1 ≤ result }
+    {
         match self {
             ShowFault::Args(_) => 2,
             _ => 1,

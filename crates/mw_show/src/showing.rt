@@ -1,4 +1,6 @@
 //! `mwshow`: shows what a tenant's file says.
+ghost use Rattle.std.specs.Prelude.{◌≡◌, ◌≤◌, IfOk, true};
+ghost use Rattle.mw_show.specs.Text.{IsShown};
 
 use crate::lines::show;
 use crate::reading::{ShowFault, read_file};
@@ -34,14 +36,17 @@ pub fn show_args<R: Files<File = File> + AllocGlobal, O: Write, E: Write>(
 ///
 /// Gives the exit status: 0 where it was shown and has no damage; 1 where it has one, which is shown,
 /// and where it can't be read, memory was refused or `out` failed. What went wrong is written to `err`,
-/// but for a damage and an `out` that failed.
+/// but for a damage and an `out` that failed. At 0 what was written is the text of some file without
+/// damage: that it is the one at `path` no contract can say.
 pub fn show_file<R: Files<File = File> + AllocGlobal, O: Write, E: Write>(
     rt: &R,
     path: &str,
     all_words: bool,
     out: &mut O,
     err: &mut E,
-) -> u8 {
+) -> u8
+    ensures { result ≡ 0 → IsShown all_words (O.contents out.old) (O.contents out.new) true }
+{
     match read_and_show(rt, path, all_words, out) {
         Ok(true) => 0,
         Ok(false) => 1,
@@ -49,17 +54,23 @@ pub fn show_file<R: Files<File = File> + AllocGlobal, O: Write, E: Write>(
     }
 }
 
+/// Reads and shows a file, and gives whether it has no damage.
 fn read_and_show<R: Files<File = File> + AllocGlobal, O: Write>(
     rt: &R,
     path: &str,
     all_words: bool,
     out: &mut O,
-) -> Result<bool, ShowFault> {
+) -> Result<bool, ShowFault>
+    ensures { IfOk result (λ sound. IsShown all_words (O.contents out.old) (O.contents out.new) sound) }
+{
     let bytes = read_file(rt, path)?;
     show(rt.alloc(), &bytes, all_words, out)
 }
 
-fn tell<E: Write>(fault: &ShowFault, err: &mut E) -> u8 {
+/// Writes what went wrong to `err`, and gives the exit status that tells it.
+fn tell<E: Write>(fault: &ShowFault, err: &mut E) -> u8
+    ensures { 1 ≤ result }
+{
     let _ = match fault {
         // The text that clap makes ends with a line feed.
         ShowFault::Args(fault) => write!(err, "{fault}"),
