@@ -98,15 +98,20 @@ fn ask<'a>(alloc: Global, args: &'a [String]) -> Result<Asked<'a>, ShowFault> {
 }
 
 fn command<'a>(alloc: Global) -> Result<Command<'a>, clap::Error> {
-    let words = Arg::new(alloc, "words")
+    let command = Command::new(alloc, "mwshow").about("Shows what a tenant's file says.");
+    let command = command.arg(words_option(alloc))?;
+    Ok(command.arg(file_path(alloc))?)
+}
+
+fn words_option<'a>(alloc: Global) -> Arg<'a> {
+    Arg::new(alloc, "words")
         .long("words")
         .action(ArgAction::SetTrue)
-        .help("tells the words that are 0 too");
-    let path = Arg::new(alloc, "FILE")
+        .help("tells the words that are 0 too")
+}
+
+fn file_path<'a>(alloc: Global) -> Arg<'a> {
+    Arg::new(alloc, "FILE")
         .required(true)
-        .help("the file of a tenant");
-    let command = Command::new(alloc, "mwshow")
-        .about("Shows what a tenant's file says.")
-        .arg(words)?;
-    Ok(command.arg(path)?)
+        .help("the file of a tenant")
 }
