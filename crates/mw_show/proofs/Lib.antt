@@ -1,0 +1,3 @@
+pub mod Lowest
+pub mod Parts
+pub mod Written

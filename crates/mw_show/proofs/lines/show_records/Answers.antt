@@ -1,0 +1,9 @@
+use Rattle.mw_show.proofs.Written.{text_more}
+use Rattle.mw_show.specs.Text.{record_text}
+use Rattle.mw_show.proofs.lines.show_records.Goals as goal
+
+pub loop-place-preserved : goal.loop-place-preserved
+loop-place-preserved g c =
+    let W = g.O.Write.contents in
+    text_more (W c.args.out.now) (W c.loop-place.out) (W c.show_record.new.out) (record_text c.args.image.now) c.loop-place.place c.loop-place.invariant
+    c.in_ok-show_record.ensures

@@ -1,0 +1,11 @@
+use Rattle.std.specs.List.{flat_map, range_with_len}
+use Rattle.std.specs.Io.KnownBytes.{Appends}
+use Rattle.mw_record.specs.Damages.{word_at}
+use Rattle.mw_show.specs.Text.{word_text}
+use Rattle.mw_show.proofs.lines.show_words.Given as goal
+
+-- the words so far were written
+abbrev pub invariant-loop-addr : goal.invariant-loop-addr
+invariant-loop-addr g l =
+    Appends (g.O.Write.contents l.initial.out) (g.O.Write.contents l.out)
+    (flat_map (λ addr. word_text l.all_words addr (word_at l.image addr)) (range_with_len 0 l.addr))

@@ -1,0 +1,10 @@
+use Rattle.std.proofs.Common.{sym, ap, ◌∙◌}
+use Rattle.mw_show.specs.Places.{comes_at, has_damage}
+use Rattle.mw_show.proofs.Lowest.{found}
+use Rattle.mw_show.proofs.sized.SizedFile.place_of.Goals as goal
+
+pub returns-then-has_damage : goal.returns-then-has_damage
+returns-then-has_damage c =
+    let file = c.args.self.now in
+    sym (found (comes_at file.words c.args.damage file.bytes.now) file.places c.loop-place.place c.loop-place-test.true c.loop-place.invariant
+    (ap (has_damage c.args.damage) (sym (c.deref.ensures.value ∙ c.in_ok-first.ensures)) ∙ sym c.has_damage.ensures ∙ c.if-has_damage.true))

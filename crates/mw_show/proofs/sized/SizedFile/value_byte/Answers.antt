@@ -1,0 +1,13 @@
+use Rattle.std.proofs.Common.{ap, length, arith}
+use Rattle.mw_show.proofs.Parts.{length-first_homes}
+use Rattle.mw_show.proofs.sized.SizedFile.value_byte.Goals as goal
+
+-- the file without its home words is as long
+pub invariant_of-records : goal.invariant_of-records
+invariant_of-records c =
+    let file = c.args.self.now in
+    let long = length-first_homes file.words 0 file.bytes.now (omega arith) (omega (arith, file.whole)) in
+    record {
+      sizes = file.sizes;
+      whole = omega (arith, file.whole, long, ap length c.in_ok-records.ensures, ap length c.deref.ensures.value);
+    }

@@ -1,0 +1,54 @@
+-- What is printed of the bytes of a file, a line for each fact.
+use Rattle.std.specs.Prelude.{ℕ, ◌≡◌, ◌==◌, ◌||◌, ◌++◌, not, if◌then◌else◌, Bool, List, [], Option, codes, decimal, is_none}
+use Rattle.std.specs.List.{flat_map, range_with_len}
+use Rattle.std.specs.Option.{option_map_or}
+use Rattle.std.specs.Io.KnownBytes.{Appends}
+use Rattle.mw_record.specs.declared.damages.Damage.{Damage}
+use Rattle.mw_record.specs.Damages.{damage_of, number_of, pairs_in, places_of, word_at, words_of}
+use Rattle.mw_show.specs.Places.{byte_of}
+
+-- how many words there are, and how many record places
+abbrev pub sizes_text : List ℕ → List ℕ
+sizes_text image = codes "words " ++ decimal (words_of image) ++ codes "\n" ++ (codes "places " ++ decimal (places_of image) ++ codes "\n")
+
+-- an entry of the open record of a place: its address, and the value that it gives to the word there
+abbrev pub entry_line : ℕ → ℕ × ℕ → List ℕ
+entry_line place entry = codes "open " ++ decimal place ++ codes " " ++ decimal entry.0 ++ codes " " ++ decimal entry.1 ++ codes "\n"
+
+-- the entries of a place, none where its record isn't open
+abbrev pub record_text : List ℕ → ℕ → List ℕ
+record_text image place = flat_map (entry_line place) (pairs_in image place)
+
+-- those of all places, in order
+abbrev pub records_text : List ℕ → List ℕ
+records_text image = flat_map (record_text image) (range_with_len 0 (places_of image))
+
+-- the word at an address
+abbrev pub word_line : ℕ → ℕ → List ℕ
+word_line addr value = codes "word " ++ decimal addr ++ codes " " ++ decimal value ++ codes "\n"
+
+-- it is told where all words are, or where it isn't 0
+abbrev pub word_text : Bool → ℕ → ℕ → List ℕ
+word_text all_words addr value = if all_words || not (value == 0) then word_line addr value else []
+
+-- the words, in order of address
+abbrev pub words_text : Bool → List ℕ → List ℕ
+words_text all_words image = flat_map (λ addr. word_text all_words addr (word_at image addr)) (range_with_len 0 (words_of image))
+
+-- a file without damage
+abbrev pub file_text : Bool → List ℕ → List ℕ
+file_text all_words image = sizes_text image ++ records_text image ++ words_text all_words image
+
+-- a damage, by its number and the byte where it lies
+abbrev pub damage_line : Damage → ℕ → List ℕ
+damage_line damage byte = codes "damage " ++ decimal (number_of damage) ++ codes " byte " ++ decimal byte ++ codes "\n"
+
+-- the bytes of any file
+abbrev pub text_of : Bool → List ℕ → List ℕ
+text_of all_words image = option_map_or (λ damage. damage_line damage (byte_of damage image)) (damage_of image) (file_text all_words image)
+
+-- The text of the bytes of some file was written, and it is told whether that file has no damage.
+pub record IsShown (all_words : Bool) (before now : Option (List ℕ)) (sound : Bool) : Type 0 where
+  pub image : List ℕ
+  pub is_sound : sound ≡ is_none (damage_of image)
+  pub wrote : Appends before now (text_of all_words image)

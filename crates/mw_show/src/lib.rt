@@ -1,0 +1,25 @@
+//! What a tenant's file says, in lines: `mwshow [--words] FILE` prints them. The file is only read.
+//!
+//! Of a file without damage there is a line for each fact, in this order:
+//!
+//! | line | tells |
+//! |---|---|
+//! | `words W` | it has W words |
+//! | `places P` | it has P record places |
+//! | `open P A V` | the open record of place P gives the value V to the word at address A |
+//! | `word A V` | the word at address A, with the open records put over it, is V |
+//!
+//! Of a damaged file there is one line, `damage N byte B`: the damage's number, and the byte at which the
+//! part that makes it begins.
+#![tactic(auto)]
+
+mod damaged;
+mod lines;
+mod reading;
+mod showing;
+mod sized;
+#[cfg(test)]
+mod tests;
+
+pub use lines::show;
+pub use showing::{show_args, show_file};

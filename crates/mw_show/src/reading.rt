@@ -1,0 +1,109 @@
+//! What is read of a file, and why one is not shown.
+ghost use Rattle.std.specs.Prelude.{◌≤◌};
+
+use clap::error::ErrorKind;
+use mw_record::MAX_FILE;
+use std::alloc::{AllocError, Global};
+use std::fs::{self, File, TryLockError};
+use std::io::{self, Read};
+use std::rt::Files;
+use thiserror::Error;
+
+/// Why a file was not shown.
+#[derive(Debug, Drop, Error)]
+pub enum ShowFault {
+    /// The command line is wrong, or asks for help.
+    #[error("{0}")]
+    Args(clap::Error),
+    /// The file isn't there, may not be read, or a call of the system on it failed.
+    #[error("mwshow: cannot read")]
+    CannotRead,
+    /// It is a folder, a pipe, a device or a socket.
+    #[error("mwshow: not a plain file")]
+    NotPlain,
+    /// Another opening of the file holds its lock: of a server, or of `mwinit`.
+    #[error("mwshow: in use")]
+    InUse,
+    /// Memory was refused.
+    #[error("mwshow: memory")]
+    Memory,
+    /// The output takes no more, of which nothing is said.
+    #[error("")]
+    Output,
+}
+
+impl ShowFault {
+    /// The exit status that tells it.
+    pub fn status(&self) -> u8
+        ensures { 1 ≤ result }
+    {
+        match self {
+            ShowFault::Args(_) => 2,
+            _ => 1,
+        }
+    }
+}
+
+impl From<AllocError> for ShowFault {
+    fn from(_: AllocError) -> Self {
+        ShowFault::Memory
+    }
+}
+
+impl From<io::Error> for ShowFault {
+    fn from(_: io::Error) -> Self {
+        ShowFault::Output
+    }
+}
+
+impl From<clap::Error> for ShowFault {
+    fn from(fault: clap::Error) -> Self {
+        match fault.kind() {
+            ErrorKind::OutOfMemory => ShowFault::Memory,
+            _ => ShowFault::Args(fault),
+        }
+    }
+}
+
+/// The bytes of the file at a path, as many as are ever looked at. Only a plain file is opened, and it is
+/// read under a shared lock, so that no server writes to it meanwhile; the lock is given back before this
+/// returns.
+///
+/// # Errors
+///
+/// [`ShowFault::CannotRead`], [`ShowFault::NotPlain`], [`ShowFault::InUse`] and [`ShowFault::Memory`].
+pub fn read_file<R: Files<File = File> + AllocGlobal>(
+    rt: &R,
+    path: &str,
+) -> Result<Vec<u8>, ShowFault> {
+    // To open a pipe would wait for its writer.
+    match fs::metadata(rt, path) {
+        Ok(data) if data.is_file() => read_plain(rt, path),
+        Ok(_) => Err(ShowFault::NotPlain),
+        Err(_) => Err(ShowFault::CannotRead),
+    }
+}
+
+fn read_plain<R: Files<File = File> + AllocGlobal>(
+    rt: &R,
+    path: &str,
+) -> Result<Vec<u8>, ShowFault> {
+    let Ok(file) = File::open(rt, path) else {
+        return Err(ShowFault::CannotRead);
+    };
+    match file.try_lock_shared() {
+        Ok(()) => read_front(rt.alloc(), file),
+        Err(TryLockError::WouldBlock) => Err(ShowFault::InUse),
+        Err(TryLockError::Error(_)) => Err(ShowFault::CannotRead),
+    }
+}
+
+/// Reads what is looked at, and closes the file.
+fn read_front(alloc: Global, file: File) -> Result<Vec<u8>, ShowFault> {
+    let mut bytes = Vec::new(alloc);
+    match file.take(MAX_FILE as u64).read_to_end(&mut bytes) {
+        Ok(_) => Ok(bytes),
+        Err(fault) if fault.kind() == io::ErrorKind::OutOfMemory => Err(ShowFault::Memory),
+        Err(_) => Err(ShowFault::CannotRead),
+    }
+}

@@ -1,0 +1,117 @@
+//! `mwshow`: shows what a tenant's file says.
+ghost use Rattle.std.specs.Prelude.{◌≡◌, ◌≤◌, IfOk, true};
+ghost use Rattle.mw_show.specs.Text.{IsShown};
+
+use crate::lines::show;
+use crate::reading::{ShowFault, read_file};
+use clap::{Arg, ArgAction, Command};
+use std::alloc::Global;
+use std::fs::File;
+use std::io::Write;
+use std::rt::Files;
+
+/// Shows the file that the command line `args` names, by [`show_file`]. The program's own name comes
+/// first: `mwshow [--words] FILE`. Where help is asked for, `out` gets its text.
+///
+/// Gives the exit status: that of [`show_file`]; 2 for a wrong command line; 1 where memory was refused
+/// before the file was looked at. For help it is 0, or 1 where `out` failed. What went wrong is written
+/// to `err`.
+pub fn show_args<R: Files<File = File> + AllocGlobal, O: Write, E: Write>(
+    rt: &R,
+    args: &[String],
+    out: &mut O,
+    err: &mut E,
+) -> u8 {
+    match ask(rt.alloc(), args) {
+        Ok(Asked { path, all_words }) => show_file(rt, path, all_words, out, err),
+        Err(ShowFault::Args(fault)) if !fault.use_stderr() => {
+            u8::from(write!(out, "{fault}").is_err())
+        }
+        Err(fault) => tell(&fault, err),
+    }
+}
+
+/// Shows the file at `path`, as [`show`] does: with all its words, or with those that aren't 0. It is
+/// only read, and only where no server has it.
+///
+/// Gives the exit status: 0 where it was shown and has no damage; 1 where it has one, which is shown,
+/// and where it can't be read, memory was refused or `out` failed. What went wrong is written to `err`,
+/// but for a damage and an `out` that failed. At 0 what was written is the text of some file without
+/// damage: that it is the one at `path` no contract can say.
+pub fn show_file<R: Files<File = File> + AllocGlobal, O: Write, E: Write>(
+    rt: &R,
+    path: &str,
+    all_words: bool,
+    out: &mut O,
+    err: &mut E,
+) -> u8
+    ensures { result ≡ 0 → IsShown all_words (O.contents out.old) (O.contents out.new) true }
+{
+    match read_and_show(rt, path, all_words, out) {
+        Ok(true) => 0,
+        Ok(false) => 1,
+        Err(fault) => tell(&fault, err),
+    }
+}
+
+/// Reads and shows a file, and gives whether it has no damage.
+fn read_and_show<R: Files<File = File> + AllocGlobal, O: Write>(
+    rt: &R,
+    path: &str,
+    all_words: bool,
+    out: &mut O,
+) -> Result<bool, ShowFault>
+    ensures { IfOk result (λ sound. IsShown all_words (O.contents out.old) (O.contents out.new) sound) }
+{
+    let bytes = read_file(rt, path)?;
+    show(rt.alloc(), &bytes, all_words, out)
+}
+
+/// Writes what went wrong to `err`, and gives the exit status that tells it.
+fn tell<E: Write>(fault: &ShowFault, err: &mut E) -> u8
+    ensures { 1 ≤ result }
+{
+    let _ = match fault {
+        // The text that clap makes ends with a line feed.
+        ShowFault::Args(fault) => write!(err, "{fault}"),
+        ShowFault::Output => Ok(()),
+        _ => writeln!(err, "{fault}"),
+    };
+    fault.status()
+}
+
+// What a command line asks for.
+struct Asked<'a> {
+    path: &'a str,
+    all_words: bool,
+}
+
+fn ask<'a>(alloc: Global, args: &'a [String]) -> Result<Asked<'a>, ShowFault> {
+    let matches = command(alloc)?.try_get_matches_from(args)?;
+    let Some(path) = matches.get_str("FILE") else {
+        return Err(ShowFault::CannotRead);
+    };
+    Ok(Asked {
+        path,
+        all_words: matches.get_flag("words"),
+    })
+}
+
+fn command<'a>(alloc: Global) -> Result<Command<'a>, clap::Error> {
+    let command = Command::new(alloc, "mwshow").about("Shows what a tenant's file says.");
+    let command = command.arg(words_option(alloc))?;
+    Ok(command.arg(file_path(alloc))?)
+}
+
+fn words_option<'a>(alloc: Global) -> Arg<'a> {
+    Arg::new(alloc, "words")
+        .long("words")
+        .action(ArgAction::SetTrue)
+        .help("tells the words that are 0 too")
+}
+
+fn file_path<'a>(alloc: Global) -> Arg<'a> {
+    Arg::new(alloc, "FILE")
+        .required(true)
+        .help("the file of a tenant")
+}
