@@ -3,5 +3,6 @@ pub use Rattle.mw_law_calls.proofs.Following.{rights_follow_calls}
 pub use Rattle.mw_law_calls.proofs.GoingOn.{requests_go_on_from_calls}
 pub use Rattle.mw_law_calls.proofs.Starting.{calls_have_words}
 pub use Rattle.mw_law_calls.proofs.Telling.{opened_told}
+pub use Rattle.mw_law_calls.proofs.Tied.{starts_have_rights}
 pub use Rattle.mw_law_runs.proofs.Lawful.{runs_are_lawful}
 pub use Rattle.mw_law_runs.proofs.Running.{runs_are_sound}

@@ -11,9 +11,8 @@ use Rattle.mw_actor.specs.Acting.{Acting, own_entries}
 use Rattle.mw_actor.specs.Asks.{asks}
 use Rattle.mw_actor.specs.Program.{tells}
 use Rattle.mw_world.specs.Definition.Calls.{Called, called_at}
-use Rattle.mw_law_calls.specs.declared.rights.FileRights.{FileRights}
-use Rattle.mw_law_calls.specs.Rights.{rights_filed}
-use Rattle.mw_law_calls.proofs.GoingOn.{requests_go_on_from_calls}
+use Rattle.mw_rule.specs.FromLaws.{FileRights, rights_filed}
+use Rattle.mw_rule.proofs.FromLaws.{requests_go_on_from_calls}
 use Rattle.mw_rule.specs.declared.views.Deed.TheVariants.{Called as DeedCalled}
 use Rattle.mw_rule.specs.declared.views.Held.{Held}
 use Rattle.mw_rule.specs.declared.views.Reins.{Reins}

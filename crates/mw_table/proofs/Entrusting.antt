@@ -6,7 +6,7 @@ use Rattle.atomic_table.specs.Table.{Me}
 use Rattle.mw_actor.specs.Acting.{Acting}
 use Rattle.mw_world.specs.declared.config.Config.{Config}
 use Rattle.mw_world.specs.Definition.State.{Opening, tenants_of, world_at}
-use Rattle.mw_law_calls.proofs.Tied.{starts_have_rights}
+use Rattle.mw_rule.proofs.FromLaws.{starts_have_rights}
 use Rattle.mw_rule.specs.declared.views.View.{View}
 use Rattle.mw_rule.specs.Dealing.{bereft, entrusted, knows}
 use Rattle.mw_rule.specs.Rule.{Each, HoldsFile, IsLive, times_held, weight}

@@ -16,8 +16,7 @@ use Rattle.mw_world.specs.Definition.Calls.{Called, called_at, starts_from, stat
 use Rattle.mw_world.specs.Definition.Extent.{has_place}
 use Rattle.mw_world.specs.Definition.Happenings.{Happening}
 use Rattle.mw_world.specs.Definition.State.{Opening}
-use Rattle.mw_law_calls.specs.declared.rights.FileRights.{FileRights}
-use Rattle.mw_law_calls.specs.Ending.{kind_of}
+use Rattle.mw_rule.specs.FromLaws.{FileRights, kind_of}
 use Rattle.mw_rule.specs.declared.views.Held.{Held}
 use Rattle.mw_rule.specs.declared.views.Reins.{Reins}
 use Rattle.mw_rule.specs.declared.views.View.{View}

@@ -6,9 +6,7 @@ use Rattle.mw_look.specs.declared.steps.Call.{Call}
 use Rattle.mw_actor.specs.Acting.{Acting}
 use Rattle.mw_world_file.specs.Files.{entries_at}
 use Rattle.mw_world.specs.Definition.Calls.{Called, device_calls, is_made}
-use Rattle.mw_law_calls.specs.declared.rights.FileRights.{FileRights}
-use Rattle.mw_law_calls.specs.Rights.{file_told}
-use Rattle.mw_law_calls.specs.Starting.{HasWords}
+use Rattle.mw_rule.specs.FromLaws.{FileRights, file_told, HasWords}
 use Rattle.mw_rule.specs.declared.views.Held.{Held}
 use Rattle.mw_rule.specs.declared.views.View.{View}
 use Rattle.mw_rule.specs.Filing.{Calls, Loaded, Went, broken_so, fails, filed_so, place_held}

@@ -8,7 +8,7 @@ use Rattle.mw_world.specs.declared.config.Tenant.{Tenant}
 use Rattle.mw_world.specs.Definition.Happenings.{Happening}
 use Rattle.mw_world.specs.Definition.State.{Opening, State, idle_seat, tenants_of, world_at}
 use Rattle.mw_simulator.specs.FromMemory.{first_words}
-use Rattle.mw_law_calls.specs.Rights.{rights_opened}
+use Rattle.mw_rule.specs.FromLaws.{rights_opened}
 use Rattle.mw_rule.specs.declared.views.Held.{Held}
 use Rattle.mw_rule.specs.Seen.{opening_at}
 use Rattle.mw_table.specs.declared.origin.FileOpening.{FileOpening}

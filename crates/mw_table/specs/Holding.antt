@@ -1,6 +1,6 @@
 -- Which files a thread may call.
 use Rattle.std.specs.Prelude.{ℕ, ◌≡◌, Bool, false, List, [], ◌∷◌, map, is_none, None}
-use Rattle.mw_law_calls.specs.declared.rights.FileRights.{FileRights}
+use Rattle.mw_rule.specs.FromLaws.{FileRights}
 use Rattle.mw_rule.specs.declared.views.Held.{Held}
 use Rattle.mw_rule.specs.declared.views.View.{View}
 
