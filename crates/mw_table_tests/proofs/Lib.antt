@@ -1,2 +1,2 @@
 pub mod Dealing
-pub mod TwoTenants
+pub mod Reading

@@ -7,4 +7,6 @@ mod making_tests;
 #[cfg(test)]
 mod race_tests;
 #[cfg(test)]
+mod reading_tests;
+#[cfg(test)]
 mod worlds;

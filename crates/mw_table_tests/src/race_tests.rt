@@ -21,15 +21,15 @@ use std::thread::{Threads, join};
 
 /// A worker's pass, with the request that it carries.
 #[derive(Drop)]
-struct Side {
-    pass: Pass,
-    actor: Actor,
+pub(crate) struct Side {
+    pub(crate) pass: Pass,
+    pub(crate) actor: Actor,
 }
 
 /// A core on the shared words of a world, and the workers' passes.
-struct Opened {
-    core: Core,
-    passes: Vec<Pass>,
+pub(crate) struct Opened {
+    pub(crate) core: Core,
+    pub(crate) passes: Vec<Pass>,
 }
 
 /// How far a thread drove its request.
@@ -54,7 +54,7 @@ fn request_of(core: &Core, world: &World, pass: &Pass) -> Option<Actor>
 }
 
 /// The world's shared words, and a pass for each worker. None where memory is refused.
-fn open(alloc: Global, world: &World) -> Option<Opened>
+pub(crate) fn open(alloc: Global, world: &World) -> Option<Opened>
     requires reached { IsReached world.now }
     ensures world { IfSome result (λ opened. basis_of opened.core.shared.table.shared.key ≡ basis_of_world world.now) }
     ensures dealt { IfSome result (λ opened. All (IsDealt opened.core.shared (basis_of_world world.now)) opened.passes.items) }
@@ -83,7 +83,7 @@ fn take(core: &Core, world: &World, passes: &mut Vec<Pass>) -> Option<Side>
 
 /// The last two of the passes, each with the request that it carries, the lower worker's first. None where one
 /// carries none, or there are no two.
-fn both(core: &Core, world: &World, mut passes: Vec<Pass>) -> Option<(Side, Side)>
+pub(crate) fn both(core: &Core, world: &World, mut passes: Vec<Pass>) -> Option<(Side, Side)>
     requires reached { IsReached world.now }
     requires dealt { All (IsDealt core.now.shared (basis_of_world world.now)) passes.items }
     ensures own_lower { IfSome result (λ sides. IsOf core.now.shared sides.0.pass) }

@@ -1,0 +1,113 @@
+//! A read that begins again. One thread makes its steps, and those of a change beside it.
+ghost use Rattle.std.specs.Prelude.{◌≡◌, true, IfSome};
+ghost use Rattle.mw_words.specs.declared.jobs.Job.TheVariants.{Get};
+ghost use Rattle.mw_table.specs.Carried.{IsCarried};
+ghost use Rattle.mw_table.specs.Passes.{IsOf};
+ghost use Rattle.mw_core.specs.Looking.{IsLook};
+ghost use Rattle.mw_table_tests.specs.Reached.{IsReached};
+ghost use Rattle.mw_table_tests.specs.Reading.{IsReading};
+
+use crate::race_tests::{Opened, Side, both, open};
+use crate::worlds::{change_one, come, config, new_world, play_to, step};
+use mw_actor::{Actor, Point};
+use mw_core::Core;
+use mw_look::{Kind, Op, Point as LookPoint};
+use mw_simulator::World;
+use mw_words::{At, Job, Reply};
+use std::alloc::Global;
+use std::test::Fail;
+
+/// A world of one word and one slot: worker 0 has planted an attempt to hold the word for a change, and is about to
+/// hold it; worker 1 reads the word, has found the attempt and its row, and is about to load the word again. None
+/// where it can't be played so.
+fn before_confirm(alloc: Global) -> Option<World>
+    ensures { IfSome result IsReached }
+{
+    let world = new_world(alloc, config(1, 2, 1))?;
+    let world = come(world, 0, change_one(1))?;
+    let world = play_to(world, 0, Kind::Resolve)?;
+    let world = come(world, 1, Job::Get(0))?;
+    let world = step(world, 1)?;
+    let world = step(world, 1)?;
+    step(world, 1)
+}
+
+/// Whether a request is a read of tenant 0's word 0 that is about to load it for the second time.
+fn confirms(actor: &Actor) -> bool
+    ensures { result ≡ true → IsReading actor.now }
+{
+    let Point::Read(look) = actor.point() else {
+        return false;
+    };
+    let LookPoint::ConfirmWord(_) = look.point() else {
+        return false;
+    };
+    let at = At::Data {
+        tenant: 0,
+        address: 0,
+    };
+    actor.tenant() == 0 && actor.ask() == Op::Load(at) && is_read(actor.job())
+}
+
+/// Whether a job is a read of word 0.
+fn is_read(job: &Job) -> bool
+    ensures { result ≡ true → job.now ≡ Get 0 }
+{
+    matches!(job, Job::Get(0))
+}
+
+/// Whether a read is at its first step.
+fn is_at_first(actor: &Actor) -> bool
+    requires { IsReading actor.now }
+    ensures { result ≡ true → IsLook actor.now }
+{
+    match actor.point() {
+        Point::Read(look) => matches!(look.point(), LookPoint::ReadDoor),
+        _ => false,
+    }
+}
+
+/// Makes one step of a read. Whether it is at its first step then.
+fn turns_back(core: &Core, side: &mut Side) -> bool
+    requires own { IsOf core.now.shared side.old.pass }
+    requires carried { IsCarried side.old.pass side.old.actor }
+    requires reading { IsReading side.old.actor }
+    ensures own { IsOf core.now.shared side.new.pass }
+    ensures carried { IsCarried side.new.pass side.new.actor }
+    ensures first { result ≡ true → IsLook side.new.actor }
+{
+    core.advance(&mut side.pass, &mut side.actor);
+    is_at_first(&side.actor)
+}
+
+/// The reply of a read that had to begin again, since the change held the word between its loads. None where it
+/// hadn't to, or had to again.
+fn second_reply(core: &Core, mut writer: Side, mut reader: Side) -> Option<Reply>
+    requires own_writer { IsOf core.now.shared writer.pass }
+    requires carried_writer { IsCarried writer.pass writer.actor }
+    requires own_reader { IsOf core.now.shared reader.pass }
+    requires carried_reader { IsCarried reader.pass reader.actor }
+{
+    if !confirms(&reader.actor) {
+        return None;
+    }
+    core.advance(&mut writer.pass, &mut writer.actor);
+    if !turns_back(core, &mut reader) {
+        return None;
+    }
+    core.try_look(&mut reader.pass, &mut reader.actor).ok()
+}
+
+/// What a read is told that finds a word with an attempt, and then the word held.
+fn told_at_last(alloc: Global) -> Option<Reply> {
+    let world = before_confirm(alloc)?;
+    let Opened { core, passes } = open(alloc, &world)?;
+    let (writer, reader) = both(&core, &world, passes)?;
+    second_reply(&core, writer, reader)
+}
+
+#[test]
+fn a_read_begins_again(rt: HostRuntime) -> Result<(), Fail> {
+    assert!(rt; told_at_last(rt.alloc()) == Some(Reply::Val(0)));
+    Ok(())
+}
