@@ -1,4 +1,6 @@
 //! What playing schedules gives.
+ghost use Rattle.mw_schedule.specs.Playing.{IsSchedule};
+
 use crate::line_tests::{
     HEAD, lines_without_arrival, steps_not_enabled, stops_not_enabled, workers_not_enabled,
     wrong_lines,
@@ -7,7 +9,7 @@ use crate::mistake_tests::of_mistakes;
 use crate::schedule_tests::{CLAIM_LOST, SLOT_RECYCLED, of_files, of_late_workers, of_requests};
 use mw_look::Kind;
 use mw_player::{Halt, Player, replay, replay_args, replay_schedule};
-use mw_schedule::{Command, StepKind, read_schedule};
+use mw_schedule::{Command, Schedule, StepKind, read_schedule};
 use std::alloc::{AllocError, Global};
 use std::io::{self, ErrorKind, Read, Write};
 use std::process::Abort;
@@ -40,13 +42,6 @@ impl Played {
         Played::new(status, out, err)
     }
 
-    /// What playing a schedule with these lines behind [`HEAD`] gives.
-    fn behind_head<R: AllocGlobal>(rt: &R, lines: &str) -> Result<Played, Fail> {
-        let mut schedule = String::from_str(rt.alloc(), HEAD)?;
-        schedule.push_str(lines)?;
-        Played::of(rt, &mut schedule.as_bytes(), false)
-    }
-
     /// What a command line gives.
     fn of_args<R: Files + AllocGlobal>(rt: &R, args: &[&str]) -> Result<Played, Fail> {
         let args = strings(rt.alloc(), args)?;
@@ -56,10 +51,32 @@ impl Played {
         Played::new(status, out, err)
     }
 
-    /// True if the program gave just this.
-    fn is(&self, status: u8, out: &str, err: &str) -> bool {
-        self.status == status && self.out.as_str() == out && self.err.as_str() == err
+    /// The program gave just this; `what` tells what was played.
+    fn is<R: Abort>(&self, rt: &R, what: &str, status: u8, out: &str, err: &str) {
+        let is_so = self.status == status && self.out.as_str() == out && self.err.as_str() == err;
+        assert!(rt; is_so, "{what}: {self:?}");
     }
+
+    /// The program ended with this status, and wrote to this one of its outputs and not to the other.
+    fn tells<R: Abort>(&self, rt: &R, status: u8, to_out: bool) {
+        let wrote = (!self.out.is_empty(), !self.err.is_empty());
+        assert_eq!(rt; (self.status, wrote), (status, (to_out, !to_out)));
+    }
+}
+
+/// A schedule that is read from here, traced or not, ends with this status, prints this and says that;
+/// `what` tells what is played.
+fn play<R: Abort + AllocGlobal, I: Read>(
+    rt: &R,
+    what: &str,
+    input: &mut I,
+    trace: bool,
+    wanted: (u8, &str, &str),
+) -> Result<(), Fail> {
+    let played = Played::of(rt, input, trace)?;
+    let (status, out, err) = wanted;
+    played.is(rt, what, status, out, err);
+    Ok(())
 }
 
 fn strings(alloc: Global, texts: &[&str]) -> Result<Vec<String>, AllocError> {
@@ -73,31 +90,28 @@ fn strings(alloc: Global, texts: &[&str]) -> Result<Vec<String>, AllocError> {
 #[test]
 fn an_absent_schedule(rt: HostRuntime) -> Result<(), Fail> {
     let absent = Played::of_args(&rt, &["mwreplay", "no-such-schedule"])?;
-    assert!(rt; absent.is(1, "", "mwreplay: cannot read\n"), "{absent:?}");
+    absent.is(&rt, "no schedule", 1, "", "mwreplay: cannot read\n");
     Ok(())
 }
 
 #[test]
 fn a_command_line_without_a_schedule(rt: HostRuntime) -> Result<(), Fail> {
     let unnamed = Played::of_args(&rt, &["mwreplay", "--trace"])?;
-    assert_eq!(rt; unnamed.status, 2);
-    assert!(rt; unnamed.out.is_empty() && !unnamed.err.is_empty());
+    unnamed.tells(&rt, 2, false);
     Ok(())
 }
 
 #[test]
 fn a_command_line_that_asks_for_help(rt: HostRuntime) -> Result<(), Fail> {
     let help = Played::of_args(&rt, &["mwreplay", "--help"])?;
-    assert_eq!(rt; help.status, 0);
-    assert!(rt; help.err.is_empty() && !help.out.is_empty());
+    help.tells(&rt, 0, true);
     Ok(())
 }
 
 /// Plays each of these schedules, which is told with its name and with what is to be printed.
 fn play_each<R: Abort + AllocGlobal>(rt: &R, schedules: &[(&str, &str, &str)]) -> Result<(), Fail> {
     for (name, schedule, out) in schedules {
-        let played = Played::of(rt, &mut schedule.as_bytes(), false)?;
-        assert!(rt; played.is(0, out, ""), "{name}: {played:?}");
+        play(rt, name, &mut schedule.as_bytes(), false, (0, out, ""))?;
     }
     Ok(())
 }
@@ -121,24 +135,39 @@ fn schedules_of_late_workers(rt: HostRuntime) -> Result<(), Fail> {
 #[test]
 fn claims_that_are_traced(rt: HostRuntime) -> Result<(), Fail> {
     let traced = "claim 0 0 t\n0 t YES\nclaim 0 1 u\n0 u YES\n";
-    let played = Played::of(&rt, &mut SLOT_RECYCLED.as_bytes(), true)?;
-    assert!(rt; played.is(0, traced, ""), "{played:?}");
-    Ok(())
+    let mut input = SLOT_RECYCLED.as_bytes();
+    play(&rt, "traced", &mut input, true, (0, traced, ""))
 }
 
 #[test]
 fn claims_that_are_not_traced(rt: HostRuntime) -> Result<(), Fail> {
-    let played = Played::of(&rt, &mut SLOT_RECYCLED.as_bytes(), false)?;
-    assert!(rt; played.is(0, "0 t YES\n0 u YES\n", ""), "{played:?}");
-    Ok(())
+    let replies = "0 t YES\n0 u YES\n";
+    let mut input = SLOT_RECYCLED.as_bytes();
+    play(&rt, "not traced", &mut input, false, (0, replies, ""))
 }
 
 #[test]
 fn claims_that_are_lost(rt: HostRuntime) -> Result<(), Fail> {
     let traced = "claim 0 0 t\nclaim 1 0 t\n0 t YES\n1 t YES\n";
-    let played = Played::of(&rt, &mut CLAIM_LOST.as_bytes(), true)?;
-    assert!(rt; played.is(0, traced, ""), "{played:?}");
-    Ok(())
+    let mut input = CLAIM_LOST.as_bytes();
+    play(&rt, "lost", &mut input, true, (0, traced, ""))
+}
+
+/// The schedule with these lines behind [`HEAD`].
+fn behind_head(alloc: Global, lines: &str) -> Result<String, AllocError> {
+    let mut schedule = String::from_str(alloc, HEAD)?;
+    schedule.push_str(lines)?;
+    Ok(schedule)
+}
+
+/// A schedule with these lines behind [`HEAD`] ends with this status, prints this and says that.
+fn play_behind_head<R: Abort + AllocGlobal>(
+    rt: &R,
+    lines: &str,
+    wanted: (u8, &str, &str),
+) -> Result<(), Fail> {
+    let schedule = behind_head(rt.alloc(), lines)?;
+    play(rt, lines, &mut schedule.as_bytes(), false, wanted)
 }
 
 /// Plays schedules with each of these lines behind [`HEAD`]. Each is to end with this status, to print
@@ -149,8 +178,7 @@ fn end_each<R: Abort + AllocGlobal>(
     cases: &[(&str, &str)],
 ) -> Result<(), Fail> {
     for (lines, err) in cases {
-        let played = Played::behind_head(rt, lines)?;
-        assert!(rt; played.is(status, "", err), "{lines}: {played:?}");
+        play_behind_head(rt, lines, (status, "", err))?;
     }
     Ok(())
 }
@@ -162,9 +190,14 @@ fn lines_that_are_wrong(rt: HostRuntime) -> Result<(), Fail> {
 
 #[test]
 fn a_first_line_that_is_missing(rt: HostRuntime) -> Result<(), Fail> {
-    let missing = Played::of(&rt, &mut b"pool 1\nworkers 1\n".as_slice(), false)?;
-    assert!(rt; missing.is(2, "", "line 3 wrong\n"), "{missing:?}");
-    Ok(())
+    let mut input = b"pool 1\nworkers 1\n".as_slice();
+    play(
+        &rt,
+        "no tenant",
+        &mut input,
+        false,
+        (2, "", "line 3 wrong\n"),
+    )
 }
 
 #[test]
@@ -189,12 +222,18 @@ fn lines_that_do_not_arrive(rt: HostRuntime) -> Result<(), Fail> {
 
 #[test]
 fn replies_before_a_halt_stay(rt: HostRuntime) -> Result<(), Fail> {
-    let played = Played::behind_head(&rt, "come 0 t GET 0\nend 0\nstep 0\nend 0\n")?;
-    assert!(rt;
-        played.is(3, "0 t VAL 0\n", "line 7 not enabled\n"),
-        "{played:?}"
-    );
-    Ok(())
+    let lines = "come 0 t GET 0\nend 0\nstep 0\nend 0\n";
+    play_behind_head(&rt, lines, (3, "0 t VAL 0\n", "line 7 not enabled\n"))
+}
+
+/// What playing a schedule that was read already gives.
+fn played_schedule<R: AllocGlobal>(rt: &R, schedule: Schedule) -> Result<Played, Fail>
+    requires { IsSchedule schedule }
+{
+    let mut out = Vec::new(rt.alloc());
+    let mut err = Vec::new(rt.alloc());
+    let status = replay_schedule(rt, schedule, false, &mut out, &mut err);
+    Played::new(status, out, err)
 }
 
 #[test]
@@ -203,11 +242,8 @@ fn a_given_schedule_is_played(rt: HostRuntime) -> Result<(), Fail> {
     let Ok(schedule) = read_schedule(rt.alloc(), text) else {
         panic!(rt; "a schedule");
     };
-    let mut out = Vec::new(rt.alloc());
-    let mut err = Vec::new(rt.alloc());
-    let status = replay_schedule(&rt, schedule, false, &mut out, &mut err);
-    let played = Played::new(status, out, err)?;
-    assert!(rt; played.is(0, "0 t YES\n", ""), "{played:?}");
+    let played = played_schedule(&rt, schedule)?;
+    played.is(&rt, "a given schedule", 0, "0 t YES\n", "");
     Ok(())
 }
 
@@ -225,19 +261,28 @@ fn player_of<R: Abort + AllocGlobal, W: Write>(
     Ok(player)
 }
 
+/// How a player whose worker 0 is one step before its door is raised goes there with no step left, with
+/// one, with none again, and past it.
+fn go_to_the_door<W: Write>(player: &mut Player, out: &mut W) -> [Result<(), Halt>; 4] {
+    let admits = StepKind::Change(Kind::Admit);
+    let early = player.go_before(0, admits, 0, out);
+    let there = player.go_before(0, admits, 1, out);
+    let again = player.go_before(0, admits, 0, out);
+    [
+        early,
+        there,
+        again,
+        player.obey(Command::To(0, admits), out),
+    ]
+}
+
 #[test]
 fn steps_are_counted(rt: HostRuntime) -> Result<(), Fail> {
     let text = b"pool 1\nworkers 1\ntenant t 1 1\ncome 0 t CAS 0:0:1\n";
     let mut out = Vec::new(rt.alloc());
     let mut player = player_of(&rt, text, &mut out)?;
-    let admits = StepKind::Change(Kind::Admit);
-    assert_eq!(rt;
-        player.go_before(0, admits, 0, &mut out),
-        Err(Halt::DidNotArrive)
-    );
-    assert_eq!(rt; player.go_before(0, admits, 1, &mut out), Ok(()));
-    assert_eq!(rt; player.go_before(0, admits, 0, &mut out), Ok(()));
-    assert_eq!(rt; player.obey(Command::To(0, admits), &mut out), Ok(()));
+    let ends = go_to_the_door(&mut player, &mut out);
+    assert_eq!(rt; ends, [Err(Halt::DidNotArrive), Ok(()), Ok(()), Ok(())]);
     Ok(())
 }
 
@@ -265,9 +310,8 @@ fn a_reader_that_fails(rt: HostRuntime) -> Result<(), Fail> {
     let mut input = Failing {
         rest: SLOT_RECYCLED.as_bytes(),
     };
-    let played = Played::of(&rt, &mut input, false)?;
-    assert!(rt; played.is(1, "", "mwreplay: cannot read\n"), "{played:?}");
-    Ok(())
+    let wanted = (1, "", "mwreplay: cannot read\n");
+    play(&rt, "a reader that fails", &mut input, false, wanted)
 }
 
 #[test]
@@ -276,8 +320,6 @@ fn a_writer_that_fails(rt: HostRuntime) -> Result<(), Fail> {
     let mut err = Vec::new(rt.alloc());
     let mut input = SLOT_RECYCLED.as_bytes();
     let status = replay(&rt, &mut input, false, &mut room.as_mut_slice(), &mut err);
-    assert_eq!(rt; status, 1);
-    assert!(rt; err.is_empty());
-    assert!(rt; room.as_slice() == b"0 t YES\n0 ".as_slice());
+    assert_eq!(rt; (status, err.len(), room), (1, 0, *b"0 t YES\n0 "));
     Ok(())
 }
