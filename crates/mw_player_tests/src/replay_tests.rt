@@ -1,4 +1,6 @@
 //! What playing schedules gives.
+ghost use Rattle.mw_schedule.specs.Playing.{IsSchedule};
+
 use crate::line_tests::{
     HEAD, lines_without_arrival, steps_not_enabled, stops_not_enabled, workers_not_enabled,
     wrong_lines,
@@ -225,7 +227,9 @@ fn replies_before_a_halt_stay(rt: HostRuntime) -> Result<(), Fail> {
 }
 
 /// What playing a schedule that was read already gives.
-fn played_schedule<R: AllocGlobal>(rt: &R, schedule: Schedule) -> Result<Played, Fail> {
+fn played_schedule<R: AllocGlobal>(rt: &R, schedule: Schedule) -> Result<Played, Fail>
+    requires { IsSchedule schedule }
+{
     let mut out = Vec::new(rt.alloc());
     let mut err = Vec::new(rt.alloc());
     let status = replay_schedule(rt, schedule, false, &mut out, &mut err);
@@ -235,7 +239,9 @@ fn played_schedule<R: AllocGlobal>(rt: &R, schedule: Schedule) -> Result<Played,
 #[test]
 fn a_given_schedule_is_played(rt: HostRuntime) -> Result<(), Fail> {
     let text = b"pool 1\nworkers 1\ntenant t 1 1\ncome 0 t CAS 0:0:1\nend 0\n";
-    let schedule = read_schedule(rt.alloc(), text).expect(&rt, "a schedule");
+    let Ok(schedule) = read_schedule(rt.alloc(), text) else {
+        panic!(rt; "a schedule");
+    };
     let played = played_schedule(&rt, schedule)?;
     played.is(&rt, "a given schedule", 0, "0 t YES\n", "");
     Ok(())
