@@ -7,7 +7,7 @@ use clap::{Arg, Command, value_parser};
 use mw_config::VERSION;
 use mw_record::{header, size};
 use mw_words::{MAX_PLACES, MAX_WORDS};
-use std::alloc::Global;
+use std::alloc::{AllocError, Global};
 use std::fs::{File, OpenOptions};
 use std::io::{self, Read, Write};
 use std::path::Path;
@@ -117,21 +117,25 @@ fn command<'a>(alloc: Global) -> Result<Command<'a>, clap::Error> {
     let path = Arg::new(alloc, "PATH")
         .required(true)
         .help("the file to make");
-    let words = Arg::new(alloc, "WORDS")
-        .required(true)
-        .help("how many words it has")
-        .value_parser(value_parser!(u16).range(1..=i64::from(MAX_WORDS)));
-    let places = Arg::new(alloc, "PLACES")
-        .required(true)
-        .help("how many changes it can hold at a time")
-        .value_parser(value_parser!(u16).range(1..=i64::from(MAX_PLACES)));
     let command = Command::new(alloc, "mwinit")
         .version(VERSION)
         .about("Makes a file of words, all 0.")
-        .arg(path)?
-        .arg(words)?
-        .arg(places)?;
-    Ok(command)
+        .arg(path)?;
+    Ok(add_sizes(alloc, command)?)
+}
+
+/// The command with the arguments that say how large the file is.
+fn add_sizes<'a>(alloc: Global, command: Command<'a>) -> Result<Command<'a>, AllocError> {
+    let words = number(alloc, "WORDS", MAX_WORDS).help("how many words it has");
+    let places = number(alloc, "PLACES", MAX_PLACES).help("how many changes it can hold at a time");
+    command.arg(words)?.arg(places)
+}
+
+/// An argument that is a number from 1 to `most`.
+fn number<'a>(alloc: Global, name: &'a str, most: u16) -> Arg<'a> {
+    Arg::new(alloc, name)
+        .required(true)
+        .value_parser(value_parser!(u16).range(1..=i64::from(most)))
 }
 
 /// Writes a new file, which it locks first, and syncs it. What a fault leaves of it is removed, but no
