@@ -1,5 +1,6 @@
 //! What is read of a file, and why one is not shown.
-ghost use Rattle.std.specs.Prelude.{◌≤◌};
+ghost use Rattle.std.specs.Prelude.{◌≡◌, ◌≤◌};
+ghost use Rattle.mw_show.specs.Statuses.{status_of};
 
 use clap::error::ErrorKind;
 use mw_record::MAX_FILE;
@@ -35,11 +36,16 @@ pub enum ShowFault {
 impl ShowFault {
     /// The exit status that tells it.
     pub fn status(&self) -> u8
-        ensures { 1 ≤ result }
+        ensures status { result ≡ status_of self.now }
+        ensures not_shown { 1 ≤ result }
     {
         match self {
             ShowFault::Args(_) => 2,
-            _ => 1,
+            ShowFault::CannotRead
+            | ShowFault::NotPlain
+            | ShowFault::InUse
+            | ShowFault::Memory
+            | ShowFault::Output => 1,
         }
     }
 }

@@ -1,5 +1,6 @@
 //! `mwshow`: shows what a tenant's file says.
 ghost use Rattle.std.specs.Prelude.{◌≡◌, ◌≤◌, IfOk, true};
+ghost use Rattle.mw_show.specs.Statuses.{status_of};
 ghost use Rattle.mw_show.specs.Text.{IsShown};
 
 use crate::lines::show;
@@ -69,7 +70,8 @@ fn read_and_show<R: Files<File = File> + AllocGlobal, O: Write>(
 
 /// Writes what went wrong to `err`, and gives the exit status that tells it.
 fn tell<E: Write>(fault: &ShowFault, err: &mut E) -> u8
-    ensures { 1 ≤ result }
+    ensures status { result ≡ status_of fault.now }
+    ensures not_shown { 1 ≤ result }
 {
     let _ = match fault {
         // The text that clap makes ends with a line feed.
