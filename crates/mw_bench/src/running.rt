@@ -22,7 +22,8 @@ pub(crate) fn loads(core: &Core, pass: &mut Pass, count: u64) -> u64
     found
 }
 
-/// Reads the tenant's word so often, each time by a request. The value of an odd number of reads is left.
+/// Reads the tenant's word so often, each time by a request. The value of an odd number of reads is left; 0, if one had
+/// to begin again, which ends them.
 pub(crate) fn gets(core: &Core, mut pass: Pass, tenant: u8, count: u64) -> u64
     requires { MayGet core.now.shared pass tenant }
 {
@@ -32,7 +33,7 @@ pub(crate) fn gets(core: &Core, mut pass: Pass, tenant: u8, count: u64) -> u64
         match core.try_look(&mut pass, &mut actor) {
             Ok(Reply::Val(value)) => found ^= value,
             Ok(_) => {}
-            Err(_) => return found,
+            Err(_) => return 0,
         }
     }
     found
