@@ -1,3 +1,4 @@
+use crate::same::same;
 use mw_disk::*;
 use std::alloc::{AllocError, Global};
 use std::cell::Cell;
@@ -70,8 +71,9 @@ fn a_disk_in_memory_fails_where_its_script_says(rt: HostRuntime) -> Result<(), F
         [Err(DiskFault), Ok(()), Ok(()), Err(DiskFault)],
         Ok([1, 9, 9, 4]),
     );
-    assert_eq!(rt; call_by_script(&mut disk), wanted);
-    assert_eq!(rt; (disk.faults(), disk.refused()), (2, 0));
+    let told = call_by_script(&mut disk);
+    same(&rt, &told, &wanted);
+    same(&rt, &(disk.faults(), disk.refused()), &(2, 0));
     let crashes: [Left; 3] = [
         (&[], &[1, 9, 9, 4, 0, 0, 7]),
         (&[10, 11, 12], &[1, 10, 11, 4, 12, 0, 7]),
@@ -99,13 +101,17 @@ fn ask_too_much(disk: &mut MemDisk) -> [Result<(), DiskFault>; 3] {
 /// The second call from now on fails, and no other one.
 fn fails_when_told<R: Abort>(rt: &R, disk: &mut MemDisk) -> Result<(), AllocError> {
     disk.fail_next(2)?;
-    assert_eq!(rt; write_twice(disk), [Ok(()), Err(DiskFault)]);
-    assert!(rt; leaves(disk, (&[7, 8], &[7, 2, 3, 4, 0, 8]))?);
-    assert_eq!(rt;
-        ask_too_much(disk),
-        [Ok(()), Err(DiskFault), Err(DiskFault)]
+    let written = write_twice(disk);
+    let left_unsynced = leaves(disk, (&[7, 8], &[7, 2, 3, 4, 0, 8]))?;
+    same(
+        rt,
+        &(written, left_unsynced),
+        &([Ok(()), Err(DiskFault)], true),
     );
-    assert!(rt; leaves(disk, (&[7, 8], &[5, 2, 3, 4]))?);
+    let refused = ask_too_much(disk);
+    let left_synced = leaves(disk, (&[7, 8], &[5, 2, 3, 4]))?;
+    let answers = [Ok(()), Err(DiskFault), Err(DiskFault)];
+    same(rt, &(refused, left_synced), &(answers, true));
     Ok(())
 }
 
@@ -134,11 +140,12 @@ type Counted = (Result<u64, DiskFault>, u64);
 fn a_disk_in_memory_fails_and_stops_when_told(rt: HostRuntime) -> Result<(), Fail> {
     let mut disk = disk_of_four(rt.alloc())?;
     fails_when_told(&rt, &mut disk)?;
-    assert_eq!(rt; (disk.faults(), disk.refused()), (3, 1));
-    assert_eq!(rt; write_past_the_stop(&mut disk), [Ok(()), Err(DiskFault)]);
+    same(&rt, &(disk.faults(), disk.refused()), &(3, 1));
+    let written = write_past_the_stop(&mut disk);
+    same(&rt, &written, &[Ok(()), Err(DiskFault)]);
     let copied = copy_of_stopped(&disk, (&[6, 6], &[5, 6, 3, 4]))?;
-    assert_eq!(rt; copied, Some((Err(DiskFault), 5)));
-    assert_eq!(rt; disk.faults(), 4);
+    same(&rt, &copied, &Some((Err(DiskFault), 5)));
+    same(&rt, &disk.faults(), &4);
     Ok(())
 }
 
@@ -171,13 +178,13 @@ fn go_too_far<D: Disk>(disk: &mut D) -> [Result<(), DiskFault>; 3] {
 
 #[test]
 fn a_disk_in_memory_and_one_over_a_file_are_used_alike(rt: HostRuntime) -> Result<(), Fail> {
-    assert_eq!(rt; read_from_memory(rt.alloc())?, Ok(*b"abcd"));
+    same(&rt, &read_from_memory(rt.alloc())?, &Ok(*b"abcd"));
     let mut disk = FileDisk::new(nameless_file(&rt)?);
-    assert_eq!(rt; write_and_read(&mut disk, 3, b"abcd"), Ok(*b"abcd"));
-    assert_eq!(rt; disk.len(), Ok(7));
-    assert_eq!(rt; go_too_far(&mut disk), [Err(DiskFault); 3]);
-    assert_eq!(rt; disk.faults(), 3);
-    assert_eq!(rt; disk.into_file().metadata()?.len(), 7);
+    let read = write_and_read(&mut disk, 3, b"abcd");
+    same(&rt, &(read, disk.len()), &(Ok(*b"abcd"), Ok(7)));
+    let refused = go_too_far(&mut disk);
+    same(&rt, &(refused, disk.faults()), &([Err(DiskFault); 3], 3));
+    same(&rt, &disk.into_file().metadata()?.len(), &7);
     Ok(())
 }
 
@@ -269,10 +276,12 @@ fn reach_behind<D: Disk>(disk: &mut D) -> [Result<(), DiskFault>; 2] {
 #[test]
 fn short_and_interrupted_calls_go_on(rt: HostRuntime) {
     let mut disk = FileDisk::new(slow_file());
-    assert_eq!(rt; write_and_read_thrice(&mut disk), [Ok(*b"abcd"); 3]);
-    assert_eq!(rt; reach_behind(&mut disk), [Err(DiskFault); 2]);
-    assert_eq!(rt; disk.len(), Err(DiskFault));
-    assert_eq!(rt; disk.faults(), 3);
+    let read = write_and_read_thrice(&mut disk);
+    same(&rt, &read, &[Ok(*b"abcd"); 3]);
+    let refused = reach_behind(&mut disk);
+    same(&rt, &refused, &[Err(DiskFault); 2]);
+    same(&rt, &(disk.len(), disk.faults()), &(Err(DiskFault), 3));
     let file = disk.into_file();
-    assert_eq!(rt; (file.syncs.get(), file.bytes.get()), (3, *b"abcaabab"));
+    let left = (file.syncs.get(), file.bytes.get());
+    same(&rt, &left, &(3, *b"abcaabab"));
 }

@@ -2,6 +2,7 @@ ghost use Rattle.std.specs.Prelude.{◌≡◌, ◌≤◌, ◌==◌, true};
 ghost use Rattle.mw_words.specs.declared.limits.TheConstants.{MAX_PLACES, MAX_WORDS};
 ghost use Rattle.mw_file.specs.PlaceStates.{MaySeal, commit_writes, stage_of};
 
+use crate::same::{same, same_at};
 use mw_disk::{Disk, DiskFault, MemDisk};
 use mw_file::*;
 use mw_record::{header, size};
@@ -223,7 +224,7 @@ fn words_and_places(alloc: Global) -> Result<(Option<Words>, Option<(u16, bool)>
 #[test]
 fn a_new_file_opens_with_all_places_free(rt: HostRuntime) -> Result<(), Fail> {
     let found = words_and_places(rt.alloc())?;
-    assert_eq!(rt; found, (Some([5, 0]), Some((2, true))));
+    same(&rt, &found, &(Some([5, 0]), Some((2, true))));
     Ok(())
 }
 
@@ -251,7 +252,7 @@ fn each_device_call_of_an_opening_fails(rt: HostRuntime) -> Result<(), Fail> {
         };
         for trouble in [Trouble::Once, Trouble::Stop] {
             let found = fault_of(alloc, &bytes, calls, trouble)?;
-            assert_eq!(rt; found, wanted, "after {calls} calls");
+            same_at(&rt, u64::from(calls), &found, &wanted);
         }
     }
     Ok(())
@@ -320,8 +321,8 @@ fn damaged_files(rt: HostRuntime) -> Result<(), Fail> {
     for case in DAMAGED {
         let (places, changes, kept, number) = case;
         let bytes = damaged_bytes(alloc, places, changes, kept)?;
-        assert_eq!(rt; bytes.len(), kept, "{number}");
-        assert_eq!(rt; damage_of(alloc, &bytes)?, (number, 0, bytes), "{number}");
+        let found = (bytes.len(), damage_of(alloc, &bytes)?);
+        same(&rt, &found, &(kept, (number, 0, bytes)));
     }
     Ok(())
 }
@@ -364,10 +365,10 @@ fn left_of_two_records(alloc: Global) -> Result<Vec<u8>, Fail> {
 #[test]
 fn two_records(rt: HostRuntime) -> Result<(), Fail> {
     let left = left_of_two_records(rt.alloc())?;
-    assert_eq!(rt; left.len(), 328);
+    same(&rt, &left.len(), &328);
     for (calls, wanted) in [(7, Ok(true)), (6, Err(OpenFault::Disk))] {
         let ended = ended_after(rt.alloc(), &left, calls, &[0, 2, 3])?;
-        assert_eq!(rt; ended, wanted);
+        same_at(&rt, u64::from(calls), &ended, &wanted);
     }
     Ok(())
 }
@@ -391,7 +392,7 @@ fn cancel_between(
 fn a_cancelled_place_is_taken_again(rt: HostRuntime) -> Result<(), Fail> {
     let mut file = with_two_records(rt.alloc())?.ok_or("both records are written")?;
     let told = cancel_between(&mut file, &change(&[(0, 1)]));
-    assert_eq!(rt; told, (None, Some(()), Some(Ok(Place(0)))));
+    same(&rt, &told, &(None, Some(()), Some(Ok(Place(0)))));
     Ok(())
 }
 
@@ -505,11 +506,8 @@ fn leaves_words<R: Abort + AllocGlobal>(
 ) -> Result<(), AllocError> {
     for torn in TORN {
         let found = words_left(rt.alloc(), file, &over_and_over(rt.alloc(), torn)?)?;
-        assert_eq!(rt;
-            found,
-            Some(words_after(calls, trouble, torn)),
-            "after {calls} calls"
-        );
+        let wanted = Some(words_after(calls, trouble, torn));
+        same_at(rt, u64::from(calls), &found, &wanted);
     }
     Ok(())
 }
@@ -544,7 +542,8 @@ fn crash_in_a_call<R: Abort + AllocGlobal>(
 {
     let mut file = troubled_file(rt.alloc(), places, calls, trouble)?.ok_or("the file opens")?;
     let found = answers_twice(rt.alloc(), &mut file)?;
-    assert_eq!(rt; found, wanted_twice(calls, places), "after {calls} calls");
+    let wanted = wanted_twice(calls, places);
+    same_at(rt, u64::from(calls), &found, &wanted);
     Ok(leaves_words(rt, &file, calls, trouble)?)
 }
 
@@ -603,7 +602,7 @@ fn open_with_trouble<R: Abort + AllocGlobal>(rt: &R, image: &[u8]) -> Result<(),
             } else {
                 (Ok(vec![in alloc; 1, 2]?), 0)
             };
-            assert_eq!(rt; (ended, disk.faults()), wanted, "after {calls} calls");
+            same_at(rt, u64::from(calls), &(ended, disk.faults()), &wanted);
         }
     }
     Ok(())
@@ -611,7 +610,7 @@ fn open_with_trouble<R: Abort + AllocGlobal>(rt: &R, image: &[u8]) -> Result<(),
 
 /// A file with these bytes opens, and has the words of the sealed change.
 fn has_the_change<R: Abort + AllocGlobal>(rt: &R, bytes: &[u8]) -> Result<(), Fail> {
-    assert_eq!(rt; words_of(rt.alloc(), bytes)?, Some([1, 2]));
+    same(rt, &words_of(rt.alloc(), bytes)?, &Some([1, 2]));
     Ok(())
 }
 

@@ -10,3 +10,5 @@ mod file_tests;
 mod memory_tests;
 #[cfg(test)]
 mod record_tests;
+#[cfg(test)]
+mod same;

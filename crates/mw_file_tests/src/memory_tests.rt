@@ -2,6 +2,7 @@
 use crate::file_tests::{
     Answers, Words, answers, answers_to, disk_with, new_bytes, opened, words_left,
 };
+use crate::same::same;
 use mw_disk::{Disk, DiskFault, MemDisk};
 use mw_file::*;
 use std::alloc::{AllocError, Global};
@@ -58,7 +59,7 @@ fn is_new(alloc: Global, file: &TenantFile<MemDisk>) -> Result<bool, AllocError>
 fn a_copy_goes_its_own_way(rt: HostRuntime) -> Result<(), Fail> {
     let file = new_file(rt.alloc())?;
     let changed = changed_copy(rt.alloc(), &file)?;
-    assert_eq!(rt; changed, (all_well(), Some([1, 2])));
+    same(&rt, &changed, &(all_well(), Some([1, 2])));
     assert!(rt; is_new(rt.alloc(), &file)?);
     Ok(())
 }
@@ -69,7 +70,8 @@ fn the_call_that_is_told_to_fails(rt: HostRuntime) -> Result<(), Fail> {
     // The third call is seal's write of the commit byte.
     file.fail_next(3)?;
     let found = answers_and_words(rt.alloc(), &mut file, &[], &[0xa5])?;
-    assert_eq!(rt; found, (answers_to(2, 1).0, Some([0, 0]), Some([1, 2])));
+    let wanted = (answers_to(2, 1).0, Some([0, 0]), Some([1, 2]));
+    same(&rt, &found, &wanted);
     Ok(())
 }
 
@@ -79,7 +81,8 @@ fn the_earlier_of_two_stops_counts(rt: HostRuntime) -> Result<(), Fail> {
     file.stop_next(3);
     file.stop_next(5);
     let found = answers_and_words(rt.alloc(), &mut file, &[], &[0])?;
-    assert_eq!(rt; found, (answers_to(3, 1).0, Some([1, 2]), Some([0, 0])));
+    let wanted = (answers_to(3, 1).0, Some([1, 2]), Some([0, 0]));
+    same(&rt, &found, &wanted);
     Ok(())
 }
 
@@ -87,15 +90,17 @@ fn the_earlier_of_two_stops_counts(rt: HostRuntime) -> Result<(), Fail> {
 fn a_call_that_is_refused_memory_fails(rt: HostRuntime) -> Result<(), Fail> {
     let mut disk = new_disk(rt.alloc())?;
     // There is not so much memory. The next calls go well.
-    assert_eq!(rt; disk.write_at(1 << 63, &[1]), Err(DiskFault));
+    let written = disk.write_at(1 << 63, &[1]);
     let mut refused = file_on(rt.alloc(), disk)?;
-    assert_eq!(rt; (refused.refused(), answers(&mut refused)), (1, all_well()));
+    let count = refused.refused();
+    let found = (written, count, answers(&mut refused));
+    same(&rt, &found, &(Err(DiskFault), 1, all_well()));
     Ok(())
 }
 
 #[test]
 fn no_call_of_a_new_file_was_refused_memory(rt: HostRuntime) -> Result<(), Fail> {
     let file = new_file(rt.alloc())?;
-    assert_eq!(rt; file.refused(), 0);
+    same(&rt, &file.refused(), &0);
     Ok(())
 }

@@ -1,4 +1,5 @@
 //! Files with one fault each, and a file that is read.
+use crate::same::{same, same_at};
 use mw_record::{
     COMMITTED, Damage, Image, MAX_FILE, body, decode, header, home_at, place_at, size,
 };
@@ -58,7 +59,7 @@ fn a_change_of_one_byte_is_told(rt: HostRuntime) {
         (0, 0x58, 31, 6),
     ];
     for (at, byte, len, number) in cases {
-        assert_eq!(rt; told_of_change(at, byte, len), number, "at {at}");
+        same_at(&rt, at as u64, &told_of_change(at, byte, len), &number);
     }
 }
 
@@ -67,7 +68,7 @@ fn records_are_told(rt: HostRuntime) {
     let mut long = small_file();
     long[48] = COMMITTED;
     long[49] = 9;
-    assert_eq!(rt; told(&long), Damage::Record.number());
+    same(&rt, &told(&long), &Damage::Record.number());
 
     let mut shared = file_of_two_places();
     shared[48] = COMMITTED;
@@ -76,9 +77,9 @@ fn records_are_told(rt: HostRuntime) {
     shared[184] = COMMITTED;
     shared[185] = 1;
     shared[200] = 1;
-    assert_eq!(rt; told(&shared), Damage::Overlap.number());
+    same(&rt, &told(&shared), &Damage::Overlap.number());
     shared[184] = 0x7f;
-    assert_eq!(rt; told(&shared), 0);
+    same(&rt, &told(&shared), &0);
 }
 
 /// A file with the home words 5 and 0, and one open record, which makes the second word 7.
@@ -110,13 +111,14 @@ fn read_image(image: &Image<'_>) -> Option<([u64; 2], [u8; 2], (u16, u64))> {
 fn a_file_is_read(rt: HostRuntime) -> Result<(), Fail> {
     let file = file_with_a_record();
     let image = decode(&file).map_err(|damage| damage.number())?;
-    assert_eq!(rt; read_image(&image), Some(([5, 7], [1, 0], (1, 7))));
+    let read = read_image(&image);
+    same(&rt, &read, &Some(([5, 7], [1, 0], (1, 7))));
     Ok(())
 }
 
 #[test]
 fn parts_lie_one_behind_the_other(rt: HostRuntime) {
     let parts = [home_at(1), place_at(2, 0), place_at(2, 1), size(2, 2)];
-    assert_eq!(rt; parts, [40, 48, 184, 320]);
-    assert_eq!(rt; size(4096, 32), MAX_FILE as u64);
+    same(&rt, &parts, &[40, 48, 184, 320]);
+    same(&rt, &size(4096, 32), &(MAX_FILE as u64));
 }
