@@ -69,7 +69,7 @@ pub(crate) fn open(alloc: Global) -> Option<Opened>
     let Ok(openings) = openings(alloc) else {
         return None;
     };
-    let Ok((shared, mut passes)) = Shared::new(alloc, &config, &openings) else {
+    let Ok((shared, mut passes, _)) = Shared::new(alloc, &config, &openings) else {
         return None;
     };
     let core = Core::new(shared);
