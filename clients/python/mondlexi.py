@@ -6,14 +6,20 @@ equal, writes a new value to each: durably, and wholly or not at all.
 
     import mondlexi
 
-    with mondlexi.Client("127.0.0.1", 7000, "t") as client:
+    with mondlexi.Client("127.0.0.1:7000", "t") as client:
         counted = client.get(0)
         outcome = client.cas([(0, counted, counted + 1)])    # word 0: from the value read to one more
         if not outcome.made:
             ...                                              # word outcome.address has outcome.value
 
-`Client` speaks for one tenant, `Administrator` asks how all tenants are. Each has one connection, and holds one of the
-server's workers until it is closed: a server serves as many clients at once as it has workers, and lets others wait.
+`Client` speaks for one tenant, `Administrator` asks how all tenants are. Both are told where the server listens: at a host
+and a port, as "127.0.0.1:7000", "localhost:7000" or "[::1]:7000"; or, on this machine, at a local socket, as
+"unix:/run/mondlexi/socket", which is a file that this process has to be allowed to write. Whoever runs the server knows.
+
+`help(mondlexi.Client)` has the calls. What `help` shows of the exceptions is mostly what all have: the table below says more.
+
+Each has one connection, and holds one of the server's workers until it is closed: a server serves as many clients at once
+as it has workers, and lets others wait.
 
 Each call is made by one thread at a time, behind a lock of the client, so threads may share one. Processes may not: a
 process that was forked makes a client of its own.
@@ -21,35 +27,52 @@ process that was forked makes a client of its own.
 **What goes wrong.** An argument out of its range is a ValueError and one of a wrong type a TypeError, both before
 anything is sent. All other failures are kinds of `Error`:
 
-| raised  | why                                                        | after `cas` the change is  | the client is |
-|---------|------------------------------------------------------------|----------------------------|---------------|
-| Lost    | no connection, or it broke or timed out before the reply   | not made                   | closed        |
-| Unknown | it broke or timed out after a change was sent; `cas` alone | undecided                  | closed        |
-| Busy    | the server was busy for as long as the caller has patience | not made                   | as before     |
-| Fault   | the tenant's file failed; down until the server restarts   | undecided                  | as before     |
-| Worn    | a number of the server is used up; it has to be restarted  | undecided                  | as before     |
-| Refused | the server refuses the line, by a number                   | not made                   | as before     |
+| raised  | why                                                              | after `cas` the change is | the client is |
+|---------|------------------------------------------------------------------|---------------------------|---------------|
+| Lost    | not connected; or another call than `cas` broke off or timed out | not made                  | closed        |
+| Unknown | `cas` alone: broke off or timed out in or behind the sending     | undecided                 | closed        |
+| Busy    | the server was busy for as long as the caller has patience       | not made                  | as before     |
+| Fault   | the tenant's file failed; down until the server restarts         | undecided                 | as before     |
+| Worn    | a number of the server is used up; it has to be restarted        | undecided                 | as before     |
+| Refused | the server refuses the line, by a number                         | not made                  | as before     |
 
-A constructor that raises leaves nothing open.
+A constructor that raises leaves nothing open. After Lost from `get`, `read` or `report` call `reconnect`, then the same again.
 
 *Undecided*: it was made, or it wasn't, wholly or not at all. After Unknown the server may also make it later, as long as
 it still works on the line that it got: words with their old values don't show yet that the change won't come. Who has to
 know gives each change an entry for a word that this process alone writes, a count of its changes: from `count` to
-`count + 2`. After Unknown this function then says whether the change was made; where it wasn't, it never will be:
+`count + 2`. After Unknown, and after Fault or Worn once the server was started again, this function then says whether the
+change was made; where it wasn't, it never will be:
 
     def was_made(client, address, count):                     # the count's address, and its value before the change
         while True:
-            client.reconnect(30)                              # Lost, after 30 seconds without a server: still undecided
-            try:
+            client.reconnect(30)                              # Lost, after 30 seconds without a server: still undecided,
+            try:                                              # so call was_made again
                 outcome = client.cas([(address, count, count + 1)])
                 return outcome.value == count + 2             # None or count + 1: it wasn't, and the count is count + 1
             except (mondlexi.Unknown, mondlexi.Busy):
-                pass
+                pass                                          # no Lost comes here: nobody else closes this client
+
+Go on with the count at `count + 2` if it says True, else at `count + 1`. Where a `cas` is answered by another value at the
+count's address, another process writes that word, or an undecided change wasn't settled so: then go on from that value, and
+read the other words anew. A process that may die notes `count` and the change durably before `cas`, and after its start
+calls `was_made` first, since an old change may still come.
+
+What is filled by steps, each of which moves a word that says how far they came, may be begun again after any exception,
+once the client is connected:
+
+    def fill(client, values):                                 # the words 1, 2 .. of a new tenant; word 0: how many are filled
+        while client.get(0) < len(values):
+            done = client.get(0)
+            last = min(done + 7, len(values))
+            client.cas([(0, done, last)] + [(1 + k, 0, values[k]) for k in range(done, last)])
 
 Of a closed client each further call raises Lost and sends nothing, until `reconnect` connects it anew. An exception from
 outside that interrupts a call, such as KeyboardInterrupt, closes the client too, and a change under way is undecided.
 """
+import functools
 import operator
+import os
 import random
 import re
 import socket
@@ -74,10 +97,12 @@ MAX_ENTRIES: int = 8
 Entry = Tuple[int, int, int]
 """A part of a change: the address of a word, the value expected there, and the new one."""
 
+_MAX_PATH = 107
 _MAX_LINE = 320
 _MAX_REPLY = 32
 _MAX_SECONDS = 1_000_000.0
 _REPORT_LINES = 17
+_REPORT_END = 8
 _FIRST_PAUSE = 0.001
 _LONGEST_PAUSE = 0.25
 _NUMBER = "(0|[1-9][0-9]{0,14})"
@@ -104,12 +129,13 @@ class Error(Exception):
 class Lost(Error):
     """There is no connection, or it broke or timed out before a reply. This call changed nothing. The client is closed.
 
-    From a constructor or `reconnect`: nobody listens there, the host has no such name, or there was no reply within
-    `timeout`, as where all workers of the server are taken. From `cas`: the client was closed before."""
+    From a constructor or `reconnect`: nobody listens there, the host has no such name, the local socket isn't there or this
+    process may not write it, or there was no reply within `timeout`, as where all workers of the server are taken. From
+    `cas`: the client was closed before."""
 
 
 class Unknown(Error):
-    """The connection broke or timed out after a change was sent and before its reply. The client is closed.
+    """The connection broke or timed out while a `cas` sent its change, or behind that, before the reply. The client is closed.
 
     The change was made, or it wasn't, or the server is still about to make it: wholly or not at all."""
 
@@ -190,24 +216,7 @@ def _seconds(name: str, seconds: float, zero_allowed: bool) -> float:
     return float(seconds)
 
 
-def _connected(host: str, port: int, timeout: float) -> socket.socket:
-    """A connection; Lost where there is none within so many seconds, with nothing left open."""
-    try:
-        connection = socket.create_connection((host, port), timeout)
-    except OSError as error:
-        raise Lost(f"connecting to {host}, port {port}: {error}") from error
-    try:
-        # Where nobody listens at a port of this machine, the system may connect a socket to itself.
-        if connection.getsockname() == connection.getpeername():
-            raise ConnectionRefusedError("nobody listens")
-        connection.setsockopt(socket.IPPROTO_TCP, socket.TCP_NODELAY, 1)
-    except OSError as error:
-        connection.close()
-        raise Lost(f"connecting to {host}, port {port}: {error}") from error
-    return connection
-
-
-def _paused(pause: float, deadline: float, error: Error) -> float:
+def _paused(pause: float, deadline: float, error: Exception) -> float:
     """Waits for about this many seconds, and tells the next pause. Past the deadline it raises the error."""
     left = deadline - time.monotonic()
     if left <= 0:
@@ -216,35 +225,66 @@ def _paused(pause: float, deadline: float, error: Error) -> float:
     return min(2 * pause, _LONGEST_PAUSE)
 
 
+def _over_tcp(host: str, port: int, timeout: float) -> socket.socket:
+    """A connection; OSError where there is none within so many seconds, with nothing left open."""
+    connection = socket.create_connection((host, port), timeout)
+    try:
+        # Where nobody listens at a port of this machine, the system may connect a socket to itself.
+        if connection.getsockname() == connection.getpeername():
+            raise ConnectionRefusedError("nobody listens")
+        connection.setsockopt(socket.IPPROTO_TCP, socket.TCP_NODELAY, 1)
+        return connection
+    except BaseException:
+        connection.close()
+        raise
+
+
+def _at_local_socket(path: str, timeout: float) -> socket.socket:
+    """As `_over_tcp`. Where as many connections wait as the system lets wait, it tries again."""
+    end, pause = time.monotonic() + timeout, _FIRST_PAUSE
+    connection = socket.socket(socket.AF_UNIX)
+    try:
+        connection.settimeout(timeout)
+        while True:
+            try:
+                connection.connect(path)
+                return connection
+            except BlockingIOError as error:
+                pause = _paused(pause, end, error)
+    except BaseException:
+        connection.close()
+        raise
+
+
+def _way_to(server: str) -> Callable[[float], socket.socket]:
+    """How to connect to this server, within some seconds. ValueError where the text names no place."""
+    if server.startswith("unix:"):
+        path = server[len("unix:"):]
+        if not 1 <= len(os.fsencode(path)) <= _MAX_PATH or "\0" in path:
+            raise ValueError(f"the path of a local socket has 1 to {_MAX_PATH} bytes, and none is 0")
+        return functools.partial(_at_local_socket, path)
+    parts = re.fullmatch(r"(?:([^\[\]:\s]+)|\[([^\[\]\s]+)\]):([0-9]{1,5})", server)
+    if not parts or not 1 <= int(parts.group(3)) <= 65535:
+        raise ValueError("a server listens at HOST:PORT, with a port from 1 to 65535, at [HOST]:PORT for IPv6, or at unix:PATH")
+    return functools.partial(_over_tcp, parts.group(1) or parts.group(2), int(parts.group(3)))
+
+
 def _strange(reply: str) -> ConnectionError:
     """What a reply raises that no server of this protocol gives; it ends the session."""
     return ConnectionError(f"not a reply of the protocol: {reply!r}")
 
 
-def _is_single(line: str) -> bool:
-    """Each first line is also the last one, but for a report."""
-    return True
-
-
-def _ends_report(line: str) -> bool:
-    """A tenant's line is longer than this, and all others end the answer."""
-    return len(line) <= 8
-
-
 class _Session:
     """One connection, over which one line at a time is asked. All that is read or written stands behind the lock."""
 
-    def __init__(self, host: str, port: int, timeout: float, greeting: str) -> None:
-        self._host, self._port = host, operator.index(port)
-        if not 1 <= self._port <= 65535:
-            raise ValueError("a port is from 1 to 65535")
+    def __init__(self, server: str, timeout: float, within: float, greeting: str) -> None:
+        self._server, self._connect = server, _way_to(server)
         self._timeout = _seconds("timeout", timeout, False)
         self._greeting = greeting
         self._lock = threading.Lock()
         self._rest = b""
         self._socket: Optional[socket.socket] = None
-        with self._lock:
-            self._begin()
+        self._begin_until(time.monotonic() + _seconds("within", within, True))
 
     def __enter__(self: _Own) -> _Own:
         """The client itself. `with` closes it at the end, however that comes."""
@@ -285,6 +325,10 @@ class _Session:
         Raises ValueError; Lost where no try went well, Refused; the client is closed then."""
         end = time.monotonic() + _seconds("within", within, True)
         self.close()
+        self._begin_until(end)
+
+    def _begin_until(self, end: float) -> None:
+        """Begins; where that fails it tries again, with growing pauses, until this moment."""
         pause = _FIRST_PAUSE
         while True:
             try:
@@ -296,9 +340,12 @@ class _Session:
     def _begin(self) -> None:
         """A new connection and its greeting, in place of what there was. Behind the lock."""
         self._drop()
-        self._socket = _connected(self._host, self._port, self._timeout)
         try:
-            self._answered(self._greeting, Lost, self._greeted, _is_single)
+            self._socket = self._connect(self._timeout)
+        except OSError as error:
+            raise Lost(f"connecting to {self._server}: {error}") from error
+        try:
+            self._answered(self._greeting, Lost, self._greeted, False)
         except BaseException:
             self._drop()
             raise
@@ -334,14 +381,14 @@ class _Session:
         line, self._rest = self._rest.split(b"\n", 1)
         return line.decode("latin-1")
 
-    def _lines(self, line: str, ends: Callable[[str], bool]) -> List[str]:
-        """Sends a line, and reads up to the reply that ends the answer."""
+    def _lines(self, line: str, is_report: bool) -> List[str]:
+        """Sends a line, and reads its reply, or a report, of which the last line alone is as short as `_REPORT_END`."""
         assert self._socket is not None
         deadline = time.monotonic() + self._timeout
         self._socket.settimeout(self._timeout)
         self._socket.sendall(line.encode("ascii") + b"\n")
         replies = [self._line(deadline)]
-        while not ends(replies[-1]):
+        while is_report and len(replies[-1]) > _REPORT_END:
             if len(replies) == _REPORT_LINES:
                 raise _strange(replies[-1])
             replies.append(self._line(deadline))
@@ -350,20 +397,20 @@ class _Session:
         return replies
 
     def _ask(self, line: str, gone: Type[Error], read: Callable[[List[str]], _Reply],
-             ends: Callable[[str], bool] = _is_single) -> _Reply:
+             is_report: bool = False) -> _Reply:
         """What `read` makes of the answer to a line. Where there is none, the session is over: `gone`."""
         if len(line) > _MAX_LINE:
             raise ValueError(f"a line has at most {_MAX_LINE} bytes")
         with self._lock:
             if self._socket is None:
                 raise Lost(f"{line}: not sent, the client is closed")
-            return self._answered(line, gone, read, ends)
+            return self._answered(line, gone, read, is_report)
 
     def _answered(self, line: str, gone: Type[Error], read: Callable[[List[str]], _Reply],
-                  ends: Callable[[str], bool]) -> _Reply:
+                  is_report: bool) -> _Reply:
         """As `_ask`, behind the lock. Whatever leaves the connection within an answer closes it."""
         try:
-            replies = self._lines(line, ends)
+            replies = self._lines(line, is_report)
             self._look_for_failure(line, replies[-1])
             return read(replies)
         except Error:
@@ -391,20 +438,23 @@ class _Session:
 class Client(_Session):
     """A session for one tenant, whose words it reads and changes."""
 
-    def __init__(self, host: str, port: int, tenant: str, *, timeout: float = 10.0, patience: float = 5.0) -> None:
-        """Connects to `host` (a name or an address) and `port`, 1 to 65535, and speaks for `tenant` from then on.
+    def __init__(self, server: str, tenant: str, *, timeout: float = 10.0, patience: float = 5.0, within: float = 0.0) -> None:
+        """Connects to `server`, and speaks for `tenant` from then on.
 
+        `server`: where it listens. `HOST:PORT`: a name, or an address (of IPv6 in brackets), and a port from 1 to 65535; or
+        `unix:PATH`: the path of a local socket, 1 to 107 bytes. A relative one begins in the folder where this process is.
         `tenant`: a letter a to z, then up to 15 of a to z, 0 to 9 and "-".
         `timeout`: for how many seconds to wait for a connection, and then for each reply; above 0, up to 1,000,000.
         `patience`: for how many seconds a `cas` or a `read` asks again, with growing pauses, where the server is busy;
         0, for not at all, up to 1,000,000.
+        `within`: for how many seconds to try again where nobody listens yet, as `reconnect` does.
 
         Raises ValueError or TypeError, with nothing sent; Lost; Refused with number 5 where no tenant has the name."""
         if not re.fullmatch("[a-z][a-z0-9-]{0,15}", tenant):
             raise ValueError('a tenant has a name of a to z, then up to 15 of a to z, 0 to 9 and "-"')
         self._patience = _seconds("patience", patience, True)
         self._words = 0
-        super().__init__(host, port, timeout, f"TENANT {tenant}")
+        super().__init__(server, timeout, within, f"TENANT {tenant}")
 
     def _greeted(self, replies: List[str]) -> None:
         """Takes the number of the tenant's words."""
@@ -418,15 +468,17 @@ class Client(_Session):
     def get(self, address: int) -> int:
         """The value of the word at `address`, 0 to `words` - 1: from 0 to 2^48 - 1, and durable. It costs no disk access.
 
-        Raises ValueError for an address that the tenant doesn't have, TypeError for what is no integer; Lost; Fault."""
+        Raises ValueError for an address that the tenant doesn't have, TypeError for what is no integer; Lost (then
+        `reconnect`, and call it again); Fault."""
         return self._ask(f"GET {self._address(address)}", Lost, _value_of)
 
     def read(self, addresses: Iterable[int]) -> List[int]:
         """The values of several words, all as they were at one moment, in the order in which `addresses` names them.
 
-        One to eight different addresses, in any order; one may come again. A single word is read by `get`. Several
-        are guessed one by one, then confirmed by a change that writes to each the value that it has. So it costs the
-        disk as much as a change of them, and as a change can be busy. Guesses that have gone stale are mended.
+        One to eight different addresses, in any order; one may come again. More can't be read of one moment while others
+        change them. A single word is read by `get`. Several are guessed one by one, then confirmed by a change that writes
+        to each the value that it has. So it costs the disk as much as a change of them, and as a change can be busy.
+        Guesses that have gone stale are mended.
 
         Raises ValueError or TypeError, with nothing sent; Lost; Fault; Worn; Busy where the server was busy, or the words
         kept changing, for `patience` seconds. No exception leaves a word changed."""
@@ -489,13 +541,14 @@ class Client(_Session):
 class Administrator(_Session):
     """A session of the administrator, who asks how the tenants are and sees no words."""
 
-    def __init__(self, host: str, port: int, *, timeout: float = 10.0) -> None:
-        """Connects to `host` (a name or an address) and `port`, 1 to 65535.
+    def __init__(self, server: str, *, timeout: float = 10.0, within: float = 0.0) -> None:
+        """Connects to `server`: where it listens, as for a `Client`, perhaps at a place for the administrator alone.
 
         `timeout`: for how many seconds to wait for a connection, and then for each answer; above 0, up to 1,000,000.
+        `within`: as for a `Client`.
 
         Raises ValueError or TypeError, with nothing sent; Lost."""
-        super().__init__(host, port, timeout, "ADMIN")
+        super().__init__(server, timeout, within, "ADMIN")
 
     def _greeted(self, replies: List[str]) -> None:
         """Looks that the session is the administrator's."""
@@ -504,7 +557,7 @@ class Administrator(_Session):
 
     def report(self) -> Report:
         """How each tenant is, and the room of the server. Raises Lost; no exception changes anything."""
-        return self._ask("REPORT", Lost, _report_of, _ends_report)
+        return self._ask("REPORT", Lost, _report_of, True)
 
 
 def _value(value: int) -> int:

@@ -1,7 +1,8 @@
 //! So many loads of a table's words, or whole reads, to be timed from outside.
 //!
 //! `mw_bench loads N`: one thread loads a word. `mw_bench gets N`: one thread reads a word of a tenant, by whole
-//! requests. `mw_bench two N`: two threads do, each on a tenant of its own. What was found is printed.
+//! requests. `mw_bench two N`: two threads do, each on a tenant of its own. What was found is printed, as one number; of
+//! any other command line, and where memory is refused, nothing is.
 #![tactic(auto)]
 
 mod opening;

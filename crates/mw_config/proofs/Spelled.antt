@@ -1,11 +1,11 @@
 -- The text of a line is read as that line, and what is read as a line is its text.
-use Rattle.std.proofs.Common.{◌≡◌, ℕ, ◌+◌, Bool, true, false, cond, eqb, List, [], ◌∷◌, ◌++◌, length, take, drop, Some, None, refl, sym, ap, subst, ◌∙◌, inl, inr, arith, append_assoc, eqb-true, ◌&&◌, eq-eqb}
+use Rattle.std.proofs.Common.{◌≡◌, ℕ, Bool, true, false, eqb, List, [], ◌∷◌, ◌++◌, Some, None, refl, sym, ap, subst, ◌∙◌, inl, inr, append_assoc, eqb-true, ◌&&◌, eq-eqb}
 use Rattle.std.specs.Prelude.{codes}
 use Rattle.std.specs.List.{list_all}
 use Rattle.std.proofs.lemmas.Option.{none-some, same_Some, some_pair_parts}
 use Rattle.mw_words.specs.Name.{is_name, is_name_byte}
 use Rattle.mw_line.specs.Number.{numeral}
-use Rattle.mw_line.specs.Reading.{◌>>=◌, behind, field_at, number_at}
+use Rattle.mw_line.specs.Reading.{behind, field_at, number_at}
 use Rattle.mw_line.proofs.Entries.{bind_some, cases_cond_is}
 use Rattle.mw_line.proofs.Fronts.{behind_found, cases_eqb}
 use Rattle.mw_line.proofs.Numerals.{number_again, number_found, IsNumberRead}

@@ -1,5 +1,5 @@
 //! The command line of `mwserve`.
-ghost use Rattle.std.specs.Prelude.{IfOk, IfSome};
+ghost use Rattle.std.specs.Prelude.{◌≤◌, IfOk, IfSome};
 ghost use Rattle.mw_config.specs.CommandLine.{ArePermittedArgs, IsPermittedMode, IsUpTo};
 
 use crate::version::VERSION;
@@ -49,10 +49,19 @@ pub struct Listening {
     /// After how many seconds in which a client sends nothing, or takes nothing of a reply, its session
     /// is ended, 1 to [`MAX_IDLE`].
     pub idle: Option<u32>,
+    /// The file mode of each local socket, at most [`MAX_SOCKET_MODE`]: who may write to the socket's file
+    /// may connect.
+    pub socket_mode: u32,
 }
 
 /// The most seconds that a session may be told to be idle: a day.
 pub const MAX_IDLE: u32 = 86_400;
+
+/// The file mode of local sockets where none is given: the server's own user may connect.
+const OWNERS_MODE: u32 = 0o600;
+
+/// The most that the file mode of a local socket may be told to be: everybody may do everything.
+pub const MAX_SOCKET_MODE: u32 = 0o777;
 
 /// Why a command line is not served.
 #[derive(Debug, Drop, Error)]
@@ -61,8 +70,8 @@ pub enum ArgFault {
     /// the version.
     #[error("{0}")]
     Refused(clap::Error),
-    /// It hasn't exactly one of `--listen` and `--script`, or has `--admin`, `--connections` or `--idle`
-    /// with `--script`.
+    /// It hasn't exactly one of `--listen` and `--script`, has `--admin`, `--connections`, `--idle` or
+    /// `--mode` with `--script`, or a `--mode` that is no file mode.
     #[error("mwserve: refused 1 command")]
     Mode,
     /// Memory was refused.
@@ -87,16 +96,17 @@ impl From<clap::Error> for ArgFault {
 
 /// Reads the command line `args`, the program's own name first:
 /// `mwserve --tenants FILE [--pool P] [--workers N] [--strict] [--verbose]` with either
-/// `--listen ADDR [--admin ADDR] [--connections C] [--idle SECONDS]` or `--script FILE`. P is 1 to
-/// [`MAX_POOL`], and that where it isn't given; N is 1 to [`MAX_WORKERS`], and 4 where it isn't given; C
-/// is 1 to [`MAX_CONNECTIONS`], SECONDS 1 to [`MAX_IDLE`].
+/// `--listen ADDR [--admin ADDR] [--connections C] [--idle SECONDS] [--mode MODE]` or `--script FILE`. P
+/// is 1 to [`MAX_POOL`], and that where it isn't given; N is 1 to [`MAX_WORKERS`], and 4 where it isn't
+/// given; C is 1 to [`MAX_CONNECTIONS`], SECONDS 1 to [`MAX_IDLE`]; MODE has octal digits, is at most
+/// [`MAX_SOCKET_MODE`], and 0600 where it isn't given.
 ///
 /// # Errors
 ///
 /// [`ArgFault::Refused`] where clap refuses them, or they ask for the help or the version;
-/// [`ArgFault::Mode`] where they haven't exactly one of `--listen` and `--script`, or have `--admin`,
-/// `--connections` or `--idle` with `--script`; [`ArgFault::Memory`] where memory was refused. `args` is
-/// only read.
+/// [`ArgFault::Mode`] where they haven't exactly one of `--listen` and `--script`, have `--admin`,
+/// `--connections`, `--idle` or `--mode` with `--script`, or a `--mode` that is no file mode;
+/// [`ArgFault::Memory`] where memory was refused. `args` is only read.
 pub fn read_args(alloc: Global, args: &[String]) -> Result<Args, ArgFault>
     ensures permitted { IfOk result (λ args. ArePermittedArgs args) }
 {
@@ -124,15 +134,30 @@ fn mode_of(alloc: Global, matches: &ArgMatches<'_>) -> Result<Mode, ArgFault>
     let admin = matches.get_str("admin");
     let connections = number_of(matches, "connections", MAX_CONNECTIONS);
     let idle = number_of(matches, "idle", MAX_IDLE);
-    let limited = admin.is_some() || connections.is_some() || idle.is_some();
+    let mode = matches.get_str("mode");
+    let limited = admin.is_some() || connections.is_some() || idle.is_some() || mode.is_some();
     match (matches.get_str("listen"), matches.get_str("script")) {
         (Some(address), None) => Ok(Mode::Listen(Listening {
             address: String::from_str(alloc, address)?,
             admin: copy_of(alloc, admin)?,
             connections,
             idle,
+            socket_mode: socket_mode_of(mode)?,
         })),
         (None, Some(script)) if !limited => { Ok(Mode::Script(String::from_str(alloc, script)?)) }
+        _ => Err(ArgFault::Mode),
+    }
+}
+
+/// The file mode that a text of octal digits tells, or that of the owner alone where there is no text.
+fn socket_mode_of(text: Option<&str>) -> Result<u32, ArgFault>
+    ensures { IfOk result (λ mode. mode ≤ MAX_SOCKET_MODE) }
+{
+    let Some(text) = text else {
+        return Ok(OWNERS_MODE);
+    };
+    match u32::from_str_radix(text, 8) {
+        Ok(mode) if mode <= MAX_SOCKET_MODE => Ok(mode),
         _ => Err(ArgFault::Mode),
     }
 }
@@ -155,77 +180,118 @@ fn number_of(matches: &ArgMatches<'_>, name: &str, most: u32) -> Option<u32>
         .filter(|number| (1..=most).contains(number))
 }
 
+/// An option of the command line, as the help tells it.
+#[derive(Clone, Copy)]
+struct Choice {
+    /// What it is called, without the two dashes.
+    name: &'static str,
+    /// What is given behind it.
+    given: Given,
+    /// What it is for.
+    help: &'static str,
+}
+
+/// What is given behind an option.
+#[derive(Clone, Copy)]
+enum Given {
+    /// A text, which the help calls so, and which has to be there.
+    Needed(&'static str),
+    /// A text, which the help calls so.
+    Text(&'static str),
+    /// A number from 1 to the second part, which the help calls by the first.
+    Number(&'static str, u32),
+    /// The same, and the third part where none is given.
+    NumberOr(&'static str, u32, &'static str),
+    /// Nothing.
+    Flag,
+}
+
+/// The options, in the order in which the help tells them.
+const CHOICES: [Choice; 11] = [
+    Choice {
+        name: "tenants",
+        given: Given::Needed("FILE"),
+        help: "which tenants are served, and from which files",
+    },
+    Choice {
+        name: "pool",
+        given: Given::NumberOr("P", MAX_POOL as u32, "256"),
+        help: "how many changes of all tenants may be under way at a time, 1 to 256",
+    },
+    Choice {
+        name: "workers",
+        given: Given::NumberOr("N", MAX_WORKERS as u32, "4"),
+        help: "how many clients are served at once, 1 to 64",
+    },
+    Choice {
+        name: "listen",
+        given: Given::Text("ADDR"),
+        help: "where to wait for connections, each of them a session: HOST:PORT or unix:PATH",
+    },
+    Choice {
+        name: "admin",
+        given: Given::Text("ADDR"),
+        help: "where to wait for the administrator, who then has a worker beside the others",
+    },
+    Choice {
+        name: "script",
+        given: Given::Text("FILE"),
+        help: "the lines of one session, in place of connections",
+    },
+    Choice {
+        name: "connections",
+        given: Given::Number("C", MAX_CONNECTIONS),
+        help: "after how many connections to end, 1 to 1000000; without it, never",
+    },
+    Choice {
+        name: "idle",
+        given: Given::Number("SECONDS", MAX_IDLE),
+        help: "after how many seconds of silence to end a session, 1 to 86400; without it, never",
+    },
+    Choice {
+        name: "mode",
+        given: Given::Text("MODE"),
+        help: "the file mode of a local socket, in octal digits; without it, 0600",
+    },
+    Choice {
+        name: "strict",
+        given: Given::Flag,
+        help: "serve nothing where a tenant's file doesn't open",
+    },
+    Choice {
+        name: "verbose",
+        given: Given::Flag,
+        help: "say behind each note which file or address it is about, and what the system told",
+    },
+];
+
 fn command<'a>(alloc: Global) -> Result<Command<'a>, AllocError> {
-    let tenants = text(alloc, "tenants", "FILE")
-        .required(true)
-        .help("which tenants are served, and from which files");
-    let command = Command::new(alloc, "mwserve")
+    let mut command = Command::new(alloc, "mwserve")
         .version(VERSION)
-        .about("Serves tenants' words.")
-        .arg(tenants)?;
-    let command = add_sources(alloc, add_sizes(alloc, command)?)?;
-    add_flags(alloc, add_ends(alloc, command)?)
+        .about("Serves tenants' words.");
+    for choice in CHOICES {
+        command = command.arg(arg_of(alloc, choice))?;
+    }
+    Ok(command)
 }
 
-/// The command with the options that say how much there is of what all tenants share.
-fn add_sizes<'a>(alloc: Global, command: Command<'a>) -> Result<Command<'a>, AllocError> {
-    let pool = number(alloc, "pool", "P", u64::from(MAX_POOL))
-        .default_value("256")
-        .help("how many changes of all tenants may be under way at a time, 1 to 256");
-    let workers = number(alloc, "workers", "N", u64::from(MAX_WORKERS))
-        .default_value("4")
-        .help("how many clients are served at once, 1 to 64");
-    command.arg(pool)?.arg(workers)
+/// The argument that clap makes of an option.
+fn arg_of<'a>(alloc: Global, choice: Choice) -> Arg<'a> {
+    let arg = Arg::new(alloc, choice.name)
+        .long(choice.name)
+        .help(choice.help);
+    match choice.given {
+        Given::Needed(value) => arg.value_name(value).action(ArgAction::Set).required(true),
+        Given::Text(value) => arg.value_name(value).action(ArgAction::Set),
+        Given::Number(value, most) => arg_to(arg, value, most),
+        Given::NumberOr(value, most, usual) => arg_to(arg, value, most).default_value(usual),
+        Given::Flag => arg.action(ArgAction::SetTrue),
+    }
 }
 
-/// The command with the options that say where sessions come from.
-fn add_sources<'a>(alloc: Global, command: Command<'a>) -> Result<Command<'a>, AllocError> {
-    let listen = text(alloc, "listen", "ADDR").help(
-        "where to wait for connections, each of them a session",
-    );
-    let admin = text(alloc, "admin", "ADDR").help(
-        "where to wait for the administrator, who then has a worker beside the others",
-    );
-    let script = text(alloc, "script", "FILE").help(
-        "the lines of one session, in place of connections",
-    );
-    command.arg(listen)?.arg(admin)?.arg(script)
-}
-
-/// The command with the options that say how long the server goes on.
-fn add_ends<'a>(alloc: Global, command: Command<'a>) -> Result<Command<'a>, AllocError> {
-    let connections = number(alloc, "connections", "C", u64::from(MAX_CONNECTIONS)).help(
-        "after how many connections to end, 1 to 1000000; without it, never",
-    );
-    let idle = number(alloc, "idle", "SECONDS", u64::from(MAX_IDLE)).help(
-        "after how many seconds of silence to end a session, 1 to 86400; without it, never",
-    );
-    command.arg(connections)?.arg(idle)
-}
-
-/// The command with the options that have no value.
-fn add_flags<'a>(alloc: Global, command: Command<'a>) -> Result<Command<'a>, AllocError> {
-    let strict = flag(alloc, "strict").help("serve nothing where a tenant's file doesn't open");
-    let verbose = flag(alloc, "verbose").help(
-        "say behind each note which file or address it is about, and what the system told",
-    );
-    command.arg(strict)?.arg(verbose)
-}
-
-/// An option without a value.
-fn flag<'a>(alloc: Global, name: &'a str) -> Arg<'a> {
-    Arg::new(alloc, name).long(name).action(ArgAction::SetTrue)
-}
-
-/// An option with a text.
-fn text<'a>(alloc: Global, name: &'a str, value: &'a str) -> Arg<'a> {
-    Arg::new(alloc, name)
-        .long(name)
-        .value_name(value)
+/// The argument with a number from 1 to `most`.
+fn arg_to<'a>(arg: Arg<'a>, value: &'static str, most: u32) -> Arg<'a> {
+    arg.value_name(value)
         .action(ArgAction::Set)
-}
-
-/// An option with a number from 1 to `most`.
-fn number<'a>(alloc: Global, name: &'a str, value: &'a str, most: u64) -> Arg<'a> {
-    text(alloc, name, value).value_parser(ValueParser::unsigned(1, most))
+        .value_parser(ValueParser::unsigned(1, u64::from(most)))
 }

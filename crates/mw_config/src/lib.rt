@@ -9,7 +9,7 @@ mod refusals;
 mod tenants;
 mod version;
 
-pub use command_line::{ArgFault, Args, Listening, MAX_IDLE, Mode, read_args};
+pub use command_line::{ArgFault, Args, Listening, MAX_IDLE, MAX_SOCKET_MODE, Mode, read_args};
 pub use forms::{FormRule, broken_rule};
 pub use laws::one_answer;
 pub use lines::TenantLine;

@@ -1,5 +1,9 @@
 pub mod Agreeing
+pub mod CalledFiles
 pub mod Driven
+pub mod Lent
+pub mod MadeCalls
 pub mod Reasoned
 pub mod Turned
 pub mod Walking
+pub mod WholeCalls

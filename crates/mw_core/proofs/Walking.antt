@@ -22,7 +22,6 @@ use Rattle.mw_actor.specs.Acting.{Acting}
 use Rattle.mw_actor.specs.Asks.{asks}
 use Rattle.mw_actor.specs.Program.{replied, tells}
 use Rattle.mw_world.specs.Definition.Changes.{done}
-use Rattle.mw_rule.specs.declared.views.Reins.{Reins}
 use Rattle.mw_rule.specs.declared.views.View.{View}
 use Rattle.mw_rule.specs.Calling.{Answered, Serves}
 use Rattle.mw_rule.specs.Carrying.{Began, IsFound, MayCome, Took, settled_as}
@@ -32,7 +31,7 @@ use Rattle.mw_table.specs.Carried.{IsCarried}
 use Rattle.mw_core.specs.declared.calls.Advance.{Advance}
 use Rattle.mw_core.specs.declared.looking.WhyAgain.{WhyAgain}
 use Rattle.mw_core.specs.Advancing.{Advances, Begins, StepsOnce}
-use Rattle.mw_core.specs.Looking.{EndsAs, IsLook, IsSince, Looks, MakesFirst, MakesNext, TookAs, Walked, Walks, heard, is_under_way}
+use Rattle.mw_core.specs.Looking.{EndsAs, IsLook, IsSince, Looks, MakesFirst, MakesNext, ServedAs, TookAs, Walked, Walks, heard, is_under_way}
 use Rattle.mw_core.specs.Reasons.{Because, turns}
 use Rattle.mw_core.proofs.Driven.{busy_so}
 use Rattle.mw_core.proofs.Reasoned.{Seen, Tells, sees_on, tells_either, tells_more, turns_because}
@@ -109,7 +108,7 @@ pub record Under (old now : Pass) (actor next : Acting) (address : ℕ) (why : O
   pub seen : let read = read_by actor address (latest ∷ earlier) in Seen read.tenant read.address read.point (past (first actor.tenant address) (latest ∷ earlier))
   pub back : is_back (read_by actor address (latest ∷ earlier)).point ≡ true → is_some why ≡ true
   pub because : let read = read_by actor address (latest ∷ earlier) in Tells read.tenant read.address (past (first actor.tenant address) (latest ∷ earlier)) why
-  pub call : (begun : View) → IsSince old.idle begun old.seat.me.0 actor → (reins : Reins) × Serves begun now.seat.me.0 reins (heard actor address (latest ∷ earlier))
+  pub call : (begun : View) (whole : Bool) → IsSince old.idle whole begun old.seat.me.0 actor → ServedAs whole begun now.seat.me.0 (heard actor address (latest ∷ earlier))
 
 -- at the door the read goes on, or has its reply
 low_door : (fault : Bool) → 1 + left (cond fault (Replied HasFailed) ReadWord) ≤ 11 + MAX_ENTRIES
@@ -126,15 +125,15 @@ back_door false is = cc
 
 -- how the call stands after the first step
 first_call : (comes : Bool) (old new : View) (worker : ℕ) (actor : Acting) (address : ℕ) (told : News) → (comes ≡ true → MayCome old worker (heard actor address [])) → actor ≡ heard actor address []
-    → Walks comes (heard actor address []) told old new → (begun : View) → IsSince comes begun old actor → (reins : Reins) × Serves begun new reins (heard actor address (told ∷ []))
-first_call true old new worker actor address told may same walks begun since =
+    → Walks comes (heard actor address []) told old new → (begun : View) (whole : Bool) → IsSince comes whole begun old actor → ServedAs whole begun new (heard actor address (told ∷ []))
+first_call true old new worker actor address told may same walks begun whole since =
     let h = heard actor address [] in
-    subst (λ (one : View). (reins : Reins) × Serves one new reins (heard actor address (told ∷ []))) (sym since)
-    (subst (λ (news : News). (reins : Reins) × Serves old new reins (heard actor address (news ∷ []))) (sym walks.is_told) (_, calls_begin old new worker h walks.got (may refl) walks.took))
-first_call false old new worker actor address told may same walks begun since =
+    subst (λ (one : View). ServedAs whole one new (heard actor address (told ∷ []))) (sym since.0)
+    (subst (λ (news : News). ServedAs whole old new (heard actor address (news ∷ []))) (sym walks.is_told) (_, calls_begin old new worker h walks.got (may refl) walks.took, sym since.1))
+first_call false old new worker actor address told may same walks begun whole since =
     let h = heard actor address [] in
     let serves : Serves begun old since.0 h = subst (λ (one : Acting). Serves begun old since.0 one) same since.1 in
-    subst (λ (news : News). (reins : Reins) × Serves begun new reins (heard actor address (news ∷ []))) (sym walks.is_told) (_, calls_go_on begun old new since.0 h walks.got serves refl walks.took)
+    subst (λ (news : News). ServedAs whole begun new (heard actor address (news ∷ []))) (sym walks.is_told) (_, calls_go_on begun old new since.0 h walks.got serves refl walks.took, since.2)
 
 -- So it stands after the first step.
 pub first_under : (old new : Pass) (actor next : Acting) (look : IsLook actor) → (old.idle ≡ true → MayCome old.seat.me.0 old.worker actor) → MakesFirst old new actor next look.address
@@ -190,10 +189,10 @@ next_under old now new actor next last address why one under on makes =
           (subst (λ (told : News). Tells read.tenant read.address (past begin (told ∷ news)) (turns read.address read.point told)) (sym made.found)
           (turns_because read.tenant read.address read.point made.cells events on under.seen)))
           (tells_more read.tenant read.address events _ why under.because);
-      call = λ begun since.
-          let stands = under.call begun since in
-          subst (λ (told : News). (reins : Reins) × Serves begun new.seat.me.0 reins (heard actor address (told ∷ news))) (sym made.walks.is_told)
-          (_, calls_go_on begun now.seat.me.0 new.seat.me.0 stands.0 h made.walks.got stands.1 (runs_on read.point on) made.walks.took);
+      call = λ begun whole since.
+          let stands = under.call begun whole since in
+          subst (λ (told : News). ServedAs whole begun new.seat.me.0 (heard actor address (told ∷ news))) (sym made.walks.is_told)
+          (_, calls_go_on begun now.seat.me.0 new.seat.me.0 stands.0 h made.walks.got stands.1 (runs_on read.point on) made.walks.took, stands.2);
     }
 
 -- where a read is in its program
@@ -254,11 +253,12 @@ ended old now new actor next look why (Ok reply) under off carried ends =
       next_is = under.next_is;
       ends = ends.0;
       idle = ends.1.idle;
-      call = λ begun since.
-          let stands = under.call begun since in (
+      call = λ begun whole since.
+          let stands = under.call begun whole since in (
             stands.0,
             subst (λ (view : View). Answered begun view stands.0 actor.tenant actor.job reply) (sym same)
                 (calls_end begun now.seat.me.0 stands.0 (heard actor address news) reply stands.1 (sym (ap replied under.next_is) ∙ ends.0)),
+            stands.2,
           );
     }
 ended old now new actor next look why (Err one) under off carried ends =
@@ -284,7 +284,7 @@ ended old now new actor next look why (Err one) under off carried ends =
             (subst (λ (n : ℕ). Because one (read_by actor address news).tenant n events) (keeps_address actor.tenant address news) told),
       );
       idle = busy_so now next carried ends.0;
-      call = λ begun since. let stands = under.call begun since in (stands.0, subst (λ (some : Acting). Serves begun now.seat.me.0 stands.0 some) back stands.1);
+      call = λ begun whole since. let stands = under.call begun whole since in (stands.0, subst (λ (some : Acting). Serves begun now.seat.me.0 stands.0 some) back stands.1, stands.2);
     })
 
 -- How far a pass has come from its first step on.

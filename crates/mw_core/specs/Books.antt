@@ -18,6 +18,12 @@ use Rattle.mw_book.specs.Shown.{Shows, unopened}
 use Rattle.mw_rule.specs.declared.views.Held.{Held}
 use Rattle.mw_rule.specs.declared.views.View.{View}
 use Rattle.mw_rule.specs.Filing.{Starts, places_held}
+use Rattle.mw_rule.specs.Seen.{opening_at}
+use Rattle.mw_table.specs.declared.right.FileRight.{FileRight}
+use Rattle.mw_table.specs.declared.shared.Shared.{Shared}
+use Rattle.mw_table.specs.Filing.{file_kept}
+use Rattle.mw_table.specs.Holding.{file_among}
+use Rattle.mw_table.specs.Origins.{config_of, openings_of}
 use Rattle.mw_rule.specs.FromLaws.{FileRights, file_told, rights_broken, rights_filed, rights_opened}
 
 -- The book shows the file of which the right tells. Both speak of so many places, and the right of the changes of so many slots.
@@ -26,6 +32,18 @@ pub record Agrees {D : Type 0} (facts : D → Facts) (book : Book D) (rights : F
   pub as_many : book.places ≡ places
   pub long : length rights.places ≡ places
   pub of_slots : length rights.place_of ≡ slots
+
+-- The book agrees with a right, by what a thread knows of the table and of what the latest start gave a tenant.
+abbrev pub AgreesFor : {D : Type 0} → (D → Facts) → Book D → View → ℕ → FileRights → Type 0
+AgreesFor facts book view tenant rights = Agrees facts book rights (opening_at view.openings tenant).quota view.config.pool
+
+-- The book agrees with what is known of the first of a thread's files.
+abbrev pub AgreesHeld : {D : Type 0} → (D → Facts) → Book D → View → ℕ → Type 0
+AgreesHeld facts book view tenant = AgreesFor facts book view tenant (file_among view.files)
+
+-- The book agrees with the right, as one of this table.
+abbrev pub AgreesThere : {D : Type 0} → (D → Facts) → Shared → Book D → FileRight → Type 0
+AgreesThere facts shared book right = Agrees facts book (file_kept right) (opening_at (openings_of shared.table.shared.key) right.tenant).quota (config_of shared.table.shared.key).pool
 
 -- A call for the change of a slot, on a file of so many places: the place that it is about, and the right once the call was answered so.
 module _ (call : Call) (rights : FileRights) (places slot : ℕ) (entries : List Entry) where

@@ -1,4 +1,5 @@
 pub mod Advancing
 pub mod Books
+pub mod Filing
 pub mod Looking
 pub mod Reasons

@@ -87,15 +87,20 @@ abbrev pub EndsAs : Result Reply WhyAgain → Pass → Pass → Acting → Optio
 EndsAs (Ok reply) old new actor why = (replied actor ≡ Some reply) × IsRested old new
 EndsAs (Err one) old new actor why = (replied actor ≡ None) × (why ≡ Some one) × (new ≡ old)
 
--- When a call began: with this one, where the thread was idle; else when the request came that the thread serves.
-abbrev pub IsSince : Bool → View → View → Acting → Type 0
-IsSince true first now actor = first ≡ now
-IsSince false first now actor = (reins : Reins) × Serves first now reins actor
+-- The thread serves the request since an earlier moment; whether the request came since the table was made, so that all that its steps found is known, is as said.
+abbrev pub ServedAs : Bool → View → View → Acting → Type 0
+ServedAs whole first now actor = (reins : Reins) × Serves first now reins actor × (reins.is_whole ≡ whole)
 
--- How the call stands since then: it ended with its reply, which is noted at its place; or the thread serves the request, which is at its first step again.
-abbrev pub CallStands : Result Reply WhyAgain → View → View → Acting → Type 0
-CallStands (Ok reply) first now actor = (reins : Reins) × Answered first now reins actor.tenant actor.job reply
-CallStands (Err why) first now actor = (reins : Reins) × Serves first now reins actor
+-- When a call began: with this one, where the thread was idle, and then all that its steps find is known; else when the request came that the thread serves.
+abbrev pub IsSince : Bool → Bool → View → View → Acting → Type 0
+IsSince true whole first now actor = (first ≡ now) × (whole ≡ true)
+IsSince false whole first now actor = ServedAs whole first now actor
+
+-- How the call stands since then: it ended with its reply, which is noted at its place, and which has its ground if all that its steps found is known; or the thread serves the request, which is at its first step
+-- again.
+abbrev pub CallStands : Result Reply WhyAgain → Bool → View → View → Acting → Type 0
+CallStands (Ok reply) whole first now actor = (reins : Reins) × Answered first now reins actor.tenant actor.job reply × (reins.is_whole ≡ whole)
+CallStands (Err why) whole first now actor = ServedAs whole first now actor
 
 -- How a pass of the program ends: with the reply that stands; or at the first point, and why. Then the request is as it was.
 abbrev pub LookEnds : Result Reply WhyAgain → Acting → Acting → ℕ → List News → Type 0
@@ -117,4 +122,4 @@ pub record Looks (old new : Pass) (actor next : Acting) (result : Result Reply W
   pub next_is : next ≡ heard actor address news
   pub ends : LookEnds result actor next address news
   pub idle : new.idle ≡ is_over result
-  pub call : (first : View) → IsSince old.idle first old.seat.me.0 actor → CallStands result first new.seat.me.0 actor
+  pub call : (first : View) (whole : Bool) → IsSince old.idle whole first old.seat.me.0 actor → CallStands result whole first new.seat.me.0 actor

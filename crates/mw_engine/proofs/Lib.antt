@@ -1,7 +1,17 @@
-mod Backing
-mod Finding
-mod Kept
-mod Made
-mod Numbered
-mod Replying
-mod Told
+pub mod Branded
+pub mod Configured
+pub mod Disks
+pub mod Going
+pub mod Histories
+pub mod Keeping
+pub mod Named
+pub mod Once
+pub mod Parted
+pub mod Passing
+pub mod Replying
+pub mod Requesting
+pub mod Resting
+pub mod Served
+pub mod Shown
+pub mod Standing
+pub mod Started

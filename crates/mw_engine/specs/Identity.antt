@@ -1,5 +1,5 @@
--- What stays of an engine for its whole life.
-use Rattle.std.specs.Prelude.{◌≡◌, ◌≢◌, ◌<◌, ℕ, Bool, List, [], length, slice_get, Option, Some, IsTrue}
+-- What stays of an engine's tenants for its whole life: their lines.
+use Rattle.std.specs.Prelude.{◌≡◌, ◌≢◌, ◌<◌, ℕ, List, length, slice_get, Option, Some, IsTrue}
 use Rattle.std.specs.Option.{option_map, option_map_or}
 use Rattle.mw_words.specs.declared.jobs.Job.{Job}
 use Rattle.mw_words.specs.Change.{is_well_formed}
@@ -10,40 +10,34 @@ pub record Line : Type 0 where
   pub words : ℕ
   pub quota : ℕ
 
--- An engine's tenants, by their numbers: their lines, and whether their files opened; and how many slots they share.
-pub record Identity : Type 0 where
-  pub lines : List Line
-  pub opened : List Bool
-  pub pool : ℕ
-
--- the identity of an engine that has no tenant
-abbrev pub of_no_tenant : Identity
-of_no_tenant = record { lines = []; opened = []; pool = 0 }
-
 -- how many words the tenant of this number has; where there is none, 0
-abbrev pub words_told : Identity → ℕ → ℕ
-words_told identity tenant = option_map_or (λ l. l.words) (slice_get identity.lines tenant) 0
+abbrev pub words_told : List Line → ℕ → ℕ
+words_told lines tenant = option_map_or (λ l. l.words) (slice_get lines tenant) 0
+
+-- how many slots it may use at a time; where there is none, 0
+abbrev pub quota_told : List Line → ℕ → ℕ
+quota_told lines tenant = option_map_or (λ l. l.quota) (slice_get lines tenant) 0
 
 -- the name of the tenant of this number, if there is one
-abbrev pub name_told : Identity → ℕ → Option (List ℕ)
-name_told identity tenant = option_map (λ l. l.name) (slice_get identity.lines tenant)
+abbrev pub name_told : List Line → ℕ → Option (List ℕ)
+name_told lines tenant = option_map (λ l. l.name) (slice_get lines tenant)
 
 -- there is a tenant of this number, and it has so many words
-pub record HasWords (identity : Identity) (tenant words : ℕ) : Type 0 where
-  pub there : tenant < length identity.lines
-  pub words_are : words_told identity tenant ≡ words
+pub record HasWords (lines : List Line) (tenant words : ℕ) : Type 0 where
+  pub there : tenant < length lines
+  pub words_are : words_told lines tenant ≡ words
 
 -- the tenant of this number is there, and may ask for this job
-pub record IsFor (identity : Identity) (tenant : ℕ) (job : Job) : Type 0 where
-  pub there : tenant < length identity.lines
-  pub formed : IsTrue (is_well_formed (words_told identity tenant) job)
+pub record IsFor (lines : List Line) (tenant : ℕ) (job : Job) : Type 0 where
+  pub there : tenant < length lines
+  pub formed : IsTrue (is_well_formed (words_told lines tenant) job)
 
 -- none of the first so many tenants has this name
-abbrev pub HasNone : Identity → ℕ → List ℕ → Type 0
-HasNone identity so_many name = (tenant : ℕ) → tenant < so_many → name_told identity tenant ≢ Some name
+abbrev pub HasNone : List Line → ℕ → List ℕ → Type 0
+HasNone lines so_many name = (tenant : ℕ) → tenant < so_many → name_told lines tenant ≢ Some name
 
 -- this is the first tenant that has this name, with its number of words
-pub record IsFirst (identity : Identity) (name : List ℕ) (found : ℕ × ℕ) : Type 0 where
-  pub named : name_told identity found.0 ≡ Some name
-  pub has : HasWords identity found.0 found.1
-  pub first : HasNone identity found.0 name
+pub record IsFirst (lines : List Line) (name : List ℕ) (found : ℕ × ℕ) : Type 0 where
+  pub named : name_told lines found.0 ≡ Some name
+  pub has : HasWords lines found.0 found.1
+  pub first : HasNone lines found.0 name

@@ -1,5 +1,16 @@
+pub mod Agreeing
+pub mod Branding
+pub mod Figures
+pub mod Filing
+pub mod FromBelow
+pub mod Fronts
+pub mod History
 pub mod Identity
+pub mod Kept
 pub mod Lines
+pub mod Opened
 pub mod Passes
 pub mod Replies
+pub mod Requests
 pub mod Starting
+pub mod Stepping

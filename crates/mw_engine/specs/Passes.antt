@@ -1,16 +1,30 @@
--- The workers' passes.
-use Rattle.std.specs.Prelude.{◌≡◌, ℕ, zero, suc, true, List, [], ◌∷◌, ◌++◌}
-use Rattle.mw_engine.specs.declared.pass.Pass.{Pass}
+-- The passes of an engine.
+use Rattle.std.specs.Prelude.{◌≡◌, ◌<◌, true, []}
+use Rattle.mw_table.specs.declared.shared.Pass.{Pass}
+use Rattle.mw_table.specs.declared.shared.Shared.{Shared}
+use Rattle.mw_table.specs.Filing.{IsFree}
+use Rattle.mw_table.specs.Origins.{config_of}
+use Rattle.mw_table.specs.Passes.{IsOf}
+use Rattle.mw_engine.specs.Branding.{Identity}
 
--- no request of the worker is under way
-abbrev pub IsIdle : Pass → Type 0
-IsIdle pass = pass.idle ≡ true
+-- The pass is one of the engine's, for one of its workers, and has no right to a file: so it is but for the time of a call on one.
+pub record IsPassOf (identity : Identity) (pass : Pass) : Type 0 where
+  pub table : pass.seat.table_id ≡ identity.table
+  pub config : pass.seat.me.0.config ≡ identity.config
+  pub openings : pass.seat.me.0.openings ≡ identity.openings
+  pub there : pass.worker < identity.config.workers
+  pub free : IsFree pass
 
--- the pass of the worker of this number, between requests
-abbrev pub pass_of : ℕ → Pass
-pass_of worker = record { worker = worker; idle = true }
+-- A pass as it is dealt: its worker has no request, and makes its first attempt next; and it has seen nothing yet, and noted none.
+pub record IsNew (identity : Identity) (pass : Pass) : Type 0 where
+  pub own : IsPassOf identity pass
+  pub idle : pass.idle ≡ true
+  pub attempt : pass.attempt ≡ 0
+  pub nothing_seen : pass.seat.me.0.seen ≡ []
+  pub nothing_noted : pass.seat.me.0.mine ≡ []
 
--- the passes of the first so many workers, in order of number
-abbrev pub passes_to : ℕ → List Pass
-passes_to zero = []
-passes_to (suc workers) = passes_to workers ++ pass_of workers ∷ []
+-- The same of a table: the pass is one of its own.
+pub record IsOneOf (shared : Shared) (pass : Pass) : Type 0 where
+  pub own : IsOf shared pass
+  pub there : pass.worker < (config_of shared.table.shared.key).workers
+  pub free : IsFree pass

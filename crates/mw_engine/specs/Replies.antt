@@ -5,6 +5,10 @@ use Rattle.mw_words.specs.declared.jobs.Job.{Job}
 use Rattle.mw_words.specs.declared.jobs.Job.TheVariants.{Get, Cas}
 use Rattle.mw_words.specs.declared.replies.Reply.{Reply}
 use Rattle.mw_words.specs.declared.replies.Reply.TheVariants.{Val, Yes, No, Busy, Fault, Worn}
+use Rattle.mw_look.specs.declared.points.Point.{Point as ReadPoint}
+use Rattle.mw_look.specs.declared.points.Point.TheVariants.{Replied}
+use Rattle.mw_actor.specs.declared.points.Point.{Point}
+use Rattle.mw_actor.specs.declared.points.Point.TheVariants.{Read}
 
 -- a change with this entry is refused where the word at this address has this value: the entry is of that word, and
 -- expects another value
@@ -13,8 +17,7 @@ pub record IsRefusedBy (addr value : ℕ) (entry : Entry) : Type 0 where
   pub other : value ≢ entry.expected
 
 -- Whoever asks for a word is told a value or a fault. Whoever asks for a change is told that it is made, that all slots are
--- in use, a fault, or, by one of its entries, a word that hasn't the value that was expected. Nobody is told that numbers
--- are used up.
+-- in use, a fault, that numbers are used up, or, by one of its entries, a word that hasn't the value that was expected.
 abbrev pub IsReplyTo : Job → Reply → Type 0
 IsReplyTo (Get addr) (Val value) = Unit {0}
 IsReplyTo (Get addr) Yes = ⊥
@@ -27,4 +30,15 @@ IsReplyTo (Cas entries) Yes = Unit {0}
 IsReplyTo (Cas entries) (No at value) = Any (IsRefusedBy at value) entries.items
 IsReplyTo (Cas entries) Busy = Unit {0}
 IsReplyTo (Cas entries) Fault = Unit {0}
-IsReplyTo (Cas entries) Worn = ⊥
+IsReplyTo (Cas entries) Worn = Unit {0}
+
+-- A read comes to no other reply.
+abbrev pub SaysInRead : ℕ → ReadPoint → Type 0
+SaysInRead address (Replied reply) = IsReplyTo (Get address) reply
+SaysInRead address point = Unit {0}
+
+-- A read is at points of a read, and on the way to a reply that it can have.
+abbrev pub IsOnItsWay : Job → Point → Type 0
+IsOnItsWay (Get address) (Read look) = SaysInRead address look.point
+IsOnItsWay (Get address) point = ⊥
+IsOnItsWay (Cas entries) point = Unit {0}

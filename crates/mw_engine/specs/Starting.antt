@@ -1,8 +1,17 @@
--- What an engine is before it serves.
+-- What an engine is, by its parts and by what they are made of.
+use Rattle.std.specs.Prelude.{ℕ, List, map}
+use Rattle.mw_disk.specs.declared.device.Disk.{Ghosts}
+use Rattle.mw_config.specs.declared.lines.TenantLine.{TenantLine}
+use Rattle.mw_world.specs.declared.config.Config.{Config}
 use Rattle.mw_engine.specs.declared.parts.EngineParts.{EngineParts}
-use Rattle.mw_engine.specs.Identity.{Identity}
-use Rattle.mw_engine.specs.Lines.{identity_over}
+use Rattle.mw_engine.specs.Branding.{Identity, identity_on}
+use Rattle.mw_engine.specs.Fronts.{lines_told}
+use Rattle.mw_engine.specs.Opened.{tenant_read}
 
--- the identity of the engine that is made of these parts
-abbrev pub identity_of : {D H : Type 0} → EngineParts D H → Identity
-identity_of parts = identity_over parts.plain
+-- the identity of the engine that these parts make
+abbrev pub identity_of : {D H : Type 0} {device : Ghosts D} → EngineParts D H device → Identity
+identity_of parts = identity_on parts.front.core.shared (lines_told parts.front)
+
+-- the world of these lines, with so many slots, each used first under the number 0, and so many workers
+abbrev pub world_read : ℕ → ℕ → List TenantLine → Config
+world_read pool workers lines = record { pool = pool; workers = workers; seq = 0; tenants = record { items = map tenant_read lines } }

@@ -1,9 +1,6 @@
 //! Where a worker may be held.
 
 /// A point of a request at which a worker can be held, outside every lock.
-///
-/// An [`Engine`](crate::Engine) serves each request whole under one lock, and so tells
-/// [`Point::BeforeReply`] alone: nothing tells the other three points.
 #[derive(Clone, Copy, Debug, PartialEq, Eq)]
 pub enum Point {
     /// A change was planted.

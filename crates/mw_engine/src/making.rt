@@ -1,33 +1,33 @@
-//! How an engine's parts are made, and an engine of them.
-ghost use Rattle.std.specs.Prelude.{◌≡◌, ◌≤◌, length, map, vec_len, All, IfOk};
-ghost use Rattle.mw_words.specs.declared.limits.TheConstants.{MAX_POOL};
-ghost use Rattle.mw_plain.specs.Lines.{FitLines, quotas_in};
-ghost use Rattle.mw_engine.specs.Lines.{line_of, line_read, told_by};
-ghost use Rattle.mw_engine.specs.Starting.{identity_of};
-ghost use Rattle.mw_engine.specs.Passes.{IsIdle, passes_to};
+//! How an engine's parts are made.
+ghost use Rattle.std.specs.Prelude.{◌≡◌, ◌≤◌, All, length, map, IfOk};
+ghost use Rattle.mw_config.specs.Limits.{ArePermitted};
+ghost use Rattle.mw_table.specs.Dealt.{AreInOrder};
+ghost use Rattle.mw_words.specs.declared.limits.TheConstants.{MAX_POOL, MAX_TENANTS, MAX_WORKERS};
+ghost use Rattle.mw_engine.specs.Lines.{line_of};
+ghost use Rattle.mw_engine.specs.Opened.{AreMadeOf, FitLines, FitsLine, IsMadeOf, book_file, held_read, line_read, openings_read, tenant_read};
+ghost use Rattle.mw_engine.specs.Passes.{IsNew};
+ghost use Rattle.mw_engine.specs.Starting.{identity_of, world_read};
 
-use crate::brand::EngineBrand;
-use crate::engine::Engine;
-use crate::hold::Hold;
+use crate::front::Front;
 use crate::listed::Listed;
 use crate::parts::EngineParts;
-use crate::pass::Pass;
-use crate::store::Store;
 use arrayvec::ArrayVec;
+use mw_book::Book;
 use mw_config::TenantLine;
+use mw_core::Core;
 use mw_disk::Disk;
 use mw_file::TenantFile;
-use mw_plain::Plain;
+use mw_table::{FileOpening, Pass, Shared};
 use mw_words::{MAX_TENANTS, copy_of_name};
+use mw_world::{Config, Tenant};
 use std::alloc::{AllocError, Global};
-use std::marker::PhantomData;
-use std::sync::Mutex;
 
-impl<D: Disk + Drop, H: Hold + Drop> EngineParts<D, H> {
+impl<D: Disk + Drop, H: Drop> EngineParts<D, H> {
     /// The parts of an engine of the tenants with these lines, each over its file and the words that it
     /// was opened with, and a pass for each of so many workers, in order of number. A tenant whose file
     /// didn't open, or isn't as its line says, has faulted from the start. The tenants share a pool of
-    /// so many slots. The engine tells the hold the points that a worker comes to.
+    /// so many slots, each used first under the number 0. The engine tells the hold the points that a
+    /// worker comes to.
     ///
     /// # Errors
     ///
@@ -40,58 +40,63 @@ impl<D: Disk + Drop, H: Hold + Drop> EngineParts<D, H> {
         workers: u8,
         hold: H,
     ) -> Result<(EngineParts<D, H>, Vec<Pass>), AllocError>
-        requires few { length lines.now ≤ MAX_TENANTS }
-        requires fit { FitLines lines.now files.items }
-        requires shared { quotas_in lines.now ≤ pool }
-        requires small { pool ≤ MAX_POOL }
-        ensures identity { IfOk result (λ made. identity_of made.0 ≡ told_by lines.now files.items pool) }
-        ensures passes { IfOk result (λ made. made.1.items ≡ passes_to workers) }
-        ensures count { IfOk result (λ made. vec_len made.1 ≡ workers) }
-        ensures idle { IfOk result (λ made. All IsIdle made.1.items) }
+        requires permitted { ArePermitted pool lines.now }
+        requires pool { (1 ≤ pool) × (pool ≤ MAX_POOL) }
+        requires workers { (1 ≤ workers) × (workers ≤ MAX_WORKERS) }
+        requires fit { FitLines D.facts lines.now files.items }
+        ensures lines { IfOk result (λ made. (identity_of made.0).lines ≡ map line_read lines.now) }
+        ensures config { IfOk result (λ made. (identity_of made.0).config ≡ world_read pool workers lines.now) }
+        ensures start { IfOk result (λ made. (identity_of made.0).openings ≡ openings_read lines.now files.items) }
+        ensures files { IfOk result (λ made. map book_file made.0.books.items ≡ map held_read files.items) }
+        ensures count { IfOk result (λ made. length made.1.items ≡ workers) }
+        ensures passes { IfOk result (λ made. All (IsNew (identity_of made.0)) made.1.items) }
+        ensures order { IfOk result (λ made. AreInOrder made.1.items) }
     {
-        let plain = Plain::new(alloc, lines, files, pool)?;
-        let passes = passes_for(alloc, workers)?;
-        let parts = EngineParts {
+        let config = config_of(lines, pool, workers);
+        let (openings, books) = opened(alloc, lines, files)?;
+        let (shared, passes, rights) = Shared::new(alloc, &config, &openings)?;
+        let front = Front {
+            core: Core::new(shared),
             lines: listed(lines),
-            plain,
+            pool,
             hold,
+        };
+        let parts = EngineParts {
+            front,
+            books,
+            rights,
         };
         Ok((parts, passes))
     }
-
-    /// The engine of these parts, which serves from now on.
-    pub fn into_engine<J: EngineBrand>(self) -> Engine<J, D, H>
-        requires { identity_of self ≡ J.identity }
-    {
-        let EngineParts { lines, plain, hold } = self;
-        let store = Store {
-            plain,
-            brand: PhantomData,
-        };
-        Engine {
-            lines,
-            store: Mutex::new(store),
-            hold,
-        }
-    }
 }
 
-/// A pass for each of the first so many workers.
-fn passes_for(alloc: Global, workers: u8) -> Result<Vec<Pass>, AllocError>
-    ensures passes { IfOk result (λ passes. passes.items ≡ passes_to workers) }
-    ensures count { IfOk result (λ passes. vec_len passes ≡ workers) }
-    ensures idle { IfOk result (λ passes. All IsIdle passes.items) }
+/// What the world is made of, by the tenants' lines. Each slot is used first under the number 0.
+fn config_of(lines: &[TenantLine], pool: u16, workers: u8) -> Config
+    requires few { length lines.now ≤ MAX_TENANTS }
+    ensures pool { result.pool ≡ pool }
+    ensures workers { result.workers ≡ workers }
+    ensures seq { result.seq ≡ 0 }
+    ensures tenants { result.tenants.items ≡ map tenant_read lines.now }
 {
-    let mut passes = Vec::with_capacity(alloc, usize::from(workers))?;
-    for worker in 0..workers {
-        passes.push(Pass { worker, idle: true })?;
+    let mut tenants = ArrayVec::new();
+    for line in lines {
+        tenants.push(Tenant {
+            name: copy_of_name(&line.name),
+            words: line.words,
+            quota: line.quota,
+        });
     }
-    Ok(passes)
+    Config {
+        pool,
+        workers,
+        seq: 0,
+        tenants,
+    }
 }
 
 /// What an engine keeps of these lines.
 fn listed(lines: &[TenantLine]) -> ArrayVec<Listed, MAX_TENANTS>
-    requires { length lines.now ≤ MAX_TENANTS }
+    requires few { length lines.now ≤ MAX_TENANTS }
     ensures { map line_of result.items ≡ map line_read lines.now }
 {
     let mut kept = ArrayVec::new();
@@ -103,4 +108,50 @@ fn listed(lines: &[TenantLine]) -> ArrayVec<Listed, MAX_TENANTS>
         });
     }
     kept
+}
+
+/// What the tenants' files gave, and a book of each file.
+fn opened<D: Disk + Drop>(
+    alloc: Global,
+    lines: &[TenantLine],
+    files: Vec<Option<(TenantFile<D>, Vec<u64>)>>,
+) -> Result<(Vec<FileOpening>, Vec<Book<D>>), AllocError>
+    requires fit { FitLines D.facts lines.now files.items }
+    ensures { IfOk result (λ made. AreMadeOf D.facts lines.now files.items made.0.items made.1.items) }
+{
+    let mut openings = Vec::with_capacity(alloc, lines.len())?;
+    let mut books = Vec::with_capacity(alloc, lines.len())?;
+    for file in files {
+        let (opening, book) = opened_one(&lines[openings.len()], file);
+        openings.push(opening)?;
+        books.push(book)?;
+    }
+    Ok((openings, books))
+}
+
+/// What a tenant's file gave, and its book.
+fn opened_one<D: Disk>(
+    line: &TenantLine,
+    file: Option<(TenantFile<D>, Vec<u64>)>,
+) -> (FileOpening, Book<D>)
+    requires fits { FitsLine D.facts line.now file }
+    ensures { IsMadeOf D.facts line.now file result.0 result.1 }
+{
+    match file {
+        Some((file, words)) => {
+            let opening = FileOpening {
+                quota: line.quota,
+                words: Some(words),
+            };
+            (opening, Book::new(file, u16::from(line.quota)))
+        }
+        None => {
+            let opening = FileOpening {
+                quota: line.quota,
+                words: None,
+            };
+            let book = Book::unopened(line.words, u16::from(line.quota));
+            (opening, book)
+        }
+    }
 }

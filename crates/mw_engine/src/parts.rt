@@ -1,17 +1,21 @@
 //! The parts of an engine.
-ghost use Rattle.std.specs.Prelude.{◌≡◌, map};
-ghost use Rattle.mw_engine.specs.Lines.{line_of, identity_over};
+ghost use Rattle.std.specs.Prelude.{◌≡◌, length};
+ghost use Rattle.mw_engine.specs.Branding.{identity_on};
+ghost use Rattle.mw_engine.specs.Kept.{AreKept};
+ghost use Rattle.mw_engine.specs.Fronts.{lines_told};
 
-use crate::listed::Listed;
-use arrayvec::ArrayVec;
-use mw_plain::Plain;
-use mw_words::MAX_TENANTS;
+use crate::front::Front;
+use mw_book::Book;
+use mw_disk::Disk;
+use mw_table::FileRight;
 
 /// What an engine is made of, which has no brand yet. [`EngineParts::into_engine`] gives it one.
 #[derive(Drop)]
-pub struct EngineParts<D, H> {
-    pub(crate) lines: ArrayVec<Listed, MAX_TENANTS>,
-    pub(crate) plain: Plain<D>,
-    pub(crate) hold: H,
-    ghost same: { map line_of lines.items ≡ (identity_over plain).lines },
+pub struct EngineParts<D: Disk, H> {
+    pub(crate) front: Front<H>,
+    pub(crate) books: Vec<Book<D>>,
+    pub(crate) rights: Vec<FileRight>,
+    ghost kept: { AreKept D.facts (identity_on front.core.shared (lines_told front)) books.items rights.items },
+    ghost a_book_each: { length books.items ≡ length front.lines.items },
+    ghost a_right_each: { length rights.items ≡ length front.lines.items },
 }

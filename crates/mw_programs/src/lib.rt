@@ -5,6 +5,7 @@ mod clients;
 mod making;
 mod notes;
 mod opening;
+mod plain_file;
 mod served;
 mod serving;
 mod tenants;

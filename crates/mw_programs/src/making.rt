@@ -1,18 +1,22 @@
 //! `mwinit`: makes a tenant's file.
-ghost use Rattle.std.specs.Prelude.{◌≤◌};
+ghost use Rattle.std.specs.Prelude.{◌≤◌, IfSome};
 ghost use Rattle.mw_words.specs.declared.limits.TheConstants.{MAX_WORDS, MAX_PLACES};
 
 use clap::error::ErrorKind;
-use clap::{Arg, Command, value_parser};
+use clap::{Arg, ArgMatches, Command, value_parser};
 use mw_config::VERSION;
 use mw_record::{header, size};
 use mw_words::{MAX_PLACES, MAX_WORDS};
 use std::alloc::{AllocError, Global};
 use std::fs::{File, OpenOptions};
 use std::io::{self, Read, Write};
+use std::os::unix::fs::OpenOptionsExt;
 use std::path::Path;
 use std::rt::Files;
 use thiserror::Error;
+
+/// The file mode of a new file: its owner may read and write it, and nobody else.
+const OWN_ONLY: u32 = 0o600;
 
 /// Why no file was made.
 #[derive(Debug, Drop, Error)]
@@ -97,20 +101,31 @@ impl From<clap::Error> for InitFault {
 
 fn read_args<'a>(alloc: Global, args: &'a [String]) -> Result<NewFile<'a>, InitFault> {
     let matches = command(alloc)?.try_get_matches_from(args)?;
-    let path = matches.get_str("PATH");
-    let words = matches.get_one::<u16>("WORDS");
-    let places = matches.get_one::<u16>("PLACES");
-    match (path, words, places) {
-        (Some(path), Some(words), Some(places))
-            if (1..=MAX_WORDS).contains(&words) && (1..=MAX_PLACES).contains(&places) => {
-            Ok(NewFile {
-                path,
-                words,
-                places,
-            })
-        }
-        _ => Err(InitFault::CannotMake),
+    match new_file_of(&matches) {
+        Some(file) => Ok(file),
+        None => Err(InitFault::CannotMake),
     }
+}
+
+/// The file for which the arguments ask.
+fn new_file_of<'a>(matches: &ArgMatches<'a>) -> Option<NewFile<'a>> {
+    let path = matches.get_str("PATH")?;
+    let words = number_of(matches, "WORDS", MAX_WORDS)?;
+    let places = number_of(matches, "PLACES", MAX_PLACES)?;
+    Some(NewFile {
+        path,
+        words,
+        places,
+    })
+}
+
+/// The number of an argument. It is 1 to `most`, as the argument's parser has seen to.
+fn number_of(matches: &ArgMatches<'_>, name: &str, most: u16) -> Option<u16>
+    ensures { IfSome result (λ number. (1 ≤ number) × (number ≤ most)) }
+{
+    matches
+        .get_one::<u16>(name)
+        .filter(|number| (1..=most).contains(number))
 }
 
 fn command<'a>(alloc: Global) -> Result<Command<'a>, clap::Error> {
@@ -138,11 +153,11 @@ fn number<'a>(alloc: Global, name: &'a str, most: u16) -> Arg<'a> {
         .value_parser(value_parser!(u16).range(1..=i64::from(most)))
 }
 
-/// Writes a new file, which it locks first, and syncs it. What a fault leaves of it is removed, but no
+/// Writes a new file, which its owner alone may read and write, locks it first, and syncs it. What a fault leaves of it is removed, but no
 /// file that was there.
 fn write_file<R: Files<File = File>>(rt: &R, file: &NewFile<'_>) -> io::Result<File> {
     let mut options = OpenOptions::new();
-    options.write(true).create_new(true);
+    options.write(true).create_new(true).mode(OWN_ONLY);
     let mut made = options.open(rt, file.path)?;
     match write_contents(&mut made, file) {
         Ok(()) => Ok(made),

@@ -2,7 +2,7 @@
 
 use log::kv::Source;
 use log::span::Spans;
-use log::{Level, Log, Metadata, Record};
+use log::{Level, Log, Metadata, Record, info};
 use std::fmt::Display;
 use std::io::Write;
 use std::sync::{Mutex, Wait};
@@ -47,4 +47,14 @@ impl<W: Write, R: Wait> Log for Notes<'_, W, R> {
     fn target(&self) -> &str {
         ""
     }
+}
+
+/// Says more of a note: which file or address it is about.
+pub fn note_place<L: Log>(notes: &L, place: &str) {
+    info!(notes; "{place}");
+}
+
+/// Says more of a note: which file or address it is about, and what is known of it.
+pub fn note_cause<L: Log, C: Display>(notes: &L, place: &str, cause: &C) {
+    info!(notes; "{place}: {cause}");
 }

@@ -1,10 +1,12 @@
 //! What a server opens before it serves: the tenants file and the tenants' own files.
-ghost use Rattle.std.specs.Prelude.{◌≡◌, ◌≤◌, length, is_some, IfOk, All, Some};
+ghost use Rattle.std.specs.Prelude.{◌≡◌, ◌≤◌, length, is_some, IfOk, Some};
 ghost use Rattle.std.specs.List.{list_all};
 ghost use Rattle.mw_config.specs.Limits.{ArePermitted};
 ghost use Rattle.mw_words.specs.declared.limits.TheConstants.{MAX_TENANTS};
-ghost use Rattle.mw_plain.specs.Lines.{IsWithin, FitsLine, FitLines};
+ghost use Rattle.mw_engine.specs.Opened.{FitsLine, FitLines};
 
+use crate::notes::{note_cause, note_place};
+use crate::plain_file::{ReadFault, open_plain};
 use crate::watched_file::{LastError, LastErrors, WatchedFile};
 use arrayvec::ArrayVec;
 use log::{Log, info, warn};
@@ -34,8 +36,8 @@ pub struct TenantsFault {
 /// What more is known of why a tenants file is refused.
 #[derive(Debug, Drop)]
 pub enum Cause {
-    /// What the system told when it was read.
-    System(io::Error),
+    /// Why it wasn't opened, or wasn't read to its end.
+    Reading(ReadFault),
     /// It has more than [`MAX_TENANTS_FILE`] bytes.
     Size,
     /// The line of this number breaks this rule of the form.
@@ -61,13 +63,13 @@ impl Cause {
     /// Tells it of the tenants file at this path.
     pub fn tell<L: Log>(&self, notes: &L, path: &str) {
         match self {
-            Cause::System(error) => info!(notes; "{path}: {error}"),
+            Cause::Reading(fault) => note_cause(notes, path, fault),
             Cause::Size => info!(notes; "{path}: more than {MAX_TENANTS_FILE} bytes"),
             Cause::Form(number, rule) => {
                 let how = rule.broken();
                 info!(notes; "{path}: line {number} {how}")
             }
-            Cause::Unknown => info!(notes; "{path}"),
+            Cause::Unknown => note_place(notes, path),
         }
     }
 }
@@ -77,7 +79,7 @@ impl Cause {
 /// # Errors
 ///
 /// [`Refusal::File`] where the file can't be read; else what [`read_tenants`] refuses.
-pub fn read_tenants_file<R: Files>(
+pub fn read_tenants_file<R: Files<File = File>>(
     rt: &R,
     path: &str,
     pool: u16,
@@ -85,17 +87,25 @@ pub fn read_tenants_file<R: Files>(
     ensures { IfOk result (λ lines. ArePermitted pool lines.items) }
 {
     let mut room = [0; TENANTS_ROOM];
-    let (refusal, cause) = match File::open(rt, path).and_then(|mut file| fill(
-        &mut file, &mut room,
-    )) {
+    let (refusal, cause) = match read_front(rt, path, &mut room) {
         Ok(count) if count <= MAX_TENANTS_FILE => match read_tenants(&room[..count], pool) {
             Ok(lines) => return Ok(lines),
             Err(refusal) => (refusal, Cause::of_text(refusal, &room[..count])),
         },
         Ok(_) => (Refusal::File, Cause::Size),
-        Err(error) => (Refusal::File, Cause::System(error)),
+        Err(fault) => (Refusal::File, Cause::Reading(fault)),
     };
     Err(TenantsFault { refusal, cause })
+}
+
+/// Reads the plain file at a path until its end, or until the room is full. Gives how many bytes it has read.
+fn read_front<R: Files<File = File>>(
+    rt: &R,
+    path: &str,
+    room: &mut [u8],
+) -> Result<usize, ReadFault> {
+    let mut file = open_plain(rt, path)?;
+    Ok(fill(&mut file, room)?)
 }
 
 /// Reads until the end, or until the room is full. Gives how many bytes it has read.
@@ -149,10 +159,10 @@ impl FileFault {
     /// Tells more of it: which file it is, and what the system told, or what the file has.
     fn tell_more<L: Log>(&self, notes: &L, path: &str) {
         match self {
-            FileFault::Disk(Some(error)) => info!(notes; "{path}: {error}"),
+            FileFault::Disk(Some(error)) => note_cause(notes, path, error),
             FileFault::Misfit(words, places) =>
                 info!(notes; "{path}: {words} words, {places} places"),
-            _ => info!(notes; "{path}"),
+            _ => note_place(notes, path),
         }
     }
 }
@@ -168,9 +178,8 @@ pub fn open_files<'a, R: Files<File = File> + AllocGlobal, L: Log>(
     lines: &[TenantLine],
     errors: &'a LastErrors,
 ) -> Result<Vec<Option<Opened<'a>>>, AllocError>
-    requires few { length lines.now ≤ MAX_TENANTS }
-    requires within { All IsWithin lines.now }
-    ensures { IfOk result (λ files. FitLines lines.now files.items) }
+    requires { length lines.now ≤ MAX_TENANTS }
+    ensures { IfOk result (λ files. FitLines ⟦<FileDisk<WatchedFile<'a>> as Disk>⟧.facts lines.now files.items) }
 {
     let mut files = Vec::with_capacity(rt.alloc(), lines.len())?;
     for line in lines {
@@ -202,7 +211,7 @@ pub fn open_file<'a, R: Files<File = File> + AllocGlobal, L: Log>(
     line: &TenantLine,
     last: &'a LastError,
 ) -> Result<Option<Opened<'a>>, AllocError>
-    ensures { IfOk result (λ file. FitsLine line.now file) }
+    ensures { IfOk result (λ file. FitsLine ⟦<FileDisk<WatchedFile<'a>> as Disk>⟧.facts line.now file) }
 {
     match open_fitting(rt, line, last) {
         Ok(opened) => Ok(Some(opened)),
@@ -218,9 +227,6 @@ pub fn open_file<'a, R: Files<File = File> + AllocGlobal, L: Log>(
 
 /// The file of a tenant, locked and as the tenant's line says it.
 ///
-/// The file is synced first: a server that was killed may have left writes that a read gives and a
-/// crash loses, and an opening has to begin on bytes that a crash leaves.
-///
 /// # Errors
 ///
 /// As [`FileFault`] tells. The file is closed, and its lock with it.
@@ -229,14 +235,38 @@ fn open_fitting<'a, R: Files<File = File> + AllocGlobal>(
     line: &TenantLine,
     last: &'a LastError,
 ) -> Result<Opened<'a>, FileFault>
-    ensures { IfOk result (λ opened. FitsLine line.now (Some opened)) }
+    ensures { IfOk result (λ opened. FitsLine ⟦<FileDisk<WatchedFile<'a>> as Disk>⟧.facts line.now (Some opened)) }
 {
     let file = open_locked(rt, line.path.as_str())?;
-    let mut disk = FileDisk::new(WatchedFile::new(file, last));
+    open_synced(
+        rt.alloc(),
+        FileDisk::new(WatchedFile::new(file, last)),
+        line,
+        last,
+    )
+}
+
+/// The file on a disk, as a tenant's line says it.
+///
+/// The disk is synced first: a server that was killed may have left writes that a read gives and a
+/// crash loses, and an opening has to begin on bytes that a crash leaves.
+///
+/// # Errors
+///
+/// As [`FileFault`] tells. The disk is dropped.
+fn open_synced<D: Disk + Drop>(
+    alloc: Global,
+    disk: D,
+    line: &TenantLine,
+    last: &LastError,
+) -> Result<(TenantFile<D>, Vec<u64>), FileFault>
+    ensures { IfOk result (λ opened. FitsLine D.facts line.now (Some opened)) }
+{
+    let mut disk = disk;
     if disk.sync().is_err() {
         return Err(FileFault::Disk(last.error()));
     }
-    match TenantFile::open(rt.alloc(), disk) {
+    match TenantFile::open(alloc, disk) {
         Ok((file, words)) => {
             if words.len() != line.words as usize || file.places() < u16::from(line.quota) {
                 return Err(FileFault::Misfit(words.len(), file.places()));

@@ -2,7 +2,7 @@
 use crate::tenants::FaultWatch;
 use crate::worker::Worker;
 use mw_disk::Disk;
-use mw_engine::{Engine, EngineBrand, Hold};
+use mw_engine::{EngineBrand, Hold};
 use mw_report::Figures;
 use mw_session::Service;
 use mw_words::{Job, Name, Reply};
@@ -19,7 +19,7 @@ impl<J: EngineBrand, D: Disk + Drop, H: Hold + Drop, R: Wait, T: FaultWatch> Ser
 
     ghost found = { λ _ _. None };
 
-    ghost has_words = { λ _. HasWords J.identity };
+    ghost has_words = { λ _. HasWords J.identity.lines };
 
     fn find(&self, name: &Name) -> Option<(u8, u16)> {
         self.engine.find(name)
@@ -34,6 +34,6 @@ impl<J: EngineBrand, D: Disk + Drop, H: Hold + Drop, R: Wait, T: FaultWatch> Ser
     }
 
     fn figures(&mut self) -> Figures {
-        self.engine.figures(self.rt, &mut self.pass)
+        self.engine.figures(&mut self.pass)
     }
 }

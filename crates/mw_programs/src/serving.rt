@@ -1,20 +1,23 @@
 //! `mwserve`: serves tenants' words.
-ghost use Rattle.std.specs.Prelude.{◌≡◌, ◌<◌, All, IfOk, vec_len};
+ghost use Rattle.std.specs.Prelude.{◌≡◌, ◌<◌, ◌≤◌, All, IfOk, vec_len};
 ghost use Rattle.mw_config.specs.CommandLine.{ArePermittedArgs};
-ghost use Rattle.mw_engine.specs.Passes.{IsIdle};
+ghost use Rattle.mw_words.specs.declared.limits.TheConstants.{MAX_WORKERS};
+ghost use Rattle.mw_engine.specs.Passes.{IsNew};
 ghost use Rattle.mw_engine.specs.Starting.{identity_of};
 
 use crate::clients::serve_clients;
-use crate::notes::Notes;
+use crate::notes::{Notes, note_cause};
 use crate::opening::{Cause, TenantsFault, are_all_open, open_files, read_tenants_file};
+use crate::plain_file::{ReadFault, open_plain};
 use crate::tenants::{FaultWatch, TenantNotes};
 use crate::watched_file::{LastErrors, WatchedFile};
 use crate::worker::Worker;
-use log::{Log, info, warn};
+use log::{Log, warn};
 use mw_config::{ArgFault, Args, Mode, Refusal, read_args};
 use mw_disk::FileDisk;
 use mw_engine::{Engine, EngineBrand, EngineParts, NoHold, Pass};
 use mw_session::{Ended, Session};
+use mw_words::MAX_WORKERS;
 use std::alloc::AllocError;
 use std::fs::File;
 use std::io;
@@ -36,9 +39,9 @@ pub(crate) enum ServeFault<'a> {
     /// A tenant's file didn't open, and none is served without all. Notes tell which.
     #[error("")]
     NotAll,
-    /// The script with this path can't be opened.
+    /// The script with this path can't be opened, or is no plain file.
     #[error("mwserve: cannot read")]
-    CannotRead(&'a str, io::Error),
+    CannotRead(&'a str, ReadFault),
     /// There is no listening at this address.
     #[error("mwserve: cannot listen")]
     CannotListen(&'a str, io::Error),
@@ -71,9 +74,8 @@ impl ServeFault<'_> {
         warn!(notes; "{self}");
         match self {
             ServeFault::Refused(_, cause) => cause.tell(notes, tenants),
-            ServeFault::CannotRead(place, error) | ServeFault::CannotListen(place, error) => {
-                info!(notes; "{place}: {error}")
-            }
+            ServeFault::CannotRead(path, fault) => note_cause(notes, path, fault),
+            ServeFault::CannotListen(place, error) => note_cause(notes, place, error),
             _ => {}
         }
     }
@@ -94,9 +96,10 @@ impl From<TenantsFault> for ServeFault<'_> {
 /// Serves as the command line `args`, the program's own name first, asks for:
 /// `mwserve --tenants FILE [--pool P] [--workers N] [--strict] [--verbose]` with either `--script FILE`,
 /// which runs one session from the script to `out`, or
-/// `--listen ADDR [--admin ADDR] [--connections C] [--idle SECONDS]`, which writes `ready PORT` to `out`
-/// and serves clients by N workers, until C connections are served. With `--admin` there is one worker
-/// more, for the clients who come there, and `admin PORT` is written before.
+/// `--listen ADDR [--admin ADDR] [--connections C] [--idle SECONDS] [--mode MODE]`, which writes
+/// `ready PORT`, or `ready unix:PATH`, to `out` and serves clients by N workers, until C connections are
+/// served. With `--admin` there is one worker more, of [`MAX_WORKERS`] at most, for the clients who come
+/// there, and `admin PORT`, or `admin unix:PATH`, is written before.
 ///
 /// Gives the exit status: 0 where the session ended by `QUIT`, with the script or at a line that was
 /// too long, or all connections were served; 1 where it ended otherwise, a tenant's file didn't open and
@@ -187,13 +190,13 @@ where
     serve_engine::<Brand, _, _, _, _>(rt, parts, passes, &args.mode, out, notes, &watch)
 }
 
-/// How many workers there are, with that of the administrator's listener.
+/// How many workers there are, at most [`MAX_WORKERS`], with that of the administrator's listener.
 fn workers_of(args: &Args) -> u8
-    requires { 0 < args.now.workers }
-    ensures { 0 < result }
+    requires { ArePermittedArgs args.now }
+    ensures { (1 ≤ result) × (result ≤ MAX_WORKERS) }
 {
     match &args.mode {
-        Mode::Listen(listening) if listening.admin.is_some() => args.workers.saturating_add(1),
+        Mode::Listen(listening) if listening.admin.is_some() => MAX_WORKERS.min(args.workers + 1),
         _ => args.workers,
     }
 }
@@ -217,10 +220,10 @@ where
         + Clock
         + Sync,
     requires identity { identity_of parts ≡ J.identity }
-    requires idle { All IsIdle passes.items }
+    requires new { All (IsNew J.identity) passes.items }
     requires some { 0 < vec_len passes }
 {
-    let engine = parts.into_engine::<J>();
+    let engine = parts.into_engine::<J>(rt.alloc())?;
     match mode {
         Mode::Script(path) => run_script(rt, &engine, passes, path.as_str(), out, watch),
         Mode::Listen(listening) => {
@@ -240,12 +243,12 @@ fn run_script<'e, 'a, J: EngineBrand, R, O: Write, T: FaultWatch>(
 ) -> Result<(), ServeFault<'a>>
 where
     R: Files<File = File> + AllocGlobal + Wait,
-    requires idle { All IsIdle passes.items }
+    requires new { All (IsNew J.identity) passes.items }
     requires some { 0 < vec_len passes }
 {
-    let mut script = match File::open(rt, path) {
+    let mut script = match open_plain(rt, path) {
         Ok(script) => script,
-        Err(error) => return Err(ServeFault::CannotRead(path, error)),
+        Err(fault) => return Err(ServeFault::CannotRead(path, fault)),
     };
     let Some(pass) = passes.into_iter().next() else {
         return Err(ServeFault::Memory);

@@ -1,7 +1,11 @@
 //! What is told of tenants while they are served.
+ghost use Rattle.std.specs.Prelude.{◌<◌};
+ghost use Rattle.mw_words.specs.declared.limits.TheConstants.{MAX_TENANTS};
+
+use crate::notes::{note_cause, note_place};
 use crate::opening::Opened;
 use crate::watched_file::LastErrors;
-use log::{Log, info, warn};
+use log::{Log, warn};
 use mw_config::TenantLine;
 use mw_words::MAX_TENANTS;
 use std::str;
@@ -47,6 +51,21 @@ impl<'r, 'n, 'l, 'e, L: Log, R: Wait> TenantNotes<'r, 'n, 'l, 'e, L, R> {
     }
 }
 
+impl<L: Log, R: Wait> TenantNotes<'_, '_, '_, '_, L, R> {
+    /// Tells that the tenant of this number is down, and what the system told of its file.
+    fn tell(&self, tenant: usize, line: &TenantLine)
+        requires { tenant < MAX_TENANTS }
+    {
+        let name = str::from_utf8(&line.name).unwrap_or("?");
+        warn!(self.notes; "tenant {name}: failed");
+        let path = line.path.as_str();
+        match self.errors.of(tenant).error() {
+            Some(error) => note_cause(self.notes, path, &error),
+            None => note_place(self.notes, path),
+        }
+    }
+}
+
 impl<L: Log, R: Wait> FaultWatch for TenantNotes<'_, '_, '_, '_, L, R> {
     fn fault(&self, tenant: u8) {
         let tenant = usize::from(tenant);
@@ -56,13 +75,7 @@ impl<L: Log, R: Wait> FaultWatch for TenantNotes<'_, '_, '_, '_, L, R> {
         }
         all_told[tenant] = true;
         if let Some(line) = self.lines.get(tenant) {
-            let name = str::from_utf8(&line.name).unwrap_or("?");
-            let path = line.path.as_str();
-            warn!(self.notes; "tenant {name}: failed");
-            match self.errors.of(tenant).error() {
-                Some(error) => info!(self.notes; "{path}: {error}"),
-                None => info!(self.notes; "{path}"),
-            }
+            self.tell(tenant, line);
         }
     }
 }

@@ -1,3 +1,4 @@
+pub mod AnyNumber
 pub mod Apart
 pub mod Calling
 pub mod FileCalls

@@ -96,6 +96,7 @@ module _ (config : Config) (begun : (ℕ → Opening) → List Happening → Typ
         events = tied.events;
         state = tied.state;
         next = after.state;
+        no_starts = past.no_starts;
         played = played_so config old.config past.openings past.openings tied.state (past.before ++ tied.events) (past.before ++ tied.events) same refl refl past.played;
         goes_on = played_so config old.config after.past.openings past.openings after.state (after.past.before ++ after.events) (past.before ++ (tied.events ++ more)) same run.same_openings
             (λ i. run.same_before i ++ run.events i) after.past.played;

@@ -123,7 +123,7 @@ pub record GoesOn (old new : View) : Type 0 where
   pub told : Precede (tenants_of old.config) old.told new.seen
 
 -- These bits stand at an index of the table, in a world after some run whose latest start gave the tenants what the thread knows of it, and in which just those changes were sealed that
--- it has seen.
+-- it has seen. Which run it is, and whether the table may have begun with what came first in it, is not told.
 pub record StoodThere (view : View) (index bits : ℕ) : Type 0 where
   pub openings : ℕ → Opening
   pub events : List Happening
@@ -187,7 +187,7 @@ pub record Looked (index bits : ℕ) (old new : View) : Type 0 where
   pub same_mine : new.mine ≡ old.mine
   pub same_files : new.files ≡ old.files
 
--- A thread met others: what it has seen goes on, and is right with all that it noted, which is the same, as are its reins. This says nothing of files: where neither of two that meet had any, neither has any then.
+-- A thread met others: what it has seen goes on, and is right with all that it noted, which is the same, as are its reins. This says nothing of files.
 pub record Met (old new : View) : Type 0 where
   pub keeps : Keeps old new
   pub right : IsRight new

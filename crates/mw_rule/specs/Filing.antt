@@ -59,14 +59,14 @@ module _ (view : View) (called : CallOn) (held : Held) where
   fails = fails_on called.call (file_told held.file)
 
 -- What a step of a call leaves: what was seen goes on, and no request is noted.
-pub record Files (old new : View) : Type 0 where
+pub record LeavesRest (old new : View) : Type 0 where
   pub goes_on : GoesOn old new
   pub right : IsRight new
   pub same_mine : new.mine ≡ old.mine
 
 -- The status is one that the call starts from, and in range. It is kept in mind, and nothing has happened yet. The call can be made, if the file hasn't failed.
 pub record Starts (worker : ℕ) (actor : Acting) (called : CallOn) (held : Held) (status : Status) (old new : View) : Type 0 where
-  pub files : Files old new
+  pub files : LeavesRest old new
   pub in_range : IsStatusInRange status
   pub same_reins : new.reins ≡ old.reins
   pub keeps : new.files ≡ record held { found = Some (record { worker = worker; status = status }) } ∷ []
@@ -75,7 +75,7 @@ pub record Starts (worker : ℕ) (actor : Acting) (called : CallOn) (held : Held
 
 -- The call is made: the request was told how it went, and the words of its next step, or of its next call, are there; and this is known of the file.
 pub record Went (went_well : Bool) (held : Held) (after : FileRights) (old new : View) : Type 0 where
-  pub files : Files old new
+  pub files : LeavesRest old new
   pub reins : new.reins ≡ map (went went_well) old.reins
   pub ready : Each (IsReady new.config) new.reins
   pub keeps : new.files ≡ record held { file = after; found = None } ∷ []

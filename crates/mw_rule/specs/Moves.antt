@@ -20,6 +20,7 @@ use Rattle.mw_world.specs.Definition.Happenings.{Happening, Come, File as FileEv
 use Rattle.mw_world.specs.Definition.State.{Opening, State}
 use Rattle.mw_law_calls.specs.Ending.{exchange_of, fault_of}
 use Rattle.mw_law_calls.specs.Rights.{file_told}
+use Rattle.mw_law_store.specs.History.{AreNoStarts}
 use Rattle.mw_rule.specs.declared.views.Held.{Held}
 use Rattle.mw_rule.specs.declared.views.View.{View}
 use Rattle.mw_rule.specs.Carrying.{Began, Drives, Looked, MayCome, Took}
@@ -84,7 +85,8 @@ told_by view (Exchanges worker actor called held status by found sound) bits new
 told_by view (Breaks worker number actor called held status by found sound is_one) bits new = Went false held (broken_so view called held) view new
 told_by view (FindsFault worker actor called held status by found failed) bits new = Went false held held.file view new
 
--- A run of a world goes on by these events, from a moment at which what a thread knew was so to one at which what it knows then is so. What happened before the table was made, and since then, is told apart.
+-- A run of a world goes on by these events, from a moment at which what a thread knew was so to one at which what it knows then is so. What happened before the table was made, and since then, is told apart; no start
+-- has happened since. Which run it is, and whether the table may have begun with what was before, is not told.
 pub record WentOn (more : List Happening) (old new : View) : Type 0 where
   pub openings : ℕ → Opening
   pub before : List Happening
@@ -93,6 +95,7 @@ pub record WentOn (more : List Happening) (old new : View) : Type 0 where
   pub next : State
   pub played : IsPlayed old.config openings (before ++ events) state
   pub goes_on : IsPlayed old.config openings (before ++ (events ++ more)) next
+  pub no_starts : AreNoStarts events
   pub knew : Fits old.config openings state events old
   pub knows : Fits old.config openings next (events ++ more) new
 
@@ -106,3 +109,11 @@ module _ (config : Config) (begun : (ℕ → Opening) → List Happening → Typ
   abbrev pub MovesAreAllowed : Type 0
   MovesAreAllowed = (slots id : ℕ) (me : Me Acting View) (move : Move me.0) (make : ℕ → ℕ) → ((bits : ℕ) → make bits ≡ made_by me.0 move bits)
       → Allows (Tied config begun) slots id me (index_by config me.0 move) make (λ bits next. told_by me.0 move bits next.0 × WentOn (events_by me.0 move bits) me.0 next.0)
+
+-- Which of a call's device calls failed is for the thread to say: where the run goes on by one of them, it goes on as well by any other.
+abbrev pub AnyNumberFails : Type 0
+AnyNumberFails = (old new : View) (worker : ℕ) (actor : Acting) (called : CallOn) (held : Held) (status : Status) (one other : ℕ) → Calls old worker actor called held
+    → held.found ≡ Some (record { worker = worker; status = status }) → fails old called held ≡ false
+    → is_made (device_calls called.call (entries_at (file_told held.file) (place_held old called held))) one ≡ true
+    → is_made (device_calls called.call (entries_at (file_told held.file) (place_held old called held))) other ≡ true
+    → WentOn (FileEvent worker (Fail one) ∷ []) old new → WentOn (FileEvent worker (Fail other) ∷ []) old new

@@ -1,9 +1,9 @@
-//! Tests of sessions, of the engine and of the serving of clients. They stand apart from the crates that
-//! they test, so that those are proved once.
+//! Tests of sessions, and of the serving of clients. They stand apart from the crates that they test, so that those
+//! are proved once.
 #![tactic(auto)]
 
 #[cfg(test)]
-mod engine_tests;
+mod local_tests;
 #[cfg(test)]
 mod session_peers;
 #[cfg(test)]

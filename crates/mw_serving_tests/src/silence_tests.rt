@@ -130,7 +130,7 @@ fn a_listener_waits_longer_each_time(rt: HostRuntime) {
 }
 
 /// Serves so many connections over TCP by one worker.
-fn serve_one_by_one<L: Listener + Drop, R: Threads + Wait + Sync>(
+pub fn serve_one_by_one<L: Listener + Drop, R: Threads + Wait + Sync>(
     rt: &R,
     alloc: Global,
     listener: L,
@@ -158,8 +158,8 @@ fn come_silent<R: Net<Listener = TcpListener, Stream = TcpStream>>(
 
 #[test]
 fn silent_clients_are_sent_away(rt: HostRuntime) -> Result<(), Fail> {
-    let listener = listen_at(&rt, "127.0.0.1:0", Some(1))?;
-    let port = port_of(&listener)?;
+    let listener = listen_at(&rt, "127.0.0.1:0", 0, Some(1))?;
+    let port = port_of(&listener)?.unwrap_or(0);
     let (heard, end) = thread::join(
         &rt,
         || {
@@ -211,8 +211,8 @@ fn come_dripping<R: Net<Listener = TcpListener, Stream = TcpStream> + Threads + 
 
 #[test]
 fn who_sends_on_is_left(rt: HostRuntime) -> Result<(), Fail> {
-    let listener = listen_at(&rt, "127.0.0.1:0", None)?;
-    let port = port_of(&listener)?;
+    let listener = listen_at(&rt, "127.0.0.1:0", 0, None)?;
+    let port = port_of(&listener)?.unwrap_or(0);
     let (heard, end) = thread::join(
         &rt,
         || {

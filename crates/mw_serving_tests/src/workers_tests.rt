@@ -146,8 +146,8 @@ fn two_clients<R: Net<Listener = TcpListener, Stream = TcpStream>>(
 
 #[test]
 fn one_client_after_the_other(rt: HostRuntime) -> io::Result<()> {
-    let listener = listen_at(&rt, "127.0.0.1:0", None)?;
-    let port = port_of(&listener)?;
+    let listener = listen_at(&rt, "127.0.0.1:0", 0, None)?;
+    let port = port_of(&listener)?.unwrap_or(0);
     let shelf = Mutex::new(Shelf::new(2));
     let (heard, end) = thread::join(
         &rt,
@@ -270,8 +270,8 @@ fn is_served_on(steady: &mut Caller) -> bool {
 
 #[test]
 fn clients_of_all_kinds_at_once(rt: HostRuntime) -> io::Result<()> {
-    let listener = listen_at(&rt, "127.0.0.1:0", None)?;
-    let port = port_of(&listener)?;
+    let listener = listen_at(&rt, "127.0.0.1:0", 0, None)?;
+    let port = port_of(&listener)?.unwrap_or(0);
     let shelf = Mutex::new(Shelf::new(32));
     let (heard, end) = thread::join(
         &rt,

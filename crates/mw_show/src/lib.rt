@@ -18,8 +18,6 @@ mod lines;
 mod reading;
 mod showing;
 mod sized;
-#[cfg(test)]
-mod tests;
 
 pub use lines::show;
 pub use showing::{show_args, show_file};

@@ -12,8 +12,10 @@
 
 mod faults;
 mod laws;
+mod statuses;
 mod world;
 
 pub use faults::{MOST_REQUESTS, WorldFault};
 pub use laws::what_serving_alone_leaves;
+pub use statuses::{starts_from, status_after};
 pub use world::World;

@@ -1,3 +1,4 @@
+use crate::same::same;
 use mw_config::*;
 use std::alloc::{AllocError, Global};
 use std::test::Fail;
@@ -13,24 +14,32 @@ fn count(text: &[u8], pool: u16) -> Result<usize, Refusal> {
     }
 }
 
+/// Whether a line is of this tenant.
+fn is_line(line: &TenantLine, name: &[u8], sizes: (u16, u8), path: &str) -> bool {
+    let is_named = line.name.as_slice() == name && line.path.as_str() == path;
+    is_named && (line.words, line.quota) == sizes
+}
+
+/// Whether these are the lines of a tenant with a name of three letters and of one with the least.
+fn are_two_lines(lines: &[TenantLine]) -> bool {
+    match lines {
+        [first, second] => {
+            is_line(first, b"t-0", (4096, 32), "./a.mw") && is_line(second, b"u", (1, 1), "~!")
+        }
+        _ => false,
+    }
+}
+
+#[test]
+fn lines_are_told(rt: HostRuntime) {
+    let lines = read_tenants(b"t-0 4096 32 ./a.mw\nu 1 1 ~!\n", 33);
+    assert!(rt; matches!(&lines, Ok(lines) if are_two_lines(lines.as_slice())));
+}
+
 #[test]
 fn files_that_are_accepted(rt: HostRuntime) {
-    match read_tenants(b"t-0 4096 32 ./a.mw\nu 1 1 ~!\n", 33) {
-        Ok(tenants) => match tenants.as_slice() {
-            [first, second] => {
-                assert!(rt; first.name.as_slice() == b"t-0".as_slice());
-                assert_eq!(rt; (first.words, first.quota), (4096, 32));
-                assert_eq!(rt; first.path.as_str(), "./a.mw");
-                assert!(rt; second.name.as_slice() == b"u".as_slice());
-                assert_eq!(rt; (second.words, second.quota), (1, 1));
-                assert_eq!(rt; second.path.as_str(), "~!");
-            }
-            _ => assert!(rt; false, "there are two"),
-        },
-        Err(refusal) => assert!(rt; false, "{refusal}"),
-    }
-    assert_eq!(rt; count(SIXTEEN, 16), Ok(16));
-    assert_eq!(rt; count(b"abcdefghijklmnop 1 1 a\n", 1), Ok(1));
+    let counts = [count(SIXTEEN, 16), count(b"abcdefghijklmnop 1 1 a\n", 1)];
+    same(&rt, &counts, &[Ok(16), Ok(1)]);
 }
 
 /// Refusals, and texts that are refused so, one a line, in which `/` stands for a line's end.
@@ -75,7 +84,7 @@ fn one_line_that_is_refused(rt: HostRuntime) -> Result<(), Fail> {
     for (refusal, texts) in REFUSED_TEXTS {
         for text in texts.split('\n') {
             let text = with_line_ends(rt.alloc(), text)?;
-            assert_eq!(rt; count(&text, 256), Err(refusal));
+            same(&rt, &count(&text, 256), &Err(refusal));
         }
     }
     Ok(())
@@ -101,9 +110,9 @@ fn the_first_refusal_is_the_answer(rt: HostRuntime) {
         (b"t 1 1 a\n", 0, Refusal::Pool),
     ];
     for (text, pool, refusal) in cases {
-        assert_eq!(rt; count(text, pool), Err(refusal));
+        same(&rt, &count(text, pool), &Err(refusal));
     }
-    assert_eq!(rt; count(b"t 1 1 a\nu 1 32 b\n", 33), Ok(2));
+    same(&rt, &count(b"t 1 1 a\nu 1 32 b\n", 33), &Ok(2));
 }
 
 /// Sixteen lines and this one.
@@ -131,22 +140,22 @@ fn a_seventeenth_line(rt: HostRuntime) {
         (b"q 1 1 q\n", Refusal::Many(17)),
     ];
     for (line, refusal) in cases {
-        assert_eq!(rt; seventeen(line), Err(refusal));
+        same(&rt, &seventeen(line), &Err(refusal));
     }
-    assert_eq!(rt; seventeen(b""), Err(Refusal::Pool));
+    same(&rt, &seventeen(b""), &Err(Refusal::Pool));
 }
 
 #[test]
 fn long_files_and_paths(rt: HostRuntime) {
-    assert_eq!(rt; count(&[b'a'; 8192], 256), Err(Refusal::Form(1)));
-    assert_eq!(rt; count(&[b'a'; 8193], 256), Err(Refusal::File));
+    same(&rt, &count(&[b'a'; 8192], 256), &Err(Refusal::Form(1)));
+    same(&rt, &count(&[b'a'; 8193], 256), &Err(Refusal::File));
     let mut text = [b'p'; 208];
     text[..6].copy_from_slice(b"t 1 1 ");
     text[206] = b'\n';
-    assert_eq!(rt; count(&text[..207], 256), Ok(1));
+    same(&rt, &count(&text[..207], 256), &Ok(1));
     text[206] = b'p';
     text[207] = b'\n';
-    assert_eq!(rt; count(&text, 256), Err(Refusal::Form(1)));
+    same(&rt, &count(&text, 256), &Err(Refusal::Form(1)));
 }
 
 #[test]
@@ -163,7 +172,7 @@ fn texts_of_refusals(rt: HostRuntime) -> Result<(), Fail> {
     ];
     for (refusal, wanted) in cases {
         let text = format!(in rt.alloc(); "{refusal}")?;
-        assert_eq!(rt; text.as_str(), wanted);
+        same(&rt, &text.as_str(), &wanted);
     }
     Ok(())
 }
@@ -190,15 +199,15 @@ const LINES: [(&str, &str); 4] = [
     ),
     (
         "mwserve --listen a:1 --tenants t",
-        "Args { tenants: \"t\", pool: 256, workers: 4, strict: false, verbose: false, mode: Listen(Listening { address: \"a:1\", admin: None, connections: None, idle: None }) }",
+        "Args { tenants: \"t\", pool: 256, workers: 4, strict: false, verbose: false, mode: Listen(Listening { address: \"a:1\", admin: None, connections: None, idle: None, socket_mode: 384 }) }",
     ),
     (
-        "mwserve --tenants t --pool 1 --workers 64 --listen a:1 --connections 1000000 --idle 86400",
-        "Args { tenants: \"t\", pool: 1, workers: 64, strict: false, verbose: false, mode: Listen(Listening { address: \"a:1\", admin: None, connections: Some(1000000), idle: Some(86400) }) }",
+        "mwserve --tenants t --pool 1 --workers 64 --listen a:1 --connections 1000000 --idle 86400 --mode 777",
+        "Args { tenants: \"t\", pool: 1, workers: 64, strict: false, verbose: false, mode: Listen(Listening { address: \"a:1\", admin: None, connections: Some(1000000), idle: Some(86400), socket_mode: 511 }) }",
     ),
     (
-        "mwserve --tenants t --pool=256 --workers=1 --listen=a:1 --connections=1 --strict --idle=1 --admin=a:2 --verbose",
-        "Args { tenants: \"t\", pool: 256, workers: 1, strict: true, verbose: true, mode: Listen(Listening { address: \"a:1\", admin: Some(\"a:2\"), connections: Some(1), idle: Some(1) }) }",
+        "mwserve --tenants t --pool=256 --workers=1 --listen=a:1 --connections=1 --strict --idle=1 --admin=a:2 --verbose --mode=0660",
+        "Args { tenants: \"t\", pool: 256, workers: 1, strict: true, verbose: true, mode: Listen(Listening { address: \"a:1\", admin: Some(\"a:2\"), connections: Some(1), idle: Some(1), socket_mode: 432 }) }",
     ),
 ];
 
@@ -206,24 +215,28 @@ const LINES: [(&str, &str); 4] = [
 fn command_lines_that_are_accepted(rt: HostRuntime) -> Result<(), Fail> {
     for (line, wanted) in LINES {
         let text = read(rt.alloc(), line)?;
-        assert_eq!(rt; text.as_str(), wanted);
+        same(&rt, &text.as_str(), &wanted);
     }
     Ok(())
 }
 
-/// Command lines with no mode, with two, and with an option of connections and a script.
+/// Command lines with no mode, with two, with an option of connections and a script, and with a file mode
+/// that is none.
 const LINES_WITHOUT_ONE_MODE: &str = "\
 mwserve --tenants t
 mwserve --tenants t --listen a:1 --script s
 mwserve --tenants t --script s --connections 1
 mwserve --tenants t --script s --idle 1
-mwserve --tenants t --script s --admin a";
+mwserve --tenants t --script s --admin a
+mwserve --tenants t --script s --mode 600
+mwserve --tenants t --listen a --mode 1000
+mwserve --tenants t --listen a --mode 8";
 
 #[test]
 fn command_lines_without_one_mode(rt: HostRuntime) -> Result<(), Fail> {
     for line in LINES_WITHOUT_ONE_MODE.split('\n') {
         let text = read(rt.alloc(), line)?;
-        assert_eq!(rt; text.as_str(), "mode");
+        same(&rt, &text.as_str(), &"mode");
     }
     Ok(())
 }
@@ -252,7 +265,7 @@ mwserve --tenants t --script s more";
 fn command_lines_that_are_refused(rt: HostRuntime) -> Result<(), Fail> {
     for line in REFUSED_LINES.split('\n') {
         let text = read(rt.alloc(), line)?;
-        assert_eq!(rt; text.as_str(), "refused");
+        same(&rt, &text.as_str(), &"refused");
     }
     Ok(())
 }
@@ -262,7 +275,7 @@ fn command_lines_that_are_refused(rt: HostRuntime) -> Result<(), Fail> {
 fn no_other_answer_for_want_of_memory(rt: HostRuntime) {
     for (line, wanted) in LINES {
         if let Ok(text) = read(rt.alloc(), line) {
-            assert_eq!(rt; text.as_str(), wanted);
+            same(&rt, &text.as_str(), &wanted);
         }
     }
 }
@@ -292,6 +305,7 @@ fn the_help_names_each_option(rt: HostRuntime) -> Result<(), Fail> {
         "--version",
         "--admin <ADDR>",
         "--idle <SECONDS>",
+        "--mode <MODE>",
         "--verbose",
     ] {
         assert!(rt; help.as_str().contains(option), "{option}");

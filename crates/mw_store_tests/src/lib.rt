@@ -1,5 +1,5 @@
-//! Tests of a tenant's store alone and of the store of all tenants. They stand apart from the crates that
-//! they test, so that those are proved once.
+//! Tests of a tenant's store alone, of the store of all tenants, of what a server is started with and of what
+//! is shown of a tenant's file. They stand apart from the crates that they test, so that those are proved once.
 #![tactic(auto)]
 
 #[cfg(test)]
@@ -8,3 +8,7 @@ mod config_tests;
 mod lone_tests;
 #[cfg(test)]
 mod plain_tests;
+#[cfg(test)]
+mod same;
+#[cfg(test)]
+mod show_tests;

@@ -1,3 +1,4 @@
+use crate::same::same;
 use mw_lone::*;
 use mw_words::{Entries, Entry, Job, Reply};
 use std::test::Fail;
@@ -103,7 +104,7 @@ fn starts() -> [Told; 15] {
 fn replies_as_the_marks_say(rt: HostRuntime) -> Result<(), Fail> {
     let mut lone = Lone::new(rt.alloc(), &[10, 20], 1)?;
     for (mark, want) in requests().into_iter().chain(failures()).chain(starts()) {
-        assert_eq!(rt; lone.mark(mark), Ok(want));
+        same(&rt, &lone.mark(mark), &Ok(want));
     }
     Ok(())
 }
@@ -111,8 +112,8 @@ fn replies_as_the_marks_say(rt: HostRuntime) -> Result<(), Fail> {
 #[test]
 fn refuses_what_cannot_happen(rt: HostRuntime) -> Result<(), Fail> {
     let mut lone = Lone::new(rt.alloc(), &[10, 20], 1)?;
-    assert_eq!(rt; lone.mark(Mark::Ask(0, change(0, 10, 11))), Ok(None));
-    assert_eq!(rt; lone.mark(Mark::Admit(0)), Ok(None));
+    same(&rt, &lone.mark(Mark::Ask(0, change(0, 10, 11))), &Ok(None));
+    same(&rt, &lone.mark(Mark::Admit(0)), &Ok(None));
     let marks = [
         Mark::Ask(0, Job::Get(0)),
         Mark::Ask(2, Job::Get(0)),
@@ -131,8 +132,8 @@ fn refuses_what_cannot_happen(rt: HostRuntime) -> Result<(), Fail> {
         restart(Some(1), false),
     ];
     for mark in marks {
-        assert_eq!(rt; lone.mark(mark), Err(LoneFault::Illegal));
+        same(&rt, &lone.mark(mark), &Err(LoneFault::Illegal));
     }
-    assert_eq!(rt; lone.mark(Mark::Seal(0)), Ok(None));
+    same(&rt, &lone.mark(Mark::Seal(0)), &Ok(None));
     Ok(())
 }

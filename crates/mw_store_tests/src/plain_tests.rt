@@ -3,6 +3,7 @@ ghost use Rattle.mw_words.specs.Change.{is_well_formed};
 ghost use Rattle.mw_plain.specs.Lines.{FitsLine};
 ghost use Rattle.mw_plain.specs.Parts.{tenants, words_at};
 
+use crate::same::same;
 use mw_config::TenantLine;
 use mw_disk::MemDisk;
 use mw_file::TenantFile;
@@ -149,17 +150,16 @@ fn told_of_tickets(alloc: Global) -> Result<Told, AllocError> {
 
 #[test]
 fn tickets(rt: HostRuntime) -> Result<(), Fail> {
-    let (replies, words, are_free) = told_of_tickets(rt.alloc())?;
     let yes = Some(Reply::Yes);
-    assert_eq!(rt; replies, [Some(Reply::Busy), yes, yes, yes, None]);
-    assert_eq!(rt; words, [val(1), val(1), val(1), val(0)]);
-    assert!(rt; are_free);
+    let replies = [Some(Reply::Busy), yes, yes, yes, None];
+    let words = [val(1), val(1), val(1), val(0)];
+    let told = told_of_tickets(rt.alloc())?;
+    same(&rt, &told, &(replies, words, true));
     Ok(())
 }
 
-#[test]
-fn tasks_in_order(rt: HostRuntime) -> Result<(), Fail> {
-    let alloc = rt.alloc();
+/// The replies to two changes of the same word by t, and to a read by u.
+fn replies_in_order(alloc: Global) -> Result<Vec<Reply>, AllocError> {
     let mut store = new_store(alloc)?;
     let tasks = [
         Task {
@@ -175,9 +175,14 @@ fn tasks_in_order(rt: HostRuntime) -> Result<(), Fail> {
             job: Job::Get(0),
         },
     ];
-    let replies = store.run(alloc, &tasks)?;
+    store.run(alloc, &tasks)
+}
+
+#[test]
+fn tasks_in_order(rt: HostRuntime) -> Result<(), Fail> {
+    let replies = replies_in_order(rt.alloc())?;
     let wanted = [Reply::Yes, Reply::No(0, 1), Reply::Val(0)];
-    assert_eq!(rt; replies.as_slice(), wanted.as_slice());
+    same(&rt, &replies.as_slice(), &wanted.as_slice());
     Ok(())
 }
 
@@ -222,16 +227,21 @@ fn after_trouble(
     Ok((reply, words_of_opened(alloc, bytes)?))
 }
 
+/// The reply to t's change where its device fails at so many calls from the opening, and the words of t and
+/// of u after the next opening, as they are to be.
+fn wanted_after(calls: u8) -> (Option<Reply>, [Option<Reply>; 4]) {
+    match calls {
+        0..=2 => (Some(Reply::Fault), [val(0), val(0), val(0), val(0)]),
+        3 => (Some(Reply::Fault), [val(0), val(1), val(0), val(0)]),
+        _ => (Some(Reply::Yes), [val(0), val(1), val(0), val(0)]),
+    }
+}
+
 #[test]
 fn each_device_call_fails(rt: HostRuntime) -> Result<(), Fail> {
-    let alloc = rt.alloc();
     for calls in 0..10 {
-        let wanted = match calls {
-            0..=2 => (Some(Reply::Fault), [val(0), val(0), val(0), val(0)]),
-            3 => (Some(Reply::Fault), [val(0), val(1), val(0), val(0)]),
-            _ => (Some(Reply::Yes), [val(0), val(1), val(0), val(0)]),
-        };
-        assert_eq!(rt; after_trouble(alloc, calls)?, wanted, "{calls}");
+        let found = after_trouble(rt.alloc(), calls)?;
+        same(&rt, &(calls, found), &(calls, wanted_after(calls)));
     }
     Ok(())
 }

@@ -7,27 +7,31 @@ use Rattle.atomic_table.specs.Table.{Allows, Me}
 use Rattle.mw_words.specs.declared.places.At.{At}
 use Rattle.mw_words.specs.declared.places.At.TheVariants.{Door as AtDoor, Status as AtStatus}
 use Rattle.mw_words.specs.declared.statuses.Status.{Status}
-use Rattle.mw_words.specs.Patterns.{packed_status}
+use Rattle.mw_words.specs.Patterns.{packed_status, unpacked_status}
 use Rattle.mw_look.specs.declared.steps.Call.{Call}
 use Rattle.mw_look.specs.declared.steps.Call.TheVariants.{Prepare as PrepareCall, Seal as SealCall, Settle as SettleCall, Cancel as CancelCall}
 use Rattle.mw_actor.specs.Acting.{Acting}
+use Rattle.mw_world_file.specs.declared.outcomes.Outcome.TheVariants.{Good}
 use Rattle.mw_world.specs.declared.config.Config.{Config}
 use Rattle.mw_world.specs.Definition.Calls.{Called, called_at, starts_from, status_after}
 use Rattle.mw_world.specs.Definition.Extent.{has_place}
-use Rattle.mw_world.specs.Definition.Happenings.{Happening}
+use Rattle.mw_world.specs.Definition.Happenings.{Happening, File as FileEvent}
 use Rattle.mw_world.specs.Definition.State.{Opening}
 use Rattle.mw_rule.specs.FromLaws.{FileRights, kind_of}
 use Rattle.mw_rule.specs.declared.views.Held.{Held}
 use Rattle.mw_rule.specs.declared.views.Reins.{Reins}
 use Rattle.mw_rule.specs.declared.views.View.{View}
 use Rattle.mw_rule.specs.Carrying.{GoesOn}
+use Rattle.mw_rule.specs.Continuing.{events_loaded, starts_by}
 use Rattle.mw_rule.specs.Filing.{Calls, Loaded, LoadedAs, Went, broken_so, fails, filed_so, went, went_as}
 use Rattle.mw_rule.specs.Layout.{index_of}
+use Rattle.mw_rule.specs.Moves.{Breaks, Exchanges, FindsFault, Loads, Move, WentOn, events_by, index_by, made_by, told_by}
 use Rattle.mw_rule.specs.Ways.{made_by_way, way_of}
-use Rattle.mw_rule.proofs.FileCalls.{calls_break, calls_end, calls_fail, calls_load}
+use Rattle.mw_rule.proofs.AnyNumber.{any_number}
+use Rattle.mw_rule.proofs.Moves.{moves_are_allowed}
 use Rattle.mw_table.specs.declared.shared.Pass.{Pass}
 use Rattle.mw_table.specs.declared.shared.Shared.{Shared}
-use Rattle.mw_table.specs.Filing.{EndsWell, FindsStatus, IsAtFile, MayEnd, MayFault, MayFind, MeetsFault, faulted_so}
+use Rattle.mw_table.specs.Filing.{EndsInFault, EndsWell, FindsStatus, GoesOnByCall, GoesOnByFault, GoesOnByLoad, HasFailed, IsAtFile, MayExchange, MayFault, MayFind, faulted_so}
 use Rattle.mw_table.specs.Numbers.{number_of, numbers}
 use Rattle.mw_table.specs.Origins.{begun_of, config_of}
 use Rattle.mw_table.specs.Passes.{IsOf}
@@ -76,6 +80,9 @@ module _ (view : View) (worker_of : ℕ) (actor_of : Acting) (called_of : Called
       (subst (λ (one : Called). P worker_of actor_of one held) same_called
       (subst (λ (one : Held). P worker_of actor_of called_of one) same_held so)))
 
+true-false : true ≡ false → ⊥
+true-false is = cc
+
 -- What the rule of the table lets be made.
 exchange_makes : (call : Call) (from to bits : ℕ) → made_by_way (way_of (kind_of call)) from to bits ≡ cond (bits == from) to bits
 exchange_makes PrepareCall from to bits = refl
@@ -106,51 +113,84 @@ module _ (shared : Shared) (pass : Pass) (own : IsOf shared pass) where
         allows_so (rule_of shared) slots pass.seat.id me index make one tells says (subst (λ (k : ℕ). Allows (rule_of shared) slots pass.seat.id me k make one) placed.1 allows),
       )
 
-  pub find_asks : (slot index : ℕ) → MayFind pass slot → index ≡ index_of shared.pool (AtStatus slot) → Asks shared pass index (λ bits. bits) (λ bits next. FindsStatus bits me.0 next.0)
+  -- what is told of one call is told of whichever the request has come to
+  told_so : (at : IsAtFile pass) (P Q : ℕ → Acting → Called → Held → Type 0) → P pass.worker at.actor at.called at.held × Q pass.worker at.actor at.called at.held
+      → ((worker : ℕ) (actor : Acting) (called : Called) (held : Held) → Calls me.0 worker actor called held → P worker actor called held)
+      × ((worker : ℕ) (actor : Acting) (called : Called) (held : Held) → Calls me.0 worker actor called held → Q worker actor called held)
+  told_so at P Q so = (
+    λ worker actor called held by. one_call me.0 pass.worker at.actor at.called at.held at.calls worker actor called held by P so.0,
+    λ worker actor called held by. one_call me.0 pass.worker at.actor at.called at.held at.calls worker actor called held by Q so.1,
+  )
+
+  allowed : (move : Move me.0) (make : ℕ → ℕ) → ((bits : ℕ) → make bits ≡ made_by me.0 move bits)
+      → Allows (rule_of shared) slots pass.seat.id me (index_by config me.0 move) make (λ bits next. told_by me.0 move bits next.0 × WentOn (events_by me.0 move bits) me.0 next.0)
+  allowed move make makes = moves_are_allowed config begun slots pass.seat.id me move make makes
+
+  pub find_asks : (slot index : ℕ) → MayFind pass slot → index ≡ index_of shared.pool (AtStatus slot)
+      → Asks shared pass index (λ bits. bits) (λ bits next. FindsStatus bits me.0 next.0 × GoesOnByLoad bits me.0 next.0)
   find_asks slot index may is =
       let at = may.at_file in
-      asks_so (AtStatus at.called.change.slot) (AtStatus slot) index (λ bits. bits) (λ bits next. Loaded pass.worker at.actor at.called at.held bits me.0 next.0) (λ bits next. FindsStatus bits me.0 next.0)
-      at.words.status (ap (λ (n : ℕ). AtStatus n) may.is_slot) is
-      (λ bits next loaded worker actor called held by.
-      one_call me.0 pass.worker at.actor at.called at.held at.calls worker actor called held by (λ w a d h. Loaded w a d h bits me.0 next.0) loaded)
-      (calls_load config begun slots pass.seat.id pass.worker me at.actor at.called at.held (λ bits. bits) at.calls (λ bits. refl))
+      let move : Move me.0 = Loads pass.worker at.actor at.called at.held at.calls in
+      asks_so (AtStatus at.called.change.slot) (AtStatus slot) index (λ bits. bits) (λ bits next. told_by me.0 move bits next.0 × WentOn (events_by me.0 move bits) me.0 next.0)
+      (λ bits next. FindsStatus bits me.0 next.0 × GoesOnByLoad bits me.0 next.0) at.words.status (ap (λ (n : ℕ). AtStatus n) may.is_slot) is
+      (λ bits next so.
+      told_so at (λ w a d h. Loaded w a d h bits me.0 next.0) (λ w a d h. WentOn (events_loaded (starts_by d.call (unpacked_status bits)) w) me.0 next.0) so)
+      (allowed move (λ bits. bits) (λ bits. refl))
 
-  pub end_asks : (call : Call) (slot : ℕ) (status : Status) (from to index : ℕ) → MayEnd pass call slot status → index ≡ index_of shared.pool (AtStatus slot) → from ≡ packed_status status
-      → to ≡ packed_status (status_after call status) → Asks shared pass index (λ bits. either (bits == from) to bits) (λ bits next. EndsWell me.0 next.0)
+  pub end_asks : (call : Call) (slot : ℕ) (status : Status) (from to index : ℕ) → MayExchange pass call slot status → index ≡ index_of shared.pool (AtStatus slot) → from ≡ packed_status status
+      → to ≡ packed_status (status_after call status)
+      → Asks shared pass index (λ bits. either (bits == from) to bits) (λ bits next. EndsWell me.0 next.0 × GoesOnByCall me.0 next.0)
   end_asks call slot status from to index may is from_is to_is =
       let at = may.at_file in
       let after : to ≡ packed_status (status_after at.called.call status) = to_is ∙ ap (λ (one : Call). packed_status (status_after one status)) (sym may.is_call) in
+      let move : Move me.0 = Exchanges pass.worker at.actor at.called at.held status at.calls may.found may.sound in
       asks_so (AtStatus at.called.change.slot) (AtStatus slot) index (λ bits. either (bits == from) to bits)
-      (λ bits next. (bits ≡ packed_status status) × Went true at.held (filed_so me.0 at.actor at.called at.held) me.0 next.0) (λ bits next. EndsWell me.0 next.0)
+      (λ bits next. told_by me.0 move bits next.0 × WentOn (events_by me.0 move bits) me.0 next.0) (λ bits next. EndsWell me.0 next.0 × GoesOnByCall me.0 next.0)
       at.words.status (ap (λ (n : ℕ). AtStatus n) may.is_slot) is
-      (λ bits next ended worker actor called held by.
-      one_call me.0 pass.worker at.actor at.called at.held at.calls worker actor called held by (λ w a d h. Went true h (filed_so me.0 a d h) me.0 next.0) ended.1)
-      (calls_end config begun slots pass.seat.id pass.worker me at.actor at.called at.held status (λ bits. either (bits == from) to bits) at.calls may.found may.sound
+      (λ bits next so.
+      told_so at (λ w a d h. Went true h (filed_so me.0 a d h) me.0 next.0) (λ w a d h. WentOn (FileEvent w Good ∷ []) me.0 next.0) (so.0.1, so.1))
+      (allowed move (λ bits. either (bits == from) to bits)
       (λ bits. (λ i. either (bits == from_is i) (after i) bits) ∙ sym (exchange_makes at.called.call (packed_status status) (packed_status (status_after at.called.call status)) bits)))
 
-  pub fault_asks : (tenant index : ℕ) → MayFault pass tenant → index ≡ index_of shared.pool (AtDoor tenant) → Asks shared pass index (λ bits. bit_or bits (2 ^ 63)) (λ bits next. MeetsFault me.0 next.0)
-  fault_asks tenant index may is =
+  -- by whether the file had failed before
+  fault_at : (tenant index : ℕ) → MayFault pass tenant → index ≡ index_of shared.pool (AtDoor tenant) → (move : Move me.0) → index_by config me.0 move ≡ index_of config.pool (AtDoor tenant)
+      → ((bits : ℕ) → bit_or bits (2 ^ 63) ≡ made_by me.0 move bits)
+      → ((bits : ℕ) (next : View) → told_by me.0 move bits next × WentOn (events_by me.0 move bits) me.0 next → EndsInFault me.0 next × GoesOnByFault me.0 next)
+      → Asks shared pass index (λ bits. bit_or bits (2 ^ 63)) (λ bits next. EndsInFault me.0 next.0 × GoesOnByFault me.0 next.0)
+  fault_at tenant index may is move there makes says =
       let at = may.at_file in
-      asks_so (AtDoor at.actor.tenant) (AtDoor tenant) index (λ bits. bit_or bits (2 ^ 63)) (λ bits next. Went false at.held (faulted_so me.0 at.called at.held) me.0 next.0) (λ bits next. MeetsFault me.0 next.0)
-      at.words.door (ap (λ (n : ℕ). AtDoor n) may.is_tenant) is
-      (λ bits next faulted worker actor called held by.
-      one_call me.0 pass.worker at.actor at.called at.held at.calls worker actor called held by (λ w a d h. Went false h (faulted_so me.0 d h) me.0 next.0) faulted)
-      (by_file (fails me.0 at.called at.held) refl)
+      asks_so (AtDoor tenant) (AtDoor tenant) index (λ bits. bit_or bits (2 ^ 63)) (λ bits next. told_by me.0 move bits next.0 × WentOn (events_by me.0 move bits) me.0 next.0)
+      (λ bits next. EndsInFault me.0 next.0 × GoesOnByFault me.0 next.0) (subst (λ (n : ℕ). has_place me.0.config (AtDoor n) ≡ true) may.is_tenant at.words.door) refl is
+      (λ bits next so. says bits next.0 so)
+      (subst (λ (k : ℕ). Allows (rule_of shared) slots pass.seat.id me k (λ bits. bit_or bits (2 ^ 63)) (λ bits next. told_by me.0 move bits next.0 × WentOn (events_by me.0 move bits) me.0 next.0)) there
+      (allowed move (λ bits. bit_or bits (2 ^ 63)) makes))
+
+  pub fault_asks : (tenant index : ℕ) → MayFault pass tenant → index ≡ index_of shared.pool (AtDoor tenant)
+      → Asks shared pass index (λ bits. bit_or bits (2 ^ 63)) (λ bits next. EndsInFault me.0 next.0 × GoesOnByFault me.0 next.0)
+  fault_asks tenant index may is = by_file (fails me.0 may.at_file.called may.at_file.held) refl
     where
       by_file : (failed : Bool) → fails me.0 may.at_file.called may.at_file.held ≡ failed
-          → Allows (rule_of shared) slots pass.seat.id me (index_of config.pool (AtDoor may.at_file.actor.tenant)) (λ bits. bit_or bits (2 ^ 63))
-          (λ bits next. Went false may.at_file.held (faulted_so me.0 may.at_file.called may.at_file.held) me.0 next.0)
+          → Asks shared pass index (λ bits. bit_or bits (2 ^ 63)) (λ bits next. EndsInFault me.0 next.0 × GoesOnByFault me.0 next.0)
       by_file true failed =
           let at = may.at_file in
-          subst (λ (test : Bool). Allows (rule_of shared) slots pass.seat.id me (index_of config.pool (AtDoor at.actor.tenant)) (λ bits. bit_or bits (2 ^ 63))
-          (λ bits next. Went false at.held (cond test at.held.file (broken_so me.0 at.called at.held)) me.0 next.0)) (sym failed)
-          (calls_fail config begun slots pass.seat.id pass.worker me at.actor at.called at.held may.status (λ bits. bit_or bits (2 ^ 63)) at.calls may.found failed (λ bits. refl))
+          fault_at tenant index may is (FindsFault pass.worker at.actor at.called at.held may.status at.calls may.found failed) (ap (λ (n : ℕ). index_of config.pool (AtDoor n)) may.is_tenant) (λ bits. refl)
+          (λ bits next so.
+          told_so at (λ w a d h. Went false h (faulted_so me.0 d h) me.0 next) (λ w a d h. HasFailed w d h me.0 next) (
+            subst (λ (test : Bool). Went false at.held (cond test at.held.file (broken_so me.0 at.called at.held)) me.0 next) (sym failed) so.0,
+            record { before = λ again. so.1; now = λ sound. absurd (true-false (sym failed ∙ sound)) },
+          ))
       by_file false sound =
           let at = may.at_file in
           let which = may.failed sound in
-          subst (λ (test : Bool). Allows (rule_of shared) slots pass.seat.id me (index_of config.pool (AtDoor at.actor.tenant)) (λ bits. bit_or bits (2 ^ 63))
-          (λ bits next. Went false at.held (cond test at.held.file (broken_so me.0 at.called at.held)) me.0 next.0)) (sym sound)
-          (calls_break config begun slots pass.seat.id pass.worker which.0 me at.actor at.called at.held may.status (λ bits. bit_or bits (2 ^ 63)) at.calls may.found sound which.1 (λ bits. refl))
+          fault_at tenant index may is (Breaks pass.worker which.0 at.actor at.called at.held may.status at.calls may.found sound which.1) (ap (λ (n : ℕ). index_of config.pool (AtDoor n)) may.is_tenant) (λ bits. refl)
+          (λ bits next so.
+          told_so at (λ w a d h. Went false h (faulted_so me.0 d h) me.0 next) (λ w a d h. HasFailed w d h me.0 next) (
+            subst (λ (test : Bool). Went false at.held (cond test at.held.file (broken_so me.0 at.called at.held)) me.0 next) (sym sound) so.0,
+            record {
+              before = λ failed. absurd (true-false (sym failed ∙ sound));
+              now = λ again number is_one. any_number me.0 next pass.worker at.actor at.called at.held at.calls may.status may.found sound which.0 so.1 number which.1 is_one;
+            },
+          ))
 
 -- What stays of a pass over these.
 went_number : (well : Bool) (reins : Reins) (found : Option Acting) → number_of (went_as well reins found) ≡ number_of reins
@@ -184,7 +224,7 @@ end_stays pass new at ends =
     let is = ends pass.worker at.actor at.called at.held at.calls in
     (is.files.goes_on, went_numbers pass.seat.me.0 pass.worker at.actor at.called at.held at.calls new true (filed_so pass.seat.me.0 at.actor at.called at.held) is)
 
-pub fault_stays : (pass : Pass) (new : View) → IsAtFile pass → MeetsFault pass.seat.me.0 new → StaysNumbered pass.seat.me.0 new
+pub fault_stays : (pass : Pass) (new : View) → IsAtFile pass → EndsInFault pass.seat.me.0 new → StaysNumbered pass.seat.me.0 new
 fault_stays pass new at meets =
     let is = meets pass.worker at.actor at.called at.held at.calls in
     (is.files.goes_on, went_numbers pass.seat.me.0 pass.worker at.actor at.called at.held at.calls new false (faulted_so pass.seat.me.0 at.called at.held) is)

@@ -16,4 +16,3 @@ pub mod Opened
 pub mod Passing
 pub mod Placing
 pub mod Starting
-pub mod TwoTenants

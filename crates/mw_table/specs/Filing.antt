@@ -1,14 +1,18 @@
 -- What the calls of a table on tenants' files ask of a pass, and what they tell it.
-use Rattle.std.specs.Prelude.{ℕ, ◌≡◌, true, false, cond, [], Some}
+use Rattle.std.specs.Prelude.{ℕ, ◌≡◌, true, false, cond, [], ◌∷◌, Some}
 use Rattle.mw_words.specs.declared.statuses.Status.{Status}
-use Rattle.mw_words.specs.Patterns.{IsStatusInRange}
+use Rattle.mw_words.specs.Patterns.{IsStatusInRange, unpacked_status}
 use Rattle.mw_look.specs.declared.steps.Call.{Call}
 use Rattle.mw_actor.specs.Acting.{Acting}
+use Rattle.mw_world_file.specs.declared.outcomes.Outcome.TheVariants.{Good, Fail}
 use Rattle.mw_world_file.specs.Files.{entries_at}
 use Rattle.mw_world.specs.Definition.Calls.{Called, device_calls, is_made}
+use Rattle.mw_world.specs.Definition.Happenings.{File as FileEvent}
 use Rattle.mw_rule.specs.FromLaws.{FileRights, file_told, HasWords}
 use Rattle.mw_rule.specs.declared.views.Held.{Held}
 use Rattle.mw_rule.specs.declared.views.View.{View}
+use Rattle.mw_rule.specs.Continuing.{events_loaded, starts_by}
+use Rattle.mw_rule.specs.Moves.{WentOn}
 use Rattle.mw_rule.specs.Filing.{Calls, Loaded, Went, broken_so, fails, filed_so, place_held}
 use Rattle.mw_table.specs.declared.right.FileRight.{FileRight}
 use Rattle.mw_table.specs.declared.shared.Pass.{Pass}
@@ -41,7 +45,7 @@ pub record MayFind (pass : Pass) (slot : ℕ) : Type 0 where
   pub is_slot : at_file.called.change.slot ≡ slot
 
 -- It is this call, for the change of this slot, of which this status was found, and the file hasn't failed: or it is a call that makes no device call, so that it doesn't fail.
-pub record MayEnd (pass : Pass) (call : Call) (slot : ℕ) (status : Status) : Type 0 where
+pub record MayExchange (pass : Pass) (call : Call) (slot : ℕ) (status : Status) : Type 0 where
   pub at_file : IsAtFile pass
   pub is_call : at_file.called.call ≡ call
   pub is_slot : at_file.called.change.slot ≡ slot
@@ -49,7 +53,7 @@ pub record MayEnd (pass : Pass) (call : Call) (slot : ℕ) (status : Status) : T
   pub sound : fails pass.seat.me.0 at_file.called at_file.held ≡ false
   pub in_range : IsStatusInRange status
 
--- It is a call on this tenant's file, which started, and fails on the file, which had failed before; else one of its device calls failed, whichever of them.
+-- It is a call on this tenant's file, which started, and fails on the file, which had failed before; else it makes device calls: that one of them failed is for the caller to say.
 pub record MayFault (pass : Pass) (tenant : ℕ) : Type 0 where
   pub at_file : IsAtFile pass
   pub is_tenant : at_file.actor.tenant ≡ tenant
@@ -69,5 +73,22 @@ FindsStatus bits old new = (worker : ℕ) (actor : Acting) (called : Called) (he
 abbrev pub EndsWell : View → View → Type 0
 EndsWell old new = (worker : ℕ) (actor : Acting) (called : Called) (held : Held) → Calls old worker actor called held → Went true held (filed_so old actor called held) old new
 
-abbrev pub MeetsFault : View → View → Type 0
-MeetsFault old new = (worker : ℕ) (actor : Acting) (called : Called) (held : Held) → Calls old worker actor called held → Went false held (faulted_so old called held) old new
+abbrev pub EndsInFault : View → View → Type 0
+EndsInFault old new = (worker : ℕ) (actor : Acting) (called : Called) (held : Held) → Calls old worker actor called held → Went false held (faulted_so old called held) old new
+
+-- By which event a run of the world goes on over them. The load adds none where the call starts from the status. A call that failed adds that the device call failed of which its caller speaks, whichever of
+-- its device calls that is; or that none did, where the file had failed before.
+abbrev pub GoesOnByLoad : ℕ → View → View → Type 0
+GoesOnByLoad bits old new = (worker : ℕ) (actor : Acting) (called : Called) (held : Held) → Calls old worker actor called held
+    → WentOn (events_loaded (starts_by called.call (unpacked_status bits)) worker) old new
+
+abbrev pub GoesOnByCall : View → View → Type 0
+GoesOnByCall old new = (worker : ℕ) (actor : Acting) (called : Called) (held : Held) → Calls old worker actor called held → WentOn (FileEvent worker Good ∷ []) old new
+
+pub record HasFailed (worker : ℕ) (called : Called) (held : Held) (old new : View) : Type 0 where
+  pub before : fails old called held ≡ true → WentOn (FileEvent worker Good ∷ []) old new
+  pub now : fails old called held ≡ false → (number : ℕ) → is_made (device_calls called.call (entries_at (file_told held.file) (place_held old called held))) number ≡ true
+      → WentOn (FileEvent worker (Fail number) ∷ []) old new
+
+abbrev pub GoesOnByFault : View → View → Type 0
+GoesOnByFault old new = (worker : ℕ) (actor : Acting) (called : Called) (held : Held) → Calls old worker actor called held → HasFailed worker called held old new

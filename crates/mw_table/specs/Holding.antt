@@ -15,7 +15,7 @@ tenants_held view = map tenant_held view.files
 abbrev pub is_idle : Held → Bool
 is_idle held = is_none held.found
 
--- what is known of the first of these files; of none, nothing
+-- what is known of the first of these files; of none, an empty file of tenant 0
 abbrev pub file_among : List Held → FileRights
 file_among [] = record { tenant = 0; contents = []; places = []; place_of = []; has_failed = false; doubt = [] }
 file_among (held ∷ rest) = held.file

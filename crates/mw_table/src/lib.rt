@@ -12,7 +12,7 @@
 //!
 //! A request that has come to a call on its tenant's file goes on by that call, for which its pass takes the right to
 //! the file. [`Shared::new`] gives one [`FileRight`] for each tenant. `take` takes it; `find_status` loads the status
-//! of the change, from which the call starts or doesn't; once the caller has made its device calls, `end_call` or
+//! of the change, from which the call starts or doesn't ([`starts_from`]); once the caller has made its device calls, `end_call` or
 //! `fault` ends it; and `give_back` gives the right back, with what is known of the file then. The table knows no
 //! device: the caller says how the call went.
 //!
@@ -40,6 +40,7 @@ mod shared;
 mod steps;
 mod turns;
 
+pub use mw_simulator::starts_from;
 pub use origin::{FileOpening, Origin};
 pub use right::FileRight;
 pub use shared::{Pass, Shared};

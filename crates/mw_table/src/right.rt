@@ -6,9 +6,9 @@ use atomic_table::Seat;
 use mw_actor::Actor;
 use mw_rule::View;
 
-/// The right to call a tenant's file, as it is kept between calls, with what is known of the file. A table gives one
-/// for each tenant, and it can't be copied, so no two threads call one file. A thread's pass takes it for a call and
-/// gives it back after it. Where it is dropped, nobody calls that file any more.
+/// The right to call a tenant's file, as it is kept between calls, with what is known of the file. A table at a start
+/// gives one for each tenant, and it can't be copied, so no two threads call one file. A thread's pass takes it for a
+/// call and gives it back after it. Where it is dropped, nobody calls that file any more.
 #[derive(Drop)]
 pub struct FileRight {
     pub(crate) seat: Seat<Actor, View>,

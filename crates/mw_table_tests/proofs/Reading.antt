@@ -1,11 +1,10 @@
 -- A read stays one from step to step.
 use Rattle.std.specs.Prelude.{ℕ, ◌≡◌, Option, Some, None}
-use Rattle.std.proofs.Common.{refl, sym, ap, subst, ◌∙◌}
+use Rattle.std.proofs.Common.{sym, ap, subst, ◌∙◌}
 use Rattle.mw_words.specs.declared.replies.Reply.{Reply}
 use Rattle.mw_look.specs.declared.news.News.{News}
-use Rattle.mw_look.specs.declared.points.Point.{Point as LookPoint}
 use Rattle.mw_look.specs.declared.points.Point.TheVariants.{ReadDoor}
-use Rattle.mw_look.specs.Program.{Reading, tells as read_tells}
+use Rattle.mw_look.specs.Program.{tells as read_tells}
 use Rattle.mw_actor.specs.declared.points.Point.{Point}
 use Rattle.mw_actor.specs.declared.points.Point.TheVariants.{Read}
 use Rattle.mw_actor.specs.Acting.{Acting}

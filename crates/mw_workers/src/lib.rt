@@ -7,7 +7,7 @@
 //! worker is free. However a session ends, its connection is closed then, and the worker takes the
 //! next.
 //!
-//! With a limit of silence ([`listen_at`]) a session over TCP ends too where its client sends no byte, or
+//! With a limit of silence ([`listen_at`]) a session by a socket ends too where its client sends no byte, or
 //! takes none of a reply, for so long; so it holds its worker no longer.
 //!
 //! A TCP connection is closed so that the client can read all that it was told: what it sends behind
@@ -30,6 +30,8 @@
 
 mod acceptor;
 mod desk;
+mod door;
+mod local;
 mod patience;
 mod peer;
 mod serving;

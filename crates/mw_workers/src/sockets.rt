@@ -1,12 +1,15 @@
-//! Clients over TCP.
+//! Clients over TCP, and by local sockets.
 ghost use Rattle.std.specs.Prelude.{None};
 
+use crate::door::Door;
+use crate::local::listen_local;
 use crate::peer::{Connection, Listener};
 use mw_session::{Ended, Service, Session};
 use std::alloc::Global;
+use std::fs::File;
 use std::io::{self, ErrorKind, Read};
 use std::net::{Net, Shutdown, TcpListener, TcpStream};
-use std::os::fd::OwnedFd;
+use std::rt::Files;
 use std::sync::Wait;
 use std::time::{Clock, Duration, Instant};
 
@@ -23,57 +26,69 @@ const LINGER_READS: u32 = 1024;
 /// How many bytes are read of it at a time, so that at most 1 MiB of it is read.
 const LINGER_PIECE: usize = 1024;
 
-/// Clients over TCP.
+/// What an address of a local socket begins with. The path of the socket follows.
+const LOCAL: &str = "unix:";
+
+/// Clients over TCP, or by a local socket.
 #[derive(Drop)]
 pub struct Clients<'a, K> {
-    listener: TcpListener,
+    door: Door,
     clock: &'a K,
     /// How long a session waits for a byte, or for its client to take one.
     idle: Option<Duration>,
 }
 
-/// A client's connection over TCP.
+/// A client's connection over TCP, or by a local socket.
 #[derive(Drop)]
 pub struct Client<'a, K> {
     stream: TcpStream,
     clock: &'a K,
 }
 
-/// Listens at an address, such as `127.0.0.1:7000`. At port 0 the system picks a free port.
+/// Listens at an address, such as `127.0.0.1:7000`, where at port 0 the system picks a free port, or
+/// `unix:/run/mondlexi/socket`, where a local socket is made of this file mode: who may write to that
+/// file may connect. A socket file at which nobody listens is taken over, and no other file is.
 ///
 /// With a number of seconds, which isn't 0, a session is ended without a reply where its client sends
 /// no byte, or takes none of a reply, for so long.
 ///
 /// # Errors
 ///
-/// The text is no address, or nobody can listen there.
-pub fn listen_at<'a, R: Net<Listener = TcpListener, Stream = TcpStream>>(
+/// The text is no address, or nobody can listen there: somebody else does, or the system refuses.
+pub fn listen_at<'a, R>(
     rt: &'a R,
     address: &str,
+    mode: u32,
     idle: Option<u32>,
-) -> io::Result<Clients<'a, R>> {
-    let listener = TcpListener::bind(rt, address)?;
+) -> io::Result<Clients<'a, R>>
+where
+    R: Files<File = File> + Net<Listener = TcpListener, Stream = TcpStream>,
+{
+    let door = match address.strip_prefix(LOCAL) {
+        Some(path) => Door::Local(listen_local(rt, path, mode)?),
+        None => Door::Tcp(TcpListener::bind(rt, address)?),
+    };
     let idle = match idle {
         Some(seconds) => Some(Duration::from_secs(u64::from(seconds))),
         None => None,
     };
     Ok(Clients {
-        listener,
+        door,
         clock: rt,
         idle,
     })
 }
 
-/// The port at which clients find the listener.
+/// The port at which clients over TCP find the listener. None where they come by a local socket.
 ///
 /// # Errors
 ///
 /// The system doesn't tell.
-pub fn port_of<K>(clients: &Clients<'_, K>) -> io::Result<u16> {
-    Ok(clients.listener.local_addr()?.port())
+pub fn port_of<K>(clients: &Clients<'_, K>) -> io::Result<Option<u16>> {
+    clients.door.port()
 }
 
-/// Ends the wait for clients over TCP, from another thread.
+/// Ends the wait for clients, from another thread.
 #[derive(Drop)]
 pub struct Closer(TcpStream);
 
@@ -84,7 +99,7 @@ impl<'a, K> Clients<'a, K> {
     ///
     /// The system has no room for it.
     pub fn closer(&self) -> io::Result<Closer> {
-        Ok(Closer(TcpStream::from(OwnedFd::from(self.listener.try_clone()?))))
+        Ok(Closer(self.door.handle()?))
     }
 }
 
@@ -101,9 +116,7 @@ impl<'a, K: Clock + Sync> Listener for Clients<'a, K> {
     ghost accepts = { λ _ _ _. Unit {0} };
 
     fn accept(&mut self) -> io::Result<Client<'a, K>> {
-        let (stream, _) = self.listener.accept()?;
-        // A client is served in any case, though its replies may then come late.
-        let _ = stream.set_nodelay(true);
+        let stream = self.door.next()?;
         // One that could hold its worker for ever is not served, but closed.
         if limit_silence(&stream, self.idle).is_err() {
             return Err(io::Error::from(ErrorKind::ConnectionAborted));

@@ -1,8 +1,9 @@
 //! The marks of the example runs, which `ComeOut` states, are taken one by one by the store alone, and
 //! hand out the same replies.
 
-use mw_lone::{Lone, Mark};
+use mw_lone::{Lone, LoneFault, Mark};
 use mw_words::{Entries, Entry, Job, Reply};
+use std::process::Abort;
 use std::test::Fail;
 
 /// A change of one word.
@@ -32,6 +33,21 @@ fn change_both(first: u64, second: u64) -> Job {
     Job::Cas(entries)
 }
 
+/// What a store makes of a mark.
+type Took = Result<Option<Reply>, LoneFault>;
+
+/// What the store makes of a mark is what was wanted; the number tells which mark it is.
+fn same_at<R: Abort>(rt: &R, number: usize, took: Took, wanted: Took) {
+    assert_eq!(rt; took, wanted, "mark {number}");
+}
+
+/// The store takes these marks, and hands out these replies at them.
+fn takes<R: Abort>(rt: &R, lone: &mut Lone, marks: Vec<(Mark, Option<Reply>)>) {
+    for (number, (mark, reply)) in marks.into_iter().enumerate() {
+        same_at(rt, number, lone.mark(mark), Ok(reply));
+    }
+}
+
 #[test]
 fn late_finisher(rt: HostRuntime) -> Result<(), Fail> {
     let mut lone = Lone::new(rt.alloc(), &[0, 0], 3)?;
@@ -55,9 +71,7 @@ fn late_finisher(rt: HostRuntime) -> Result<(), Fail> {
         (Mark::Look(3), None),
         (Mark::Reply(3), Some(Reply::Val(0))),
     ];
-    for (mark, want) in marks {
-        assert_eq!(rt; lone.mark(mark), Ok(want));
-    }
+    takes(&rt, &mut lone, Vec::from_array(rt.alloc(), marks)?);
     Ok(())
 }
 
@@ -76,9 +90,7 @@ fn stale_refusal(rt: HostRuntime) -> Result<(), Fail> {
         (Mark::Retire(0), None),
         (Mark::Reply(0), Some(Reply::No(0, 0))),
     ];
-    for (mark, want) in marks {
-        assert_eq!(rt; lone.mark(mark), Ok(want));
-    }
+    takes(&rt, &mut lone, Vec::from_array(rt.alloc(), marks)?);
     Ok(())
 }
 
@@ -105,9 +117,7 @@ fn failed_seal(rt: HostRuntime) -> Result<(), Fail> {
         (Mark::Look(2), None),
         (Mark::Reply(2), Some(Reply::Val(1))),
     ];
-    for (mark, want) in marks {
-        assert_eq!(rt; lone.mark(mark), Ok(want));
-    }
+    takes(&rt, &mut lone, Vec::from_array(rt.alloc(), marks)?);
     Ok(())
 }
 
@@ -132,8 +142,6 @@ fn torn_gate(rt: HostRuntime) -> Result<(), Fail> {
         (Mark::Look(2), None),
         (Mark::Reply(2), Some(Reply::Val(0))),
     ];
-    for (mark, want) in marks {
-        assert_eq!(rt; lone.mark(mark), Ok(want));
-    }
+    takes(&rt, &mut lone, Vec::from_array(rt.alloc(), marks)?);
     Ok(())
 }

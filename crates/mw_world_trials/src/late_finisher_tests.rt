@@ -4,6 +4,7 @@ ghost use Rattle.std.specs.Prelude.{◌≡◌, ◌<◌, length};
 ghost use Rattle.mw_world.specs.Definition.State.{IsConfig};
 
 use crate::judge::{Disagreement, TrialFault};
+use crate::same::same;
 use arrayvec::ArrayVec;
 use mw_lone::Lone;
 use mw_look::{Kind, Op};
@@ -11,7 +12,6 @@ use mw_simulator::World;
 use mw_words::{Entries, Entry, Job, Name, Reply};
 use mw_world::{Config, Event, Outcome, Tenant};
 use std::alloc::Global;
-use std::test::Fail;
 
 /// No part of the schedule takes more steps.
 const MOST_STEPS: u64 = 200;
@@ -192,22 +192,21 @@ fn replies_of(alloc: Global, world: &World) -> Result<Vec<Reply>, TrialFault>
     Ok(replies)
 }
 
-#[test]
-fn late_finisher(rt: HostRuntime) -> Result<(), Fail> {
-    let events = late_plant(rt.alloc());
-    assert!(rt; events.is_ok());
-    let Ok(events) = events else {
-        return Ok(());
-    };
-    let mut world = World::new(rt.alloc(), world_of_three())?;
-    assert_eq!(rt; world.run(&events), Ok(()));
-    let attempts = [world.attempt(0), world.attempt(1), world.attempt(2)];
-    assert_eq!(rt; attempts, [2, 1, 1]);
-    let replies = replies_of(rt.alloc(), &world);
-    assert!(rt; replies.is_ok());
-    if let Ok(replies) = replies {
-        let wanted = [Reply::Yes, Reply::Yes, Reply::No(0, 1), Reply::Val(0)];
-        assert_eq!(rt; replies.as_slice(), wanted.as_slice());
+/// What running these events leaves: how many attempts each worker has made, and what a store alone replies.
+fn left_by(alloc: Global, events: &[Event]) -> Result<([u64; 3], Vec<Reply>), TrialFault> {
+    let mut world = World::new(alloc, world_of_three())?;
+    if world.run(events).is_err() {
+        return Err(TrialFault::Disagreement(Disagreement::Stuck));
     }
-    Ok(())
+    let attempts = [world.attempt(0), world.attempt(1), world.attempt(2)];
+    Ok((attempts, replies_of(alloc, &world)?))
+}
+
+#[test]
+fn late_finisher(rt: HostRuntime) {
+    let events = late_plant(rt.alloc()).expect(&rt, "the events can be made");
+    let (attempts, replies) = left_by(rt.alloc(), &events).expect(&rt, "they can be run");
+    same(&rt, &attempts, &[2, 1, 1]);
+    let wanted = [Reply::Yes, Reply::Yes, Reply::No(0, 1), Reply::Val(0)];
+    same(&rt, &replies.as_slice(), &wanted.as_slice());
 }

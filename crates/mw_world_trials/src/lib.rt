@@ -16,6 +16,8 @@ mod judge;
 #[cfg(test)]
 mod late_finisher_tests;
 #[cfg(test)]
+mod same;
+#[cfg(test)]
 mod schedule_tests;
 #[cfg(test)]
 mod tests;

@@ -1,4 +1,5 @@
 //! Which texts are schedules, and what they tell.
+use crate::same::{same, same_at};
 use mw_look::{Call, Kind};
 use mw_schedule::*;
 use mw_words::Job;
@@ -71,7 +72,7 @@ restart t=-,-, u-1=1,3,ff,2";
 fn lines_that_are_right(rt: HostRuntime) -> Result<(), Fail> {
     for line in RIGHT_LINES.split('\n') {
         let fault = line_fault(rt.alloc(), line.as_bytes())?;
-        assert_eq!(rt; fault, None, "{line}");
+        same_at(&rt, line, &fault, &None);
     }
     Ok(())
 }
@@ -173,7 +174,7 @@ fn lines_that_are_wrong(rt: HostRuntime) -> Result<(), Fail> {
     let wrong = Some(ScheduleFault::Wrong(6));
     for line in WRONG_LINES.split('\n') {
         let fault = line_fault(rt.alloc(), line.as_bytes())?;
-        assert_eq!(rt; fault, wrong, "{line}");
+        same_at(&rt, line, &fault, &wrong);
     }
     Ok(())
 }
@@ -263,7 +264,7 @@ fn are_wrong<R: Abort + AllocGlobal>(rt: &R, number: u64, texts: &str) -> Result
     let wrong = Some(ScheduleFault::Wrong(number));
     for text in texts.split('\n') {
         let whole = with_line_ends(rt.alloc(), text)?;
-        assert_eq!(rt; fault_of(rt.alloc(), &whole), wrong, "{text}");
+        same_at(rt, text, &fault_of(rt.alloc(), &whole), &wrong);
     }
     Ok(())
 }
@@ -278,17 +279,20 @@ fn first_lines_that_are_wrong(rt: HostRuntime) -> Result<(), Fail> {
 
 #[test]
 fn first_lines_that_are_right(rt: HostRuntime) -> Result<(), Fail> {
-    let texts: [&[u8]; 4] = [
-        b"pool 1\nworkers 1\ntenant t 1 1\n",
-        b"pool 256\nworkers 64\nseq 281474976710654\ntenant abcdefghijklmnop 4096 32\n",
-        SIXTEEN,
-        HEAD,
+    let texts: [(&str, &[u8]); 4] = [
+        ("least", b"pool 1\nworkers 1\ntenant t 1 1\n"),
+        (
+            "most",
+            b"pool 256\nworkers 64\nseq 281474976710654\ntenant abcdefghijklmnop 4096 32\n",
+        ),
+        ("sixteen", SIXTEEN),
+        ("head", HEAD),
     ];
-    for text in texts {
-        assert_eq!(rt; fault_of(rt.alloc(), text), None, "{text:?}");
+    for (name, text) in texts {
+        same_at(&rt, name, &fault_of(rt.alloc(), text), &None);
     }
     let more = fault_behind(rt.alloc(), SIXTEEN, b"tenant q 1 1\n")?;
-    assert_eq!(rt; more, Some(ScheduleFault::Wrong(19)));
+    same(&rt, &more, &Some(ScheduleFault::Wrong(19)));
     Ok(())
 }
 
@@ -313,20 +317,35 @@ const CHANGED: [Kind; 14] = [
     Kind::Clean,
 ];
 
+/// This is the kind of step of this name, if there is one.
+fn is_named<R: Abort>(rt: &R, name: &str, kind: Option<StepKind>) {
+    same_at(rt, name, &StepKind::named(name.as_bytes()), &kind);
+}
+
 #[test]
 fn kinds_of_steps(rt: HostRuntime) {
-    assert_eq!(rt; StepKind::named(b"load"), Some(StepKind::Load));
     for (name, kind) in CHANGES.split(' ').zip(CHANGED) {
-        let named = StepKind::named(name.as_bytes());
-        assert_eq!(rt; named, Some(StepKind::Change(kind)));
+        is_named(&rt, name, Some(StepKind::Change(kind)));
     }
+}
+
+#[test]
+fn kinds_of_calls(rt: HostRuntime) {
     let calls = [Call::Prepare, Call::Seal, Call::Settle, Call::Cancel];
     for (name, call) in "prepare seal settle cancel".split(' ').zip(calls) {
-        let named = StepKind::named(name.as_bytes());
-        assert_eq!(rt; named, Some(StepKind::File(call)));
+        is_named(&rt, name, Some(StepKind::File(call)));
     }
-    for name in ["ready", "fault"] {
-        assert_eq!(rt; StepKind::named(name.as_bytes()), None);
+}
+
+#[test]
+fn kinds_that_change_nothing(rt: HostRuntime) {
+    let names = [
+        ("load", Some(StepKind::Load)),
+        ("ready", None),
+        ("fault", None),
+    ];
+    for (name, kind) in names {
+        is_named(&rt, name, kind);
     }
 }
 
@@ -342,7 +361,8 @@ fn is_tenant(tenant: &Tenant, name: &[u8], words: u16, quota: u8) -> bool {
 #[test]
 fn the_world_that_is_told(rt: HostRuntime) {
     let config = schedule_of(&rt, HEAD).config;
-    assert_eq!(rt; (config.pool, config.workers, config.seq), (33, 2, 7));
+    let numbers = (config.pool, config.workers, config.seq);
+    same(&rt, &numbers, &(33, 2, 7));
     match config.tenants.as_slice() {
         [first, second] => {
             assert!(rt; is_tenant(first, b"t", 2, 1));
@@ -350,9 +370,12 @@ fn the_world_that_is_told(rt: HostRuntime) {
         }
         _ => assert!(rt; false, "there are two"),
     }
+}
+
+#[test]
+fn a_world_without_a_first_number(rt: HostRuntime) {
     let plain = schedule_of(&rt, b"pool 1\nworkers 1\ntenant t 1 1\n");
-    assert_eq!(rt; plain.config.seq, 0);
-    assert!(rt; plain.lines.is_empty());
+    same(&rt, &(plain.config.seq, plain.lines.len()), &(0, 0));
 }
 
 #[test]

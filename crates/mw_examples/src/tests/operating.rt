@@ -113,3 +113,22 @@ serve --verbose
 gives 2 |mwserve: refused 5 quota line 1;DIR/tenants;",
     )
 }
+
+/// Where a local socket can't be, and what stands there stays.
+#[test]
+fn sockets_that_have_no_place(rt: HostRuntime) -> Result<(), Fail> {
+    play(
+        &rt,
+        new_folder(&rt, "no-place")?.as_str(),
+        "\
+mwinit DIR/t.mw 2 1
+write tenants t 2 1 DIR/t.mw;
+mwserve --tenants DIR/tenants --listen unix:DIR/t.mw
+gives 1 |mwserve: cannot listen;
+new t.mw
+mwserve --tenants DIR/tenants --listen unix:
+gives 1 |mwserve: cannot listen;
+mwserve --tenants DIR/tenants --listen unix:DIR/no/s
+gives 1 |mwserve: cannot listen;",
+    )
+}

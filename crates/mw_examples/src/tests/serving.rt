@@ -24,20 +24,40 @@ const ONE_CHANGE: &str = "\
 write tenants t 2 1 DIR/t.mw;
 write script TENANT t;CAS 0:0:1;";
 
+/// True if `mwinit` makes a file, and has it locked when it tells so.
+fn is_locked_when_made(rt: &HostRuntime, folder: &str, path: &str) -> Result<bool, Fail> {
+    let args = command_line(rt.alloc(), folder, MAKING)?;
+    let mut out = LockWatch::new(rt, path);
+    let mut err = Vec::new(rt.alloc());
+    Ok(init(rt, &args, &mut out, &mut err) == 0 && out.was_locked())
+}
+
+/// True if `mwserve` serves a script, and has the tenant's file locked when it answers.
+fn is_locked_when_served<R>(rt: &R, folder: &str, path: &str) -> Result<bool, Fail>
+where
+    R: Files<File = File>
+        + AllocGlobal
+        + Net<Listener = TcpListener, Stream = TcpStream>
+        + Threads
+        + Wait
+        + Clock
+        + Sync,
+{
+    let args = command_line(rt.alloc(), folder, SERVING)?;
+    let mut out = LockWatch::new(rt, path);
+    let mut err = Vec::new(rt.alloc());
+    Ok(serve(rt, &args, &mut out, &mut err) == 0 && out.was_locked())
+}
+
 #[test]
 fn files_stay_locked(rt: HostRuntime) -> Result<(), Fail> {
     let folder = new_folder(&rt, "files-stay-locked")?;
     let path = path_in(rt.alloc(), folder.as_str(), "t.mw")?;
-    let mut err = Vec::new(rt.alloc());
-    let args = command_line(rt.alloc(), folder.as_str(), MAKING)?;
-    let mut out = LockWatch::new(&rt, path.as_str());
-    assert_eq!(rt; init(&rt, &args, &mut out, &mut err), 0);
-    assert!(rt; out.was_locked(), "mwinit");
+    let made = is_locked_when_made(&rt, folder.as_str(), path.as_str())?;
+    assert!(rt; made, "mwinit");
     play_in(&rt, folder.as_str(), ONE_CHANGE)?;
-    let args = command_line(rt.alloc(), folder.as_str(), SERVING)?;
-    let mut out = LockWatch::new(&rt, path.as_str());
-    assert_eq!(rt; serve(&rt, &args, &mut out, &mut err), 0);
-    assert!(rt; out.was_locked(), "mwserve");
+    let served = is_locked_when_served(&rt, folder.as_str(), path.as_str())?;
+    assert!(rt; served, "mwserve");
     remove_folder(&rt, folder.as_str())
 }
 

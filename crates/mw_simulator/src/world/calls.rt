@@ -19,6 +19,7 @@ ghost use Rattle.mw_simulator.specs.Staying.{IsUnchanged, SameBooks, SameBooksBu
 ghost use Rattle.mw_simulator.specs.Stepping as stepping;
 
 use crate::faults::WorldFault;
+use crate::statuses::{starts_from, status_after};
 use crate::world::World;
 use crate::world::turns::next_attempt;
 use mw_actor::{Actor, Point, Slot};
@@ -272,19 +273,6 @@ pub(crate) fn called_at(point: Point) -> Option<Called>
     Some(Called { call, change })
 }
 
-/// Whether the status is the one that a call starts from.
-pub(crate) fn starts_from(call: Call, status: Status) -> bool
-    ensures { result ≡ calls.starts_from call status }
-{
-    matches!(
-        (call, status),
-        (Call::Prepare, Status::Draft)
-            | (Call::Seal, Status::YesDirty)
-            | (Call::Settle, Status::Yes)
-            | (Call::Cancel, Status::No { .. })
-    )
-}
-
 /// Whether a call fails on a file because the file failed before, if it did.
 fn fails_on(call: Call, has_failed: bool) -> bool
     ensures is { (file : File) → file.has_failed ≡ has_failed → result ≡ calls.fails_on call file }
@@ -315,20 +303,6 @@ pub(crate) fn is_formed(call: Call, words: usize, entries: &Entries) -> bool
     match call {
         Call::Prepare => is_change(entries, words),
         Call::Seal | Call::Settle | Call::Cancel => true,
-    }
-}
-
-/// The status after a call that went well, by the one that it starts from.
-fn status_after(call: Call, status: Status) -> Status
-    ensures is { result ≡ calls.status_after call status }
-    ensures in_range { IsStatusInRange status → IsStatusInRange result }
-{
-    match (call, status) {
-        (Call::Prepare, _) => Status::Open,
-        (Call::Seal, _) => Status::Yes,
-        (Call::Settle, _) => Status::DoneYes,
-        (Call::Cancel, Status::No { entry, value }) => Status::DoneNo { entry, value },
-        (Call::Cancel, _) => status,
     }
 }
 

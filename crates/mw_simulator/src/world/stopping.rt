@@ -6,8 +6,9 @@ ghost use Rattle.mw_simulator.specs.Ending.{called_of};
 ghost use Rattle.mw_simulator.specs.Shows.{Shows};
 ghost use Rattle.mw_simulator.specs.Stops as spec;
 
+use crate::statuses::starts_from;
 use crate::world::World;
-use crate::world::calls::{Called, called_at, entries_of, is_formed, starts_from};
+use crate::world::calls::{Called, called_at, entries_of, is_formed};
 use crate::world::halts::Halt;
 use mw_actor::Actor;
 use mw_look::Call;

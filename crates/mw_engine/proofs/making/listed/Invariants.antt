@@ -1,5 +1,6 @@
 use Rattle.std.proofs.Common.{◌≡◌, take, map}
-use Rattle.mw_engine.specs.Lines.{line_of, line_read}
+use Rattle.mw_engine.specs.Lines.{line_of}
+use Rattle.mw_engine.specs.Opened.{line_read}
 use Rattle.mw_engine.proofs.making.listed.Given as goal
 
 -- the lines so far

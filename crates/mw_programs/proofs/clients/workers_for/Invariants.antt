@@ -1,11 +1,11 @@
 use Rattle.std.proofs.Common.{◌≡◌, ◌+◌, All, length}
 use Rattle.std.specs.Vec.Iter.{into_iter_items}
-use Rattle.mw_engine.specs.Passes.{IsIdle}
+use Rattle.mw_engine.specs.Passes.{IsNew}
 use Rattle.mw_programs.proofs.clients.workers_for.Given as goal
 
--- there is a worker for each pass so far, and the passes that are left are idle
+-- there is a worker for each pass so far, and the passes that are left are as they were dealt
 abbrev pub invariant-loop-pass : goal.invariant-loop-pass
 invariant-loop-pass g l = record {
   count : length l.workers.items + length (into_iter_items l.pass-iterator) ≡ length l.fn.passes.items;
-  idle : All IsIdle (into_iter_items l.pass-iterator);
+  new : All (IsNew g.J.EngineBrand.identity) (into_iter_items l.pass-iterator);
 }

@@ -1,3 +1,4 @@
+use Rattle.mw_rule.proofs.AnyNumber.{any_number}
 use Rattle.mw_rule.proofs.Moves.{moves_are_allowed, moves_go_on}
 use Rattle.mw_rule.proofs.laws.moves_are_of_the_run.Goals as goal
 
@@ -6,3 +7,7 @@ returns-clause-go_on g c = λ key. moves_go_on (g.B.Begins.config key) (g.B.Begi
 
 pub returns-clause-allowed : goal.returns-clause-allowed
 returns-clause-allowed g c = λ key. moves_are_allowed (g.B.Begins.config key) (g.B.Begins.begun key)
+
+pub returns-clause-numbers : goal.returns-clause-numbers
+returns-clause-numbers g c = λ old new worker actor called held status one other by found sound is_one is_other went.
+    any_number old new worker actor called held by status found sound one went other is_one is_other

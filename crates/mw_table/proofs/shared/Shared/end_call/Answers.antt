@@ -12,11 +12,11 @@ compare_exchange-requires c =
 
 pub invariant_of-pass : goal.invariant_of-pass
 invariant_of-pass c = record {
-  numbered = (end_stays c.args.pass.now c.compare_exchange.new.seat.me.0 c.requires.may.at_file c.compare_exchange.ensures.2).1 ∙ c.args.pass.now.numbered;
+  numbered = (end_stays c.args.pass.now c.compare_exchange.new.seat.me.0 c.requires.may.at_file c.compare_exchange.ensures.2.0).1 ∙ c.args.pass.now.numbered;
   rests = λ idle. absurd (busy_at_file c.args.pass.now c.requires.may.at_file (c.args.pass.now.rests idle));
 }
 
 pub returns-clause-own : goal.returns-clause-own
 returns-clause-own c =
-    let on = (end_stays c.args.pass.now c.compare_exchange.new.seat.me.0 c.requires.may.at_file c.compare_exchange.ensures.2).0 in
+    let on = (end_stays c.args.pass.now c.compare_exchange.new.seat.me.0 c.requires.may.at_file c.compare_exchange.ensures.2.0).0 in
     record { table = c.compare_exchange.ensures.0 ∙ c.requires.own.table; config = on.same_config ∙ c.requires.own.config; openings = on.same_openings ∙ c.requires.own.openings }

@@ -1,0 +1,5 @@
+pub mod Widths
+pub mod Printed
+pub mod Replying
+pub mod Sending
+pub mod Asking

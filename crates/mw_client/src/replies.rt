@@ -1,0 +1,136 @@
+//! Which reply a line is.
+ghost use Rattle.std.specs.Prelude.{◌≡◌, IfSome, None};
+ghost use Rattle.mw_line.specs.declared.replies.Say.{Say as SayRead};
+ghost use Rattle.mw_client.specs.Reading as spec;
+ghost use Rattle.mw_client.specs.Reading.{Says};
+
+use mw_line::{ErrCode, Say, address_at, behind, value_at};
+use mw_words::{MAX_VALUE, MAX_WORDS, Reply};
+
+/// The reply that a line is, which comes without its line feed. None where it is none: each reply has
+/// one text, with its numbers within the limits of the protocol.
+pub fn read_reply(line: &[u8]) -> Option<Say>
+    // What is read has this line as its text.
+    ensures read { IfSome result (λ say. Says say line.now) }
+    // A line that is the text of a reply is read as that reply.
+    ensures whole { (say : SayRead) → Says say line.now → result ≡ Some say }
+{
+    reply_of(line)
+}
+
+#[tactic(auto, unfolding(crate::specs::Reading::reading))]
+fn reply_of(line: &[u8]) -> Option<Say>
+    ensures { result ≡ spec.reading line.now }
+{
+    if let Some(say) = plain(line) {
+        return Some(say);
+    }
+    if let Some(text) = behind(b"VAL ", line) {
+        return value(text);
+    }
+    if let Some(text) = behind(b"NO ", line) {
+        return miss(text);
+    }
+    if let Some(text) = behind(b"OK ", line) {
+        return bound(text);
+    }
+    if let Some(text) = behind(b"ERR ", line) {
+        return fault(text);
+    }
+    None
+}
+
+#[tactic(auto, unfolding(crate::specs::Reading::plain_read))]
+fn plain(line: &[u8]) -> Option<Say>
+    ensures { result ≡ spec.plain_read line.now }
+{
+    match line {
+        b"YES" => Some(Say::Store(Reply::Yes)),
+        b"BUSY" => Some(Say::Store(Reply::Busy)),
+        b"FAULT" => Some(Say::Store(Reply::Fault)),
+        b"WORN" => Some(Say::Store(Reply::Worn)),
+        b"BYE" => Some(Say::Bye),
+        _ => None,
+    }
+}
+
+/// The number that is all of the text. One of more than 64 bits is `u64::MAX`.
+#[tactic(auto, unfolding(crate::specs::Reading::number_of))]
+fn number(text: &[u8]) -> Option<u64>
+    ensures { result ≡ spec.number_of text.now }
+{
+    match value_at(text) {
+        Some((number, [])) => Some(number),
+        _ => None,
+    }
+}
+
+#[tactic(auto, unfolding(crate::specs::Reading::value_read))]
+fn value(text: &[u8]) -> Option<Say>
+    ensures { result ≡ spec.value_read text.now }
+{
+    match number(text) {
+        Some(value) if value <= MAX_VALUE => Some(Say::Store(Reply::Val(value))),
+        _ => None,
+    }
+}
+
+#[tactic(auto, unfolding(crate::specs::Reading::bound_read))]
+fn bound(text: &[u8]) -> Option<Say>
+    ensures { result ≡ spec.bound_read text.now }
+{
+    match number(text) {
+        Some(words) if 1 <= words && words <= u64::from(MAX_WORDS) => Some(Say::Ok(words as u16)),
+        Some(_) => None,
+        None => admin(text),
+    }
+}
+
+fn admin(text: &[u8]) -> Option<Say>
+    ensures { result ≡ spec.bound_to None text.now }
+{
+    match text {
+        b"ADMIN" => Some(Say::OkAdmin),
+        _ => None,
+    }
+}
+
+#[tactic(auto, unfolding(crate::specs::Reading::miss_read))]
+fn miss(text: &[u8]) -> Option<Say>
+    ensures { result ≡ spec.miss_read text.now }
+{
+    let (addr, rest) = address_at(text)?;
+    let value = number(behind(b" ", rest)?)?;
+    if addr < MAX_WORDS && value <= MAX_VALUE {
+        Some(Say::Store(Reply::No(addr, value)))
+    } else {
+        None
+    }
+}
+
+#[tactic(auto, unfolding(crate::specs::Reading::fault_read))]
+fn fault(text: &[u8]) -> Option<Say>
+    ensures { result ≡ spec.fault_read text.now }
+{
+    let fault = fault_numbered(number(text)?)?;
+    Some(Say::Err(fault))
+}
+
+#[tactic(auto, unfolding(crate::specs::Reading::fault_numbered))]
+fn fault_numbered(number: u64) -> Option<ErrCode>
+    ensures { result ≡ spec.fault_numbered number }
+{
+    match number {
+        1 => Some(ErrCode::LineTooLong),
+        2 => Some(ErrCode::NotACommand),
+        3 => Some(ErrCode::NotBound),
+        4 => Some(ErrCode::AlreadyBound),
+        5 => Some(ErrCode::NoSuchTenant),
+        6 => Some(ErrCode::AddressRange),
+        7 => Some(ErrCode::AddressOrder),
+        8 => Some(ErrCode::TooManyEntries),
+        9 => Some(ErrCode::ValueRange),
+        10 => Some(ErrCode::WrongSession),
+        _ => None,
+    }
+}

@@ -1,0 +1,60 @@
+//! Connections over TCP, and by local sockets.
+use crate::client::Client;
+use crate::meanings::Failure;
+use mw_words::Name;
+use std::alloc::Global;
+use std::io::{self, BufReader};
+use std::net::{Net, TcpStream};
+use std::os::fd::OwnedFd;
+use std::os::unix::net::UnixStream;
+use std::time::Duration;
+
+/// What an address of a local socket begins with. The path of the socket follows.
+const LOCAL: &str = "unix:";
+
+/// A client by a socket.
+pub type SocketClient = Client<BufReader<TcpStream>, TcpStream>;
+
+/// A client of the server at an address, such as `127.0.0.1:7000` or `unix:/run/mondlexi/socket`, which
+/// speaks for the tenant of this name. Each reply is waited for as long as `patience`, which isn't 0.
+///
+/// # Errors
+///
+/// As [`Client::begin`], and [`Failure::Lost`] too where nobody serves there, or memory was refused.
+pub fn connect<R: Net<Stream = TcpStream>>(
+    rt: &R,
+    alloc: Global,
+    address: &str,
+    name: &Name,
+    patience: Duration,
+) -> Result<SocketClient, Failure> {
+    match dial(rt, alloc, address, patience) {
+        Ok((reader, writer)) => Client::begin(reader, writer, name),
+        Err(_) => Err(Failure::Lost),
+    }
+}
+
+/// Where the replies of the server at an address come from, and where lines to it go.
+///
+/// # Errors
+///
+/// The text is no address, nobody serves there, the system refuses, or memory was refused.
+fn dial<R: Net<Stream = TcpStream>>(
+    rt: &R,
+    alloc: Global,
+    address: &str,
+    patience: Duration,
+) -> io::Result<(BufReader<TcpStream>, TcpStream)> {
+    let stream = match address.strip_prefix(LOCAL) {
+        Some(path) => TcpStream::from(OwnedFd::from(UnixStream::connect(rt, path)?)),
+        None => {
+            let stream = TcpStream::connect(rt, address)?;
+            stream.set_nodelay(true)?;
+            stream
+        }
+    };
+    stream.set_read_timeout(Some(patience))?;
+    stream.set_write_timeout(Some(patience))?;
+    let reader = BufReader::new(alloc, stream.try_clone()?)?;
+    Ok((reader, stream))
+}

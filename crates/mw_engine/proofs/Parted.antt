@@ -1,0 +1,122 @@
+-- The parts of an engine fit together as they are made.
+use Rattle.std.specs.Prelude.{◌≡◌, ◌<◌, ℕ, All, List, [], ◌∷◌, length, map, not, slice_get, Option, Some, Vec}
+use Rattle.std.specs.declared.alloc.Global.{Global}
+use Rattle.std.proofs.Common.{sym, ap, subst, ◌∙◌}
+use Rattle.std.proofs.lemmas.List.{length-map}
+use Rattle.mw_disk.specs.Facts.{Facts}
+use Rattle.mw_file.specs.declared.tenant_file.TenantFile.{TenantFile}
+use Rattle.mw_config.specs.declared.lines.TenantLine.{TenantLine}
+use Rattle.mw_world.specs.declared.config.Config.{Config}
+use Rattle.mw_world.specs.declared.config.Tenant.{Tenant}
+use Rattle.mw_world.specs.Definition.State.{Opening, tenants_of}
+use Rattle.mw_book.specs.declared.kept.Book.{Book}
+use Rattle.mw_rule.specs.declared.views.View.{View}
+use Rattle.mw_rule.specs.FromLaws.{FileRights, rights_opened}
+use Rattle.mw_rule.specs.Seen.{opening_at}
+use Rattle.mw_table.specs.declared.origin.FileOpening.{FileOpening}
+use Rattle.mw_table.specs.declared.right.FileRight.{FileRight}
+use Rattle.mw_table.specs.declared.shared.Pass.{Pass}
+use Rattle.mw_table.specs.declared.shared.Shared.{Shared}
+use Rattle.mw_table.specs.Beginning.{Basis}
+use Rattle.mw_table.specs.Dealt.{IsDealt}
+use Rattle.mw_table.specs.Filing.{file_kept}
+use Rattle.mw_table.specs.Fresh.{basis_of_start, openings_given}
+use Rattle.mw_table.specs.Holding.{file_among}
+use Rattle.mw_table.specs.Numbers.{numbers}
+use Rattle.mw_table.specs.Opened.{AreOpened}
+use Rattle.mw_table.specs.Origins.{basis_of, config_of, openings_of}
+use Rattle.mw_core.specs.Books.{Agrees}
+use Rattle.mw_engine.specs.declared.listed.Listed.{Listed}
+use Rattle.mw_engine.specs.Agreeing.{Agrees as AgreesWithWorld, line_given}
+use Rattle.mw_engine.specs.Branding.{identity_on}
+use Rattle.mw_engine.specs.Kept.{AreKept}
+use Rattle.mw_engine.specs.Lines.{line_of}
+use Rattle.mw_engine.specs.Opened.{AreMadeOf, FitLines, line_read, openings_read, tenant_read}
+use Rattle.mw_engine.specs.Passes.{IsNew}
+use Rattle.mw_engine.proofs.Configured.{line_is}
+use Rattle.mw_engine.proofs.Once.{agrees_once}
+use Rattle.mw_engine.proofs.Started.{AgreesWith, agrees_at, given_all, made_counts}
+
+-- the number of the first of these workers' next attempt
+abbrev second_of : List (ℕ × ℕ) → ℕ
+second_of [] = 0
+second_of (one ∷ rest) = one.1
+
+module _ {D : Type 0} (facts : D → Facts) (shared : Shared) (config : Config) (lines : List TenantLine) (files : List (Option (TenantFile D × Vec ℕ Global))) (openings : List FileOpening) (books : List (Book D))
+    (kept : List Listed) (pool : ℕ) (basis : basis_of shared.table.shared.key ≡ basis_of_start config openings) (tenants : config.tenants.items ≡ map tenant_read lines) (is_pool : config.pool ≡ pool)
+    (fit : FitLines facts lines files) (made : AreMadeOf facts lines files openings books) (listed : map line_of kept ≡ map line_read lines) where
+  pub config_is : config_of shared.table.shared.key ≡ config
+  config_is = ap (λ (b : Basis). b.config) basis
+
+  given_is : openings_given config.tenants.items openings ≡ openings_read lines files
+  given_is = ap (λ (all : List Tenant). openings_given all openings) tenants ∙ given_all facts lines files openings books made
+
+  -- what the start gave
+  pub openings_are : openings_of shared.table.shared.key ≡ openings_read lines files
+  openings_are = ap (λ (b : Basis). b.openings) basis ∙ given_is
+
+  as_many : length kept ≡ length lines
+  as_many = sym (length-map kept line_of) ∙ (ap length listed ∙ length-map lines line_read)
+
+  tenants_are : tenants_of config ≡ length lines
+  tenants_are = ap length tenants ∙ length-map lines tenant_read
+
+  -- the lines are those of the world
+  pub lines_agree : AgreesWithWorld shared.table.shared.key (map line_of kept) pool
+  lines_agree = record {
+    count = ap length listed ∙ (length-map lines line_read ∙ (sym tenants_are ∙ ap tenants_of (sym config_is)));
+    each = λ tenant low.
+        ap (λ all. slice_get all tenant) listed
+        ∙ (line_is facts config lines files tenant tenants fit (subst (λ (n : ℕ). tenant < n) (ap length listed ∙ length-map lines line_read) low)
+        ∙ (λ i. Some (line_given (sym config_is i) (sym openings_are i) tenant)));
+    slots = sym is_pool ∙ ap (λ (c : Config). c.pool) (sym config_is);
+  }
+
+  -- the passes are new
+  new_pass : (pass : Pass) → IsDealt shared (basis_of_start config openings) pass → IsNew (identity_on shared (map line_of kept)) pass
+  new_pass pass dealt = record {
+    own = record {
+      table = dealt.own.table;
+      config = dealt.own.config;
+      openings = dealt.own.openings;
+      there = subst (λ (c : Config). pass.worker < c.workers) (sym config_is) dealt.there;
+      free = ap (λ (view : View). view.files) dealt.view;
+    };
+    idle = dealt.idle;
+    attempt = ap second_of (sym pass.numbered ∙ ap numbers dealt.view);
+    nothing_seen = ap (λ (view : View). view.seen) dealt.view;
+    nothing_noted = ap (λ (view : View). view.mine) dealt.view;
+  }
+
+  pub new_passes : (passes : List Pass) → All (IsDealt shared (basis_of_start config openings)) passes → All (IsNew (identity_on shared (map line_of kept))) passes
+  new_passes passes all = λ index other low. new_pass _ (all index other low)
+
+  -- there are as many books and rights as lines
+  pub a_book_each : length books ≡ length kept
+  a_book_each = (made_counts facts lines files openings books made).1 ∙ sym as_many
+
+  module _ (rights : List FileRight) (opened : AreOpened shared (basis_of_start config openings) rights) where
+    pub a_right_each : length rights ≡ length kept
+    a_right_each = opened.count ∙ (tenants_are ∙ sym as_many)
+
+    -- each book agrees with its right
+    pub books_agree : AreKept facts (identity_on shared (map line_of kept)) books rights
+    books_agree = λ tenant book right at_book at_right.
+        let one = opened.each tenant right at_right in
+        let os = openings_read lines files in
+        let both : AgreesWith facts (opening_at os tenant) book tenant config.pool = agrees_at facts lines files openings books tenant tenant config.pool book made at_book in
+        let first = both.0 in
+        let told : file_kept right ≡ rights_opened tenant (opening_at os tenant).quota config.pool (opening_at os tenant).words (not (opening_at os tenant).is_up) =
+        ap (λ (view : View). file_among view.files) one.view
+        ∙ ap (λ (given : List Opening). rights_opened tenant (opening_at given tenant).quota config.pool (opening_at given tenant).words (not (opening_at given tenant).is_up)) given_is in
+        record {
+          own = one.own;
+          opened = both.1 ∙ (λ i. (opening_at (sym openings_are i) (sym one.whose i)).is_up);
+          agrees = agrees_once facts book (file_kept right) (opening_at (openings_of shared.table.shared.key) right.tenant).quota (config_of shared.table.shared.key).pool (subst (λ (rights : FileRights). Agrees facts book rights (opening_at (openings_of shared.table.shared.key) right.tenant).quota (config_of shared.table.shared.key).pool) (sym told)
+              (subst (λ (n : ℕ). Agrees facts book (rights_opened tenant (opening_at os tenant).quota config.pool (opening_at os tenant).words (not (opening_at os tenant).is_up))
+              (opening_at (openings_of shared.table.shared.key) n).quota (config_of shared.table.shared.key).pool) (sym one.whose)
+              (subst (λ (given : List Opening). Agrees facts book (rights_opened tenant (opening_at os tenant).quota config.pool (opening_at os tenant).words (not (opening_at os tenant).is_up))
+              (opening_at given tenant).quota (config_of shared.table.shared.key).pool) (sym openings_are)
+              (subst (λ (c : Config). Agrees facts book (rights_opened tenant (opening_at os tenant).quota config.pool (opening_at os tenant).words (not (opening_at os tenant).is_up))
+              (opening_at os tenant).quota c.pool) (sym config_is) first))));
+        }

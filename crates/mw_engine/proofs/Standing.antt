@@ -1,0 +1,77 @@
+-- What stands at a tenant's door, and at a slot's gate, when it is looked at.
+use Rattle.std.specs.Prelude.{ℕ, ◌≡◌, ◌<◌, ◌≤◌, true, nat_lt, List, length, Option, Some, None}
+use Rattle.std.proofs.Common.{refl, sym, ap, subst, ◌∙◌, arith}
+use Rattle.std.proofs.lemmas.Bool.Decides.{nat_tests}
+use Rattle.mw_words.specs.declared.doors.Door.{Door}
+use Rattle.mw_words.specs.declared.gates.Gate.{Gate}
+use Rattle.mw_words.specs.declared.limits.TheConstants.{MAX_QUOTA}
+use Rattle.mw_words.specs.declared.places.At.TheVariants.{Door as AtDoor, Gate as AtGate}
+use Rattle.mw_words.specs.Patterns.{packed_door, packed_gate, unpacked_door, unpacked_gate}
+use Rattle.mw_words.proofs.PatternLaws.{door_round, gate_round}
+use Rattle.mw_world.specs.declared.config.Config.{Config}
+use Rattle.mw_world.specs.Definition.State.{Opening, tenants_of}
+use Rattle.mw_rule.specs.declared.views.View.{View}
+use Rattle.mw_rule.specs.Carrying.{Looked}
+use Rattle.mw_rule.specs.Layout.{index_of}
+use Rattle.mw_rule.specs.Seen.{opening_at}
+use Rattle.mw_rule.proofs.FromLaws.{runs_are_sound}
+use Rattle.mw_table.specs.declared.shared.Pass.{Pass}
+use Rattle.mw_table.specs.Passes.{IsOf}
+use Rattle.mw_engine.specs.declared.front.Front.{Front}
+use Rattle.mw_engine.specs.Identity.{quota_told}
+use Rattle.mw_engine.specs.Fronts.{lines_told}
+use Rattle.mw_engine.proofs.Requesting.{quota_is}
+
+under : (n m : ℕ) → n < m → nat_lt n m ≡ true
+under n m low = grind (arith, nat_tests, low)
+
+-- the bits are a door's, in which no more slots are in use than a tenant may use
+pub record StandsAtDoor (bits quota : ℕ) : Type 0 where
+  pub door : Door
+  pub is : unpacked_door bits ≡ Some door
+  pub used : door.used ≤ quota
+  pub few : quota ≤ MAX_QUOTA
+
+pub door_stood : {H : Type 0} (engine : Front H) (pass : Pass) (old : View) (pool tenant bits : ℕ) → IsOf engine.core.shared pass → tenant < length (lines_told engine)
+    → Looked (index_of pool (AtDoor tenant)) bits old pass.seat.me.0 → StandsAtDoor bits (quota_told (lines_told engine) tenant)
+door_stood engine pass old pool tenant bits own there looked =
+    let view = pass.seat.me.0 in
+    let stood = looked.stood in
+    let config = view.config in
+    let low : tenant < tenants_of config = subst (λ (c : Config). tenant < tenants_of c) (sym own.config) (subst (λ (n : ℕ). tenant < n) engine.agrees.count there) in
+    let door = stood.state.cells.doors tenant in
+    let sound = (runs_are_sound config stood.openings stood.events stood.state stood.played).0 in
+    let bits_are : bits ≡ packed_door door = stood.same_bits (AtDoor tenant) (under tenant (tenants_of config) low) refl in
+    let quota : (stood.state.accounts tenant).quota ≡ quota_told (lines_told engine) tenant =
+    (stood.gave tenant low).quota ∙ (ap (λ (o : List Opening). (opening_at o tenant).quota) own.openings ∙ sym (quota_is engine tenant there)) in
+    record {
+      door = door;
+      is = ap unpacked_door bits_are ∙ door_round door (sound.memory.fits (AtDoor tenant));
+      used = subst (λ (n : ℕ). door.used ≤ n) quota (sound.counts.counts.quotas tenant low);
+      few = subst (λ (n : ℕ). n ≤ MAX_QUOTA) quota (sound.counts.counts.limits.each tenant low).1;
+    }
+
+-- the bits are a gate's
+pub gate_stood : {H : Type 0} (engine : Front H) (pass : Pass) (old : View) (pool slot bits : ℕ) → IsOf engine.core.shared pass → slot < engine.pool
+    → Looked (index_of pool (AtGate slot)) bits old pass.seat.me.0 → (gate : Gate) × (unpacked_gate bits ≡ Some gate)
+gate_stood engine pass old pool slot bits own there looked =
+    let stood = looked.stood in
+    let config = pass.seat.me.0.config in
+    let low : slot < config.pool = subst (λ (c : Config). slot < c.pool) (sym own.config) (subst (λ (n : ℕ). slot < n) engine.agrees.slots there) in
+    let gate = stood.state.cells.gates slot in
+    let sound = (runs_are_sound config stood.openings stood.events stood.state stood.played).0 in
+    let bits_are : bits ≡ packed_gate gate = stood.same_bits (AtGate slot) (under slot config.pool low) refl in
+    (gate, ap unpacked_gate bits_are ∙ gate_round gate (sound.memory.fits (AtGate slot)))
+
+-- what was unpacked is a door, and a gate
+pub no_door : (found : Option Door) (door : Door) → found ≡ Some door → found ≡ None → ⊥
+no_door found door is none = let never : Some door ≡ None = sym is ∙ none in cc
+
+pub no_gate : (found : Option Gate) (gate : Gate) → found ≡ Some gate → found ≡ None → ⊥
+no_gate found gate is none = let never : Some gate ≡ None = sym is ∙ none in cc
+
+pub used_of : (found : Option Door) (door other : Door) (quota : ℕ) → found ≡ Some door → found ≡ Some other → door.used ≤ quota → quota ≤ MAX_QUOTA → other.used ≤ MAX_QUOTA
+used_of found door other quota is also used few =
+    let same : Some door ≡ Some other = sym is ∙ also in
+    let numbers : door.used ≡ other.used = cc in
+    omega (arith, numbers, used, few)

@@ -1,0 +1,44 @@
+use Rattle.std.specs.Prelude.{◌≢◌, None}
+use Rattle.std.proofs.Common.{sym, subst}
+use Rattle.mw_actor.specs.Acting.{Acting}
+use Rattle.mw_world.specs.Definition.Calls.{called_at}
+use Rattle.mw_table.specs.declared.shared.Pass.{Pass}
+use Rattle.mw_table.specs.Carried.{IsCarried}
+use Rattle.mw_table.specs.Meeting.{IsSamePass}
+use Rattle.mw_engine.specs.Filing.{FilesOne}
+use Rattle.mw_engine.specs.Fronts.{HasPass}
+use Rattle.mw_engine.proofs.Branded.{pass_of_engine, pass_of_front}
+use Rattle.mw_engine.proofs.Served.{file_same, file_serves}
+use Rattle.mw_engine.proofs.engine.Engine.file.Goals as goal
+
+pub file-requires-clause-own : goal.file-requires-clause-own
+file-requires-clause-own g c =
+    let engine = c.args.self.now in
+    subst (λ (pass : Pass). HasPass engine.front pass) (sym c.loop.invariant.pass_is) (pass_of_front engine.front g.J.EngineBrand.identity engine.same c.args.pass.now c.requires.own)
+
+pub returns-then-is_of-clause-own : goal.returns-then-is_of-clause-own
+returns-then-is_of-clause-own g c = pass_of_engine c.args.self.now.front g.J.EngineBrand.identity c.args.self.now.same c.file.new.pass c.file.ensures.own
+
+pub file-requires-clause-carried : goal.file-requires-clause-carried
+file-requires-clause-carried g c =
+    subst (λ (pass : Pass). IsCarried pass c.loop.actor) (sym c.loop.invariant.pass_is)
+    (subst (λ (actor : Acting). IsCarried c.args.pass.now actor) (sym c.loop.invariant.actor_is) c.requires.carried)
+
+pub file-requires-clause-call : goal.file-requires-clause-call
+file-requires-clause-call g c = subst (λ (actor : Acting). called_at actor.point ≢ None) (sym c.loop.invariant.actor_is) c.requires.call
+
+pub returns-then-is_of-clause-same : goal.returns-then-is_of-clause-same
+returns-then-is_of-clause-same g c = subst (λ (pass : Pass). IsSamePass pass c.file.new.pass) c.loop.invariant.pass_is c.file.ensures.same
+
+pub returns-then-is_of-clause-files : goal.returns-then-is_of-clause-files
+returns-then-is_of-clause-files g c =
+    subst (λ (pass : Pass). FilesOne g.D.Disk.facts pass c.file.new.pass c.args.actor.now c.file.new.actor) c.loop.invariant.pass_is
+    (subst (λ (actor : Acting). FilesOne g.D.Disk.facts c.loop.pass c.file.new.pass actor c.file.new.actor) c.loop.invariant.actor_is c.file.ensures.files)
+
+pub returns-then-is_of-clause-request : goal.returns-then-is_of-clause-request
+returns-then-is_of-clause-request g c =
+    file_same g.D.Disk.facts c.args.pass.now c.file.new.pass c.args.actor.now c.file.new.actor (returns-then-is_of-clause-files g c)
+
+pub returns-then-is_of-clause-call : goal.returns-then-is_of-clause-call
+returns-then-is_of-clause-call g c =
+    file_serves g.D.Disk.facts c.args.pass.now c.file.new.pass c.args.actor.now c.file.new.actor (returns-then-is_of-clause-files g c)

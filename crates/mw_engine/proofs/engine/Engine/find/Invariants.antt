@@ -1,6 +1,0 @@
-use Rattle.mw_engine.specs.Identity.{HasNone}
-use Rattle.mw_engine.proofs.engine.Engine.find.Given as goal
-
--- no tenant before this one has the name
-abbrev pub invariant-loop-tenant : goal.invariant-loop-tenant
-invariant-loop-tenant g l = HasNone g.J.EngineBrand.identity l.tenant l.name.items

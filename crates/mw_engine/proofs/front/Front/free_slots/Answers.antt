@@ -1,0 +1,29 @@
+use Rattle.std.specs.Prelude.{◌≡◌, ◌+◌, cond}
+use Rattle.std.proofs.Common.{sym, ◌∙◌, arith}
+use Rattle.mw_engine.specs.Figures.{is_free}
+use Rattle.mw_engine.proofs.Shown.{counted, free_more, looked_on, not_counted}
+use Rattle.mw_engine.proofs.front.Front.free_slots.Goals.{then-is_free, else-is_free}
+use Rattle.mw_engine.proofs.front.Front.free_slots.Goals as goal
+
+pub loop-slot-preserved : goal.loop-slot-preserved
+loop-slot-preserved g c =
+    let old = c.args.pass.now in
+    let between = c.loop-slot.pass in
+    let new = c.gate-gate.new.pass in
+    let gate = c.gate-gate.result in
+    let free = c.loop-slot.free in
+    let inv = c.loop-slot.invariant in
+    let more : c.if-is_free.free ≡ free + cond (is_free gate) 1 0 = elim c.if-is_free.branch [
+      | then-is_free w ↦ counted (is_free gate) free c.if-is_free.free (sym c.is_free.ensures ∙ w.if-is_free.true) w.free-is
+      | else-is_free w ↦ not_counted (is_free gate) free c.if-is_free.free (sym c.is_free.ensures ∙ w.if-is_free.false) w.free-is
+    ] in
+    record {
+      own = c.gate-gate.ensures.own;
+      looked = looked_on old between new inv.looked c.gate-gate.ensures.looked;
+      few = elim c.if-is_free.branch [
+        | then-is_free w ↦ let is = w.free-is in let few = inv.few in omega (arith, is, few)
+        | else-is_free w ↦ let is = w.free-is in let few = inv.few in omega (arith, is, few)
+      ];
+      tells = free_more c.args.self.now.core.shared.pool old.seat.me.0 between.seat.me.0 new.seat.me.0 c.loop-slot.slot free c.if-is_free.free gate inv.looked.keeps c.gate-gate.ensures.looked.keeps
+          inv.tells c.gate-gate.ensures.found more;
+    }

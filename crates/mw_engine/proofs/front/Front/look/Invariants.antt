@@ -1,0 +1,16 @@
+use Rattle.std.specs.Prelude.{◌≡◌, false}
+use Rattle.mw_rule.specs.declared.views.View.{View}
+use Rattle.mw_table.specs.Carried.{IsCarried}
+use Rattle.mw_table.specs.Passes.{IsOfSameWorker}
+use Rattle.mw_engine.specs.History.{IsSince}
+use Rattle.mw_engine.specs.Fronts.{HasPass, read_of}
+use Rattle.mw_engine.proofs.front.Front.look.Given as goal
+
+-- the read came with this call, or before it, and begins again
+abbrev pub invariant-loop : goal.invariant-loop
+invariant-loop g l = record {
+  own : HasPass l.self l.pass;
+  worker : IsOfSameWorker l.fn.pass l.pass;
+  goes_on : l.pass.idle ≡ false → IsCarried l.pass (read_of l.self l.pass l.tenant l.address);
+  call : (first : View) → IsSince l.fn.pass.idle first l.fn.pass.seat.me.0 (read_of l.self l.fn.pass l.tenant l.address) → IsSince l.pass.idle first l.pass.seat.me.0 (read_of l.self l.pass l.tenant l.address);
+}

@@ -1,0 +1,41 @@
+use Rattle.std.proofs.Common.{sym, ◌∙◌, subst}
+use Rattle.mw_rule.specs.declared.views.View.{View}
+use Rattle.mw_engine.specs.History.{IsServed}
+use Rattle.mw_engine.proofs.Histories.{advanced_serves, begun_serves, since_first, since_served}
+use Rattle.mw_engine.proofs.Passing.{advanced_files, one_on}
+use Rattle.mw_engine.proofs.Requesting.{may_come}
+use Rattle.mw_engine.proofs.front.Front.make_step.Goals as goal
+
+pub begin-requires-clause-may : goal.begin-requires-clause-may
+begin-requires-clause-may g c =
+    let idle = sym c.idle.ensures.is ∙ c.if-idle.true in
+    may_come c.args.self.now c.args.pass.now c.args.actor.now c.requires.own idle (c.requires.comes idle)
+
+pub returns-then-idle-clause-call : goal.returns-then-idle-clause-call
+returns-then-idle-clause-call g c =
+    let old = c.args.pass.now in
+    let new = c.begin.new.pass in
+    let actor = c.args.actor.now in
+    let next = c.begin.new.actor in
+    let idle = sym c.idle.ensures.is ∙ c.if-idle.true in
+    let may = may_come c.args.self.now old actor c.requires.own idle (c.requires.comes idle) in
+    λ first since. subst (λ (view : View). IsServed view new.seat.me.0 next) (sym (since_first old.idle first old.seat.me.0 actor idle since))
+    (begun_serves old new actor next may c.begin.ensures.begins)
+
+pub returns-clause-call : goal.returns-clause-call
+returns-clause-call g c =
+    let old = c.args.pass.now in
+    let actor = c.args.actor.now in
+    let busy = sym c.idle.ensures.is ∙ c.if-idle.false in
+    λ first since. advanced_serves first old c.advance.new.pass actor c.advance.new.actor c.advance.result (since_served old.idle first old.seat.me.0 actor busy since) c.advance.ensures.advances
+
+pub returns-then-idle-clause-own : goal.returns-then-idle-clause-own
+returns-then-idle-clause-own g c =
+    one_on c.args.self.now.core.shared c.args.pass.now c.begin.new.pass c.requires.own c.begin.ensures.own c.begin.ensures.worker c.begin.ensures.begins.began.same_files
+
+pub returns-clause-own : goal.returns-clause-own
+returns-clause-own g c =
+    let old = c.args.pass.now in
+    let new = c.advance.new.pass in
+    one_on c.args.self.now.core.shared old new c.requires.own c.advance.ensures.own c.advance.ensures.worker
+    (advanced_files old new c.args.actor.now c.advance.new.actor c.advance.result c.advance.ensures.advances)

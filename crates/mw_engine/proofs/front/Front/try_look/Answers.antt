@@ -1,0 +1,39 @@
+use Rattle.std.proofs.Common.{refl, sym, subst}
+use Rattle.mw_actor.specs.Acting.{Acting}
+use Rattle.mw_core.specs.Looking.{IsLook}
+use Rattle.mw_rule.specs.Carrying.{MayCome}
+use Rattle.mw_engine.specs.History.{IsSince, ReadStands}
+use Rattle.mw_engine.specs.Fronts.{read_of}
+use Rattle.mw_engine.proofs.Histories.{look_stands}
+use Rattle.mw_engine.proofs.Passing.{looks_files, one_on}
+use Rattle.mw_engine.proofs.Replying.{look_can}
+use Rattle.mw_engine.proofs.Requesting.{may_come}
+use Rattle.mw_engine.proofs.front.Front.try_look.Goals as goal
+
+pub try_look-requires-clause-look : goal.try_look-requires-clause-look
+try_look-requires-clause-look g c = subst (λ (one : Acting). IsLook one) (sym c.request-read.ensures) (record { address = c.args.address; job = refl; at_first = refl })
+
+pub try_look-requires-clause-comes : goal.try_look-requires-clause-comes
+try_look-requires-clause-comes g c =
+    let engine = c.args.self.now in
+    let pass = c.args.pass.now in
+    λ idle. subst (λ (one : Acting). MayCome pass.seat.me.0 pass.worker one) (sym c.request-read.ensures)
+    (may_come engine pass (read_of engine pass c.args.tenant c.args.address) c.requires.own idle (record { formed = c.requires.formed; is = refl }))
+
+pub returns-clause-call : goal.returns-clause-call
+returns-clause-call g c =
+    let old = c.args.pass.now in
+    let new = c.try_look.new.pass in
+    let result = c.try_look.result in
+    λ first. subst (λ (one : Acting). IsSince old.idle first old.seat.me.0 one → ReadStands result first new.seat.me.0 one) c.request-read.ensures
+    (look_stands old new c.request-read.result c.try_look.new.actor result c.try_look.ensures.looks first)
+
+pub returns-clause-own : goal.returns-clause-own
+returns-clause-own g c =
+    let old = c.args.pass.now in
+    let new = c.try_look.new.pass in
+    one_on c.args.self.now.core.shared old new c.requires.own c.try_look.ensures.own c.try_look.ensures.worker
+    (looks_files old new c.request-read.result c.try_look.new.actor c.try_look.result c.try_look.ensures.looks)
+
+pub returns-clause-answers : goal.returns-clause-answers
+returns-clause-answers g c = look_can c.args.pass.now c.try_look.new.pass c.request-read.result c.try_look.new.actor c.try_look.result c.args.address c.try_look.ensures.looks

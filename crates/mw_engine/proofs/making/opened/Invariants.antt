@@ -1,0 +1,15 @@
+use Rattle.std.proofs.Common.{◌≤◌, ◌++◌, List, length, drop}
+use Rattle.std.specs.Vec.Iter.{into_iter_items}
+use Rattle.mw_book.specs.declared.kept.Book.{Book}
+use Rattle.mw_table.specs.declared.origin.FileOpening.{FileOpening}
+use Rattle.mw_engine.specs.Opened.{AreMadeOf, FitLines}
+use Rattle.mw_engine.proofs.making.opened.Given as goal
+
+-- the lines and files that are left fit each other; what is made of them, behind what was made so far, is all
+abbrev pub invariant-loop-file : goal.invariant-loop-file
+invariant-loop-file g l = record {
+  fit : FitLines g.D.Disk.facts (drop (length l.openings.items) l.lines) (into_iter_items l.file-iterator);
+  made : (os : List FileOpening) (bs : List (Book g.row.D.Denot)) → AreMadeOf g.D.Disk.facts (drop (length l.openings.items) l.lines) (into_iter_items l.file-iterator) os bs
+      → AreMadeOf g.D.Disk.facts l.lines l.fn.files.items (l.openings.items ++ os) (l.books.items ++ bs);
+  few : length l.openings.items ≤ length l.lines;
+}

@@ -1,0 +1,45 @@
+//! A call on a tenant's file, under its lock.
+ghost use Rattle.std.specs.Prelude.{◌≡◌, ◌≢◌, ◌↔◌, None, IsTrue};
+ghost use Rattle.mw_world.specs.Definition.Calls.{called_at};
+ghost use Rattle.mw_table.specs.Carried.{IsCarried};
+ghost use Rattle.mw_table.specs.Meeting.{IsSamePass};
+ghost use Rattle.mw_engine.specs.Branding.{identity_on};
+ghost use Rattle.mw_engine.specs.Filing.{FilesOne};
+ghost use Rattle.mw_engine.specs.Passes.{IsOneOf};
+
+use crate::brand::EngineBrand;
+use crate::kept::Kept;
+use mw_actor::Actor;
+use mw_core::Core;
+use mw_disk::Disk;
+use mw_table::Pass;
+
+impl<J: EngineBrand, D: Disk> Kept<J, D> {
+    /// Whether it is the file of a request's tenant.
+    pub(crate) fn is_of(&self, actor: &Actor) -> bool
+        ensures { IsTrue result ↔ (self.now.tenant ≡ actor.now.tenant) }
+    {
+        self.tenant == actor.tenant()
+    }
+
+    /// The call on this file to which the pass's request has come.
+    pub(crate) fn file(&mut self, core: &Core, pass: &mut Pass, actor: &mut Actor)
+        requires engine { identity_on core.now.shared J.identity.lines ≡ J.identity }
+        requires own { IsOneOf core.now.shared pass.old }
+        requires carried { IsCarried pass.old actor.old }
+        requires call { called_at actor.old.point ≢ None }
+        requires whose { self.old.tenant ≡ actor.old.tenant }
+        ensures own { IsOneOf core.now.shared pass.new }
+        ensures same { IsSamePass pass.old pass.new }
+        ensures carried { IsCarried pass.new actor.new }
+        ensures files { FilesOne D.facts pass.old pass.new actor.old actor.new }
+    {
+        match self.right.take() {
+            Some(right) => {
+                let right = core.file(pass, actor, &mut self.book, right);
+                self.right = Some(right);
+            }
+            None => unreachable!(),
+        }
+    }
+}

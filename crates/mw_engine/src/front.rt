@@ -1,0 +1,20 @@
+//! What of an engine needs no lock.
+ghost use Rattle.std.specs.Prelude.{map};
+ghost use Rattle.mw_engine.specs.Agreeing.{Agrees};
+ghost use Rattle.mw_engine.specs.Lines.{line_of};
+
+use crate::listed::Listed;
+use arrayvec::ArrayVec;
+use mw_core::Core;
+use mw_words::MAX_TENANTS;
+
+/// What of an engine needs no lock: the shared words, the tenants' lines, and the hold. Of the shared words workers
+/// change atomic words alone.
+#[derive(Drop)]
+pub struct Front<H> {
+    pub(crate) core: Core,
+    pub(crate) lines: ArrayVec<Listed, MAX_TENANTS>,
+    pub(crate) pool: u16,
+    pub(crate) hold: H,
+    ghost agrees: { Agrees core.shared.table.shared.key (map line_of lines.items) pool },
+}

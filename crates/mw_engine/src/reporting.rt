@@ -1,0 +1,115 @@
+//! What is reported of the tenants and the pool.
+ghost use Rattle.std.specs.Prelude.{◌≡◌, ◌≤◌, ◌<◌, All, true, length};
+ghost use Rattle.mw_report.specs.Table.{AreWithinLimits, IsWithinLimits};
+ghost use Rattle.mw_words.specs.declared.limits.TheConstants.{MAX_QUOTA};
+ghost use Rattle.mw_engine.specs.Figures.{FoundDoor, FoundGate, HasLooked, TellTenants, TellsFree};
+ghost use Rattle.mw_engine.specs.Figures as figures;
+ghost use Rattle.mw_engine.specs.Identity.{quota_told};
+ghost use Rattle.mw_engine.specs.Fronts.{HasPass, lines_told};
+
+use crate::front::Front;
+use arrayvec::ArrayVec;
+use mw_report::{Figures, TenantFigures};
+use mw_table::Pass;
+use mw_words::{At, Door, Gate, MAX_TENANTS, WORN_NUMBER, copy_of_name};
+
+impl<H> Front<H> {
+    /// The figures of all tenants, and how many slots are neither taken nor worn. Each figure is what its word held
+    /// when it was loaded; two of them needn't be of one moment.
+    pub fn figures(&self, pass: &mut Pass) -> Figures
+        requires own { HasPass self.now pass.old }
+        requires idle { pass.old.idle ≡ true }
+        ensures own { HasPass self.now pass.new }
+        ensures looked { HasLooked pass.old pass.new }
+        ensures limits { AreWithinLimits result.tenants.items result.pool_free }
+        ensures tenants { TellTenants self.now.core.shared.pool (lines_told self.now) result.tenants.items pass.old.seat.me.0 pass.new.seat.me.0 }
+        ensures free { TellsFree self.now.core.shared.pool self.now.pool result.pool_free pass.old.seat.me.0 pass.new.seat.me.0 }
+    {
+        let tenants = self.tenant_figures(pass);
+        let pool_free = self.free_slots(pass);
+        Figures { tenants, pool_free }
+    }
+
+    /// The figures of all tenants.
+    fn tenant_figures(&self, pass: &mut Pass) -> ArrayVec<TenantFigures, MAX_TENANTS>
+        requires own { HasPass self.now pass.old }
+        requires idle { pass.old.idle ≡ true }
+        ensures own { HasPass self.now pass.new }
+        ensures looked { HasLooked pass.old pass.new }
+        ensures limits { All IsWithinLimits result.items }
+        ensures tells { TellTenants self.now.core.shared.pool (lines_told self.now) result.items pass.old.seat.me.0 pass.new.seat.me.0 }
+    {
+        let mut figures = ArrayVec::new();
+        for (tenant, line) in self.lines.iter().enumerate() {
+            let door = self.door(pass, tenant as u8);
+            figures.push(TenantFigures {
+                name: copy_of_name(&line.name),
+                words: line.words,
+                quota: line.quota,
+                used: door.used as u8,
+                up: !door.fault,
+            });
+        }
+        figures
+    }
+
+    /// How many slots are neither taken nor worn.
+    fn free_slots(&self, pass: &mut Pass) -> u16
+        requires own { HasPass self.now pass.old }
+        requires idle { pass.old.idle ≡ true }
+        ensures own { HasPass self.now pass.new }
+        ensures looked { HasLooked pass.old pass.new }
+        ensures few { result ≤ self.now.pool }
+        ensures tells { TellsFree self.now.core.shared.pool self.now.pool result pass.old.seat.me.0 pass.new.seat.me.0 }
+    {
+        let mut free = 0;
+        for slot in 0..self.pool {
+            let gate = self.gate(pass, slot as u8);
+            if is_free(gate) {
+                free += 1;
+            }
+        }
+        free
+    }
+
+    /// A tenant's door.
+    fn door(&self, pass: &mut Pass, tenant: u8) -> Door
+        requires own { HasPass self.now pass.old }
+        requires idle { pass.old.idle ≡ true }
+        requires there { tenant < length (lines_told self.now) }
+        ensures own { HasPass self.now pass.new }
+        ensures looked { HasLooked pass.old pass.new }
+        ensures found { FoundDoor self.now.core.shared.pool tenant result pass.old.seat.me.0 pass.new.seat.me.0 }
+        ensures few { result.used ≤ MAX_QUOTA }
+        ensures quota { quota_told (lines_told self.now) tenant ≤ MAX_QUOTA }
+    {
+        let bits = self.core.shared().figure(pass, At::Door(tenant));
+        match Door::unpack(bits) {
+            Some(door) => door,
+            None => unreachable!(),
+        }
+    }
+
+    /// A slot's gate.
+    fn gate(&self, pass: &mut Pass, slot: u8) -> Gate
+        requires own { HasPass self.now pass.old }
+        requires idle { pass.old.idle ≡ true }
+        requires there { slot < self.now.pool }
+        ensures own { HasPass self.now pass.new }
+        ensures looked { HasLooked pass.old pass.new }
+        ensures found { FoundGate self.now.core.shared.pool slot result pass.old.seat.me.0 pass.new.seat.me.0 }
+    {
+        let bits = self.core.shared().figure(pass, At::Gate(slot));
+        match Gate::unpack(bits) {
+            Some(gate) => gate,
+            None => unreachable!(),
+        }
+    }
+}
+
+/// Whether a slot is neither taken nor worn.
+fn is_free(gate: Gate) -> bool
+    ensures { result ≡ figures.is_free gate }
+{
+    !gate.taken && gate.seq < WORN_NUMBER
+}

@@ -1,0 +1,70 @@
+//! One atomic step of a request at a time.
+ghost use Rattle.std.specs.Prelude.{◌≡◌, true, false, is_some, None};
+ghost use Rattle.mw_actor.specs.Program.{replied};
+ghost use Rattle.mw_core.specs.declared.calls.Advance.TheVariants.{NeedsFile};
+ghost use Rattle.mw_core.specs.Advancing.{answer_of};
+ghost use Rattle.mw_rule.specs.declared.views.View.{View as Knowledge};
+ghost use Rattle.mw_table.specs.Carried.{IsCarried};
+ghost use Rattle.mw_table.specs.Passes.{IsOfSameWorker};
+ghost use Rattle.mw_engine.specs.History.{IsServed, IsSince, Stands};
+ghost use Rattle.mw_engine.specs.Fronts.{HasPass, IsRequestOfFront};
+ghost use Rattle.mw_engine.specs.Stepping.{EndsAs, IsAtCall, IsSameRequest, MakesStep};
+
+use crate::front::Front;
+use mw_actor::Actor;
+use mw_core::Advance;
+use mw_table::Pass;
+
+impl<H> Front<H> {
+    /// One atomic step of a request, on one shared word. Where the pass is idle the request comes to it with its
+    /// first step; else it is the one that the pass carries. Nothing is done where a call on the tenant's file is
+    /// next. Once the reply stands the pass is idle, and the request is noted, at a place that is right.
+    pub fn advance(&self, pass: &mut Pass, actor: &mut Actor) -> Advance
+        requires own { HasPass self.now pass.old }
+        requires comes { pass.old.idle ≡ true → IsRequestOfFront self.now pass.old.worker actor.old }
+        requires goes_on { pass.old.idle ≡ false → IsCarried pass.old actor.old }
+        ensures own { HasPass self.now pass.new }
+        ensures worker { IsOfSameWorker pass.old pass.new }
+        ensures step { MakesStep pass.old pass.new actor.old actor.new result }
+        ensures request { IsSameRequest actor.old actor.new }
+        ensures file { result ≡ NeedsFile → IsAtCall actor.new }
+        ensures call { (first : Knowledge) → IsSince pass.old.idle first pass.old.seat.me.0 actor.old → Stands first pass.new.seat.me.0 actor.new }
+        ensures goes_on { pass.new.idle ≡ false → IsCarried pass.new actor.new }
+        ensures idle { pass.new.idle ≡ is_some (replied actor.new) }
+    {
+        let ended = self.make_step(pass, actor);
+        if actor.reply().is_some() {
+            pass.rest(actor);
+        }
+        ended
+    }
+
+    /// The step. The pass isn't idle then, also where the reply stands.
+    fn make_step(&self, pass: &mut Pass, actor: &mut Actor) -> Advance
+        requires own { HasPass self.now pass.old }
+        requires comes { pass.old.idle ≡ true → IsRequestOfFront self.now pass.old.worker actor.old }
+        requires goes_on { pass.old.idle ≡ false → IsCarried pass.old actor.old }
+        ensures own { HasPass self.now pass.new }
+        ensures worker { IsOfSameWorker pass.old pass.new }
+        ensures ends { EndsAs pass.old.idle pass.old pass.new actor.old actor.new result }
+        ensures call { (first : Knowledge) → IsSince pass.old.idle first pass.old.seat.me.0 actor.old → IsServed first pass.new.seat.me.0 actor.new }
+        ensures carried { IsCarried pass.new actor.new }
+        ensures busy { replied actor.new ≡ None → pass.new.idle ≡ false }
+    {
+        if pass.idle() {
+            self.core.begin(pass, actor);
+            return ended(actor);
+        }
+        self.core.advance(pass, actor)
+    }
+}
+
+/// How a call ended that made a step, by the reply that stands after it.
+fn ended(actor: &Actor) -> Advance
+    ensures { result ≡ answer_of (replied actor.now) }
+{
+    match actor.reply() {
+        Some(_) => Advance::Finished,
+        None => Advance::Stepped,
+    }
+}

@@ -1,0 +1,167 @@
+//! What stops a worker in the middle of its request.
+ghost use Rattle.mw_disk.specs.Memory.{memory_facts};
+
+use mw_disk::{Disk, DiskFault, MemDisk};
+use mw_engine::{Hold, Point};
+use std::alloc::Global;
+use std::sync::atomic::{AtomicBool, AtomicU64, Ordering};
+use std::thread;
+
+/// How often who waits looks again.
+const MOST_TURNS: u32 = 1_000_000;
+
+/// Stops who comes to it as the one of a number, until all others have left or the turns are over. So a test on workers
+/// that wait for who is stopped fails, and ends.
+#[derive(Drop)]
+pub(crate) struct Latch {
+    /// How many come before the one that is stopped.
+    before: AtomicU64,
+    came: AtomicU64,
+    has_stopped: AtomicBool,
+    /// How many others haven't left.
+    others: AtomicU64,
+    is_open: AtomicBool,
+    has_expired: AtomicBool,
+}
+
+impl Latch {
+    /// One that stops nobody until it is set. It opens once so many others have left.
+    pub(crate) fn new(others: u64) -> Latch {
+        Latch {
+            before: AtomicU64::new(u64::MAX),
+            came: AtomicU64::new(0),
+            has_stopped: AtomicBool::new(false),
+            others: AtomicU64::new(others),
+            is_open: AtomicBool::new(false),
+            has_expired: AtomicBool::new(false),
+        }
+    }
+
+    /// From now on so many come before the one that is stopped.
+    pub(crate) fn set(&self, before: u64) {
+        self.came.store(0, Ordering::SeqCst);
+        self.before.store(before, Ordering::SeqCst);
+    }
+
+    /// Comes to it.
+    fn pass(&self) {
+        if self.came.fetch_add(1, Ordering::SeqCst) != self.before.load(Ordering::SeqCst) {
+            return;
+        }
+        self.has_stopped.store(true, Ordering::SeqCst);
+        if !comes_true(&self.is_open) {
+            self.has_expired.store(true, Ordering::SeqCst);
+        }
+    }
+
+    /// Waits until somebody was stopped. False if nobody was.
+    pub(crate) fn stops_one(&self) -> bool {
+        comes_true(&self.has_stopped)
+    }
+
+    /// One of the others leaves.
+    pub(crate) fn leave(&self) {
+        if self.others.fetch_sub(1, Ordering::SeqCst) == 1 {
+            self.is_open.store(true, Ordering::SeqCst);
+        }
+    }
+
+    /// Whether somebody was stopped, and went on only when all others had left.
+    pub(crate) fn has_held(&self) -> bool {
+        self.has_stopped.load(Ordering::SeqCst) && !self.has_expired.load(Ordering::SeqCst)
+    }
+}
+
+/// Waits until the flag is set. False if the turns are over before.
+fn comes_true(flag: &AtomicBool) -> bool {
+    for _ in 0..MOST_TURNS {
+        if flag.load(Ordering::SeqCst) {
+            return true;
+        }
+        thread::yield_now();
+    }
+    false
+}
+
+/// Stops worker 0 at a point, by a latch.
+#[derive(Drop)]
+pub(crate) struct StopAt<'l> {
+    pub(crate) latch: &'l Latch,
+    pub(crate) stop: Point,
+}
+
+impl Hold for StopAt<'_> {
+    fn at(&self, worker: u8, point: Point) {
+        if worker == 0 && point == self.stop {
+            self.latch.pass();
+        }
+    }
+}
+
+/// A kind of calls on a disk.
+#[derive(Clone, Copy, Debug, PartialEq, Eq)]
+pub(crate) enum DiskCall {
+    Write,
+    Sync,
+}
+
+/// A disk whose calls of a kind come to a latch before they are made.
+#[derive(Drop)]
+pub(crate) struct SlowDisk<'l> {
+    pub(crate) disk: MemDisk,
+    pub(crate) latch: &'l Latch,
+    pub(crate) slow: DiskCall,
+}
+
+impl SlowDisk<'_> {
+    /// Before a call of this kind.
+    fn before(&self, call: DiskCall) {
+        if call == self.slow {
+            self.latch.pass();
+        }
+    }
+}
+
+impl Disk for SlowDisk<'_> {
+    ghost facts = { λ slow. memory_facts slow.disk };
+
+    fn read_at(&mut self, at: u64, out: &mut [u8]) -> Result<(), DiskFault> {
+        self.disk.read_at(at, out)
+    }
+
+    fn write_at(&mut self, at: u64, bytes: &[u8]) -> Result<(), DiskFault> {
+        self.before(DiskCall::Write);
+        self.disk.write_at(at, bytes)
+    }
+
+    fn sync(&mut self) -> Result<(), DiskFault> {
+        self.before(DiskCall::Sync);
+        self.disk.sync()
+    }
+
+    fn len(&mut self) -> Result<u64, DiskFault> {
+        self.disk.len()
+    }
+
+    fn faults(&self) -> u64 {
+        self.disk.faults()
+    }
+}
+
+/// These disks, whose calls of a kind come to a latch. None where memory is refused.
+pub(crate) fn slow_disks<'l>(
+    alloc: Global,
+    disks: Vec<Option<MemDisk>>,
+    slow: DiskCall,
+    latch: &'l Latch,
+) -> Option<Vec<Option<SlowDisk<'l>>>> {
+    let mut all = Vec::with_capacity(alloc, disks.len()).ok()?;
+    for disk in disks {
+        let disk = match disk {
+            Some(disk) => Some(SlowDisk { disk, latch, slow }),
+            None => None,
+        };
+        all.push(disk).ok()?;
+    }
+    Some(all)
+}

@@ -1,0 +1,20 @@
+//! Tests of the engine: whole sessions by one worker, requests of several threads at once, and requests that are held
+//! while others go on. They stand apart from the crates that they test, so that those are proved once.
+#![tactic(auto)]
+
+#[cfg(test)]
+mod disks;
+#[cfg(test)]
+mod held_tests;
+#[cfg(test)]
+mod latch;
+#[cfg(test)]
+mod race_tests;
+#[cfg(test)]
+mod session_tests;
+#[cfg(test)]
+mod starts;
+#[cfg(test)]
+mod talks;
+#[cfg(test)]
+mod workers;

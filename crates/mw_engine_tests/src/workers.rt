@@ -1,0 +1,118 @@
+//! A worker of an engine.
+ghost use Rattle.std.specs.Prelude.{◌≡◌, true, All};
+ghost use Rattle.mw_engine.specs.Passes.{IsNew, IsPassOf};
+
+use mw_disk::Disk;
+use mw_engine::{Engine, EngineBrand, Hold, Pass};
+use mw_report::Figures;
+use mw_session::{Service, Session};
+use mw_words::{Entries, Entry, Job, Name, Reply};
+use std::alloc::Global;
+use std::sync::Wait;
+
+/// A worker of an engine, with its pass.
+#[derive(Drop)]
+pub(crate) struct Worker<'a, J: EngineBrand, D: Disk, H, R> {
+    engine: &'a Engine<J, D, H>,
+    rt: &'a R,
+    pass: Pass,
+    ghost own: { IsPassOf J.identity pass },
+    ghost idle: { pass.idle ≡ true },
+}
+
+impl<'a, J: EngineBrand, D: Disk, H, R> Worker<'a, J, D, H, R> {
+    pub(crate) fn new(engine: &'a Engine<J, D, H>, rt: &'a R, pass: Pass) -> Self
+        requires own { IsPassOf J.identity pass }
+        requires idle { pass.idle ≡ true }
+    {
+        Worker { engine, rt, pass }
+    }
+}
+
+impl<'a, J: EngineBrand, D: Disk + Drop, H: Hold + Drop, R: Wait> Worker<'a, J, D, H, R> {
+    /// The reply to a job of the tenant with this name. None where there is no such tenant, or it may not ask for this.
+    pub(crate) fn ask(&mut self, name: &[u8], job: &Job) -> Option<Reply> {
+        let name = Name::try_from(name).unwrap_or_default();
+        let (tenant, words) = self.engine.find(&name)?;
+        if !job.is_well_formed(usize::from(words)) {
+            return None;
+        }
+        Some(self.engine.serve(self.rt, &mut self.pass, tenant, job))
+    }
+
+    /// The reply to a read of a word of the tenant with this name. None where there is no such tenant or word.
+    pub(crate) fn read(&mut self, name: &[u8], address: u16) -> Option<Reply> {
+        let name = Name::try_from(name).unwrap_or_default();
+        let (tenant, words) = self.engine.find(&name)?;
+        if address >= words {
+            return None;
+        }
+        Some(self.engine.look(self.rt, &mut self.pass, tenant, address))
+    }
+
+    /// Meets another worker.
+    pub(crate) fn meet(&mut self, other: &mut Self) {
+        self.engine.meet(&mut self.pass, &mut other.pass);
+    }
+
+    /// What who says this to a session of this worker is told.
+    pub(crate) fn session(&mut self, alloc: Global, says: &[u8]) -> Vec<u8> {
+        let mut says = says;
+        let mut told = Vec::new(alloc);
+        let rt = self.rt;
+        Session::run(alloc, rt, &mut says, &mut told, self);
+        told
+    }
+}
+
+impl<J: EngineBrand, D: Disk + Drop, H: Hold + Drop, R: Wait> Service for Worker<'_, J, D, H, R> {
+    ghost use Rattle.std.specs.Prelude.{false, None, []};
+    ghost use Rattle.mw_engine.specs.Identity.{HasWords};
+
+    ghost tells = { λ _. false };
+
+    ghost noted = { λ _. [] };
+
+    ghost found = { λ _ _. None };
+
+    ghost has_words = { λ _. HasWords J.identity.lines };
+
+    fn find(&self, name: &Name) -> Option<(u8, u16)> {
+        self.engine.find(name)
+    }
+
+    fn ask(&mut self, tenant: u8, job: &Job) -> Reply {
+        self.engine.serve(self.rt, &mut self.pass, tenant, job)
+    }
+
+    fn figures(&mut self) -> Figures {
+        self.engine.figures(&mut self.pass)
+    }
+}
+
+/// A worker for each pass. None where memory is refused.
+pub(crate) fn workers_of<'a, J: EngineBrand, D: Disk, H, R>(
+    rt: &'a R,
+    alloc: Global,
+    engine: &'a Engine<J, D, H>,
+    passes: Vec<Pass>,
+) -> Option<Vec<Worker<'a, J, D, H, R>>>
+    requires { All (IsNew J.identity) passes.items }
+{
+    let mut workers = Vec::with_capacity(alloc, passes.len()).ok()?;
+    for pass in passes {
+        workers.push(Worker::new(engine, rt, pass)).ok()?;
+    }
+    Some(workers)
+}
+
+/// A change of one word from one value to another.
+pub(crate) fn change(addr: u16, expected: u64, new: u64) -> Job {
+    let mut entries = Entries::new();
+    entries.push(Entry {
+        addr,
+        expected,
+        new,
+    });
+    Job::Cas(entries)
+}

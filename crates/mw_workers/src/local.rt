@@ -1,0 +1,73 @@
+//! Local sockets: clients on the same machine, who come by a path of the file system.
+use std::fs::{self, File, Permissions};
+use std::io::{self, ErrorKind};
+use std::net::Net;
+use std::os::fd::{AsFd, AsRawFd};
+use std::os::unix::fs::{FileTypeExt, PermissionsExt};
+use std::os::unix::net::{SocketAddr, UnixListener, UnixStream};
+use std::path::Path;
+use std::rt::Files;
+
+/// How many clients may wait in the system, of whom the listener was not told yet.
+const BACKLOG: i32 = 128;
+
+/// Listens at this path, by a new socket file of this mode: who may write to the file may connect.
+///
+/// A socket file that is there already is removed where nobody listens at it, as at one that a killed
+/// server has left. So that of two servers who begin at a time one alone does so, the folder is locked
+/// meanwhile, and this waits for whoever else has locked it.
+///
+/// # Errors
+///
+/// The path is empty or too long for a socket, somebody listens there, another file is there, which
+/// stays as it is, or the system refuses. A socket file that was made stays, and nobody listens at it.
+pub(crate) fn listen_local<R: Files<File = File> + Net>(
+    rt: &R,
+    path: &str,
+    mode: u32,
+) -> io::Result<UnixListener> {
+    if path.is_empty() {
+        return Err(io::Error::from(ErrorKind::InvalidInput));
+    }
+    let address = SocketAddr::from_pathname(path)?;
+    let folder = File::open(rt, folder_of(path))?;
+    folder.lock()?;
+    make_way(rt, path)?;
+    let socket = rt.unix_socket()?;
+    rt.bind_unix(socket.as_fd(), &address)?;
+    // Before it listens nobody can connect, so nobody comes whom the mode keeps out.
+    fs::set_permissions(rt, path, Permissions::from_mode(mode))?;
+    if libc::net::listen(socket.as_raw_fd(), BACKLOG) != 0 {
+        return Err(io::Error::from(ErrorKind::Other));
+    }
+    Ok(UnixListener::from(socket))
+}
+
+/// The folder in which a path ends.
+fn folder_of(path: &str) -> &str {
+    match Path::new(path).parent() {
+        Some(folder) if !folder.as_str().is_empty() => folder.as_str(),
+        _ => ".",
+    }
+}
+
+/// Removes the socket file at a path, if there is one, and nobody listens at it.
+///
+/// # Errors
+///
+/// Somebody listens there, another file is there, or the system refuses. Nothing is removed.
+fn make_way<R: Files + Net>(rt: &R, path: &str) -> io::Result<()> {
+    let found = match fs::symlink_metadata(rt, path) {
+        Ok(found) => found,
+        Err(fault) if fault.kind() == ErrorKind::NotFound => return Ok(()),
+        Err(fault) => return Err(fault),
+    };
+    if !found.file_type().is_socket() {
+        return Err(io::Error::from(ErrorKind::AlreadyExists));
+    }
+    match UnixStream::connect(rt, path) {
+        Ok(_) => Err(io::Error::from(ErrorKind::AddrInUse)),
+        Err(fault) if fault.kind() == ErrorKind::ConnectionRefused => fs::remove_file(rt, path),
+        Err(fault) => Err(fault),
+    }
+}

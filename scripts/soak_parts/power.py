@@ -1,0 +1,225 @@
+"""The power goes: runs of the server are recorded, and what a cut between their calls may leave is opened and compared."""
+import itertools
+import random
+from dataclasses import dataclass, field, replace
+from pathlib import Path
+from typing import Dict, List, NamedTuple, Optional, Sequence, Tuple, Union
+
+from .checker import Verdict, judge
+from .crowd import Crowd, View, undecided_until
+from .history import NOTHING, UNDECIDED, Epoch, Request
+from .layout import read_file
+from .recording import Disk, FileLog, cuts, image, plain_images, random_image
+from .server import Plan, Programs, Server, Tenant, Wrong, make_files
+
+RECORDED = (Tenant("alone", 2, 1, 1), Tenant("pair", 3, 2, 2), Tenant("four", 8, 4, 8))
+CLIENTS = {"alone": 1, "pair": 2, "four": 4}
+WORKERS = 20
+SHORTEST_RECORDING, LONGEST_RECORDING = 0.01, 0.05
+SHARE_OF_FAILURES = 0.4
+IMAGES_A_RECORDING = 600
+SLOTS = 16
+"""How many images a server opens at once: as many as it may have tenants."""
+
+
+@dataclass
+class Told:
+    """What was asked of a tenant and told up to some moment, behind which nothing was: `cut` then."""
+    first: Tuple[int, ...]
+    requests: List[Request]
+    cut: int
+    judged: Dict[Tuple[int, ...], Verdict] = field(default_factory=dict)
+
+    def verdict(self, tenant: str, words: Tuple[int, ...]) -> Verdict:
+        """Whether these words may be found then."""
+        if words not in self.judged:
+            self.judged[words] = judge(Epoch(tenant, self.first, self.requests, words))
+        return self.judged[words]
+
+
+class Image(NamedTuple):
+    """What a power cut may leave of a tenant's file, and what is known of its words: the story until then, or the words
+    themselves, where the cut came in an opening of a file that has these."""
+    tenant: Tenant
+    data: bytes
+    known: Union[Told, Tuple[int, ...]]
+
+
+@dataclass
+class Opened:
+    """What was tried, and the complaints."""
+    complaints: List[str] = field(default_factory=list)
+    recordings: int = 0
+    failures: int = 0
+    moments: int = 0
+    moments_tried: int = 0
+    images: int = 0
+    unfinished: int = 0
+    openings_cut: int = 0
+    undecided_found: int = 0
+
+    def lines(self) -> List[str]:
+        """What to print."""
+        return [f"{self.images} images of power cuts, at {self.moments_tried} of {self.moments} moments between the calls on "
+                f"files of {self.recordings} runs, in {self.failures} of which a call failed",
+                f"{self.unfinished} with changes to finish, {self.openings_cut} cut off while that was done; in "
+                f"{self.undecided_found} changes were found, wholly, that were not answered then"]
+
+
+def told_until(first: Tuple[int, ...], requests: Sequence[Request], cut: int) -> Told:
+    """The story of a tenant as it is known at a moment: what is told later isn't, and what is sent later isn't there."""
+    until = []
+    for request in requests:
+        if request.sent < cut:
+            is_told = request.told is not None and request.told <= cut
+            reply = request.reply if is_told else NOTHING
+            undecided = reply.answer in UNDECIDED
+            until.append(replace(request, reply=reply, told=request.told if is_told else None,
+                                 until=cut if undecided else request.until))
+    return Told(first, until, cut)
+
+
+@dataclass
+class Moment:
+    """A time between two calls on a tenant's file, and the disk then. `requests` are all of the run."""
+    tenant: Tenant
+    first: Tuple[int, ...]
+    requests: Sequence[Request]
+    time: int
+    disk: Disk
+    told: Optional[Told] = None
+
+    def image(self, data: bytes) -> Image:
+        """What a cut leaves then, with what is known then."""
+        self.told = self.told or told_until(self.first, self.requests, self.time)
+        return Image(self.tenant, data, self.told)
+
+
+def moments_of(tenant: Tenant, durable: bytes, log: FileLog, requests: Sequence[Request]) -> List[Moment]:
+    """All moments of a run that began with new files."""
+    return [Moment(tenant, (0,) * tenant.words, requests, time, disk) for time, disk in cuts(durable, log)]
+
+
+def some_of(moments: Sequence[Moment], most: int, dice: random.Random) -> List[Image]:
+    """So many images: of each moment, or of some if that is too many, the two plain ones; all others of any moments."""
+    if not moments:
+        return []
+    plain = dice.sample(moments, min(len(moments), most // 4))
+    images = [moment.image(data) for moment in plain for data in plain_images(moment.disk)]
+    torn = [dice.choice(moments) for _ in range(most - len(images))]
+    return images + [moment.image(random_image(moment.disk, dice)) for moment in torn]
+
+
+class Power:
+    """Records runs and opens images. With `lie` the runs are on a disk that leaves out all syncs, which has to be found."""
+
+    def __init__(self, programs: Programs, folder: Path, dice: random.Random, lie: bool = False) -> None:
+        self.programs, self.folder, self.dice, self.lie = programs, folder, dice, lie
+        self.opened = Opened()
+        self.rounds = itertools.count(1)
+
+    def run(self, most: int) -> None:
+        """Opens so many images. It ends at the first complaint."""
+        try:
+            while self.opened.images < most and not self.opened.complaints:
+                moments = self.record()
+                room = min(IMAGES_A_RECORDING, most - self.opened.images)
+                self.open_all(some_of(moments, room, self.dice), most)
+                self.opened.moments += len(moments)
+                self.opened.moments_tried += sum(1 for moment in moments if moment.told is not None)
+        except (Wrong, OSError) as wrong:
+            self.opened.complaints.append(str(wrong))
+
+    def new_folder(self) -> Path:
+        """A folder for a next step, beside the earlier ones."""
+        folder = self.folder / str(next(self.rounds))
+        folder.mkdir()
+        return folder
+
+    def record(self) -> List[Moment]:
+        """A run of few clients from new files on: its moments."""
+        folder = self.new_folder()
+        make_files(self.programs, folder, RECORDED)
+        durable = {tenant: tenant.path(folder).read_bytes() for tenant in RECORDED}
+        failing = [tenant.name for tenant in RECORDED if self.dice.random() < SHARE_OF_FAILURES]
+        plan = Plan({name: self.dice.randint(3, 60) for name in failing}, lie=self.lie)
+        values = itertools.count(1)
+        views = [View(tenant, values, [0] * tenant.words) for tenant in RECORDED]
+        server = Server(self.programs, folder, RECORDED, WORKERS, plan)
+        try:
+            server.wait_until_ready()
+            every = [view for view in views for _ in range(CLIENTS[view.tenant.name])]
+            crowd = Crowd(server, every, len(every), self.dice)
+            crowd.run(self.dice.uniform(SHORTEST_RECORDING, LONGEST_RECORDING))
+        finally:
+            server.kill()
+        crowd.end()
+        self.opened.recordings += 1
+        logs = server.records()
+        self.opened.failures += any(log.failed_at is not None for log in logs.values())
+        moments = []
+        for view in views:
+            log = logs.get(view.tenant.name, FileLog())
+            undecided_until(view.requests, server.died)
+            moments += moments_of(view.tenant, durable[view.tenant], log, view.requests)
+        return moments
+
+    def open_all(self, images: List[Image], most: int) -> None:
+        """Opens all these images, and some of what a cut in such an opening leaves."""
+        waiting = list(images)
+        while waiting and not self.opened.complaints and self.opened.images < most:
+            now, waiting = waiting[:SLOTS], waiting[SLOTS:]
+            waiting += self.open_some(now)
+
+    def open_some(self, images: Sequence[Image]) -> List[Image]:
+        """Lets a server open these images and compares the words. Gives images of cuts in these openings."""
+        folder = self.new_folder()
+        slots = [replace(one.tenant, name=f"slot{k}") for k, one in enumerate(images)]
+        for slot, one in zip(slots, images):
+            slot.path(folder).write_bytes(one.data)
+        (folder / "tenants").write_text("".join(f"{s.name} {s.words} {s.quota} {s.name}.mw\n" for s in slots))
+        server = Server(self.programs, folder, slots, 4, Plan({}))
+        try:
+            server.wait_until_ready()
+            found = [server.words(slot) for slot in slots]
+        finally:
+            server.kill()
+        logs = server.records()
+        again = []
+        for slot, one, words in zip(slots, images, found):
+            self.compare(one, words, server)
+            again += self.cut_opening(one, logs.get(slot.name, FileLog()), words)
+        if not self.opened.complaints:
+            for path in folder.iterdir():
+                path.unlink()
+            folder.rmdir()
+        return again
+
+    def compare(self, one: Image, words: Optional[Tuple[int, ...]], server: Server) -> None:
+        """Looks at the words that a server found."""
+        self.opened.images += 1
+        name = one.tenant.name
+        wanted = read_file(one.data).words
+        if words is None:
+            self.opened.complaints.append(f"tenant {name}: an image that did not open: {one.data.hex()}; {server.notes()}")
+        elif words != wanted:
+            self.opened.complaints.append(f"tenant {name}: words {words} in place of {wanted}: {one.data.hex()}")
+        elif not isinstance(one.known, Told):
+            if words != one.known:
+                self.opened.complaints.append(f"tenant {name}: {words} behind a cut in an opening that found {one.known}: "
+                                              f"{one.data.hex()}")
+            self.opened.openings_cut += 1
+        else:
+            verdict = one.known.verdict(name, words)
+            self.opened.undecided_found += verdict.found > 0
+            self.opened.complaints += [f"{text}\n    found {words}: {one.data.hex()}" for text in verdict.complaints]
+
+    def cut_opening(self, one: Image, log: FileLog, words: Optional[Tuple[int, ...]]) -> List[Image]:
+        """One image of a cut in this opening, where it wrote."""
+        if len(log.calls) == log.opened:
+            return []
+        self.opened.unfinished += 1
+        if words is None or not isinstance(one.known, Told):
+            return []
+        disks = [disk for _, disk in cuts(one.data, log)]
+        return [Image(one.tenant, image(self.dice.choice(disks), self.dice), words)]
