@@ -48,13 +48,20 @@ module _ {D : Type 0} (facts : D → Facts) (identity : Identity) where
     its = λ one is. let same : right ≡ one = cc in sym (ap (λ (r : FileRight). r.tenant) same) ∙ its;
   }
 
+  -- the books and the rights of the same numbers agree, whichever of the tenants come first
+  abbrev pub ArePaired : List (Book D) → List FileRight → Type 0
+  ArePaired books rights = (index : ℕ) (book : Book D) (right : FileRight) → slice_get books index ≡ Some book → slice_get rights index ≡ Some right → IsKept facts identity book right
+
+  pub paired : (books : List (Book D)) (rights : List FileRight) → AreKept facts identity books rights → ArePaired books rights
+  paired books rights kept = λ index book right is its. (kept index book right is its).1
+
   -- of the books and rights that are left the first ones are kept so, and those behind them
-  pub first_kept : (book : Book D) (right : FileRight) (books left : List (Book D)) (rights others : List FileRight) → books ≡ book ∷ left → rights ≡ right ∷ others → AreKept facts identity books rights
+  pub first_kept : (book : Book D) (right : FileRight) (books left : List (Book D)) (rights others : List FileRight) → books ≡ book ∷ left → rights ≡ right ∷ others → ArePaired books rights
       → IsKept facts identity book right
   first_kept book right books left rights others at also kept = kept 0 book right (ap (λ all. slice_get all 0) at) (ap (λ all. slice_get all 0) also)
 
-  pub rest_kept : (book : Book D) (right : FileRight) (books left : List (Book D)) (rights others : List FileRight) → books ≡ book ∷ left → rights ≡ right ∷ others → AreKept facts identity books rights
-      → AreKept facts identity left others
+  pub rest_kept : (book : Book D) (right : FileRight) (books left : List (Book D)) (rights others : List FileRight) → books ≡ book ∷ left → rights ≡ right ∷ others → ArePaired books rights
+      → ArePaired left others
   rest_kept book right books left rights others at also kept =
       λ tenant one other is its. kept (suc tenant) one other (ap (λ all. slice_get all (suc tenant)) at ∙ is) (ap (λ all. slice_get all (suc tenant)) also ∙ its)
 

@@ -99,7 +99,7 @@ module _ {D : Type 0} (facts : D → Facts) (shared : Shared) (config : Config) 
     pub a_right_each : length rights ≡ length kept
     a_right_each = opened.count ∙ (tenants_are ∙ sym as_many)
 
-    -- each book agrees with its right
+    -- each right is its tenant's, and the book agrees with it
     pub books_agree : AreKept facts (identity_on shared (map line_of kept)) books rights
     books_agree = λ tenant book right at_book at_right.
         let one = opened.each tenant right at_right in
@@ -108,15 +108,17 @@ module _ {D : Type 0} (facts : D → Facts) (shared : Shared) (config : Config) 
         let first = both.0 in
         let told : file_kept right ≡ rights_opened tenant (opening_at os tenant).quota config.pool (opening_at os tenant).words (not (opening_at os tenant).is_up) =
         ap (λ (view : View). file_among view.files) one.view
-        ∙ ap (λ (given : List Opening). rights_opened tenant (opening_at given tenant).quota config.pool (opening_at given tenant).words (not (opening_at given tenant).is_up)) given_is in
-        record {
-          own = one.own;
-          opened = both.1 ∙ (λ i. (opening_at (sym openings_are i) (sym one.whose i)).is_up);
-          agrees = agrees_once facts book (file_kept right) (opening_at (openings_of shared.table.shared.key) right.tenant).quota (config_of shared.table.shared.key).pool (subst (λ (rights : FileRights). Agrees facts book rights (opening_at (openings_of shared.table.shared.key) right.tenant).quota (config_of shared.table.shared.key).pool) (sym told)
-              (subst (λ (n : ℕ). Agrees facts book (rights_opened tenant (opening_at os tenant).quota config.pool (opening_at os tenant).words (not (opening_at os tenant).is_up))
-              (opening_at (openings_of shared.table.shared.key) n).quota (config_of shared.table.shared.key).pool) (sym one.whose)
-              (subst (λ (given : List Opening). Agrees facts book (rights_opened tenant (opening_at os tenant).quota config.pool (opening_at os tenant).words (not (opening_at os tenant).is_up))
-              (opening_at given tenant).quota (config_of shared.table.shared.key).pool) (sym openings_are)
-              (subst (λ (c : Config). Agrees facts book (rights_opened tenant (opening_at os tenant).quota config.pool (opening_at os tenant).words (not (opening_at os tenant).is_up))
-              (opening_at os tenant).quota c.pool) (sym config_is) first))));
-        }
+        ∙ ap (λ (given : List Opening). rights_opened tenant (opening_at given tenant).quota config.pool (opening_at given tenant).words (not (opening_at given tenant).is_up)) given_is in (
+          one.whose,
+          record {
+            own = one.own;
+            opened = both.1 ∙ (λ i. (opening_at (sym openings_are i) (sym one.whose i)).is_up);
+            agrees = agrees_once facts book (file_kept right) (opening_at (openings_of shared.table.shared.key) right.tenant).quota (config_of shared.table.shared.key).pool (subst (λ (rights : FileRights). Agrees facts book rights (opening_at (openings_of shared.table.shared.key) right.tenant).quota (config_of shared.table.shared.key).pool) (sym told)
+                (subst (λ (n : ℕ). Agrees facts book (rights_opened tenant (opening_at os tenant).quota config.pool (opening_at os tenant).words (not (opening_at os tenant).is_up))
+                (opening_at (openings_of shared.table.shared.key) n).quota (config_of shared.table.shared.key).pool) (sym one.whose)
+                (subst (λ (given : List Opening). Agrees facts book (rights_opened tenant (opening_at os tenant).quota config.pool (opening_at os tenant).words (not (opening_at os tenant).is_up))
+                (opening_at given tenant).quota (config_of shared.table.shared.key).pool) (sym openings_are)
+                (subst (λ (c : Config). Agrees facts book (rights_opened tenant (opening_at os tenant).quota config.pool (opening_at os tenant).words (not (opening_at os tenant).is_up))
+                (opening_at os tenant).quota c.pool) (sym config_is) first))));
+          },
+        )

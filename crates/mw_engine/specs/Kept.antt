@@ -58,9 +58,9 @@ module _ {D : Type 0} (facts : D → Facts) where
       pub opened : is_some book.held ≡ (opening_at identity.openings right.tenant).is_up
       pub agrees : AgreesOnce book (file_kept right) (opening_at identity.openings right.tenant).quota identity.config.pool
 
-    -- So it is of the books and the rights of the same numbers.
+    -- So it is of the books and the rights of the same numbers; and each right is the one to the file of the tenant that has its number.
     abbrev pub AreKept : List (Book D) → List FileRight → Type 0
-    AreKept books rights = (tenant : ℕ) (book : Book D) (right : FileRight) → slice_get books tenant ≡ Some book → slice_get rights tenant ≡ Some right → IsKept book right
+    AreKept books rights = (tenant : ℕ) (book : Book D) (right : FileRight) → slice_get books tenant ≡ Some book → slice_get rights tenant ≡ Some right → (right.tenant ≡ tenant) × IsKept book right
 
     -- A lock keeps the right to this tenant's file with its book.
     pub record KeepsFor (book : Book D) (right : Option FileRight) (tenant : ℕ) : Type 0 where

@@ -3,8 +3,7 @@ use Rattle.std.specs.Option.{option_to_list}
 use Rattle.std.specs.Vec.Iter.{into_iter_items}
 use Rattle.std.proofs.Common.{ap, sym, subst, ◌∙◌, length-append, arith}
 use Rattle.mw_table.specs.declared.right.FileRight.{FileRight}
-use Rattle.mw_engine.specs.Kept.{AreKept}
-use Rattle.mw_engine.proofs.Keeping.{first_kept, keeps_some, rest_kept}
+use Rattle.mw_engine.proofs.Keeping.{ArePaired, first_kept, keeps_some, paired, rest_kept}
 use Rattle.mw_engine.proofs.starting.locked.Goals as goal
 
 pub loop-book-init : goal.loop-book-init
@@ -18,7 +17,8 @@ loop-book-init g c =
     let of_rights = ap length rights in
     let none = ap length c.in_ok-made.ensures.items in
     record {
-      kept = subst (λ bs. AreKept facts identity bs (into_iter_items c.into_iter-rights.result)) (sym books) (subst (λ rs. AreKept facts identity c.args.books.items rs) (sym rights) c.requires.kept);
+      kept = subst (λ bs. ArePaired facts identity bs (into_iter_items c.into_iter-rights.result)) (sym books)
+          (subst (λ rs. ArePaired facts identity c.args.books.items rs) (sym rights) (paired facts identity c.args.books.items c.args.rights.items c.requires.kept));
       even = omega (arith, even, of_books, of_rights);
       all = omega (arith, none, of_books);
     }
