@@ -32,7 +32,7 @@ second_of [] = 0
 second_of (one ∷ rest) = one.1
 
 -- the pass tells the number of its worker's next attempt
-attempt_now : (pass : Pass) (reins : Reins) (actor : Acting) → pass.seat.me.0.reins ≡ settled reins actor ∷ [] → reins.attempt ≡ pass.attempt
+pub attempt_now : (pass : Pass) (reins : Reins) (actor : Acting) → pass.seat.me.0.reins ≡ settled reins actor ∷ [] → reins.attempt ≡ pass.attempt
 attempt_now pass reins actor only =
     sym (ap (λ (p : ℕ × ℕ). p.1) (settled_number reins actor (replied actor))) ∙ ap second_of (sym (ap (map number_of) only) ∙ pass.numbered)
 

@@ -1,6 +1,6 @@
 -- The reply to a request is one that its job can have.
-use Rattle.std.specs.Prelude.{◌≡◌, ℕ, ◌-◌, ◌==◌, Bool, true, false, nat_lt, Option, Some, None, IfSome, [], ◌∷◌, List, Result, Ok, Err, IfOk}
-use Rattle.std.proofs.Common.{sym, subst, ◌∙◌, get_or, ap}
+use Rattle.std.specs.Prelude.{◌≡◌, ℕ, ◌-◌, ◌==◌, Bool, true, false, nat_lt, Option, Some, None, IfSome, [], ◌∷◌, ◌++◌, List, map, Result, Ok, Err, IfOk}
+use Rattle.std.proofs.Common.{refl, sym, subst, ◌∙◌, get_or, ap, arith}
 use Rattle.std.proofs.lemmas.Option.{none-some, same_Some, slice_get-get_or, slice_get_within}
 use Rattle.mw_words.specs.declared.gates.Gate.{Gate}
 use Rattle.mw_words.specs.declared.jobs.Job.{Job}
@@ -19,27 +19,36 @@ use Rattle.mw_look.specs.declared.points.Point.{Point as ReadPoint}
 use Rattle.mw_look.specs.declared.points.Point.TheVariants as look
 use Rattle.mw_look.specs.declared.points.Trail.{Trail}
 use Rattle.mw_look.specs.declared.points.Trail.TheVariants.{Held as ByHeld, Planted as ByPlanted}
+use Rattle.mw_look.specs.News.{news_of}
 use Rattle.mw_look.specs.Program.{first as first_of_read, word_of, seq_of, same_word, word_seen, pinned, pinning, first_entry, next_entry, address_seen, resumed, goes as goes_read, reply_at as reply_of_read}
 use Rattle.mw_look.specs.Runs.{after}
+use Rattle.mw_look.specs.Steps.{place}
 use Rattle.mw_look.proofs.RangeLaws.{either_way}
 use Rattle.mw_actor.specs.declared.points.Point.{Point}
 use Rattle.mw_actor.specs.declared.points.Point.TheVariants.{Read}
 use Rattle.mw_actor.specs.Acting.{Acting, first_point}
+use Rattle.mw_actor.specs.Asks.{asks}
 use Rattle.mw_actor.specs.Program.{goes, replied, reply_at, tells}
 use Rattle.mw_disk.specs.Facts.{Facts}
 use Rattle.mw_rule.specs.declared.views.Reins.{Reins}
 use Rattle.mw_rule.specs.declared.views.View.{View}
 use Rattle.mw_rule.specs.Calling.{Answered}
+use Rattle.mw_rule.specs.Carrying.{NotesAs, finished_as, settled, settled_as, stepped, told as told_by, told_of}
+use Rattle.mw_rule.specs.FromLaws.{went_well}
+use Rattle.mw_rule.specs.Rule.{Each, IsFinished}
+use Rattle.mw_rule.proofs.Calling.{calls_end}
+use Rattle.mw_rule.proofs.FromLaws.{requests_go_on_from_calls}
 use Rattle.mw_table.specs.declared.shared.Pass.{Pass}
+use Rattle.mw_table.specs.Carried.{IsCarried}
 use Rattle.mw_core.specs.declared.calls.Advance.{Advance}
 use Rattle.mw_core.specs.declared.looking.WhyAgain.{WhyAgain}
-use Rattle.mw_core.specs.Advancing.{Ends}
+use Rattle.mw_core.specs.Advancing.{Advances, Begins, Ends, StepsOnce}
 use Rattle.mw_core.specs.Looking.{Looks}
 use Rattle.mw_world.specs.Definition.Calls.{Called, called_at}
 use Rattle.mw_engine.specs.Filing.{FilesOne}
-use Rattle.mw_engine.specs.History.{IsAnswered}
+use Rattle.mw_engine.specs.History.{IsServed}
 use Rattle.mw_engine.specs.Replies.{IsOnItsWay, IsReplyTo, SaysInRead}
-use Rattle.mw_engine.specs.Stepping.{EndsAs, MakesStep}
+use Rattle.mw_engine.proofs.Histories.{attempt_now}
 
 -- A read says a value or a fault, wherever it goes.
 module _ (asked : ℕ) where
@@ -100,50 +109,16 @@ pub first_way : (tenant : ℕ) (job : Job) → IsOnItsWay job (first_point tenan
 first_way tenant (Get address) = tt
 first_way tenant (Cas entries) = tt
 
--- And it stays so, whatever it is told.
-goes_way : (actor : Acting) (next : ℕ) (job : Job) (point : Point) (news : News) → IsOnItsWay job point → IsOnItsWay job (goes actor next point news)
-goes_way actor next (Get address) (Read reading) news way = read_says address reading.address reading.point news way
-goes_way actor next (Get address) point news way = absurd way
-goes_way actor next (Cas entries) point news way = tt
-
-told_way : (actor next : Acting) (news : News) (attempt : ℕ) → next ≡ tells actor news attempt → IsOnItsWay actor.job actor.point → IsOnItsWay next.job next.point
-told_way actor next news attempt is way = subst (λ (one : Acting). IsOnItsWay one.job one.point) (sym is) (goes_way actor attempt actor.job actor.point news way)
-
-same_way : (actor next : Acting) → next ≡ actor → IsOnItsWay actor.job actor.point → IsOnItsWay next.job next.point
-same_way actor next same way = subst (λ (one : Acting). IsOnItsWay one.job one.point) (sym same) way
-
-ends_way : (old new : Pass) (actor next : Acting) (result : Advance) (reply : Option Reply) (called : Option Called) → Ends old new actor next result reply called
-    → IsOnItsWay actor.job actor.point → IsOnItsWay next.job next.point
-ends_way old new actor next result (Some reply) called ends way = same_way actor next ends.1.same_request way
-ends_way old new actor next result None (Some call) ends way = same_way actor next ends.1.same_request way
-ends_way old new actor next result None None ends way = told_way actor next _ new.attempt ends.1.told way
-
-ends_as_way : (idle : Bool) (old new : Pass) (actor next : Acting) (result : Advance) → EndsAs idle old new actor next result → IsOnItsWay actor.job actor.point → IsOnItsWay next.job next.point
-ends_as_way true old new actor next result ends way = told_way actor next _ new.attempt ends.1.told way
-ends_as_way false old new actor next result ends way = ends_way old new actor next result (replied actor) (called_at actor.point) ends way
-
--- over a step
-pub step_way : (old new : Pass) (actor next : Acting) (result : Advance) → MakesStep old new actor next result → IsOnItsWay actor.job actor.point → IsOnItsWay next.job next.point
-step_way old new actor next result step way = ends_as_way old.idle old step.made actor next result step.ends way
-
--- over a call on its file
-pub file_way : {D : Type 0} (facts : D → Facts) (old new : Pass) (actor next : Acting) → FilesOne facts old new actor next → IsOnItsWay actor.job actor.point → IsOnItsWay next.job next.point
-file_way facts old new actor next files way = told_way actor next _ new.attempt files.once.told way
-
--- So the reply is one that the job can have: of a read by its way, of a change since it is right at its place.
-read_can : (address : ℕ) (point : ReadPoint) (reply : Reply) → SaysInRead address point → reply_of_read point ≡ Some reply → IsReplyTo (Get address) reply
-read_can address (look.Replied found) reply says is = subst (IsReplyTo (Get address)) (same_Some found reply is) says
-read_can address point reply says is = absurd (none-some reply is)
-
-pub look_can : (old new : Pass) (actor next : Acting) (result : Result Reply WhyAgain) (asked : ℕ) → Looks old new actor next result → IfOk result (IsReplyTo (Get asked))
-look_can old new actor next (Ok reply) asked looks =
-    read_can asked (after (first_of_read actor.tenant looks.address) looks.news).point reply (after_says asked actor.tenant looks.address looks.news) (ap replied (sym looks.next_is) ∙ looks.ends)
-look_can old new actor next (Err why) asked looks = tt
+-- what is so of each reply that may stand is so of the one that stands
+if_some : (found : Option Reply) (P : Reply → Type 0) → ((reply : Reply) → found ≡ Some reply → P reply) → IfSome found P
+if_some None P so = tt
+if_some (Some reply) P so = so reply refl
 
 abbrev IsChange : Job → Type 0
 IsChange (Get address) = ⊥
 IsChange (Cas entries) = Unit {0}
 
+-- The reply to a change is one that it can have, since it is right at its place.
 change_can : (first now : View) (reins : Reins) (tenant : ℕ) (job : Job) (reply : Reply) → IsChange job → Answered first now reins tenant job reply → IsReplyTo job reply
 change_can first now reins tenant (Get address) reply change answered = absurd change
 change_can first now reins tenant (Cas entries) (Val value) change answered = absurd (let reads = answered.right.reads in cc)
@@ -162,15 +137,102 @@ change_can first now reins tenant (Cas entries) Busy change answered = tt
 change_can first now reins tenant (Cas entries) Fault change answered = tt
 change_can first now reins tenant (Cas entries) Worn change answered = tt
 
-can_have : (first now : View) (tenant : ℕ) (job : Job) (point : Point) (reply : Reply) → IsOnItsWay job point → reply_at point ≡ Some reply → IsAnswered first now tenant job reply → IsReplyTo job reply
-can_have first now tenant (Get address) (Read reading) reply way is answered = read_can address reading.point reply way is
-can_have first now tenant (Get address) point reply way is answered = absurd way
-can_have first now tenant (Cas entries) point reply way is answered = change_can first now answered.reins tenant (Cas entries) reply tt answered.answered
+-- A request stays on its way, whatever it is told, if a change that has its reply then has one that it can have.
+goes_way : (actor : Acting) (next : ℕ) (job : Job) (point : Point) (news : News) → IsOnItsWay job point
+    → (IsChange job → (reply : Reply) → reply_at (goes actor next point news) ≡ Some reply → IsReplyTo job reply) → IsOnItsWay job (goes actor next point news)
+goes_way actor next (Get address) (Read reading) news way can = read_says address reading.address reading.point news way
+goes_way actor next (Get address) point news way can = absurd way
+goes_way actor next (Cas entries) point news way can = if_some (reply_at (goes actor next point news)) (IsReplyTo (Cas entries)) (can tt)
 
-pub reply_can : (first now : View) (actor : Acting) (tenant : ℕ) (job : Job) (reply : Reply) → actor.job ≡ job → IsOnItsWay actor.job actor.point → replied actor ≡ Some reply
-    → IsAnswered first now tenant job reply → IsReplyTo job reply
-reply_can first now actor tenant job reply same way is answered =
-    can_have first now tenant job actor.point reply (subst (λ (one : Job). IsOnItsWay one actor.point) same way) is answered
+-- a change that has its reply has one that it can have
+abbrev ChangeCan : Acting → Type 0
+ChangeCan actor = IsChange actor.job → (reply : Reply) → replied actor ≡ Some reply → IsReplyTo actor.job reply
+
+told_way : (actor next : Acting) (news : News) (attempt : ℕ) → next ≡ tells actor news attempt → ChangeCan next → IsOnItsWay actor.job actor.point → IsOnItsWay next.job next.point
+told_way actor next news attempt is can way =
+    subst (λ (one : Acting). IsOnItsWay one.job one.point) (sym is) (goes_way actor attempt actor.job actor.point news way (subst (λ (one : Acting). ChangeCan one) is can))
+
+same_way : (actor next : Acting) → next ≡ actor → IsOnItsWay actor.job actor.point → IsOnItsWay next.job next.point
+same_way actor next same way = subst (λ (one : Acting). IsOnItsWay one.job one.point) (sym same) way
+
+-- a request that is answered once it was served
+served_can : (first now : View) (actor : Acting) → IsServed first now actor → ChangeCan actor
+served_can first now actor served change reply is =
+    change_can first now served.reins actor.tenant actor.job reply change (calls_end first now served.reins actor reply served.serves is)
+
+-- what holds of each holds of the last
+each_last : {A : Type 0} (P : A → Type 0) (all : List A) (last : A) → Each P (all ++ last ∷ []) → P last
+each_last P [] last holds = holds.0
+each_last P (one ∷ all) last holds = each_last P all last holds.1
+
+-- and one that a pass carried when it made the step
+stepped_can : (old new : Pass) (actor next : Acting) → IsCarried old actor → replied actor ≡ None → StepsOnce old new actor next → ChangeCan next
+stepped_can old new actor next carried running once change reply is =
+    let reins = carried.reins in
+    let mine : Reins = record reins { actor = Some actor } in
+    let got = once.got in
+    let after : Reins = stepped got mine actor in
+    let told : Acting = told_of got reins.attempt actor in
+    let had : old.seat.me.0.reins ≡ mine ∷ [] = carried.carries.only ∙ ap (λ (found : Option Reply). settled_as reins actor found ∷ []) running in
+    let only : new.seat.me.0.reins ≡ settled after told ∷ [] = once.took.reins ∙ ap (map (told_by got)) had in
+    let same : told ≡ next = ap (tells actor (news_of (place (asks actor)) got)) (attempt_now new after told only) ∙ sym once.told in
+    let noted = subst (λ (found : Option Reply). NotesAs after actor.tenant reins.begun actor.job found old.seat.me.0.mine new.seat.me.0.mine) (ap replied same ∙ is) (once.took.ends mine actor had refl) in
+    let right = each_last (IsFinished new.seat.me.0) old.seat.me.0.mine (finished_as after actor.tenant actor.job reply noted.place)
+    (subst (Each (IsFinished new.seat.me.0)) noted.noted once.took.right.mine) in
+    let first : View = record old.seat.me.0 { seen = [] } in
+    let answered : Answered first new.seat.me.0 after actor.tenant actor.job reply = record {
+      place = noted.place;
+      noted = noted.noted;
+      no_smaller = omega arith;
+      within = right.within;
+      right = right.right;
+      ground = right.ground;
+    } in
+    let same_job = ap (λ (one : Acting). one.job) same in
+    change_can first new.seat.me.0 after actor.tenant next.job reply change (subst (λ (job : Job). Answered first new.seat.me.0 after actor.tenant job reply) same_job answered)
+
+-- over its first step
+pub begins_way : (old new : Pass) (actor next : Acting) → Begins old new actor next → IsServed old.seat.me.0 new.seat.me.0 next → IsOnItsWay actor.job actor.point → IsOnItsWay next.job next.point
+begins_way old new actor next begins served way = told_way actor next _ new.attempt begins.told (served_can old.seat.me.0 new.seat.me.0 next served) way
+
+ends_way : (old new : Pass) (actor next : Acting) (result : Advance) (reply : Option Reply) (called : Option Called) → replied actor ≡ reply → IsCarried old actor
+    → Ends old new actor next result reply called → IsOnItsWay actor.job actor.point → IsOnItsWay next.job next.point
+ends_way old new actor next result (Some reply) called is carried ends way = same_way actor next ends.1.same_request way
+ends_way old new actor next result None (Some call) is carried ends way = same_way actor next ends.1.same_request way
+ends_way old new actor next result None None is carried ends way = told_way actor next _ new.attempt ends.1.told (stepped_can old new actor next carried is ends.1) way
+
+-- over a step
+pub advanced_way : (old new : Pass) (actor next : Acting) (result : Advance) → IsCarried old actor → Advances old new actor next result → IsOnItsWay actor.job actor.point
+    → IsOnItsWay next.job next.point
+advanced_way old new actor next result carried advances way = ends_way old new actor next result (replied actor) (called_at actor.point) refl carried advances way
+
+-- over a call on its file, after which it has no reply yet
+pub file_way : {D : Type 0} (facts : D → Facts) (old new : Pass) (actor next : Acting) → FilesOne facts old new actor next → IsOnItsWay actor.job actor.point → IsOnItsWay next.job next.point
+file_way facts old new actor next files way =
+    let once = files.once in
+    let silent = ap replied once.told ∙ (requests_go_on_from_calls actor once.called once.comes_to).onward (went_well once.end) new.attempt in
+    told_way actor next _ new.attempt once.told (λ change reply is. absurd (none-some reply (sym silent ∙ is))) way
+
+-- So the reply is one that the job can have.
+read_can : (address : ℕ) (point : ReadPoint) (reply : Reply) → SaysInRead address point → reply_of_read point ≡ Some reply → IsReplyTo (Get address) reply
+read_can address (look.Replied found) reply says is = subst (IsReplyTo (Get address)) (same_Some found reply is) says
+read_can address point reply says is = absurd (none-some reply is)
+
+pub look_can : (old new : Pass) (actor next : Acting) (result : Result Reply WhyAgain) (asked : ℕ) → Looks old new actor next result → IfOk result (IsReplyTo (Get asked))
+look_can old new actor next (Ok reply) asked looks =
+    read_can asked (after (first_of_read actor.tenant looks.address) looks.news).point reply (after_says asked actor.tenant looks.address looks.news) (ap replied (sym looks.next_is) ∙ looks.ends)
+look_can old new actor next (Err why) asked looks = tt
+
+can_have : (job : Job) (point : Point) (reply : Reply) → IsOnItsWay job point → reply_at point ≡ Some reply → IsReplyTo job reply
+can_have (Get address) (Read reading) reply way is = read_can address reading.point reply way is
+can_have (Get address) point reply way is = absurd way
+can_have (Cas entries) point reply way is = subst (λ (found : Option Reply). IfSome found (IsReplyTo (Cas entries))) is way
+
+pub way_can : (actor : Acting) → IsOnItsWay actor.job actor.point → IfSome (replied actor) (IsReplyTo actor.job)
+way_can actor way = if_some (replied actor) (IsReplyTo actor.job) (λ reply is. can_have actor.job actor.point reply way is)
+
+pub reply_can : (actor : Acting) (job : Job) (reply : Reply) → actor.job ≡ job → IsOnItsWay actor.job actor.point → replied actor ≡ Some reply → IsReplyTo job reply
+reply_can actor job reply same way is = can_have job actor.point reply (subst (λ (one : Job). IsOnItsWay one actor.point) same way) is
 
 -- the reply that was found is the one that stands
 pub says_so : (result found : Option Reply) → result ≡ found → IfSome result (λ reply. found ≡ Some reply)

@@ -1,5 +1,5 @@
 -- Which replies a job can have, whatever a tenant's words are.
-use Rattle.std.specs.Prelude.{◌≡◌, ◌≢◌, ℕ, Any}
+use Rattle.std.specs.Prelude.{◌≡◌, ◌≢◌, ℕ, Any, IfSome}
 use Rattle.mw_words.specs.declared.jobs.Entry.{Entry}
 use Rattle.mw_words.specs.declared.jobs.Job.{Job}
 use Rattle.mw_words.specs.declared.jobs.Job.TheVariants.{Get, Cas}
@@ -9,6 +9,7 @@ use Rattle.mw_look.specs.declared.points.Point.{Point as ReadPoint}
 use Rattle.mw_look.specs.declared.points.Point.TheVariants.{Replied}
 use Rattle.mw_actor.specs.declared.points.Point.{Point}
 use Rattle.mw_actor.specs.declared.points.Point.TheVariants.{Read}
+use Rattle.mw_actor.specs.Program.{reply_at}
 
 -- a change with this entry is refused where the word at this address has this value: the entry is of that word, and
 -- expects another value
@@ -37,8 +38,8 @@ abbrev pub SaysInRead : ℕ → ReadPoint → Type 0
 SaysInRead address (Replied reply) = IsReplyTo (Get address) reply
 SaysInRead address point = Unit {0}
 
--- A read is at points of a read, and on the way to a reply that it can have.
+-- A read is at points of a read, and on the way to a reply that it can have. The reply to a change, once it stands, is one that it can have.
 abbrev pub IsOnItsWay : Job → Point → Type 0
 IsOnItsWay (Get address) (Read look) = SaysInRead address look.point
 IsOnItsWay (Get address) point = ⊥
-IsOnItsWay (Cas entries) point = Unit {0}
+IsOnItsWay (Cas entries) point = IfSome (reply_at point) (IsReplyTo (Cas entries))

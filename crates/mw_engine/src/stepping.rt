@@ -1,5 +1,5 @@
 //! One atomic step of a request at a time.
-ghost use Rattle.std.specs.Prelude.{◌≡◌, true, false, is_some, None};
+ghost use Rattle.std.specs.Prelude.{◌≡◌, true, false, is_some, IfSome, None};
 ghost use Rattle.mw_actor.specs.Program.{replied};
 ghost use Rattle.mw_core.specs.declared.calls.Advance.TheVariants.{NeedsFile};
 ghost use Rattle.mw_core.specs.Advancing.{answer_of};
@@ -8,6 +8,7 @@ ghost use Rattle.mw_table.specs.Carried.{IsCarried};
 ghost use Rattle.mw_table.specs.Passes.{IsOfSameWorker};
 ghost use Rattle.mw_engine.specs.History.{IsServed, IsSince, Stands};
 ghost use Rattle.mw_engine.specs.Fronts.{HasPass, IsRequestOfFront};
+ghost use Rattle.mw_engine.specs.Replies.{IsOnItsWay, IsReplyTo};
 ghost use Rattle.mw_engine.specs.Stepping.{EndsAs, IsAtCall, IsSameRequest, MakesStep};
 
 use crate::front::Front;
@@ -29,6 +30,8 @@ impl<H> Front<H> {
         ensures request { IsSameRequest actor.old actor.new }
         ensures file { result ≡ NeedsFile → IsAtCall actor.new }
         ensures call { (first : Knowledge) → IsSince pass.old.idle first pass.old.seat.me.0 actor.old → Stands first pass.new.seat.me.0 actor.new }
+        ensures way { IsOnItsWay actor.old.job actor.old.point → IsOnItsWay actor.new.job actor.new.point }
+        ensures answers { IsOnItsWay actor.old.job actor.old.point → IfSome (replied actor.new) (IsReplyTo actor.new.job) }
         ensures goes_on { pass.new.idle ≡ false → IsCarried pass.new actor.new }
         ensures idle { pass.new.idle ≡ is_some (replied actor.new) }
     {
@@ -48,6 +51,7 @@ impl<H> Front<H> {
         ensures worker { IsOfSameWorker pass.old pass.new }
         ensures ends { EndsAs pass.old.idle pass.old pass.new actor.old actor.new result }
         ensures call { (first : Knowledge) → IsSince pass.old.idle first pass.old.seat.me.0 actor.old → IsServed first pass.new.seat.me.0 actor.new }
+        ensures way { IsOnItsWay actor.old.job actor.old.point → IsOnItsWay actor.new.job actor.new.point }
         ensures carried { IsCarried pass.new actor.new }
         ensures busy { replied actor.new ≡ None → pass.new.idle ≡ false }
     {

@@ -15,7 +15,7 @@ ghost use Rattle.mw_engine.specs.Figures.{HasLooked, TellTenants, TellsFree};
 ghost use Rattle.mw_engine.specs.History.{IsAnswered, IsSince, ReadStands, Stands};
 ghost use Rattle.mw_engine.specs.Identity.{HasNone, HasWords, IsFirst, IsFor};
 ghost use Rattle.mw_engine.specs.Passes.{IsPassOf};
-ghost use Rattle.mw_engine.specs.Replies.{IsReplyTo};
+ghost use Rattle.mw_engine.specs.Replies.{IsOnItsWay, IsReplyTo};
 ghost use Rattle.mw_engine.specs.Requests.{IsRequest, read_of, request_of};
 ghost use Rattle.mw_engine.specs.Stepping.{IsAtCall, IsSameRequest, MakesStep};
 
@@ -76,6 +76,8 @@ impl<J: EngineBrand, D: Disk, H> Engine<J, D, H> {
         ensures request { IsSameRequest actor.old actor.new }
         ensures file { result ≡ NeedsFile → IsAtCall actor.new }
         ensures call { (first : Knowledge) → IsSince pass.old.idle first pass.old.seat.me.0 actor.old → Stands first pass.new.seat.me.0 actor.new }
+        ensures way { IsOnItsWay actor.old.job actor.old.point → IsOnItsWay actor.new.job actor.new.point }
+        ensures answers { IsOnItsWay actor.old.job actor.old.point → IfSome (replied actor.new) (IsReplyTo actor.new.job) }
         ensures goes_on { pass.new.idle ≡ false → IsCarried pass.new actor.new }
         ensures idle { pass.new.idle ≡ is_some (replied actor.new) }
     {

@@ -8,6 +8,7 @@ use Rattle.mw_table.specs.Meeting.{IsSamePass}
 use Rattle.mw_engine.specs.Filing.{FilesOne}
 use Rattle.mw_engine.specs.Fronts.{HasPass}
 use Rattle.mw_engine.proofs.Branded.{pass_of_engine, pass_of_front}
+use Rattle.mw_engine.proofs.Replying.{file_way}
 use Rattle.mw_engine.proofs.Served.{file_same, file_serves}
 use Rattle.mw_engine.proofs.engine.Engine.file.Goals as goal
 
@@ -42,3 +43,6 @@ returns-then-is_of-clause-request g c =
 pub returns-then-is_of-clause-call : goal.returns-then-is_of-clause-call
 returns-then-is_of-clause-call g c =
     file_serves g.D.Disk.facts c.args.pass.now c.file.new.pass c.args.actor.now c.file.new.actor (returns-then-is_of-clause-files g c)
+
+pub returns-then-is_of-clause-way : goal.returns-then-is_of-clause-way
+returns-then-is_of-clause-way g c = file_way g.D.Disk.facts c.args.pass.now c.file.new.pass c.args.actor.now c.file.new.actor (returns-then-is_of-clause-files g c)

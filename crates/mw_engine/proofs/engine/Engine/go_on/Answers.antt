@@ -3,7 +3,7 @@ use Rattle.std.proofs.Common.{sym, ap, subst, ◌∙◌}
 use Rattle.mw_words.specs.declared.replies.Reply.{Reply}
 use Rattle.mw_actor.specs.Program.{replied}
 use Rattle.mw_engine.specs.History.{StandsAs}
-use Rattle.mw_engine.proofs.Replying.{file_way, says_so, step_way}
+use Rattle.mw_engine.proofs.Replying.{says_so}
 use Rattle.mw_engine.proofs.Served.{same_on, under_way}
 use Rattle.mw_engine.proofs.engine.Engine.go_on.Goals as goal
 
@@ -42,14 +42,7 @@ returns-clause-idle g c = c.advance-ended.ensures.idle ∙ ap is_some (sym c.rep
 
 pub returns-in-NeedsFile-clause-way : goal.returns-in-NeedsFile-clause-way
 returns-in-NeedsFile-clause-way g c =
-    let step = c.advance-ended in
-    λ way. file_way g.D.Disk.facts step.new.pass c.file.new.pass step.new.actor c.file.new.actor c.file.ensures.files
-    (step_way c.args.pass.now step.new.pass c.args.actor.now step.new.actor step.result step.ensures.step way)
-
-pub returns-clause-way : goal.returns-clause-way
-returns-clause-way g c =
-    let step = c.advance-ended in
-    λ way. step_way c.args.pass.now step.new.pass c.args.actor.now step.new.actor step.result step.ensures.step way
+    λ way. c.file.ensures.way (c.advance-ended.ensures.way way)
 
 pub returns-clause-says : goal.returns-clause-says
 returns-clause-says g c = says_so c.reply.result (replied c.advance-ended.new.actor) c.reply.ensures

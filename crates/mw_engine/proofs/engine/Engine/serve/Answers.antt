@@ -10,7 +10,7 @@ use Rattle.mw_engine.specs.Replies.{IsOnItsWay}
 use Rattle.mw_engine.specs.Requests.{IsRequest}
 use Rattle.mw_engine.proofs.Histories.{served_since}
 use Rattle.mw_engine.proofs.Replying.{first_way, reply_can}
-use Rattle.mw_engine.proofs.Served.{answered_so, not_both}
+use Rattle.mw_engine.proofs.Served.{not_both}
 use Rattle.mw_engine.proofs.engine.Engine.serve.Goals as goal
 
 pub loop-init : goal.loop-init
@@ -53,12 +53,6 @@ pub returns-in-Some-go_on-clause-answers : goal.returns-in-Some-go_on-clause-ans
 returns-in-Some-go_on-clause-answers g c =
     let step = c.go_on in
     let inv = c.loop.invariant in
-    let first = c.args.pass.now.seat.me.0 in
-    let now = step.new.pass.seat.me.0 in
     let actor = step.new.actor in
-    let reply = c.in-Some-go_on.reply in
-    let its = step.ensures.request.same_tenant ∙ inv.its in
-    let same_job = step.ensures.request.same_job ∙ inv.same_job in
-    let stands = subst (λ (found : Option Reply). StandsAs found first now actor) c.in-Some-go_on.is (step.ensures.call first inv.call) in
     let says = subst (λ (found : Option Reply). IfSome found (λ one. replied actor ≡ Some one)) c.in-Some-go_on.is step.ensures.says in
-    reply_can first now actor c.args.tenant c.args.job.now reply same_job (step.ensures.way inv.way) says (answered_so first now actor c.args.tenant c.args.job.now reply its same_job stands)
+    reply_can actor c.args.job.now c.in-Some-go_on.reply (step.ensures.request.same_job ∙ inv.same_job) (step.ensures.way inv.way) says

@@ -4,6 +4,7 @@ use Rattle.mw_actor.specs.Program.{replied}
 use Rattle.mw_engine.proofs.Going.{at_call, same_request}
 use Rattle.mw_engine.proofs.Histories.{served_stands}
 use Rattle.mw_engine.proofs.Passing.{rested_one}
+use Rattle.mw_engine.proofs.Replying.{way_can}
 use Rattle.mw_engine.proofs.Resting.{rested_as, rested_stands, still_as}
 use Rattle.mw_engine.proofs.front.Front.advance.Goals as goal
 
@@ -49,3 +50,9 @@ pub returns-else-is_some-clause-file : goal.returns-else-is_some-clause-file
 returns-else-is_some-clause-file g c =
     let step = c.make_step-ended in
     at_call c.args.pass.now.idle c.args.pass.now step.new.pass c.args.actor.now step.new.actor step.result step.ensures.ends
+
+pub returns-then-is_some-clause-answers : goal.returns-then-is_some-clause-answers
+returns-then-is_some-clause-answers g c = λ way. way_can c.make_step-ended.new.actor (c.make_step-ended.ensures.way way)
+
+pub returns-else-is_some-clause-answers : goal.returns-else-is_some-clause-answers
+returns-else-is_some-clause-answers g c = λ way. way_can c.make_step-ended.new.actor (c.make_step-ended.ensures.way way)

@@ -3,6 +3,7 @@ use Rattle.mw_rule.specs.declared.views.View.{View}
 use Rattle.mw_engine.specs.History.{IsServed}
 use Rattle.mw_engine.proofs.Histories.{advanced_serves, begun_serves, since_first, since_served}
 use Rattle.mw_engine.proofs.Passing.{advanced_files, one_on}
+use Rattle.mw_engine.proofs.Replying.{advanced_way, begins_way}
 use Rattle.mw_engine.proofs.Requesting.{may_come}
 use Rattle.mw_engine.proofs.front.Front.make_step.Goals as goal
 
@@ -39,3 +40,16 @@ returns-clause-own g c =
     let new = c.advance.new.pass in
     one_on c.args.self.now.core.shared old new c.requires.own c.advance.ensures.own c.advance.ensures.worker
     (advanced_files old new c.args.actor.now c.advance.new.actor c.advance.result c.advance.ensures.advances)
+
+pub returns-then-idle-clause-way : goal.returns-then-idle-clause-way
+returns-then-idle-clause-way g c =
+    let old = c.args.pass.now in
+    let actor = c.args.actor.now in
+    let idle = sym c.idle.ensures.is ∙ c.if-idle.true in
+    let may = may_come c.args.self.now old actor c.requires.own idle (c.requires.comes idle) in
+    begins_way old c.begin.new.pass actor c.begin.new.actor c.begin.ensures.begins (begun_serves old c.begin.new.pass actor c.begin.new.actor may c.begin.ensures.begins)
+
+pub returns-clause-way : goal.returns-clause-way
+returns-clause-way g c =
+    let busy = sym c.idle.ensures.is ∙ c.if-idle.false in
+    advanced_way c.args.pass.now c.advance.new.pass c.args.actor.now c.advance.new.actor c.advance.result (c.requires.goes_on busy) c.advance.ensures.advances
