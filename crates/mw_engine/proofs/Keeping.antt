@@ -83,6 +83,14 @@ pub still_held : {D : Type 0} (facts : D → Facts) (old new : Pass) (actor next
     → is_some after.held ≡ is_some before.held
 still_held facts old new actor next before after rights kept once = still_on facts (LeavesEither rights.contents (stake_by once.end once.called rights)) before.held after.held once.safe
 
+-- The book and the right that come back from a call are kept as those were with which it was made.
+pub kept_over : {D : Type 0} (facts : D → Facts) (shared : Shared) (identity : Identity) (same : identity_on shared identity.lines ≡ identity) (old new : Pass) (actor next : Acting) (before after : Book D) (right returned : FileRight)
+    → IsKept facts identity before right → FilesOnce facts old new actor next before after (file_kept right) (file_kept returned) → IsRightOf shared returned → returned.tenant ≡ right.tenant
+    → AgreesThere facts shared after returned → IsKept facts identity after returned
+kept_over facts shared identity same old new actor next before after right returned kept once own whose agrees =
+    kept_of facts shared identity same after returned own
+    (still_held facts old new actor next before after (file_kept right) (file_kept returned) once ∙ (kept.opened ∙ ap (λ (tenant : ℕ). (opening_at identity.openings tenant).is_up) (sym whose))) agrees
+
 none_there : (right : Option FileRight) → is_some right ≡ true → right ≡ None → ⊥
 none_there None there is = cc
 none_there (Some right) there is = cc

@@ -45,6 +45,7 @@ use Rattle.mw_core.specs.declared.looking.WhyAgain.{WhyAgain}
 use Rattle.mw_core.specs.Advancing.{Advances, Begins, Ends, StepsOnce}
 use Rattle.mw_core.specs.Looking.{Looks}
 use Rattle.mw_world.specs.Definition.Calls.{Called, called_at}
+use Rattle.mw_engine.specs.Branding.{Identity}
 use Rattle.mw_engine.specs.Filing.{FilesOne}
 use Rattle.mw_engine.specs.History.{IsServed}
 use Rattle.mw_engine.specs.Replies.{IsOnItsWay, IsReplyTo, SaysInRead}
@@ -207,8 +208,8 @@ pub advanced_way : (old new : Pass) (actor next : Acting) (result : Advance) →
 advanced_way old new actor next result carried advances way = ends_way old new actor next result (replied actor) (called_at actor.point) refl carried advances way
 
 -- over a call on its file, after which it has no reply yet
-pub file_way : {D : Type 0} (facts : D → Facts) (old new : Pass) (actor next : Acting) → FilesOne facts old new actor next → IsOnItsWay actor.job actor.point → IsOnItsWay next.job next.point
-file_way facts old new actor next files way =
+pub file_way : {D : Type 0} (facts : D → Facts) (identity : Identity) (old new : Pass) (actor next : Acting) → FilesOne facts identity old new actor next → IsOnItsWay actor.job actor.point → IsOnItsWay next.job next.point
+file_way facts identity old new actor next files way =
     let once = files.once in
     let silent = ap replied once.told ∙ (requests_go_on_from_calls actor once.called once.comes_to).onward (went_well once.end) new.attempt in
     told_way actor next _ new.attempt once.told (λ change reply is. absurd (none-some reply (sym silent ∙ is))) way

@@ -10,11 +10,12 @@ use Rattle.mw_rule.specs.declared.views.View.{View}
 use Rattle.mw_rule.specs.Filing.{after_call}
 use Rattle.mw_rule.specs.FromLaws.{went_well}
 use Rattle.mw_table.specs.declared.shared.Pass.{Pass}
+use Rattle.mw_engine.specs.Branding.{Identity}
 use Rattle.mw_engine.specs.Filing.{FilesOne}
 use Rattle.mw_engine.specs.History.{IsAnswered, IsServed, Stands, StandsAs}
 use Rattle.mw_engine.specs.Stepping.{IsSameRequest}
 
-module _ {D : Type 0} (facts : D → Facts) (old new : Pass) (actor next : Acting) (files : FilesOne facts old new actor next) where
+module _ {D : Type 0} (facts : D → Facts) (identity : Identity) (old new : Pass) (actor next : Acting) (files : FilesOne facts identity old new actor next) where
   -- what a thread serves it serves still
   pub file_serves : (first : View) → IsServed first old.seat.me.0 actor → IsServed first new.seat.me.0 next
   file_serves first served = record { reins = after_call (went_well files.once.end) served.reins actor; serves = files.once.serves first served.reins served.serves; whole = served.whole }

@@ -1,15 +1,24 @@
 -- A call on a file, as an engine makes it.
+use Rattle.std.specs.Prelude.{◌≡◌}
 use Rattle.mw_actor.specs.Acting.{Acting}
 use Rattle.mw_disk.specs.Facts.{Facts}
 use Rattle.mw_book.specs.declared.kept.Book.{Book}
-use Rattle.mw_rule.specs.FromLaws.{FileRights}
+use Rattle.mw_table.specs.declared.right.FileRight.{FileRight}
 use Rattle.mw_table.specs.declared.shared.Pass.{Pass}
+use Rattle.mw_table.specs.Filing.{file_kept}
 use Rattle.mw_core.specs.Filing.{FilesOnce}
+use Rattle.mw_engine.specs.Branding.{Identity}
+use Rattle.mw_engine.specs.Kept.{IsKept}
 
--- One call was made on the file of the request's tenant, the one to which the request had come: on the book, whatever it was, by the right that told of it.
-pub record FilesOne {D : Type 0} (facts : D → Facts) (old new : Pass) (actor next : Acting) : Type 0 where
+-- One call was made on the file of the request's tenant, the one to which the request had come: on the book that is kept with a right to this file, by what that right told. The book and the right that are kept
+-- afterwards are this tenant's too.
+pub record FilesOne {D : Type 0} (facts : D → Facts) (identity : Identity) (old new : Pass) (actor next : Acting) : Type 0 where
   pub before : Book D
   pub after : Book D
-  pub rights : FileRights
-  pub kept : FileRights
-  pub once : FilesOnce facts old new actor next before after rights kept
+  pub right : FileRight
+  pub returned : FileRight
+  pub kept_before : IsKept facts identity before right
+  pub kept_after : IsKept facts identity after returned
+  pub its : right.tenant ≡ actor.tenant
+  pub its_still : returned.tenant ≡ actor.tenant
+  pub once : FilesOnce facts old new actor next before after (file_kept right) (file_kept returned)

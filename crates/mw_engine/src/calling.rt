@@ -32,7 +32,7 @@ impl<J: EngineBrand, D: Disk> Kept<J, D> {
         ensures own { IsOneOf core.now.shared pass.new }
         ensures same { IsSamePass pass.old pass.new }
         ensures carried { IsCarried pass.new actor.new }
-        ensures files { FilesOne D.facts pass.old pass.new actor.old actor.new }
+        ensures files { FilesOne D.facts J.identity pass.old pass.new actor.old actor.new }
     {
         match self.right.take() {
             Some(right) => {

@@ -104,7 +104,7 @@ impl<J: EngineBrand, D: Disk + Drop, H: Hold + Drop> Engine<J, D, H> {
         ensures own { IsPassOf J.identity pass.new }
         ensures same { IsSamePass pass.old pass.new }
         ensures carried { IsCarried pass.new actor.new }
-        ensures files { FilesOne D.facts pass.old pass.new actor.old actor.new }
+        ensures files { FilesOne D.facts J.identity pass.old pass.new actor.old actor.new }
         ensures request { IsSameRequest actor.old actor.new }
         ensures way { IsOnItsWay actor.old.job actor.old.point → IsOnItsWay actor.new.job actor.new.point }
         ensures call { (first : Knowledge) → IsServed first pass.old.seat.me.0 actor.old → IsServed first pass.new.seat.me.0 actor.new }

@@ -33,16 +33,16 @@ returns-then-is_of-clause-same g c = subst (λ (pass : Pass). IsSamePass pass c.
 
 pub returns-then-is_of-clause-files : goal.returns-then-is_of-clause-files
 returns-then-is_of-clause-files g c =
-    subst (λ (pass : Pass). FilesOne g.D.Disk.facts pass c.file.new.pass c.args.actor.now c.file.new.actor) c.loop.invariant.pass_is
-    (subst (λ (actor : Acting). FilesOne g.D.Disk.facts c.loop.pass c.file.new.pass actor c.file.new.actor) c.loop.invariant.actor_is c.file.ensures.files)
+    subst (λ (pass : Pass). FilesOne g.D.Disk.facts g.J.EngineBrand.identity pass c.file.new.pass c.args.actor.now c.file.new.actor) c.loop.invariant.pass_is
+    (subst (λ (actor : Acting). FilesOne g.D.Disk.facts g.J.EngineBrand.identity c.loop.pass c.file.new.pass actor c.file.new.actor) c.loop.invariant.actor_is c.file.ensures.files)
 
 pub returns-then-is_of-clause-request : goal.returns-then-is_of-clause-request
 returns-then-is_of-clause-request g c =
-    file_same g.D.Disk.facts c.args.pass.now c.file.new.pass c.args.actor.now c.file.new.actor (returns-then-is_of-clause-files g c)
+    file_same g.D.Disk.facts g.J.EngineBrand.identity c.args.pass.now c.file.new.pass c.args.actor.now c.file.new.actor (returns-then-is_of-clause-files g c)
 
 pub returns-then-is_of-clause-call : goal.returns-then-is_of-clause-call
 returns-then-is_of-clause-call g c =
-    file_serves g.D.Disk.facts c.args.pass.now c.file.new.pass c.args.actor.now c.file.new.actor (returns-then-is_of-clause-files g c)
+    file_serves g.D.Disk.facts g.J.EngineBrand.identity c.args.pass.now c.file.new.pass c.args.actor.now c.file.new.actor (returns-then-is_of-clause-files g c)
 
 pub returns-then-is_of-clause-way : goal.returns-then-is_of-clause-way
-returns-then-is_of-clause-way g c = file_way g.D.Disk.facts c.args.pass.now c.file.new.pass c.args.actor.now c.file.new.actor (returns-then-is_of-clause-files g c)
+returns-then-is_of-clause-way g c = file_way g.D.Disk.facts g.J.EngineBrand.identity c.args.pass.now c.file.new.pass c.args.actor.now c.file.new.actor (returns-then-is_of-clause-files g c)
