@@ -3,10 +3,8 @@ use Rattle.std.specs.Prelude.{ℕ, ◌≡◌, true, nat_lt}
 use Rattle.std.proofs.Common.{refl, sym, subst}
 use Rattle.mw_words.specs.declared.jobs.Job.TheVariants.{Get}
 use Rattle.mw_actor.specs.Acting.{first}
-use Rattle.mw_rule.specs.Carrying.{MayCome}
-use Rattle.mw_table.specs.declared.shared.Pass.{Pass}
-use Rattle.mw_table.specs.declared.shared.Shared.{Shared}
-use Rattle.mw_table.proofs.Coming.{request_comes}
+use Rattle.mw_core.specs.FromTable.{MayCome, Pass, Shared}
+use Rattle.mw_core.proofs.FromTable.{request_comes}
 use Rattle.mw_bench.specs.Ready.{MayGet}
 
 one_word : (words : ℕ) → words ≡ 1 → nat_lt 0 words ≡ true

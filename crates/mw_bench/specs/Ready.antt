@@ -1,11 +1,7 @@
 -- When a pass may read a tenant's first word.
 use Rattle.std.specs.Prelude.{ℕ, ◌≡◌, ◌<◌, true}
 use Rattle.mw_world.specs.Definition.State.{tenant_at, tenants_of}
-use Rattle.mw_rule.specs.Seen.{opening_at}
-use Rattle.mw_table.specs.declared.shared.Pass.{Pass}
-use Rattle.mw_table.specs.declared.shared.Shared.{Shared}
-use Rattle.mw_table.specs.Origins.{config_of, openings_of}
-use Rattle.mw_table.specs.Passes.{IsOf}
+use Rattle.mw_core.specs.FromTable.{IsOf, Pass, Shared, config_of, opening_at, openings_of}
 
 -- The pass is idle, on a table of two slots, where the tenant is there, has a word and may use one slot.
 pub record MayGet (shared : Shared) (pass : Pass) (tenant : ℕ) : Type 0 where

@@ -5,8 +5,7 @@ ghost use Rattle.mw_world.specs.Definition.State.{IsConfig, no_tenant};
 ghost use Rattle.mw_bench.specs.Ready.{MayGet};
 
 use arrayvec::ArrayVec;
-use mw_core::Core;
-use mw_table::{FileOpening, Pass, Shared};
+use mw_core::{Core, FileOpening, Pass, Shared};
 use mw_world::{Config, Tenant};
 use std::alloc::{AllocError, Global};
 

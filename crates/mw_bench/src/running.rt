@@ -2,8 +2,7 @@
 ghost use Rattle.mw_bench.specs.Ready.{MayGet};
 
 use mw_actor::Actor;
-use mw_core::Core;
-use mw_table::Pass;
+use mw_core::{Core, Pass};
 use mw_words::{At, Job, Reply};
 use std::thread::{Threads, join};
 

@@ -16,8 +16,8 @@ use Rattle.mw_book.specs.declared.kept.Book.{Book}
 use Rattle.mw_book.specs.Shown.{Shows}
 use Rattle.mw_book.proofs.AlikeFiles.{shows_alike}
 use Rattle.mw_book.proofs.PermittedCalls.{permits}
-use Rattle.mw_rule.specs.FromLaws.{FileRights, TellsFile, file_told, rights_filed, rights_opened}
-use Rattle.mw_rule.proofs.FromLaws.{opened_told, rights_follow_calls}
+use Rattle.mw_table.specs.FromRule.{FileRights, TellsFile, file_told, rights_filed, rights_opened}
+use Rattle.mw_table.proofs.FromRule.{opened_told, rights_follow_calls}
 use Rattle.mw_core.specs.Books.{Agrees, BooksFollowRights, BooksTakeCalls, OpenedBooksAgree, UnopenedBooksAgree}
 
 -- past the slots of which the right tells it tells what the file says

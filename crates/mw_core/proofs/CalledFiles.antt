@@ -22,13 +22,8 @@ use Rattle.mw_book.specs.Crashes.{IsCrashSafe}
 use Rattle.mw_book.specs.Ends.{Ends}
 use Rattle.mw_book.specs.Permits.{MayCall}
 use Rattle.mw_book.specs.Shown.{Shows}
-use Rattle.mw_rule.specs.declared.views.FoundStatus.{FoundStatus}
-use Rattle.mw_rule.specs.Carrying.{IsReadyAt}
-use Rattle.mw_rule.specs.Continuing.{events_loaded, starts_by}
-use Rattle.mw_rule.specs.Filing.{Calls, Loaded, LoadedAs, Starts, fails}
-use Rattle.mw_rule.specs.FromLaws.{file_told}
-use Rattle.mw_rule.specs.Moves.{WentOn}
-use Rattle.mw_rule.proofs.FromLaws.{requests_go_on_from_calls}
+use Rattle.mw_table.specs.FromRule.{Calls, FoundStatus, IsReadyAt, Loaded, LoadedAs, Starts, WentOn, events_loaded, fails, file_told, starts_by}
+use Rattle.mw_table.proofs.FromRule.{requests_go_on_from_calls}
 use Rattle.mw_table.specs.declared.shared.Pass.{Pass}
 use Rattle.mw_table.specs.Carried.{IsCarried}
 use Rattle.mw_table.specs.Filing.{EndsInFault, EndsWell, FindsStatus, GoesOnByCall, GoesOnByFault, GoesOnByLoad, HasFailed, IsAtFile, MayExchange, MayFault, MayFind}

@@ -18,9 +18,7 @@ use Rattle.mw_actor.specs.Asks.{asks, asks_at}
 use Rattle.mw_actor.specs.Program.{replied, tells}
 use Rattle.mw_world.specs.Definition.Calls.{Called, called_at}
 use Rattle.mw_world.specs.Definition.Turns.{next_attempt}
-use Rattle.mw_rule.specs.declared.views.Reins.{Reins}
-use Rattle.mw_rule.specs.Carrying.{Began, IsReady, IsReadyFor, MayCome, Took, comes, settled, settled_as, stepped, told}
-use Rattle.mw_rule.specs.Rule.{Each}
+use Rattle.mw_table.specs.FromRule.{Began, Each, IsReady, IsReadyFor, MayCome, Reins, Took, comes, settled, settled_as, stepped, told}
 use Rattle.mw_table.specs.declared.shared.Pass.{Pass}
 use Rattle.mw_table.specs.Carried.{IsCarried}
 use Rattle.mw_table.specs.Numbers.{number_of}

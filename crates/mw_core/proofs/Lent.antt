@@ -11,14 +11,7 @@ use Rattle.mw_world.specs.declared.config.Config.{Config}
 use Rattle.mw_world.specs.Definition.Calls.{Called as CallOn}
 use Rattle.mw_world.specs.Definition.State.{Opening}
 use Rattle.mw_book.specs.declared.kept.Book.{Book}
-use Rattle.mw_rule.specs.declared.views.Held.{Held}
-use Rattle.mw_rule.specs.declared.views.Reins.{Reins}
-use Rattle.mw_rule.specs.declared.views.View.{View}
-use Rattle.mw_rule.specs.Calling.{Serves}
-use Rattle.mw_rule.specs.Dealing.{bereft, borrows}
-use Rattle.mw_rule.specs.Filing.{Went, after_call}
-use Rattle.mw_rule.specs.FromLaws.{End, FileRights, FindsFault, GoesWell, MayEnd, MeetsFault, Skips, rights_by, rights_filed}
-use Rattle.mw_rule.specs.Seen.{opening_at}
+use Rattle.mw_table.specs.FromRule.{End, FileRights, FindsFault, GoesWell, Held, MayEnd, MeetsFault, Reins, Serves, Skips, View, Went, after_call, bereft, borrows, opening_at, rights_by, rights_filed}
 use Rattle.mw_table.specs.declared.right.FileRight.{FileRight}
 use Rattle.mw_table.specs.declared.shared.Pass.{Pass}
 use Rattle.mw_table.specs.declared.shared.Shared.{Shared}

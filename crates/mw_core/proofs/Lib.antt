@@ -1,6 +1,7 @@
 pub mod Agreeing
 pub mod CalledFiles
 pub mod Driven
+pub mod FromTable
 pub mod Lent
 pub mod MadeCalls
 pub mod Reasoned

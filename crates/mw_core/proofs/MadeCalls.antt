@@ -29,15 +29,8 @@ use Rattle.mw_book.specs.Ends.{Ends, WasBroken}
 use Rattle.mw_book.specs.Held.{OnDisk, disk_in}
 use Rattle.mw_book.specs.Permits.{MayCall}
 use Rattle.mw_book.proofs.ShownFiles.{untouched}
-use Rattle.mw_rule.specs.declared.views.FoundStatus.{FoundStatus}
-use Rattle.mw_rule.specs.declared.views.Held.{Held}
-use Rattle.mw_rule.specs.declared.views.View.{View}
-use Rattle.mw_rule.specs.Filing.{Loaded, LoadedAs, Starts, Went, broken_so, fails, filed_so, place_held}
-use Rattle.mw_rule.specs.FromLaws.{End, FileRights, FindsFault, GoesWell, MayEnd, MeetsFault, Skips, file_told, rights_broken, rights_by, rights_filed, went_well}
-use Rattle.mw_rule.specs.Moves.{WentOn}
-use Rattle.mw_rule.specs.Seen.{opening_at}
-use Rattle.mw_rule.proofs.Calling.{keeps_all, keeps_so}
-use Rattle.mw_rule.proofs.FromLaws.{requests_go_on_from_calls}
+use Rattle.mw_table.specs.FromRule.{End, FileRights, FindsFault, FoundStatus, GoesWell, Held, Loaded, LoadedAs, MayEnd, MeetsFault, Skips, Starts, View, Went, WentOn, broken_so, fails, file_told, filed_so, opening_at, place_held, rights_broken, rights_by, rights_filed, went_well}
+use Rattle.mw_table.proofs.FromRule.{keeps_all, keeps_so, requests_go_on_from_calls}
 use Rattle.mw_table.specs.Filing.{HasFailed, faulted_so}
 use Rattle.mw_table.specs.Holding.{file_among}
 use Rattle.mw_core.specs.Books.{Agrees, AgreesHeld, rights_answered}

@@ -22,10 +22,8 @@ use Rattle.mw_actor.specs.Acting.{Acting}
 use Rattle.mw_actor.specs.Asks.{asks}
 use Rattle.mw_actor.specs.Program.{replied, tells}
 use Rattle.mw_world.specs.Definition.Changes.{done}
-use Rattle.mw_rule.specs.declared.views.View.{View}
-use Rattle.mw_rule.specs.Calling.{Answered, Serves}
-use Rattle.mw_rule.specs.Carrying.{Began, IsFound, MayCome, Took, settled_as}
-use Rattle.mw_rule.proofs.Calling.{calls_begin, calls_end, calls_go_on}
+use Rattle.mw_table.specs.FromRule.{Answered, Began, IsFound, MayCome, Serves, Took, View, settled_as}
+use Rattle.mw_table.proofs.FromRule.{calls_begin, calls_end, calls_go_on}
 use Rattle.mw_table.specs.declared.shared.Pass.{Pass}
 use Rattle.mw_table.specs.Carried.{IsCarried}
 use Rattle.mw_core.specs.declared.calls.Advance.{Advance}

@@ -8,18 +8,8 @@ use Rattle.mw_actor.specs.Program.{tells}
 use Rattle.mw_world.specs.declared.config.Config.{Config}
 use Rattle.mw_world.specs.Definition.Calls.{Called as CallOn, called_at}
 use Rattle.mw_world.specs.Definition.State.{tenants_of}
-use Rattle.mw_rule.specs.declared.views.Held.{Held}
-use Rattle.mw_rule.specs.declared.views.Reins.{Reins}
-use Rattle.mw_rule.specs.declared.views.View.{View}
-use Rattle.mw_rule.specs.Calling.{Serves}
-use Rattle.mw_rule.specs.Carrying.{GoesOn}
-use Rattle.mw_rule.specs.Dealing.{bereft, borrows, entrusted, first_held, other_held}
-use Rattle.mw_rule.specs.Filing.{LeavesRest, Starts, Went, after_call, went as went_of}
-use Rattle.mw_rule.specs.FromLaws.{FileRights}
-use Rattle.mw_rule.specs.Seen.{seen_at}
-use Rattle.mw_rule.proofs.Calling.{calls_borrow, calls_file, calls_give_back}
-use Rattle.mw_rule.proofs.Leading.{begins_on}
-use Rattle.mw_rule.proofs.Righting.{bereft_right}
+use Rattle.mw_table.specs.FromRule.{FileRights, GoesOn, Held, LeavesRest, Reins, Serves, Starts, View, Went, after_call, bereft, borrows, entrusted, first_held, other_held, seen_at, went as went_of}
+use Rattle.mw_table.proofs.FromRule.{begins_on, bereft_right, calls_borrow, calls_file, calls_give_back}
 use Rattle.mw_core.specs.Filing.{HasFiled}
 
 -- what goes on goes on from before

@@ -9,7 +9,7 @@ use Rattle.mw_actor.specs.Acting.{Acting}
 use Rattle.mw_actor.specs.Asks.{asks}
 use Rattle.mw_actor.specs.Program.{replied, tells}
 use Rattle.mw_world.specs.Definition.Calls.{Called, called_at}
-use Rattle.mw_rule.specs.Carrying.{Began, Took}
+use Rattle.mw_table.specs.FromRule.{Began, Took}
 use Rattle.mw_table.specs.declared.shared.Pass.{Pass}
 use Rattle.mw_core.specs.declared.calls.Advance.{Advance}
 use Rattle.mw_core.specs.declared.calls.Advance.TheVariants.{Stepped, NeedsFile, Finished}

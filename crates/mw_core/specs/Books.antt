@@ -15,16 +15,12 @@ use Rattle.mw_book.specs.declared.kept.Book.{Book}
 use Rattle.mw_book.specs.Ends.{Ends}
 use Rattle.mw_book.specs.Permits.{MayCall}
 use Rattle.mw_book.specs.Shown.{Shows, unopened}
-use Rattle.mw_rule.specs.declared.views.Held.{Held}
-use Rattle.mw_rule.specs.declared.views.View.{View}
-use Rattle.mw_rule.specs.Filing.{Starts, places_held}
-use Rattle.mw_rule.specs.Seen.{opening_at}
+use Rattle.mw_table.specs.FromRule.{FileRights, Held, Starts, View, file_told, opening_at, places_held, rights_broken, rights_filed, rights_opened}
 use Rattle.mw_table.specs.declared.right.FileRight.{FileRight}
 use Rattle.mw_table.specs.declared.shared.Shared.{Shared}
 use Rattle.mw_table.specs.Filing.{file_kept}
 use Rattle.mw_table.specs.Holding.{file_among}
 use Rattle.mw_table.specs.Origins.{config_of, openings_of}
-use Rattle.mw_rule.specs.FromLaws.{FileRights, file_told, rights_broken, rights_filed, rights_opened}
 
 -- The book shows the file of which the right tells. Both speak of so many places, and the right of the changes of so many slots.
 pub record Agrees {D : Type 0} (facts : D → Facts) (book : Book D) (rights : FileRights) (places slots : ℕ) : Type 0 where

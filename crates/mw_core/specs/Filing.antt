@@ -15,17 +15,7 @@ use Rattle.mw_book.specs.declared.kept.Book.{Book}
 use Rattle.mw_book.specs.Crashes.{LeavesEither}
 use Rattle.mw_book.specs.Held.{OnDisk, disk_in}
 use Rattle.mw_book.specs.Ends.{WasBroken, WasMade, WasRefused}
-use Rattle.mw_rule.specs.declared.views.FoundStatus.{FoundStatus}
-use Rattle.mw_rule.specs.declared.views.Held.{Held}
-use Rattle.mw_rule.specs.declared.views.Reins.{Reins}
-use Rattle.mw_rule.specs.declared.views.View.{View}
-use Rattle.mw_rule.specs.Calling.{Serves}
-use Rattle.mw_rule.specs.Carrying.{IsReady, Keeps}
-use Rattle.mw_rule.specs.Dealing.{bereft}
-use Rattle.mw_rule.specs.Filing.{LeavesRest, Went, after_call, went}
-use Rattle.mw_rule.specs.FromLaws.{End, FileRights, FindsFault, GoesWell, MayEnd, MeetsFault, Skips, file_told, rights_by, went_well}
-use Rattle.mw_rule.specs.Moves.{WentOn}
-use Rattle.mw_rule.specs.Rule.{Each}
+use Rattle.mw_table.specs.FromRule.{Each, End, FileRights, FindsFault, FoundStatus, GoesWell, Held, IsReady, Keeps, LeavesRest, MayEnd, MeetsFault, Reins, Serves, Skips, View, Went, WentOn, after_call, bereft, file_told, rights_by, went, went_well}
 use Rattle.mw_table.specs.declared.shared.Pass.{Pass}
 use Rattle.mw_table.specs.Holding.{file_among}
 use Rattle.mw_core.specs.Books.{AgreesFor}

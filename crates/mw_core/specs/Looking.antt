@@ -15,10 +15,7 @@ use Rattle.mw_actor.specs.declared.points.Point.TheVariants.{Read}
 use Rattle.mw_actor.specs.Acting.{Acting}
 use Rattle.mw_actor.specs.Asks.{asks}
 use Rattle.mw_actor.specs.Program.{replied}
-use Rattle.mw_rule.specs.declared.views.Reins.{Reins}
-use Rattle.mw_rule.specs.declared.views.View.{View}
-use Rattle.mw_rule.specs.Calling.{Answered, Serves}
-use Rattle.mw_rule.specs.Carrying.{Began, Took}
+use Rattle.mw_table.specs.FromRule.{Answered, Began, Reins, Serves, Took, View}
 use Rattle.mw_world.specs.Definition.Cells.{Cells}
 use Rattle.mw_world.specs.Definition.Changes.{done}
 use Rattle.mw_table.specs.declared.shared.Pass.{Pass}

@@ -1,6 +1,6 @@
 //! One atomic step of a request at a time.
 ghost use Rattle.std.specs.Prelude.{◌≡◌, false, None};
-ghost use Rattle.mw_rule.specs.Carrying.{MayCome};
+ghost use Rattle.mw_table.specs.FromRule.{MayCome};
 ghost use Rattle.mw_table.specs.Carried.{IsCarried};
 ghost use Rattle.mw_table.specs.Passes.{IsOf, IsOfSameWorker};
 ghost use Rattle.mw_actor.specs.Program.{replied};

@@ -24,3 +24,4 @@ mod looking;
 pub use calls::{Advance, Core};
 pub use laws::{books_follow_rights, new_books_agree};
 pub use looking::WhyAgain;
+pub use mw_table::{FileOpening, FileRight, Pass, Shared};

@@ -6,7 +6,7 @@ ghost use Rattle.mw_look.specs.Program.{Reading};
 ghost use Rattle.mw_look.specs.Program as looks;
 ghost use Rattle.mw_actor.specs.declared.points.Point.TheVariants.{Read};
 ghost use Rattle.mw_actor.specs.Program.{replied};
-ghost use Rattle.mw_rule.specs.Carrying.{MayCome};
+ghost use Rattle.mw_table.specs.FromRule.{MayCome};
 ghost use Rattle.mw_table.specs.Carried.{IsCarried};
 ghost use Rattle.mw_table.specs.Passes.{IsOf, IsOfSameWorker};
 ghost use Rattle.mw_core.specs.Looking.{EndsAs, IsLook, Looks, MakesFirst, MakesNext};

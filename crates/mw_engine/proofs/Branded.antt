@@ -4,8 +4,7 @@ use Rattle.std.proofs.Common.{sym, ap, subst, ◌∙◌}
 use Rattle.mw_words.specs.declared.jobs.Job.{Job}
 use Rattle.mw_actor.specs.Acting.{Acting, first}
 use Rattle.mw_world.specs.declared.config.Config.{Config}
-use Rattle.mw_table.specs.declared.shared.Pass.{Pass}
-use Rattle.mw_table.specs.Origins.{config_of, openings_of}
+use Rattle.mw_core.specs.FromTable.{Pass, config_of, openings_of}
 use Rattle.mw_engine.specs.declared.front.Front.{Front}
 use Rattle.mw_engine.specs.Branding.{Identity, identity_on}
 use Rattle.mw_engine.specs.Fronts.{HasPass, IsRequestOfFront, lines_told, request}

@@ -14,7 +14,7 @@ use Rattle.mw_config.specs.Limits.{ArePermitted}
 use Rattle.mw_world.specs.declared.config.Config.{Config}
 use Rattle.mw_world.specs.declared.config.Tenant.{Tenant}
 use Rattle.mw_world.specs.Definition.State.{IsConfig, IsStart, no_tenant, quotas_together, tenants_of}
-use Rattle.mw_rule.specs.Seen.{opening_at}
+use Rattle.mw_core.specs.FromTable.{opening_at}
 use Rattle.mw_engine.specs.Agreeing.{line_given}
 use Rattle.mw_engine.specs.Opened.{FitLines, FitsLine, line_read, opening_read, openings_read, tenant_read}
 use Rattle.mw_engine.specs.Starting.{world_read}

@@ -6,7 +6,7 @@ use Rattle.mw_file.specs.declared.tenant_file.TenantFile.{TenantFile}
 use Rattle.mw_book.specs.Held.{disk_in}
 use Rattle.mw_file.proofs.Places.{get_others, get_written}
 use Rattle.mw_world.specs.Definition.State.{Opening}
-use Rattle.mw_rule.specs.Seen.{opening_at}
+use Rattle.mw_core.specs.FromTable.{opening_at}
 use Rattle.mw_engine.specs.Kept.{AreOfOpened}
 
 module _ {D : Type 0} (openings : List Opening) where

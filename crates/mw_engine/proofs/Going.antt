@@ -5,7 +5,7 @@ use Rattle.mw_words.specs.declared.replies.Reply.{Reply}
 use Rattle.mw_actor.specs.Acting.{Acting}
 use Rattle.mw_actor.specs.Program.{replied}
 use Rattle.mw_world.specs.Definition.Calls.{Called, called_at}
-use Rattle.mw_table.specs.declared.shared.Pass.{Pass}
+use Rattle.mw_core.specs.FromTable.{Pass}
 use Rattle.mw_core.specs.declared.calls.Advance.{Advance}
 use Rattle.mw_core.specs.declared.calls.Advance.TheVariants.{NeedsFile, Finished}
 use Rattle.mw_core.specs.Advancing.{Ends, answer_of}

@@ -11,15 +11,8 @@ use Rattle.mw_actor.specs.Asks.{asks}
 use Rattle.mw_actor.specs.Program.{replied, tells}
 use Rattle.mw_world.specs.Definition.Calls.{Called, called_at}
 use Rattle.mw_world.specs.Definition.Turns.{next_attempt}
-use Rattle.mw_rule.specs.declared.views.Reins.{Reins}
-use Rattle.mw_rule.specs.declared.views.View.{View}
-use Rattle.mw_rule.specs.Calling.{Serves}
-use Rattle.mw_rule.specs.Carrying.{Keeps, MayCome, comes, settled, stepped, told_of}
-use Rattle.mw_rule.specs.Rule.{IsRight}
-use Rattle.mw_rule.proofs.Calling.{calls_begin, calls_end, calls_go_on, keeps_all, keeps_on, keeps_so}
-use Rattle.mw_table.specs.declared.shared.Pass.{Pass}
-use Rattle.mw_table.specs.Numbers.{number_of}
-use Rattle.mw_table.proofs.Numbering.{settled_number}
+use Rattle.mw_core.specs.FromTable.{IsRight, Keeps, MayCome, Pass, Reins, Serves, View, comes, number_of, settled, stepped, told_of}
+use Rattle.mw_core.proofs.FromTable.{calls_begin, calls_end, calls_go_on, keeps_all, keeps_on, keeps_so, settled_number}
 use Rattle.mw_core.specs.declared.calls.Advance.{Advance}
 use Rattle.mw_core.specs.declared.looking.WhyAgain.{WhyAgain}
 use Rattle.mw_core.specs.Advancing.{Advances, Begins, Ends}

@@ -7,14 +7,8 @@ use Rattle.mw_book.specs.declared.kept.Book.{Book}
 use Rattle.mw_book.specs.Crashes.{LeavesEither}
 use Rattle.mw_book.specs.Held.{OnDisk, disk_in}
 use Rattle.mw_actor.specs.Acting.{Acting}
-use Rattle.mw_rule.specs.FromLaws.{FileRights}
+use Rattle.mw_core.specs.FromTable.{FileRight, FileRights, IsRightOf, Pass, Shared, config_of, file_kept, opening_at, openings_of}
 use Rattle.mw_core.specs.Filing.{FilesOnce, stake_by}
-use Rattle.mw_table.specs.declared.shared.Pass.{Pass}
-use Rattle.mw_rule.specs.Seen.{opening_at}
-use Rattle.mw_table.specs.declared.right.FileRight.{FileRight}
-use Rattle.mw_table.specs.declared.shared.Shared.{Shared}
-use Rattle.mw_table.specs.Filing.{IsRightOf, file_kept}
-use Rattle.mw_table.specs.Origins.{config_of, openings_of}
 use Rattle.mw_core.specs.Books.{AgreesThere}
 use Rattle.mw_engine.specs.Branding.{Identity, identity_on}
 use Rattle.mw_engine.specs.Kept.{AgreesOnce, AreKept, IsKept, KeepsFor}

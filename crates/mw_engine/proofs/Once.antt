@@ -17,7 +17,7 @@ use Rattle.mw_file.specs.PlaceStates.{stage_of, writes_of_place}
 use Rattle.mw_file.specs.Stores.{PlacedAs}
 use Rattle.mw_book.specs.declared.kept.Book.{Book}
 use Rattle.mw_book.specs.Held.{StandsFor}
-use Rattle.mw_rule.specs.FromLaws.{FileRights, file_told}
+use Rattle.mw_core.specs.FromTable.{FileRights, file_told}
 use Rattle.mw_core.specs.Books.{Agrees}
 use Rattle.mw_engine.specs.Kept.{AgreesOnce, IsStoredAs, StandsOnce}
 

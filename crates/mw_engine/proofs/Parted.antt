@@ -10,21 +10,7 @@ use Rattle.mw_world.specs.declared.config.Config.{Config}
 use Rattle.mw_world.specs.declared.config.Tenant.{Tenant}
 use Rattle.mw_world.specs.Definition.State.{Opening, tenants_of}
 use Rattle.mw_book.specs.declared.kept.Book.{Book}
-use Rattle.mw_rule.specs.declared.views.View.{View}
-use Rattle.mw_rule.specs.FromLaws.{FileRights, rights_opened}
-use Rattle.mw_rule.specs.Seen.{opening_at}
-use Rattle.mw_table.specs.declared.origin.FileOpening.{FileOpening}
-use Rattle.mw_table.specs.declared.right.FileRight.{FileRight}
-use Rattle.mw_table.specs.declared.shared.Pass.{Pass}
-use Rattle.mw_table.specs.declared.shared.Shared.{Shared}
-use Rattle.mw_table.specs.Beginning.{Basis}
-use Rattle.mw_table.specs.Dealt.{IsDealt}
-use Rattle.mw_table.specs.Filing.{file_kept}
-use Rattle.mw_table.specs.Fresh.{basis_of_start, openings_given}
-use Rattle.mw_table.specs.Holding.{file_among}
-use Rattle.mw_table.specs.Numbers.{numbers}
-use Rattle.mw_table.specs.Opened.{AreOpened}
-use Rattle.mw_table.specs.Origins.{basis_of, config_of, openings_of}
+use Rattle.mw_core.specs.FromTable.{AreOpened, Basis, FileOpening, FileRight, FileRights, IsDealt, Pass, Shared, View, basis_of, basis_of_start, config_of, file_among, file_kept, numbers, opening_at, openings_given, openings_of, rights_opened}
 use Rattle.mw_core.specs.Books.{Agrees}
 use Rattle.mw_engine.specs.declared.listed.Listed.{Listed}
 use Rattle.mw_engine.specs.Agreeing.{Agrees as AgreesWithWorld, line_given}

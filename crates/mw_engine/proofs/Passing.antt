@@ -6,12 +6,7 @@ use Rattle.mw_look.specs.declared.news.News.{News}
 use Rattle.mw_actor.specs.Acting.{Acting}
 use Rattle.mw_actor.specs.Program.{replied}
 use Rattle.mw_world.specs.Definition.Calls.{Called, called_at}
-use Rattle.mw_rule.specs.declared.views.View.{View}
-use Rattle.mw_table.specs.declared.shared.Pass.{Pass}
-use Rattle.mw_table.specs.declared.shared.Shared.{Shared}
-use Rattle.mw_table.specs.Filing.{IsFree}
-use Rattle.mw_table.specs.Origins.{config_of}
-use Rattle.mw_table.specs.Passes.{IsOf, IsRested}
+use Rattle.mw_core.specs.FromTable.{IsFree, IsOf, IsRested, Pass, Shared, View, config_of}
 use Rattle.mw_core.specs.declared.calls.Advance.{Advance}
 use Rattle.mw_core.specs.declared.looking.WhyAgain.{WhyAgain}
 use Rattle.mw_core.specs.Advancing.{Advances, Ends}

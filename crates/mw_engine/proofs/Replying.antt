@@ -30,16 +30,8 @@ use Rattle.mw_actor.specs.Acting.{Acting, first_point}
 use Rattle.mw_actor.specs.Asks.{asks}
 use Rattle.mw_actor.specs.Program.{goes, replied, reply_at, tells}
 use Rattle.mw_disk.specs.Facts.{Facts}
-use Rattle.mw_rule.specs.declared.views.Reins.{Reins}
-use Rattle.mw_rule.specs.declared.views.View.{View}
-use Rattle.mw_rule.specs.Calling.{Answered}
-use Rattle.mw_rule.specs.Carrying.{NotesAs, finished_as, settled, settled_as, stepped, told as told_by, told_of}
-use Rattle.mw_rule.specs.FromLaws.{went_well}
-use Rattle.mw_rule.specs.Rule.{Each, IsFinished}
-use Rattle.mw_rule.proofs.Calling.{calls_end}
-use Rattle.mw_rule.proofs.FromLaws.{requests_go_on_from_calls}
-use Rattle.mw_table.specs.declared.shared.Pass.{Pass}
-use Rattle.mw_table.specs.Carried.{IsCarried}
+use Rattle.mw_core.specs.FromTable.{Answered, Each, IsCarried, IsFinished, NotesAs, Pass, Reins, View, finished_as, settled, settled_as, stepped, told as told_by, told_of, went_well}
+use Rattle.mw_core.proofs.FromTable.{calls_end, requests_go_on_from_calls}
 use Rattle.mw_core.specs.declared.calls.Advance.{Advance}
 use Rattle.mw_core.specs.declared.looking.WhyAgain.{WhyAgain}
 use Rattle.mw_core.specs.Advancing.{Advances, Begins, Ends, StepsOnce}

@@ -10,13 +10,8 @@ use Rattle.mw_actor.specs.Ranges.{IsFormed}
 use Rattle.mw_actor.proofs.JobLaws.{well_formed_is_formed}
 use Rattle.mw_world.specs.declared.config.Config.{Config}
 use Rattle.mw_world.specs.Definition.State.{Opening, no_tenant, tenant_at, tenants_of}
-use Rattle.mw_rule.specs.declared.views.Reins.{Reins}
-use Rattle.mw_rule.specs.Carrying.{Has, MayCome}
-use Rattle.mw_rule.specs.Seen.{opening_at}
-use Rattle.mw_table.specs.declared.shared.Pass.{Pass}
-use Rattle.mw_table.specs.Numbers.{number_of}
-use Rattle.mw_table.specs.Origins.{config_of, openings_of}
-use Rattle.mw_table.proofs.Idling.{none_carried}
+use Rattle.mw_core.specs.FromTable.{Has, MayCome, Pass, Reins, config_of, number_of, opening_at, openings_of}
+use Rattle.mw_core.proofs.FromTable.{none_carried}
 use Rattle.mw_engine.specs.declared.front.Front.{Front}
 use Rattle.mw_engine.specs.Identity.{IsFor, Line, quota_told, words_told}
 use Rattle.mw_engine.specs.Fronts.{HasPass, IsRequestOfFront, lines_told}

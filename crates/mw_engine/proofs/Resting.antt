@@ -3,9 +3,7 @@ use Rattle.std.specs.Prelude.{◌≡◌, true, false, is_some, Option, Some, Non
 use Rattle.std.proofs.Common.{refl, sym, subst}
 use Rattle.mw_words.specs.declared.replies.Reply.{Reply}
 use Rattle.mw_actor.specs.Acting.{Acting}
-use Rattle.mw_rule.specs.declared.views.View.{View}
-use Rattle.mw_table.specs.declared.shared.Pass.{Pass}
-use Rattle.mw_table.specs.Passes.{IsRested}
+use Rattle.mw_core.specs.FromTable.{IsRested, Pass, View}
 use Rattle.mw_engine.specs.History.{Stands}
 use Rattle.mw_engine.specs.Stepping.{RestsAs}
 

@@ -6,10 +6,7 @@ use Rattle.mw_words.specs.declared.replies.Reply.{Reply}
 use Rattle.mw_actor.specs.Acting.{Acting}
 use Rattle.mw_actor.specs.Program.{replied}
 use Rattle.mw_disk.specs.Facts.{Facts}
-use Rattle.mw_rule.specs.declared.views.View.{View}
-use Rattle.mw_rule.specs.Filing.{after_call}
-use Rattle.mw_rule.specs.FromLaws.{went_well}
-use Rattle.mw_table.specs.declared.shared.Pass.{Pass}
+use Rattle.mw_core.specs.FromTable.{Pass, View, after_call, went_well}
 use Rattle.mw_engine.specs.Branding.{Identity}
 use Rattle.mw_engine.specs.Filing.{FilesOne}
 use Rattle.mw_engine.specs.History.{IsAnswered, IsServed, Stands, StandsAs}

@@ -7,10 +7,8 @@ use Rattle.std.proofs.Math.Seq.{take-suc}
 use Rattle.mw_words.specs.declared.doors.Door.{Door}
 use Rattle.mw_words.specs.declared.gates.Gate.{Gate}
 use Rattle.mw_report.specs.declared.figures.TenantFigures.{TenantFigures}
-use Rattle.mw_rule.specs.declared.views.View.{View}
-use Rattle.mw_rule.specs.Carrying.{Keeps}
-use Rattle.mw_rule.proofs.Calling.{keeps_all, keeps_on}
-use Rattle.mw_table.specs.declared.shared.Pass.{Pass}
+use Rattle.mw_core.specs.FromTable.{Keeps, Pass, View}
+use Rattle.mw_core.proofs.FromTable.{keeps_all, keeps_on}
 use Rattle.mw_engine.specs.declared.listed.Listed.{Listed}
 use Rattle.mw_engine.specs.Figures.{AreDoors, FoundDoor, FoundGate, HasLooked, TellsFree, TellTenants, door_shown, is_free, line_shown}
 use Rattle.mw_engine.specs.Identity.{Line}

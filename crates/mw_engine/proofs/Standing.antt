@@ -10,13 +10,8 @@ use Rattle.mw_words.specs.Patterns.{packed_door, packed_gate, unpacked_door, unp
 use Rattle.mw_words.proofs.PatternLaws.{door_round, gate_round}
 use Rattle.mw_world.specs.declared.config.Config.{Config}
 use Rattle.mw_world.specs.Definition.State.{Opening, tenants_of}
-use Rattle.mw_rule.specs.declared.views.View.{View}
-use Rattle.mw_rule.specs.Carrying.{Looked}
-use Rattle.mw_rule.specs.Layout.{index_of}
-use Rattle.mw_rule.specs.Seen.{opening_at}
-use Rattle.mw_rule.proofs.FromLaws.{runs_are_sound}
-use Rattle.mw_table.specs.declared.shared.Pass.{Pass}
-use Rattle.mw_table.specs.Passes.{IsOf}
+use Rattle.mw_core.specs.FromTable.{IsOf, Looked, Pass, View, index_of, opening_at}
+use Rattle.mw_core.proofs.FromTable.{runs_are_sound}
 use Rattle.mw_engine.specs.declared.front.Front.{Front}
 use Rattle.mw_engine.specs.Identity.{quota_told}
 use Rattle.mw_engine.specs.Fronts.{lines_told}

@@ -10,10 +10,7 @@ use Rattle.mw_file.specs.declared.tenant_file.TenantFile.{TenantFile}
 use Rattle.mw_config.specs.declared.lines.TenantLine.{TenantLine}
 use Rattle.mw_world.specs.Definition.State.{Opening}
 use Rattle.mw_book.specs.declared.kept.Book.{Book}
-use Rattle.mw_rule.specs.Seen.{opening_at}
-use Rattle.mw_rule.specs.FromLaws.{rights_opened}
-use Rattle.mw_table.specs.declared.origin.FileOpening.{FileOpening}
-use Rattle.mw_table.specs.Fresh.{opening_given, openings_given}
+use Rattle.mw_core.specs.FromTable.{FileOpening, opening_at, opening_given, openings_given, rights_opened}
 use Rattle.mw_core.specs.Books.{Agrees}
 use Rattle.mw_core.proofs.Agreeing.{opened_books_agree, unopened_books_agree}
 use Rattle.mw_engine.specs.Opened.{AreMadeOf, FitLines, FitsLine, IsMadeOf, book_file, held_read, opening_of, opening_read, openings_read, tenant_read}

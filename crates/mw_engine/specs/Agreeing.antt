@@ -2,9 +2,7 @@
 use Rattle.std.specs.Prelude.{◌≡◌, ◌<◌, ℕ, List, length, slice_get, Some}
 use Rattle.mw_world.specs.declared.config.Config.{Config}
 use Rattle.mw_world.specs.Definition.State.{Opening, tenant_at, tenants_of}
-use Rattle.mw_rule.specs.Seen.{opening_at}
-use Rattle.mw_table.specs.declared.origin.Origin.{Origin}
-use Rattle.mw_table.specs.Origins.{config_of, openings_of}
+use Rattle.mw_core.specs.FromTable.{Origin, config_of, opening_at, openings_of}
 use Rattle.mw_engine.specs.Identity.{Line}
 
 -- a tenant's line, by what the world is made of, and by the quota that the latest start gave it

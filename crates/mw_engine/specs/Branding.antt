@@ -3,8 +3,7 @@ use Rattle.std.specs.Prelude.{List, []}
 use Rattle.atomic_table.specs.Seated.{TableId}
 use Rattle.mw_world.specs.declared.config.Config.{Config}
 use Rattle.mw_world.specs.Definition.State.{Opening}
-use Rattle.mw_table.specs.declared.shared.Shared.{Shared}
-use Rattle.mw_table.specs.Origins.{config_of, openings_of}
+use Rattle.mw_core.specs.FromTable.{Shared, config_of, openings_of}
 use Rattle.mw_engine.specs.Identity.{Line}
 
 -- Which table of shared words it has; what the world is made of on which they rest, and what the latest start gave; and the tenants' lines.

@@ -7,10 +7,7 @@ use Rattle.mw_words.specs.declared.places.At.{At}
 use Rattle.mw_words.specs.declared.places.At.TheVariants.{Door as AtDoor, Gate as AtGate}
 use Rattle.mw_words.specs.Patterns.{unpacked_door, unpacked_gate}
 use Rattle.mw_report.specs.declared.figures.TenantFigures.{TenantFigures}
-use Rattle.mw_rule.specs.declared.views.View.{View}
-use Rattle.mw_rule.specs.Carrying.{Keeps, Looked}
-use Rattle.mw_rule.specs.Layout.{index_of}
-use Rattle.mw_table.specs.declared.shared.Pass.{Pass}
+use Rattle.mw_core.specs.FromTable.{Keeps, Looked, Pass, View, index_of}
 use Rattle.mw_engine.specs.Identity.{Line}
 
 -- Bits that stand at a place in some world after a run, as a load between these two moments may have found them.

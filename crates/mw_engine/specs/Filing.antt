@@ -3,9 +3,7 @@ use Rattle.std.specs.Prelude.{◌≡◌}
 use Rattle.mw_actor.specs.Acting.{Acting}
 use Rattle.mw_disk.specs.Facts.{Facts}
 use Rattle.mw_book.specs.declared.kept.Book.{Book}
-use Rattle.mw_table.specs.declared.right.FileRight.{FileRight}
-use Rattle.mw_table.specs.declared.shared.Pass.{Pass}
-use Rattle.mw_table.specs.Filing.{file_kept}
+use Rattle.mw_core.specs.FromTable.{FileRight, Pass, file_kept}
 use Rattle.mw_core.specs.Filing.{FilesOnce}
 use Rattle.mw_engine.specs.Branding.{Identity}
 use Rattle.mw_engine.specs.Kept.{IsKept}

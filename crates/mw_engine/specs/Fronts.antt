@@ -3,7 +3,7 @@ use Rattle.std.specs.Prelude.{◌≡◌, ℕ, List, map}
 use Rattle.mw_words.specs.declared.jobs.Job.{Job}
 use Rattle.mw_words.specs.declared.jobs.Job.TheVariants.{Get}
 use Rattle.mw_actor.specs.Acting.{Acting, first}
-use Rattle.mw_table.specs.declared.shared.Pass.{Pass}
+use Rattle.mw_core.specs.FromTable.{Pass}
 use Rattle.mw_engine.specs.declared.front.Front.{Front}
 use Rattle.mw_engine.specs.Identity.{IsFor, Line, quota_told}
 use Rattle.mw_engine.specs.Lines.{line_of}

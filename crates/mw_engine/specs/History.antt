@@ -4,11 +4,7 @@ use Rattle.mw_words.specs.declared.jobs.Job.{Job}
 use Rattle.mw_words.specs.declared.replies.Reply.{Reply}
 use Rattle.mw_actor.specs.Acting.{Acting}
 use Rattle.mw_actor.specs.Program.{replied}
-use Rattle.mw_rule.specs.declared.views.Reins.{Reins}
-use Rattle.mw_rule.specs.declared.views.View.{View}
-use Rattle.mw_rule.specs.Calling.{Answered, Serves}
-use Rattle.mw_rule.specs.Carrying.{Keeps}
-use Rattle.mw_rule.specs.Rule.{IsRight}
+use Rattle.mw_core.specs.FromTable.{Answered, IsRight, Keeps, Reins, Serves, View}
 use Rattle.mw_core.specs.declared.looking.WhyAgain.{WhyAgain}
 
 -- The request is under way: nothing is noted yet since the thread knew so much when it came. All that its steps found is known.

@@ -16,10 +16,7 @@ use Rattle.mw_world.specs.Definition.State.{Opening}
 use Rattle.mw_book.specs.declared.kept.Book.{Book}
 use Rattle.mw_book.specs.Held.{states_in}
 use Rattle.mw_book.specs.Shown.{ArePlaced}
-use Rattle.mw_rule.specs.FromLaws.{FileRights, file_told}
-use Rattle.mw_rule.specs.Seen.{opening_at}
-use Rattle.mw_table.specs.declared.right.FileRight.{FileRight}
-use Rattle.mw_table.specs.Filing.{file_kept}
+use Rattle.mw_core.specs.FromTable.{FileRight, FileRights, file_kept, file_told, opening_at}
 use Rattle.mw_engine.specs.Branding.{Identity}
 
 -- the bytes of a place, by how far its change is

@@ -13,7 +13,7 @@ use Rattle.mw_world.specs.declared.config.Tenant.{Tenant}
 use Rattle.mw_world.specs.Definition.State.{Opening}
 use Rattle.mw_book.specs.declared.kept.Book.{Book}
 use Rattle.mw_book.specs.Shown.{Shows, unopened}
-use Rattle.mw_table.specs.declared.origin.FileOpening.{FileOpening}
+use Rattle.mw_core.specs.FromTable.{FileOpening}
 use Rattle.mw_engine.specs.Identity.{Line}
 
 -- what a line of the tenants file tells, and the tenant of a world that it makes

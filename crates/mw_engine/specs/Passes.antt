@@ -1,10 +1,6 @@
 -- The passes of an engine.
 use Rattle.std.specs.Prelude.{◌≡◌, ◌<◌, true, []}
-use Rattle.mw_table.specs.declared.shared.Pass.{Pass}
-use Rattle.mw_table.specs.declared.shared.Shared.{Shared}
-use Rattle.mw_table.specs.Filing.{IsFree}
-use Rattle.mw_table.specs.Origins.{config_of}
-use Rattle.mw_table.specs.Passes.{IsOf}
+use Rattle.mw_core.specs.FromTable.{IsFree, IsOf, Pass, Shared, config_of}
 use Rattle.mw_engine.specs.Branding.{Identity}
 
 -- The pass is one of the engine's, for one of its workers, and has no right to a file: so it is but for the time of a call on one.

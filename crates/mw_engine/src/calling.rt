@@ -1,8 +1,7 @@
 //! A call on a tenant's file, under its lock.
 ghost use Rattle.std.specs.Prelude.{◌≡◌, ◌≢◌, ◌↔◌, None, IsTrue};
 ghost use Rattle.mw_world.specs.Definition.Calls.{called_at};
-ghost use Rattle.mw_table.specs.Carried.{IsCarried};
-ghost use Rattle.mw_table.specs.Meeting.{IsSamePass};
+ghost use Rattle.mw_core.specs.FromTable.{IsCarried, IsSamePass};
 ghost use Rattle.mw_engine.specs.Branding.{identity_on};
 ghost use Rattle.mw_engine.specs.Filing.{FilesOne};
 ghost use Rattle.mw_engine.specs.Passes.{IsOneOf};
@@ -10,9 +9,8 @@ ghost use Rattle.mw_engine.specs.Passes.{IsOneOf};
 use crate::brand::EngineBrand;
 use crate::kept::Kept;
 use mw_actor::Actor;
-use mw_core::Core;
+use mw_core::{Core, Pass};
 use mw_disk::Disk;
-use mw_table::Pass;
 
 impl<J: EngineBrand, D: Disk> Kept<J, D> {
     /// Whether it is the file of a request's tenant.

@@ -5,7 +5,7 @@ ghost use Rattle.mw_engine.specs.Fronts.{HasPass, lines_told, request};
 
 use crate::front::Front;
 use mw_actor::Actor;
-use mw_table::Pass;
+use mw_core::Pass;
 use mw_words::{Job, Name};
 
 impl<H> Front<H> {

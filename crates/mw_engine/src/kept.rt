@@ -3,8 +3,8 @@ ghost use Rattle.mw_engine.specs.Kept.{KeepsFor};
 
 use crate::brand::EngineBrand;
 use mw_book::Book;
+use mw_core::FileRight;
 use mw_disk::Disk;
-use mw_table::FileRight;
 use std::marker::PhantomData;
 
 /// The book of a tenant's file, and the right to the file, of the table that the engine's identity tells. The right is

@@ -37,6 +37,5 @@ pub use brand::EngineBrand;
 pub use engine::Engine;
 pub use hold::{Hold, NoHold, Point};
 pub use mw_actor::Actor;
-pub use mw_core::{Advance, WhyAgain};
-pub use mw_table::Pass;
+pub use mw_core::{Advance, Pass, WhyAgain};
 pub use parts::EngineParts;

@@ -1,7 +1,7 @@
 //! How an engine's parts are made.
 ghost use Rattle.std.specs.Prelude.{◌≡◌, ◌≤◌, All, length, map, IfOk};
 ghost use Rattle.mw_config.specs.Limits.{ArePermitted};
-ghost use Rattle.mw_table.specs.Dealt.{AreInOrder};
+ghost use Rattle.mw_core.specs.FromTable.{AreInOrder};
 ghost use Rattle.mw_words.specs.declared.limits.TheConstants.{MAX_POOL, MAX_TENANTS, MAX_WORKERS};
 ghost use Rattle.mw_engine.specs.Lines.{line_of};
 ghost use Rattle.mw_engine.specs.Opened.{AreMadeOf, FitLines, FitsLine, IsMadeOf, book_file, held_read, line_read, openings_read, tenant_read};
@@ -14,10 +14,9 @@ use crate::parts::EngineParts;
 use arrayvec::ArrayVec;
 use mw_book::Book;
 use mw_config::TenantLine;
-use mw_core::Core;
+use mw_core::{Core, FileOpening, Pass, Shared};
 use mw_disk::Disk;
 use mw_file::TenantFile;
-use mw_table::{FileOpening, Pass, Shared};
 use mw_words::{MAX_TENANTS, copy_of_name};
 use mw_world::{Config, Tenant};
 use std::alloc::{AllocError, Global};

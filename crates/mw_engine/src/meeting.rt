@@ -1,10 +1,9 @@
 //! Two passes meet.
-ghost use Rattle.mw_rule.specs.Carrying.{Met};
-ghost use Rattle.mw_table.specs.Meeting.{HaveMet, IsSamePass};
+ghost use Rattle.mw_core.specs.FromTable.{HaveMet, IsSamePass, Met};
 ghost use Rattle.mw_engine.specs.Fronts.{HasPass};
 
 use crate::front::Front;
-use mw_table::Pass;
+use mw_core::Pass;
 
 impl<H> Front<H> {
     /// Two passes meet: afterwards both have seen the same of what was sealed, which goes on from what each had seen

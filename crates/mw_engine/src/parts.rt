@@ -6,8 +6,8 @@ ghost use Rattle.mw_engine.specs.Fronts.{lines_told};
 
 use crate::front::Front;
 use mw_book::Book;
+use mw_core::FileRight;
 use mw_disk::Disk;
-use mw_table::FileRight;
 
 /// What an engine is made of, which has no brand yet. [`EngineParts::into_engine`] gives it one.
 #[derive(Drop)]

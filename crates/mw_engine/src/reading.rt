@@ -3,17 +3,14 @@ ghost use Rattle.std.specs.Prelude.{◌≡◌, true, false, IfOk};
 ghost use Rattle.mw_words.specs.declared.jobs.Job.TheVariants.{Get};
 ghost use Rattle.mw_actor.specs.Acting.{Acting};
 ghost use Rattle.mw_core.specs.Looking.{Looks, is_over};
-ghost use Rattle.mw_rule.specs.declared.views.View.{View as Knowledge};
-ghost use Rattle.mw_table.specs.Carried.{IsCarried};
-ghost use Rattle.mw_table.specs.Passes.{IsOfSameWorker};
+ghost use Rattle.mw_core.specs.FromTable.{IsCarried, IsOfSameWorker, View as Knowledge};
 ghost use Rattle.mw_engine.specs.History.{IsAnswered, IsSince, ReadStands};
 ghost use Rattle.mw_engine.specs.Identity.{IsFor};
 ghost use Rattle.mw_engine.specs.Replies.{IsReplyTo};
 ghost use Rattle.mw_engine.specs.Fronts.{HasPass, lines_told, read_of};
 
 use crate::front::Front;
-use mw_core::WhyAgain;
-use mw_table::Pass;
+use mw_core::{Pass, WhyAgain};
 use mw_words::{Job, Reply};
 use std::sync::Wait;
 

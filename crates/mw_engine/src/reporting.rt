@@ -9,8 +9,8 @@ ghost use Rattle.mw_engine.specs.Fronts.{HasPass, lines_told};
 
 use crate::front::Front;
 use arrayvec::ArrayVec;
+use mw_core::Pass;
 use mw_report::{Figures, TenantFigures};
-use mw_table::Pass;
 use mw_words::{At, Door, Gate, MAX_TENANTS, WORN_NUMBER, copy_of_name};
 
 impl<H> Front<H> {

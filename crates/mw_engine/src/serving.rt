@@ -1,10 +1,7 @@
 //! Requests that are served whole.
 ghost use Rattle.std.specs.Prelude.{◌≡◌, ◌≢◌, true, false, is_some, IfSome, Some, None};
 ghost use Rattle.mw_actor.specs.Program.{replied};
-ghost use Rattle.mw_rule.specs.declared.views.View.{View as Knowledge};
-ghost use Rattle.mw_table.specs.Carried.{IsCarried};
-ghost use Rattle.mw_table.specs.Meeting.{IsSamePass};
-ghost use Rattle.mw_table.specs.Passes.{IsOfSameWorker};
+ghost use Rattle.mw_core.specs.FromTable.{IsCarried, IsOfSameWorker, IsSamePass, View as Knowledge};
 ghost use Rattle.mw_world.specs.Definition.Calls.{called_at};
 ghost use Rattle.mw_engine.specs.Filing.{FilesOne};
 ghost use Rattle.mw_engine.specs.History.{IsAnswered, IsServed, IsSince, StandsAs};
@@ -18,10 +15,9 @@ use crate::brand::EngineBrand;
 use crate::engine::Engine;
 use crate::hold::{Hold, Point};
 use mw_actor::{Actor, Point as Step};
-use mw_core::Advance;
+use mw_core::{Advance, Pass};
 use mw_disk::Disk;
 use mw_look::{Call, Op};
-use mw_table::Pass;
 use mw_words::{Job, Reply};
 use std::sync::Wait;
 

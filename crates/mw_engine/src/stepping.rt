@@ -3,9 +3,7 @@ ghost use Rattle.std.specs.Prelude.{◌≡◌, true, false, is_some, IfSome, Non
 ghost use Rattle.mw_actor.specs.Program.{replied};
 ghost use Rattle.mw_core.specs.declared.calls.Advance.TheVariants.{NeedsFile};
 ghost use Rattle.mw_core.specs.Advancing.{answer_of};
-ghost use Rattle.mw_rule.specs.declared.views.View.{View as Knowledge};
-ghost use Rattle.mw_table.specs.Carried.{IsCarried};
-ghost use Rattle.mw_table.specs.Passes.{IsOfSameWorker};
+ghost use Rattle.mw_core.specs.FromTable.{IsCarried, IsOfSameWorker, View as Knowledge};
 ghost use Rattle.mw_engine.specs.History.{IsServed, IsSince, Stands};
 ghost use Rattle.mw_engine.specs.Fronts.{HasPass, IsRequestOfFront};
 ghost use Rattle.mw_engine.specs.Replies.{IsOnItsWay, IsReplyTo};
@@ -13,8 +11,7 @@ ghost use Rattle.mw_engine.specs.Stepping.{EndsAs, IsAtCall, IsSameRequest, Make
 
 use crate::front::Front;
 use mw_actor::Actor;
-use mw_core::Advance;
-use mw_table::Pass;
+use mw_core::{Advance, Pass};
 
 impl<H> Front<H> {
     /// One atomic step of a request, on one shared word. Where the pass is idle the request comes to it with its

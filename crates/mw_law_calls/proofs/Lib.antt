@@ -2,6 +2,7 @@ pub mod Beside
 pub mod Calling
 pub mod Ending
 pub mod Following
+pub mod FromLaws
 pub mod GoingOn
 pub mod Leaving
 pub mod Starting

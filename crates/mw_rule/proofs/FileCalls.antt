@@ -30,7 +30,7 @@ use Rattle.mw_law_calls.specs.declared.rights.FileRights.{FileRights}
 use Rattle.mw_law_calls.proofs.Ending.{calls_end_well, calls_find_faults, calls_meet_faults, calls_skip}
 use Rattle.mw_law_calls.proofs.Following.{rights_follow_calls, rights_follow_faults}
 use Rattle.mw_law_calls.proofs.Starting.{calls_can_start}
-use Rattle.mw_law_runs.proofs.Lawful.{runs_are_lawful}
+use Rattle.mw_law_calls.proofs.FromLaws.{runs_are_lawful}
 use Rattle.mw_rule.specs.declared.views.Finished.{Finished}
 use Rattle.mw_rule.specs.declared.views.Held.{Held}
 use Rattle.mw_rule.specs.declared.views.View.{View}

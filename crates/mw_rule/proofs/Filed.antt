@@ -19,7 +19,7 @@ use Rattle.mw_world.specs.Definition.State.{State, Opening}
 use Rattle.mw_world.specs.Definition.Turns.{Made, moved}
 use Rattle.mw_law_calls.specs.Beside.{AreBesideFile}
 use Rattle.mw_law_calls.specs.Ending.{CallEnds}
-use Rattle.mw_law_runs.proofs.Numbers.{same_or_other}
+use Rattle.mw_law_calls.proofs.FromLaws.{same_or_other}
 use Rattle.mw_rule.specs.declared.views.Held.{Held}
 use Rattle.mw_rule.specs.declared.views.Reins.{Reins}
 use Rattle.mw_rule.specs.declared.views.View.{View}

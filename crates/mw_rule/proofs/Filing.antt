@@ -20,8 +20,7 @@ use Rattle.mw_world.specs.Definition.State.{State, Opening, Seat}
 use Rattle.mw_world.specs.Definition.Turns.{Made, moved}
 use Rattle.mw_world.specs.Definition.World.{run}
 use Rattle.mw_law_calls.proofs.GoingOn.{requests_go_on_from_calls}
-use Rattle.mw_law_runs.proofs.Knowledge.Deeds.Keeping.{upd_here, upd_else}
-use Rattle.mw_law_store.proofs.OverCalls.{on_with, requests_stay_begun}
+use Rattle.mw_law_calls.proofs.FromLaws.{on_with, requests_stay_begun, upd_else, upd_here}
 use Rattle.mw_rule.specs.declared.views.Deed.TheVariants.{Called}
 use Rattle.mw_rule.specs.declared.views.Reins.{Reins}
 use Rattle.mw_rule.specs.Filing.{went, went_as}

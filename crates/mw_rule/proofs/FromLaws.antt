@@ -4,5 +4,4 @@ pub use Rattle.mw_law_calls.proofs.GoingOn.{requests_go_on_from_calls}
 pub use Rattle.mw_law_calls.proofs.Starting.{calls_have_words}
 pub use Rattle.mw_law_calls.proofs.Telling.{opened_told}
 pub use Rattle.mw_law_calls.proofs.Tied.{starts_have_rights}
-pub use Rattle.mw_law_runs.proofs.Lawful.{runs_are_lawful}
-pub use Rattle.mw_law_runs.proofs.Running.{runs_are_sound}
+pub use Rattle.mw_law_calls.proofs.FromLaws.{runs_are_lawful, runs_are_sound}

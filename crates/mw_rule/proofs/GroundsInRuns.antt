@@ -19,8 +19,8 @@ use Rattle.mw_world.specs.Claim.Headline.{IsPlayed}
 use Rattle.mw_world.specs.Definition.Happenings.{Happening}
 use Rattle.mw_world.specs.Definition.State.{State, Opening}
 use Rattle.mw_world.specs.Definition.Turns.{next_attempt}
-use Rattle.mw_law_runs.specs.Sound.{IsSound}
-use Rattle.mw_law_runs.proofs.Running.{runs_are_sound}
+use Rattle.mw_law_calls.specs.FromLaws.{IsSound}
+use Rattle.mw_law_calls.proofs.FromLaws.{runs_are_sound}
 use Rattle.mw_rule.specs.declared.views.Reins.{Reins}
 use Rattle.mw_rule.specs.Carrying.{comes, stepped, told_of}
 use Rattle.mw_rule.specs.Grounds.{HasGroundAt}

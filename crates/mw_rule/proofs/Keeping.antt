@@ -14,7 +14,7 @@ use Rattle.mw_world.specs.Definition.Cells.{Cells, read}
 use Rattle.mw_world.specs.Definition.Extent.{has_place}
 use Rattle.mw_world.specs.Definition.Happenings.{Happening}
 use Rattle.mw_world.specs.Definition.State.{State, Opening, IsConfig}
-use Rattle.mw_law_runs.proofs.Numbers.{same_or_other}
+use Rattle.mw_law_calls.proofs.FromLaws.{same_or_other}
 use Rattle.mw_law_calls.specs.Beside.{AreBesideFile}
 use Rattle.mw_rule.specs.declared.views.View.{View}
 use Rattle.mw_rule.specs.Layout.{index_of, words_of}

@@ -19,7 +19,7 @@ use Rattle.mw_law_calls.specs.Starting.{HasWords, IsAtCall}
 use Rattle.mw_law_calls.specs.declared.rights.FileRights.{FileRights}
 use Rattle.mw_law_calls.proofs.Starting.{calls_have_words}
 use Rattle.mw_law_calls.proofs.Telling.{rights_tell_calls}
-use Rattle.mw_law_runs.proofs.Knowledge.Deeds.Keeping.{upd_here}
+use Rattle.mw_law_calls.proofs.FromLaws.{upd_here}
 use Rattle.mw_rule.specs.declared.views.Held.{Held}
 use Rattle.mw_rule.specs.declared.views.View.{View}
 use Rattle.mw_rule.specs.Filing.{Calls, places_held}

@@ -12,16 +12,8 @@ use Rattle.mw_world.specs.Claim.Headline.{IsPlayed}
 use Rattle.mw_world.specs.Definition.Happenings.{Happening}
 use Rattle.mw_world.specs.Definition.State.{State, Account, Opening, Seat, tenants_of, world_at}
 use Rattle.mw_world.specs.Definition.World.{step, run}
-use Rattle.mw_law_runs.proofs.Knowledge.Deeds.Keeping.{upd_here, upd_else}
-use Rattle.mw_law_runs.proofs.Numbers.{same_or_other}
-use Rattle.mw_law_runs.proofs.Running.{runs_are_sound}
-use Rattle.mw_law_store.specs.Followed.{start_of}
-use Rattle.mw_law_store.specs.History.{AreNoStarts, IsBeginning, SealsHaveGoneOn}
-use Rattle.mw_law_store.specs.Moments.{Moment, SealedChange, first_moment, after_marks, moment_at, moment_of}
-use Rattle.mw_law_store.specs.OverCalls.{HasBegun, sealed_of}
-use Rattle.mw_law_store.proofs.Histories as histories
-use Rattle.mw_law_store.proofs.Momenting.{got_within}
-use Rattle.mw_law_store.proofs.Running.{events_are_followed, runs_are_followed}
+use Rattle.mw_law_calls.proofs.FromLaws.{events_are_followed, got_within, runs_are_followed, runs_are_sound, same_or_other, seals_stay_long, upd_else, upd_here}
+use Rattle.mw_law_calls.specs.FromLaws.{AreNoStarts, HasBegun, IsBeginning, Moment, SealedChange, SealsHaveGoneOn, after_marks, first_moment, moment_at, moment_of, sealed_of, start_of}
 use Rattle.mw_rule.specs.declared.views.Finished.{Finished}
 use Rattle.mw_rule.specs.declared.views.Reins.{Reins}
 use Rattle.mw_rule.specs.declared.views.View.{View}
@@ -139,7 +131,7 @@ module _ (config : Config) (openings : ℕ → Opening) (before : List Happening
 
   module _ (tenant : ℕ) (low : tenant < tenants_of config) where
     gone : ((new.accounts tenant).closed ≡ (old.accounts tenant).closed) × SealsHaveGoneOn (start_of openings old tenant) (old.accounts tenant).lines (new.accounts tenant).lines
-    gone = histories.seals_stay_long runs_are_followed events_are_followed config openings before more old new tenant played low leads.no_starts leads.runs
+    gone = seals_stay_long runs_are_followed events_are_followed config openings before more old new tenant played low leads.no_starts leads.runs
 
     pub same_start : start_of openings new tenant ≡ start_of openings old tenant
     same_start = ap (λ (marks : List Mark). after_marks (first_moment (openings tenant).words) marks) gone.0

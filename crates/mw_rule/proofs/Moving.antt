@@ -29,10 +29,8 @@ use Rattle.mw_world.specs.Definition.Extent.{has_place}
 use Rattle.mw_world.specs.Definition.Happenings.{Happening, Come}
 use Rattle.mw_world.specs.Definition.State.{Opening, tenant_at, tenants_of}
 use Rattle.mw_world.specs.Definition.Turns.{may_make}
-use Rattle.mw_law_store.specs.History.{IsBeginning}
-use Rattle.mw_law_store.specs.Moments.{SealedChange}
-use Rattle.mw_law_store.specs.OverCalls.{sealed_of}
-use Rattle.mw_law_runs.proofs.Lawful.{runs_are_lawful}
+use Rattle.mw_law_calls.specs.FromLaws.{IsBeginning, SealedChange, sealed_of}
+use Rattle.mw_law_calls.proofs.FromLaws.{runs_are_lawful}
 use Rattle.mw_rule.specs.declared.views.Finished.{Finished}
 use Rattle.mw_rule.specs.declared.views.Reins.{Reins}
 use Rattle.mw_rule.specs.declared.views.View.{View}

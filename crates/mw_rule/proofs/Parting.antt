@@ -16,11 +16,8 @@ use Rattle.mw_world.specs.Definition.Cells.{read}
 use Rattle.mw_world.specs.Definition.Extent.{has_place}
 use Rattle.mw_world.specs.Definition.Happenings.{Happening}
 use Rattle.mw_world.specs.Definition.State.{State, Opening, Seat, tenants_of}
-use Rattle.mw_law_runs.proofs.Numbers.{same_or_other}
-use Rattle.mw_law_store.specs.History.{IsBeginning}
-use Rattle.mw_law_store.specs.Moments.{SealedChange}
-use Rattle.mw_law_store.specs.OverCalls.{sealed_of}
-use Rattle.mw_law_store.proofs.OverCalls.{requests_have_begun}
+use Rattle.mw_law_calls.proofs.FromLaws.{requests_have_begun, same_or_other}
+use Rattle.mw_law_calls.specs.FromLaws.{IsBeginning, SealedChange, sealed_of}
 use Rattle.mw_rule.specs.declared.views.Held.{Held}
 use Rattle.mw_rule.specs.declared.views.Reins.{Reins}
 use Rattle.mw_rule.specs.declared.views.View.{View}

@@ -7,11 +7,8 @@ use Rattle.mw_world.specs.declared.config.Config.{Config}
 use Rattle.mw_world.specs.Claim.Headline.{IsPlayed}
 use Rattle.mw_world.specs.Definition.Happenings.{Happening}
 use Rattle.mw_world.specs.Definition.State.{State, Opening, tenants_of}
-use Rattle.mw_law_store.specs.History.{IsBeginning}
-use Rattle.mw_law_store.specs.Moments.{SealedChange}
-use Rattle.mw_law_store.specs.OverCalls.{IsRightAt, sealed_of, words_at_start}
-use Rattle.mw_law_store.proofs.OverCalls.{sealed_are_right}
-use Rattle.mw_law_store.proofs.SealedLists.{places_stay_right}
+use Rattle.mw_law_calls.specs.FromLaws.{IsBeginning, IsRightAt, SealedChange, sealed_of, words_at_start}
+use Rattle.mw_law_calls.proofs.FromLaws.{places_stay_right, sealed_are_right}
 use Rattle.mw_rule.specs.declared.views.Finished.{Finished}
 use Rattle.mw_rule.specs.declared.views.View.{View}
 use Rattle.mw_rule.specs.Carrying.{Precede}

@@ -27,14 +27,8 @@ use Rattle.mw_world.specs.Definition.Noting.{more, seated}
 use Rattle.mw_world.specs.Definition.State.{State, Opening, Seat, tenant_at, tenants_of}
 use Rattle.mw_world.specs.Definition.Turns.{may_make, made_of, moved, next_attempt, turn, turned}
 use Rattle.mw_world.specs.Definition.World.{begun, asked, hand, handed, may_come, run, step}
-use Rattle.mw_law_runs.proofs.Knowledge.Deeds.Keeping.{upd_here, upd_else}
-use Rattle.mw_law_runs.proofs.Numbers.{same_or_other}
-use Rattle.mw_law_store.specs.Moments.{Moment}
-use Rattle.mw_law_store.specs.OverCalls.{IsRightAt, IsRightSince, sealed_of, words_at_start}
-use Rattle.mw_law_store.specs.Tied.{AreApart}
-use Rattle.mw_law_store.proofs.Histories as histories
-use Rattle.mw_law_store.proofs.OverCalls.{on_with, replies_keep_their_place, requests_begin, requests_stay_begun}
-use Rattle.mw_law_store.proofs.Running.{runs_are_followed}
+use Rattle.mw_law_calls.proofs.FromLaws.{asks_stand_once, on_with, replies_keep_their_place, requests_begin, requests_stay_begun, runs_are_followed, same_or_other, upd_else, upd_here}
+use Rattle.mw_law_calls.specs.FromLaws.{AreApart, IsRightAt, IsRightSince, Moment, sealed_of, words_at_start}
 use Rattle.mw_rule.specs.declared.views.Deed.{Deed}
 use Rattle.mw_rule.specs.declared.views.Deed.TheVariants.{Came, Stepped, Handed}
 use Rattle.mw_rule.specs.declared.views.Finished.{Finished}
@@ -248,7 +242,7 @@ module _ (config : Config) (openings : ℕ → Opening) (before : List Happening
   low = tenant_there config openings before state played reins.worker next holds.actor
 
   given : (state.seats reins.worker).request < (state.accounts next.tenant).asked
-  given = (histories.asks_stand_once runs_are_followed config openings before state next.tenant played low).numbers holds.begun.came.ask (state.seats reins.worker).request next.job holds.begun.came.came
+  given = (asks_stand_once runs_are_followed config openings before state next.tenant played low).numbers holds.begun.came.ask (state.seats reins.worker).request next.job holds.begun.came.came
 
   numbers_apart : (by : ℕ) (actor : Acting) → by ≢ reins.worker → (state.seats by).actor ≡ Some actor → actor.tenant ≡ next.tenant → (state.seats by).request ≢ (state.seats reins.worker).request
   numbers_apart by actor apart sits its =

@@ -17,10 +17,8 @@ use Rattle.mw_world.specs.Definition.Happenings.{Happening}
 use Rattle.mw_world.specs.Definition.State.{State, Opening, tenants_of}
 use Rattle.mw_law_calls.specs.Beside.{AreBesideFile}
 use Rattle.mw_law_calls.proofs.Starting.{calls_have_words}
-use Rattle.mw_law_runs.proofs.Lawful.{runs_are_lawful}
-use Rattle.mw_law_store.specs.History.{IsBeginning}
-use Rattle.mw_law_store.specs.Moments.{SealedChange}
-use Rattle.mw_law_store.specs.OverCalls.{sealed_of}
+use Rattle.mw_law_calls.proofs.FromLaws.{runs_are_lawful}
+use Rattle.mw_law_calls.specs.FromLaws.{IsBeginning, SealedChange, sealed_of}
 use Rattle.mw_rule.specs.declared.views.Finished.{Finished}
 use Rattle.mw_rule.specs.declared.views.Held.{Held}
 use Rattle.mw_rule.specs.declared.views.Reins.{Reins}

@@ -11,7 +11,7 @@ use Rattle.mw_world.specs.declared.config.Config.{Config}
 use Rattle.mw_world.specs.Definition.Calls.{Called as CallOn, called_at}
 use Rattle.mw_world.specs.Definition.State.{Opening, Seat}
 use Rattle.mw_law_calls.specs.declared.rights.FileRights.{FileRights}
-use Rattle.mw_law_store.specs.OverCalls.{IsRightAt}
+use Rattle.mw_law_calls.specs.FromLaws.{IsRightAt}
 use Rattle.mw_rule.specs.declared.views.Held.{Held}
 use Rattle.mw_rule.specs.declared.views.Reins.{Reins}
 use Rattle.mw_rule.specs.declared.views.View.{View}

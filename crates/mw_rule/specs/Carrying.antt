@@ -22,8 +22,7 @@ use Rattle.mw_world.specs.Definition.Happenings.{Happening}
 use Rattle.mw_world.specs.Definition.State.{State, Opening, tenant_at, tenants_of}
 use Rattle.mw_world.specs.Definition.Turns.{may_make, next_attempt}
 use Rattle.mw_law_calls.specs.Starting.{HasWords}
-use Rattle.mw_law_store.specs.Moments.{SealedChange}
-use Rattle.mw_law_store.specs.OverCalls.{sealed_of}
+use Rattle.mw_law_calls.specs.FromLaws.{SealedChange, sealed_of}
 use Rattle.mw_rule.specs.declared.views.Deed.TheVariants.{Came, Stepped, Handed}
 use Rattle.mw_rule.specs.declared.views.Finished.{Finished}
 use Rattle.mw_rule.specs.declared.views.Reins.{Reins}

@@ -20,7 +20,7 @@ use Rattle.mw_world.specs.Definition.Happenings.{Happening, Come, File as FileEv
 use Rattle.mw_world.specs.Definition.State.{Opening, State}
 use Rattle.mw_law_calls.specs.Ending.{exchange_of, fault_of}
 use Rattle.mw_law_calls.specs.Rights.{file_told}
-use Rattle.mw_law_store.specs.History.{AreNoStarts}
+use Rattle.mw_law_calls.specs.FromLaws.{AreNoStarts}
 use Rattle.mw_rule.specs.declared.views.Held.{Held}
 use Rattle.mw_rule.specs.declared.views.View.{View}
 use Rattle.mw_rule.specs.Carrying.{Began, Drives, Looked, MayCome, Took}

@@ -14,9 +14,7 @@ use Rattle.mw_world.specs.Definition.Cells.{Cells, read}
 use Rattle.mw_world.specs.Definition.Extent.{has_place}
 use Rattle.mw_world.specs.Definition.Happenings.{Happening, Come, Step, File, Hand, Restart}
 use Rattle.mw_world.specs.Definition.State.{State, Opening, tenants_of}
-use Rattle.mw_law_store.specs.History.{AreNoStarts}
-use Rattle.mw_law_store.specs.Moments.{SealedChange}
-use Rattle.mw_law_store.specs.OverCalls.{IsRightAt, sealed_of, words_after}
+use Rattle.mw_law_calls.specs.FromLaws.{AreNoStarts, IsRightAt, SealedChange, sealed_of, words_after}
 use Rattle.mw_law_calls.specs.Rights.{TellsFile}
 use Rattle.mw_law_calls.specs.Starting.{IsAtCall}
 use Rattle.mw_rule.specs.declared.views.Deed.{Deed}

@@ -2,9 +2,7 @@
 use Rattle.std.specs.Prelude.{ℕ, zero, suc, true, ◌≡◌, ◌≤◌, ◌<◌, List, [], ◌∷◌, ◌++◌, slice_index_or, Option, Some, None}
 use Rattle.mw_actor.specs.Acting.{Acting}
 use Rattle.mw_world.specs.Definition.State.{State, Opening}
-use Rattle.mw_law_store.specs.History.{IsBeginning}
-use Rattle.mw_law_store.specs.Moments.{SealedChange}
-use Rattle.mw_law_store.specs.OverCalls.{HasBegun, words_at_start}
+use Rattle.mw_law_calls.specs.FromLaws.{HasBegun, IsBeginning, SealedChange, words_at_start}
 
 -- the changes of a tenant, of lists that have each tenant's
 abbrev pub seen_at : List (List SealedChange) → ℕ → List SealedChange

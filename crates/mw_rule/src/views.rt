@@ -77,7 +77,7 @@ pub struct Sealed {
 }
 
 impl Model for Sealed {
-    ghost use Rattle.mw_law_store.specs.Moments.{SealedChange};
+    ghost use Rattle.mw_law_calls.specs.FromLaws.{SealedChange};
 
     ghost Value = { SealedChange };
 

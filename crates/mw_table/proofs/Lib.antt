@@ -8,6 +8,7 @@ pub mod Entrusting
 pub mod FileSteps
 pub mod Finding
 pub mod Fresh
+pub mod FromRule
 pub mod Idling
 pub mod Lending
 pub mod Meetings

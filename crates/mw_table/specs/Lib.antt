@@ -3,6 +3,7 @@ pub mod Carried
 pub mod Dealt
 pub mod Filing
 pub mod Fresh
+pub mod FromRule
 pub mod Holding
 pub mod Meeting
 pub mod Numbers

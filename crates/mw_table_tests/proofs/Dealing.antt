@@ -8,22 +8,12 @@ use Rattle.mw_world.specs.declared.events.Event.{Event}
 use Rattle.mw_world.specs.Definition.Calls.{called_at}
 use Rattle.mw_world.specs.Definition.Happenings.{Happening}
 use Rattle.mw_world.specs.Definition.State.{Seat, State}
-use Rattle.mw_rule.specs.declared.views.Reins.{Reins}
-use Rattle.mw_rule.specs.declared.views.View.{View}
-use Rattle.mw_rule.specs.Carrying.{IsReady, IsReadyAt, IsReadyFor, settled, settled_as}
-use Rattle.mw_rule.specs.Dealing.{reins_of}
-use Rattle.mw_rule.specs.Rule.{Each}
+use Rattle.mw_core.specs.FromTable.{Each, IsCarried, IsDealt, IsReady, IsReadyAt, IsReadyFor, Pass, Reins, Shared, View, basis_of_world, numbers, reins_of, seat_in, settled, settled_as}
 use Rattle.mw_simulator.specs.declared.faults.WorldFault.{WorldFault}
 use Rattle.mw_simulator.specs.declared.world.World.{World}
 use Rattle.mw_simulator.specs.Running.{StandsAfter}
 use Rattle.mw_simulator.specs.Shows.{Shows}
-use Rattle.mw_table.specs.declared.shared.Pass.{Pass}
-use Rattle.mw_table.specs.declared.shared.Shared.{Shared}
-use Rattle.mw_table.specs.Beginning.{basis_of_world, seat_in}
-use Rattle.mw_table.specs.Carried.{IsCarried}
-use Rattle.mw_table.specs.Dealt.{IsDealt}
-use Rattle.mw_table.specs.Numbers.{numbers}
-use Rattle.mw_table.proofs.Starting.{seats_same}
+use Rattle.mw_core.proofs.FromTable.{seats_same}
 use Rattle.mw_table_tests.specs.Reached.{IsReached}
 
 -- a run goes on by an event, or ends where it was

@@ -10,7 +10,7 @@ use Rattle.mw_actor.specs.declared.points.Point.TheVariants.{Read}
 use Rattle.mw_actor.specs.Acting.{Acting}
 use Rattle.mw_actor.specs.Program.{goes, replied, tells}
 use Rattle.mw_world.specs.Definition.Calls.{Called, called_at}
-use Rattle.mw_table.specs.declared.shared.Pass.{Pass}
+use Rattle.mw_core.specs.FromTable.{Pass}
 use Rattle.mw_core.specs.declared.calls.Advance.{Advance}
 use Rattle.mw_core.specs.Advancing.{Advances, Ends}
 use Rattle.mw_core.specs.Looking.{IsLook}

@@ -2,12 +2,11 @@
 ghost use Rattle.std.specs.Prelude.{◌≡◌, [], ◌∷◌, ℕ, IfOk, None, Some, Vec};
 ghost use Rattle.std.specs.declared.alloc.Global.{Global};
 ghost use Rattle.mw_world.specs.Definition.State.{IsConfig, no_tenant, tenant_at, tenants_of};
-ghost use Rattle.mw_table.specs.Origins.{config_of};
-ghost use Rattle.mw_table.specs.Passes.{IsOf};
+ghost use Rattle.mw_core.specs.FromTable.{IsOf, config_of};
 
 use crate::worlds::{config, new_world};
 use arrayvec::ArrayVec;
-use mw_table::{FileOpening, Pass, Shared};
+use mw_core::{FileOpening, Pass, Shared};
 use mw_words::{At, Door};
 use mw_world::{Config, Tenant};
 use std::alloc::{AllocError, Global};

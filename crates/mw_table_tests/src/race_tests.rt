@@ -1,19 +1,14 @@
 //! Two threads drive two requests on one table.
 ghost use Rattle.std.specs.Prelude.{◌≡◌, ◌≤◌, All, IfSome};
 ghost use Rattle.mw_world.specs.Definition.State.{tenant_at};
-ghost use Rattle.mw_table.specs.Beginning.{basis_of_world};
-ghost use Rattle.mw_table.specs.Carried.{IsCarried};
-ghost use Rattle.mw_table.specs.Dealt.{IsDealt};
-ghost use Rattle.mw_table.specs.Origins.{basis_of, config_of};
-ghost use Rattle.mw_table.specs.Passes.{IsOf};
+ghost use Rattle.mw_core.specs.FromTable.{IsCarried, IsDealt, IsOf, basis_of, basis_of_world, config_of};
 ghost use Rattle.mw_table_tests.specs.Reached.{IsReached};
 
 use crate::worlds::{MANY_STEPS, change_one, change_two, come, config, new_world, play_to, step};
 use mw_actor::Actor;
-use mw_core::{Advance, Core};
+use mw_core::{Advance, Core, Pass, Shared};
 use mw_look::Kind;
 use mw_simulator::World;
-use mw_table::{Pass, Shared};
 use mw_words::{At, Door, Gate, Job, Reply, Status, Word};
 use std::alloc::Global;
 use std::test::Fail;

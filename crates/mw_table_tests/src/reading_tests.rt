@@ -1,8 +1,7 @@
 //! A read that begins again. One thread makes its steps, and those of a change beside it.
 ghost use Rattle.std.specs.Prelude.{◌≡◌, true, IfSome};
 ghost use Rattle.mw_words.specs.declared.jobs.Job.TheVariants.{Get};
-ghost use Rattle.mw_table.specs.Carried.{IsCarried};
-ghost use Rattle.mw_table.specs.Passes.{IsOf};
+ghost use Rattle.mw_core.specs.FromTable.{IsCarried, IsOf};
 ghost use Rattle.mw_core.specs.Looking.{IsLook};
 ghost use Rattle.mw_table_tests.specs.Reached.{IsReached};
 ghost use Rattle.mw_table_tests.specs.Reading.{IsReading};

@@ -1,7 +1,7 @@
 use Rattle.std.proofs.Common.{ap, sym, subst, ◌∙◌}
 use Rattle.mw_words.specs.declared.jobs.Job.TheVariants.{Get}
 use Rattle.mw_actor.specs.Acting.{Acting, first}
-use Rattle.mw_rule.specs.Carrying.{MayCome}
+use Rattle.mw_core.specs.FromTable.{MayCome}
 use Rattle.mw_bench.proofs.Coming.{get_comes}
 use Rattle.mw_bench.proofs.running.gets.Goals as goal
 

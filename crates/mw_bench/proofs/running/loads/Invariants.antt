@@ -1,4 +1,4 @@
-use Rattle.mw_table.specs.Passes.{IsOf}
+use Rattle.mw_core.specs.FromTable.{IsOf}
 use Rattle.mw_bench.proofs.running.loads.Given as goal
 
 abbrev pub invariant-loop : goal.invariant-loop

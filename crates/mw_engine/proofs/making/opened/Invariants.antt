@@ -1,7 +1,7 @@
 use Rattle.std.proofs.Common.{◌≤◌, ◌++◌, List, length, drop}
 use Rattle.std.specs.Vec.Iter.{into_iter_items}
 use Rattle.mw_book.specs.declared.kept.Book.{Book}
-use Rattle.mw_table.specs.declared.origin.FileOpening.{FileOpening}
+use Rattle.mw_core.specs.FromTable.{FileOpening}
 use Rattle.mw_engine.specs.Opened.{AreMadeOf, FitLines}
 use Rattle.mw_engine.proofs.making.opened.Given as goal
 

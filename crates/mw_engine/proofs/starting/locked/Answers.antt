@@ -2,7 +2,7 @@ use Rattle.std.specs.Prelude.{◌≡◌, ◌+◌, ◌++◌, [], ◌∷◌, lengt
 use Rattle.std.specs.Option.{option_to_list}
 use Rattle.std.specs.Vec.Iter.{into_iter_items}
 use Rattle.std.proofs.Common.{ap, sym, subst, ◌∙◌, length-append, arith}
-use Rattle.mw_table.specs.declared.right.FileRight.{FileRight}
+use Rattle.mw_core.specs.FromTable.{FileRight}
 use Rattle.mw_engine.proofs.Keeping.{ArePaired, first_kept, keeps_some, paired, rest_kept}
 use Rattle.mw_engine.proofs.starting.locked.Goals as goal
 

@@ -1,5 +1,4 @@
-use Rattle.mw_table.specs.Carried.{IsCarried}
-use Rattle.mw_table.specs.Passes.{IsOf}
+use Rattle.mw_core.specs.FromTable.{IsCarried, IsOf}
 use Rattle.mw_table_tests.proofs.race_tests.drive.Given as goal
 
 abbrev pub invariant-loop : goal.invariant-loop

@@ -1,6 +1,6 @@
 use Rattle.std.proofs.Common.{ap, ◌∙◌}
 use Rattle.mw_world.specs.Definition.State.{tenant_at}
-use Rattle.mw_table.specs.Beginning.{Basis}
+use Rattle.mw_core.specs.FromTable.{Basis}
 use Rattle.mw_table_tests.proofs.race_tests.plant_race_ends.Goals as goal
 
 pub plants_raced-ends-requires-clause-pool : goal.plants_raced-ends-requires-clause-pool

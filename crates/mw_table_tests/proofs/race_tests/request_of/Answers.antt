@@ -1,6 +1,6 @@
 use Rattle.std.proofs.Common.{ap, subst, sym, ◌∙◌}
 use Rattle.mw_actor.specs.Acting.{Acting}
-use Rattle.mw_table.specs.Carried.{IsCarried}
+use Rattle.mw_core.specs.FromTable.{IsCarried}
 use Rattle.mw_table_tests.proofs.Dealing.{carried_at_first}
 use Rattle.mw_table_tests.proofs.race_tests.request_of.Goals as goal
 

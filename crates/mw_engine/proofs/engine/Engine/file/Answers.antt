@@ -2,9 +2,7 @@ use Rattle.std.specs.Prelude.{◌≢◌, None}
 use Rattle.std.proofs.Common.{sym, subst}
 use Rattle.mw_actor.specs.Acting.{Acting}
 use Rattle.mw_world.specs.Definition.Calls.{called_at}
-use Rattle.mw_table.specs.declared.shared.Pass.{Pass}
-use Rattle.mw_table.specs.Carried.{IsCarried}
-use Rattle.mw_table.specs.Meeting.{IsSamePass}
+use Rattle.mw_core.specs.FromTable.{IsCarried, IsSamePass, Pass}
 use Rattle.mw_engine.specs.Filing.{FilesOne}
 use Rattle.mw_engine.specs.Fronts.{HasPass}
 use Rattle.mw_engine.proofs.Branded.{pass_of_engine, pass_of_front}

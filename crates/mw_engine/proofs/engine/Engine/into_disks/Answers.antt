@@ -1,7 +1,7 @@
 use Rattle.std.specs.Prelude.{ℕ, is_some, length, List, None}
 use Rattle.std.proofs.Common.{ap, sym, ◌∙◌, arith}
 use Rattle.std.proofs.lemmas.List.{length-replicate, length-set}
-use Rattle.mw_rule.specs.Seen.{opening_at}
+use Rattle.mw_core.specs.FromTable.{opening_at}
 use Rattle.mw_engine.specs.Identity.{Line}
 use Rattle.mw_engine.proofs.Branded.{same_lines}
 use Rattle.mw_engine.proofs.Disks.{disk_there, none_yet, one_more}

@@ -1,6 +1,5 @@
 use Rattle.std.specs.Prelude.{◌≡◌, true, false}
-use Rattle.mw_table.specs.Carried.{IsCarried}
-use Rattle.mw_table.specs.Passes.{IsOfSameWorker}
+use Rattle.mw_core.specs.FromTable.{IsCarried, IsOfSameWorker}
 use Rattle.mw_engine.specs.History.{IsSince}
 use Rattle.mw_engine.specs.Passes.{IsPassOf}
 use Rattle.mw_engine.specs.Replies.{IsOnItsWay}

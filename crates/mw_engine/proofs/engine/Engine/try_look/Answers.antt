@@ -3,8 +3,7 @@ use Rattle.std.proofs.Common.{sym, subst}
 use Rattle.mw_words.specs.declared.jobs.Job.TheVariants.{Get}
 use Rattle.mw_actor.specs.Acting.{Acting}
 use Rattle.mw_core.specs.Looking.{Looks}
-use Rattle.mw_rule.specs.declared.views.View.{View}
-use Rattle.mw_table.specs.Carried.{IsCarried}
+use Rattle.mw_core.specs.FromTable.{IsCarried, View}
 use Rattle.mw_engine.specs.History.{IsSince, ReadStands}
 use Rattle.mw_engine.specs.Requests.{request_of}
 use Rattle.mw_engine.proofs.Branded.{formed_there, pass_of_engine, pass_of_front, same_request}

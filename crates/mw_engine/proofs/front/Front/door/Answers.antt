@@ -1,6 +1,5 @@
 use Rattle.std.proofs.Common.{subst, ◌∙◌}
-use Rattle.mw_table.specs.declared.shared.Shared.{Shared}
-use Rattle.mw_table.specs.Passes.{IsOf}
+use Rattle.mw_core.specs.FromTable.{IsOf, Shared}
 use Rattle.mw_engine.specs.Identity.{quota_told}
 use Rattle.mw_engine.specs.Fronts.{lines_told}
 use Rattle.mw_engine.proofs.Passing.{one_on}

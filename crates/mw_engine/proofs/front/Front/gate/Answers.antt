@@ -1,6 +1,5 @@
 use Rattle.std.proofs.Common.{subst, ◌∙◌}
-use Rattle.mw_table.specs.declared.shared.Shared.{Shared}
-use Rattle.mw_table.specs.Passes.{IsOf}
+use Rattle.mw_core.specs.FromTable.{IsOf, Shared}
 use Rattle.mw_engine.proofs.Passing.{one_on}
 use Rattle.mw_engine.proofs.Standing.{gate_stood, no_gate}
 use Rattle.mw_engine.proofs.front.Front.gate.Goals as goal

@@ -1,7 +1,5 @@
 use Rattle.std.specs.Prelude.{◌≡◌, false}
-use Rattle.mw_rule.specs.declared.views.View.{View}
-use Rattle.mw_table.specs.Carried.{IsCarried}
-use Rattle.mw_table.specs.Passes.{IsOfSameWorker}
+use Rattle.mw_core.specs.FromTable.{IsCarried, IsOfSameWorker, View}
 use Rattle.mw_engine.specs.History.{IsSince}
 use Rattle.mw_engine.specs.Fronts.{HasPass, read_of}
 use Rattle.mw_engine.proofs.front.Front.look.Given as goal

@@ -1,5 +1,5 @@
 use Rattle.std.proofs.Common.{sym, ◌∙◌, subst}
-use Rattle.mw_rule.specs.declared.views.View.{View}
+use Rattle.mw_core.specs.FromTable.{View}
 use Rattle.mw_engine.specs.History.{IsServed}
 use Rattle.mw_engine.proofs.Histories.{advanced_serves, begun_serves, since_first, since_served}
 use Rattle.mw_engine.proofs.Passing.{advanced_files, one_on}

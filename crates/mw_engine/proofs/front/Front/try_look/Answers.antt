@@ -1,7 +1,7 @@
 use Rattle.std.proofs.Common.{refl, sym, subst}
 use Rattle.mw_actor.specs.Acting.{Acting}
 use Rattle.mw_core.specs.Looking.{IsLook}
-use Rattle.mw_rule.specs.Carrying.{MayCome}
+use Rattle.mw_core.specs.FromTable.{MayCome}
 use Rattle.mw_engine.specs.History.{IsSince, ReadStands}
 use Rattle.mw_engine.specs.Fronts.{read_of}
 use Rattle.mw_engine.proofs.Histories.{look_stands}

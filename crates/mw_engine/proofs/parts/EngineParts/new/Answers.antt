@@ -3,12 +3,7 @@ use Rattle.std.proofs.Common.{sym, ap, subst, ◌∙◌}
 use Rattle.std.proofs.lemmas.List.{length-map}
 use Rattle.mw_world.specs.declared.config.Tenant.{Tenant}
 use Rattle.mw_world.specs.Definition.State.{IsStart, Opening}
-use Rattle.mw_rule.specs.Seen.{opening_at}
-use Rattle.mw_table.specs.declared.shared.Shared.{Shared}
-use Rattle.mw_table.specs.Dealt.{IsDealt}
-use Rattle.mw_table.specs.Fresh.{basis_of_start, openings_given}
-use Rattle.mw_table.specs.Opened.{AreOpened}
-use Rattle.mw_table.specs.Origins.{basis_of}
+use Rattle.mw_core.specs.FromTable.{AreOpened, IsDealt, Shared, basis_of, basis_of_start, opening_at, openings_given}
 use Rattle.mw_engine.specs.Opened.{tenant_read}
 use Rattle.mw_engine.proofs.Configured.{configured, starts_so, world_is}
 use Rattle.mw_engine.proofs.Parted.{a_book_each, a_right_each, books_agree, config_is, lines_agree, new_passes, openings_are}

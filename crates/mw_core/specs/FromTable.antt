@@ -1,0 +1,18 @@
+-- Definitions of the table that crates above need too, passed on: these then name this crate alone.
+pub use Rattle.mw_table.specs.Beginning.{Basis, basis_of_world, seat_in}
+pub use Rattle.mw_table.specs.Carried.{IsCarried}
+pub use Rattle.mw_table.specs.Dealt.{AreInOrder, IsDealt}
+pub use Rattle.mw_table.specs.Filing.{IsFree, IsRightOf, file_kept}
+pub use Rattle.mw_table.specs.Fresh.{basis_of_start, opening_given, openings_given}
+pub use Rattle.mw_table.specs.FromRule.{Answered, Each, FileRights, Has, IsFinished, IsReady, IsReadyAt, IsReadyFor, IsRight, Keeps, Looked, MayCome, Met, NotesAs, Reins, Serves, View, after_call, comes, file_told, finished_as, index_of, opening_at, reins_of, rights_opened, settled, settled_as, stepped, told, told_of, went_well}
+pub use Rattle.mw_table.specs.Holding.{file_among}
+pub use Rattle.mw_table.specs.Meeting.{HaveMet, IsSamePass}
+pub use Rattle.mw_table.specs.Numbers.{number_of, numbers}
+pub use Rattle.mw_table.specs.Opened.{AreOpened}
+pub use Rattle.mw_table.specs.Origins.{basis_of, config_of, openings_of}
+pub use Rattle.mw_table.specs.Passes.{IsOf, IsOfSameWorker, IsRested}
+pub use Rattle.mw_table.specs.declared.origin.FileOpening.{FileOpening}
+pub use Rattle.mw_table.specs.declared.origin.Origin.{Origin}
+pub use Rattle.mw_table.specs.declared.right.FileRight.{FileRight}
+pub use Rattle.mw_table.specs.declared.shared.Pass.{Pass}
+pub use Rattle.mw_table.specs.declared.shared.Shared.{Shared}
