@@ -1,5 +1,5 @@
 -- What stays of a world in memory.
-use Rattle.std.specs.Prelude.{ℕ, ◌≡◌, ◌<◌, List, length, slice_get, slice_set, slice_index_or, Option, Some, None}
+use Rattle.std.specs.Prelude.{ℕ, ◌≡◌, ◌≢◌, ◌<◌, List, length, slice_get, slice_set, slice_index_or, Option, Some, None}
 use Rattle.std.specs.Option.{option_map}
 use Rattle.std.proofs.Common.{refl, sym, ap, ◌∙◌, inl, inr}
 use Rattle.std.proofs.lemmas.Bool.{cases_eq}
@@ -42,16 +42,14 @@ room_alone old new tenant was lines config cells seats accounts there is same cl
         ∙ ap (λ all. record { book = was.book; quota = was.quota; asked = was.asked; closed = was.lines.closed.items; lines = all }) same.lines
 
 -- a tenant was changed, but not its file
-pub books_stay : (old new : World) (tenant : ℕ) (was after : AccountInMemory) → new.accounts.items ≡ slice_set old.accounts.items tenant after → tenant < length old.accounts.items
-    → was ≡ slice_index_or old.accounts.items tenant was → after.book ≡ was.book → SameBooks old new
-books_stay old new tenant was after accounts there is same k =
-    ap (λ all. option_map (λ account. account.book) (slice_get all k)) accounts ∙ told_after (λ account. account.book) old.accounts.items tenant was after there is same k
+pub books_kept : (accounts : List AccountInMemory) (tenant : ℕ) (was after : AccountInMemory) → tenant < length accounts → was ≡ slice_index_or accounts tenant was → after.book ≡ was.book
+    → (k : ℕ) → option_map (λ account. account.book) (slice_get (slice_set accounts tenant after) k) ≡ option_map (λ account. account.book) (slice_get accounts k)
+books_kept accounts tenant was after there is same = told_after (λ account. account.book) accounts tenant was after there is same
 
 -- a tenant has another file
-pub books_stay_but : (old new : World) (place tenant : ℕ) (after : AccountInMemory) → place ≡ tenant → new.accounts.items ≡ slice_set old.accounts.items place after → SameBooksBut tenant old new
-books_stay_but old new place tenant after same accounts k apart =
-    ap (λ all. option_map (λ account. account.book) (slice_get all k)) accounts
-    ∙ ap (λ o. option_map (λ account. account.book) o) (set_else old.accounts.items place k after (λ e. apart (e ∙ same)))
+pub books_kept_but : (accounts : List AccountInMemory) (place tenant : ℕ) (after : AccountInMemory) → place ≡ tenant
+    → (k : ℕ) → k ≢ tenant → option_map (λ account. account.book) (slice_get (slice_set accounts place after) k) ≡ option_map (λ account. account.book) (slice_get accounts k)
+books_kept_but accounts place tenant after same k apart = ap (λ o. option_map (λ account. account.book) o) (set_else accounts place k after (λ e. apart (e ∙ same)))
 
 -- and that is the file that it has
 pub book_here : (accounts : List AccountInMemory) (place tenant : ℕ) (after : AccountInMemory) → place ≡ tenant → tenant < length accounts

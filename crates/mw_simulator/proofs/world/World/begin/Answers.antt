@@ -1,9 +1,12 @@
 -- The request is a mark more, it is counted, and the worker is at its first step.
-use Rattle.std.proofs.Common.{refl, ◌∙◌, ap, Some}
+use Rattle.std.proofs.Common.{refl, ◌∙◌, ◌<◌, ◌+◌, ap, arith, length, Some}
+use Rattle.std.proofs.lemmas.List.{length-set}
 use Rattle.mw_lone.specs.declared.marks.Mark.TheVariants.{Ask}
 use Rattle.mw_world.specs.Definition.Noting.{more}
 use Rattle.mw_simulator.proofs.Coming.{first_so, quota_at}
 use Rattle.mw_simulator.proofs.Entering.{begins}
+use Rattle.mw_simulator.proofs.SoundBooks.{sound_stays}
+use Rattle.mw_simulator.proofs.Unchanged.{books_kept}
 use Rattle.mw_simulator.proofs.world.World.begin.Goals as goal
 
 pub returns-clause-shows : goal.returns-clause-shows
@@ -16,3 +19,22 @@ returns-clause-shows c state shows is =
     c.new-actor.ensures quota c.copy.ensures)
     is refl refl c.requires.worker c.requires.tenant c.index_mut-seat.ensures.value c.index_mut-account.ensures.value
     c.more.ensures.closed (c.more.ensures.lines ∙ ap (λ job. more shown.lines.lines.items (Some (Ask c.args.request job))) c.copy-2.ensures)
+
+pub returns-clause-files : goal.returns-clause-files
+returns-clause-files c =
+    let there : c.from.result < length c.args.self.now.accounts.items = omega (arith, c.from.ensures, c.requires.tenant) in
+    let was = c.index_mut-account.result.now in
+    books_kept c.args.self.now.accounts.items c.from.result was (record was { lines = c.more.new.self; asked = c.args.request + 1 }) there c.index_mut-account.ensures.value refl
+
+pub invariant_of-self : goal.invariant_of-self
+invariant_of-self c =
+    let world = c.args.self.now in
+    let there : c.from.result < length c.args.self.now.accounts.items = omega (arith, c.from.ensures, c.requires.tenant) in
+    let was = c.index_mut-account.result.now in
+    record {
+      configured = world.configured;
+      workers = length-set world.seats.items c.from-2.result _ ∙ world.workers;
+      tenants = length-set world.accounts.items c.from.result _ ∙ world.tenants;
+      places = world.places;
+      books = sound_stays world.config world.accounts.items c.from.result was (record was { lines = c.more.new.self; asked = c.args.request + 1 }) there c.index_mut-account.ensures.value refl world.books;
+    }
