@@ -1,8 +1,9 @@
 -- The request is told how its call ended.
-use Rattle.std.proofs.Common.{ap, sym, subst, ◌∙◌}
+use Rattle.std.proofs.Common.{ap, sym, subst, ◌∙◌, Some}
 use Rattle.mw_world.specs.Definition.Calls.{called_at, calling}
 use Rattle.mw_world.specs.Definition.Extent.{has_slot}
 use Rattle.mw_simulator.specs.Ending.{Closed, called_of}
+use Rattle.mw_simulator.specs.Staying.{IsUnchanged}
 use Rattle.mw_simulator.specs.Stepping.{HasRoom}
 use Rattle.mw_simulator.proofs.Calling.{call_ends_well, has_status, room_if, status_is_so}
 use Rattle.mw_simulator.proofs.Crashes.{call_safe}
@@ -44,3 +45,18 @@ returns-in-Ok-clause-moments c state shows =
     (c.in-Ok.ensures.ends state shown same) in
     call_safe config state c.args.worker actor called (c.in-Some.ensures.shown state shows) at c.args.self.now c.reserve.new.self c.end.new.self c.tell_file.new.self status c.args.outcome closed.made
     (unchanged_books c.args.self.now c.reserve.new.self c.reserve.ensures.unchanged) c.tell_file.ensures.files shown c.in-Ok.ensures.moments has same closed.is c.in-Some.ensures.served
+
+pub returns-in-Ok-clause-files : goal.returns-in-Ok-clause-files
+returns-in-Ok-clause-files c tenant apart =
+    c.tell_file.ensures.files tenant ∙ c.end.ensures.files tenant (λ e. apart (c.in-Some.ensures.served ∙ ap Some (sym e)))
+    ∙ unchanged_books c.args.self.now c.reserve.new.self c.reserve.ensures.unchanged tenant
+
+pub returns-then-is_err-clause-files : goal.returns-then-is_err-clause-files
+returns-then-is_err-clause-files c tenant apart = unchanged_books c.args.self.now c.reserve.new.self c.reserve.ensures.unchanged tenant
+
+pub returns-in-Err-clause-files : goal.returns-in-Err-clause-files
+returns-in-Err-clause-files c tenant apart =
+    c.end.ensures.files tenant (λ e. apart (c.in-Some.ensures.served ∙ ap Some (sym e))) ∙ unchanged_books c.args.self.now c.reserve.new.self c.reserve.ensures.unchanged tenant
+
+pub returns-in-Err-clause-unchanged : goal.returns-in-Err-clause-unchanged
+returns-in-Err-clause-unchanged c = subst (λ world. IsUnchanged c.args.self.now world) (sym c.in-Err.ensures.unchanged) c.reserve.ensures.unchanged

@@ -11,6 +11,7 @@ use Rattle.mw_simulator.specs.Stepping.{with_cells}
 use Rattle.mw_world_memory.specs.Ties.{Tie}
 use Rattle.mw_simulator.proofs.Entering.{recelled}
 use Rattle.mw_simulator.proofs.Turning.{made_there, no_such_place, place_is, turned_is, turns}
+use Rattle.mw_simulator.proofs.Unchanged.{unchanged_books}
 use Rattle.mw_simulator.proofs.world.World.turn.Goals as goal
 
 pub returns-in_default-make-clause-ends : goal.returns-in_default-make-clause-ends
@@ -40,3 +41,12 @@ returns-clause-ends c state shows =
       is = turns c.args.self.now.config state c.args.worker actor (state.seats c.args.worker).actor (c.in-Some.ensures.shown state shows) none there;
       shows = subst (λ s. Shows c.go_on.new.self s) (turned_is state c.args.worker actor stand (news_of c.place.result c.in-Some-make.got) refl news) moved;
     }
+
+pub returns-then-is_err-clause-files : goal.returns-then-is_err-clause-files
+returns-then-is_err-clause-files c = unchanged_books c.args.self.now c.reserve.new.self c.reserve.ensures.unchanged
+
+pub returns-in_default-make-clause-files : goal.returns-in_default-make-clause-files
+returns-in_default-make-clause-files c = unchanged_books c.args.self.now c.reserve.new.self c.reserve.ensures.unchanged
+
+pub returns-clause-files : goal.returns-clause-files
+returns-clause-files c tenant = c.go_on.ensures.files tenant ∙ unchanged_books c.args.self.now c.reserve.new.self c.reserve.ensures.unchanged tenant
