@@ -111,10 +111,17 @@ pub fn read_args(alloc: Global, args: &[String]) -> Result<Args, ArgFault>
     ensures permitted { IfOk result (λ args. ArePermittedArgs args) }
 {
     let matches = command(alloc)?.try_get_matches_from(args)?;
+    args_of(alloc, &matches)
+}
+
+/// What the options ask for.
+fn args_of(alloc: Global, matches: &ArgMatches<'_>) -> Result<Args, ArgFault>
+    ensures { IfOk result (λ args. ArePermittedArgs args) }
+{
     let (Some(tenants), Some(pool), Some(workers)) = (
         matches.get_str("tenants"),
-        number_of(&matches, "pool", u32::from(MAX_POOL)),
-        number_of(&matches, "workers", u32::from(MAX_WORKERS)),
+        number_of(matches, "pool", u32::from(MAX_POOL)),
+        number_of(matches, "workers", u32::from(MAX_WORKERS)),
     ) else {
         return Err(ArgFault::Mode);
     };
@@ -124,29 +131,43 @@ pub fn read_args(alloc: Global, args: &[String]) -> Result<Args, ArgFault>
         workers: workers as u8,
         strict: matches.get_flag("strict"),
         verbose: matches.get_flag("verbose"),
-        mode: mode_of(alloc, &matches)?,
+        mode: mode_of(alloc, matches)?,
     })
 }
 
 fn mode_of(alloc: Global, matches: &ArgMatches<'_>) -> Result<Mode, ArgFault>
     ensures { IfOk result (λ mode. IsPermittedMode mode) }
 {
-    let admin = matches.get_str("admin");
-    let connections = number_of(matches, "connections", MAX_CONNECTIONS);
-    let idle = number_of(matches, "idle", MAX_IDLE);
-    let mode = matches.get_str("mode");
-    let limited = admin.is_some() || connections.is_some() || idle.is_some() || mode.is_some();
     match (matches.get_str("listen"), matches.get_str("script")) {
-        (Some(address), None) => Ok(Mode::Listen(Listening {
-            address: String::from_str(alloc, address)?,
-            admin: copy_of(alloc, admin)?,
-            connections,
-            idle,
-            socket_mode: socket_mode_of(mode)?,
-        })),
-        (None, Some(script)) if !limited => { Ok(Mode::Script(String::from_str(alloc, script)?)) }
+        (Some(address), None) => listen_mode(alloc, matches, address),
+        (None, Some(script)) if !tell_of_connections(matches) => {
+            Ok(Mode::Script(String::from_str(alloc, script)?))
+        }
         _ => Err(ArgFault::Mode),
     }
+}
+
+/// Whether there is an option that is for connections alone, beside `--listen`.
+fn tell_of_connections(matches: &ArgMatches<'_>) -> bool {
+    matches.get_str("admin").is_some()
+        || matches.get_one::<u32>("connections").is_some()
+        || matches.get_one::<u32>("idle").is_some()
+        || matches.get_str("mode").is_some()
+}
+
+/// Sessions from connections to this address, and what the other options tell of them.
+fn listen_mode(alloc: Global, matches: &ArgMatches<'_>, address: &str) -> Result<Mode, ArgFault>
+    ensures { IfOk result (λ mode. IsPermittedMode mode) }
+{
+    let socket_mode = socket_mode_of(matches.get_str("mode"))?;
+    let address = String::from_str(alloc, address)?;
+    Ok(Mode::Listen(Listening {
+        address,
+        admin: copy_of(alloc, matches.get_str("admin"))?,
+        connections: number_of(matches, "connections", MAX_CONNECTIONS),
+        idle: number_of(matches, "idle", MAX_IDLE),
+        socket_mode,
+    }))
 }
 
 /// The file mode that a text of octal digits tells, or that of the owner alone where there is no text.
@@ -266,11 +287,21 @@ const CHOICES: [Choice; 11] = [
 ];
 
 fn command<'a>(alloc: Global) -> Result<Command<'a>, AllocError> {
-    let mut command = Command::new(alloc, "mwserve")
+    let command = Command::new(alloc, "mwserve")
         .version(VERSION)
         .about("Serves tenants' words.");
-    for choice in CHOICES {
-        command = command.arg(arg_of(alloc, choice))?;
+    with_choices(alloc, command, &CHOICES)
+}
+
+/// The command with these options.
+fn with_choices<'a>(
+    alloc: Global,
+    command: Command<'a>,
+    choices: &[Choice],
+) -> Result<Command<'a>, AllocError> {
+    let mut command = command;
+    for choice in choices {
+        command = command.arg(arg_of(alloc, *choice))?;
     }
     Ok(command)
 }
