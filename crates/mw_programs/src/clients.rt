@@ -17,6 +17,7 @@ use mw_workers::{
     serve_beside,
 };
 use std::alloc::AllocError;
+use std::fmt::Display;
 use std::fs::File;
 use std::io;
 use std::io::Write;
@@ -80,15 +81,21 @@ fn tell_place<'a, K, O: Write>(
     address: &'a str,
 ) -> Result<(), ServeFault<'a>> {
     let told = match port_of(clients) {
-        Ok(Some(port)) => writeln!(out, "{word} {port}"),
-        Ok(None) => writeln!(out, "{word} {address}"),
+        Ok(Some(port)) => tell_line(out, word, &port),
+        Ok(None) => tell_line(out, word, &address),
         Err(error) => return Err(ServeFault::CannotListen(address, error)),
     };
-    if told.is_ok() && out.flush().is_ok() {
+    if told.is_ok() {
         Ok(())
     } else {
         Err(ServeFault::Ended)
     }
+}
+
+/// Tells on `out`, at once, this word and a place behind it.
+fn tell_line<O: Write, P: Display>(out: &mut O, word: &str, place: &P) -> io::Result<()> {
+    writeln!(out, "{word} {place}")?;
+    out.flush()
 }
 
 /// A worker for each pass.
@@ -257,13 +264,24 @@ where
     let address = listening.address.as_str();
     let clients = listen(rt, address, listening)?;
     let (own, closer) = listen_for_admin(rt, admin, listening)?;
-    tell_place(out, "admin", &own, admin)?;
-    tell_place(out, "ready", &clients, address)?;
-    Ok(Doors {
+    let doors = Doors {
         clients,
         own,
         closer,
-    })
+    };
+    tell_places(out, &doors, admin, address)?;
+    Ok(doors)
+}
+
+/// Tells on `out` where these doors are: first the administrator's.
+fn tell_places<'a, K, O: Write>(
+    out: &mut O,
+    doors: &Doors<'_, K>,
+    admin: &'a str,
+    address: &'a str,
+) -> Result<(), ServeFault<'a>> {
+    tell_place(out, "admin", &doors.own, admin)?;
+    tell_place(out, "ready", &doors.clients, address)
 }
 
 /// Serves who comes to the two addresses.

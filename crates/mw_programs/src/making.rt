@@ -84,6 +84,12 @@ fn make<R: Files<File = File> + AllocGlobal, O: Write>(
     Ok(())
 }
 
+impl From<AllocError> for InitFault {
+    fn from(_: AllocError) -> Self {
+        InitFault::CannotMake
+    }
+}
+
 impl From<io::Error> for InitFault {
     fn from(_: io::Error) -> Self {
         InitFault::CannotMake
@@ -128,29 +134,33 @@ fn number_of(matches: &ArgMatches<'_>, name: &str, most: u16) -> Option<u16>
         .filter(|number| (1..=most).contains(number))
 }
 
-fn command<'a>(alloc: Global) -> Result<Command<'a>, clap::Error> {
-    let path = Arg::new(alloc, "PATH")
-        .required(true)
-        .help("the file to make");
+fn command<'a>(alloc: Global) -> Result<Command<'a>, AllocError> {
     let command = Command::new(alloc, "mwinit")
         .version(VERSION)
-        .about("Makes a file of words, all 0.")
-        .arg(path)?;
-    Ok(add_sizes(alloc, command)?)
+        .about("Makes a file of words, all 0.");
+    let command = command.arg(path(alloc))?;
+    let command = command.arg(size_of(alloc, "WORDS", MAX_WORDS, "how many words it has"))?;
+    command.arg(size_of(
+        alloc,
+        "PLACES",
+        MAX_PLACES,
+        "how many changes it can hold at a time",
+    ))
 }
 
-/// The command with the arguments that say how large the file is.
-fn add_sizes<'a>(alloc: Global, command: Command<'a>) -> Result<Command<'a>, AllocError> {
-    let words = number(alloc, "WORDS", MAX_WORDS).help("how many words it has");
-    let places = number(alloc, "PLACES", MAX_PLACES).help("how many changes it can hold at a time");
-    command.arg(words)?.arg(places)
+/// The argument that says where the file is.
+fn path<'a>(alloc: Global) -> Arg<'a> {
+    Arg::new(alloc, "PATH")
+        .required(true)
+        .help("the file to make")
 }
 
-/// An argument that is a number from 1 to `most`.
-fn number<'a>(alloc: Global, name: &'a str, most: u16) -> Arg<'a> {
+/// An argument that says how large the file is: a number from 1 to `most`.
+fn size_of<'a>(alloc: Global, name: &'a str, most: u16, help: &'a str) -> Arg<'a> {
     Arg::new(alloc, name)
         .required(true)
         .value_parser(value_parser!(u16).range(1..=i64::from(most)))
+        .help(help)
 }
 
 /// Writes a new file, which its owner alone may read and write, locks it first, and syncs it. What a fault leaves of it is removed, but no
