@@ -1,20 +1,22 @@
 //! `mwserve`: serves tenants' words.
 ghost use Rattle.std.specs.Prelude.{◌≡◌, ◌<◌, ◌≤◌, All, IfOk, vec_len};
 ghost use Rattle.mw_config.specs.CommandLine.{ArePermittedArgs};
+ghost use Rattle.mw_config.specs.Limits.{ArePermitted};
 ghost use Rattle.mw_words.specs.declared.limits.TheConstants.{MAX_WORKERS};
+ghost use Rattle.mw_engine.specs.Opened.{FitLines};
 ghost use Rattle.mw_engine.specs.Passes.{IsNew};
 ghost use Rattle.mw_engine.specs.Starting.{identity_of};
 
 use crate::clients::serve_clients;
 use crate::notes::{Notes, note_cause};
-use crate::opening::{Cause, TenantsFault, are_all_open, open_files, read_tenants_file};
+use crate::opening::{Cause, Opened, TenantsFault, are_all_open, open_files, read_tenants_file};
 use crate::plain_file::{ReadFault, open_plain};
 use crate::tenants::{FaultWatch, TenantNotes};
 use crate::watched_file::{LastErrors, WatchedFile};
 use crate::worker::Worker;
 use log::{Log, warn};
-use mw_config::{ArgFault, Args, Mode, Refusal, read_args};
-use mw_disk::FileDisk;
+use mw_config::{ArgFault, Args, Mode, Refusal, TenantLine, read_args};
+use mw_disk::{Disk, FileDisk};
 use mw_engine::{Engine, EngineBrand, EngineParts, NoHold, Pass};
 use mw_session::{Ended, Session};
 use mw_words::MAX_WORKERS;
@@ -179,15 +181,40 @@ where
         return Err(ServeFault::NotAll);
     }
     let watch = TenantNotes::new(rt, notes, &lines, &errors, &files);
+    serve_files(rt, args, &lines, files, out, notes, &watch)
+}
+
+/// Serves the tenants with these lines from their files, as many as have opened.
+fn serve_files<'a, 'f, R, O: Write, L: Log + Sync, T: FaultWatch + Sync>(
+    rt: &R,
+    args: &'a Args,
+    lines: &[TenantLine],
+    files: Vec<Option<Opened<'f>>>,
+    out: &mut O,
+    notes: &L,
+    watch: &T,
+) -> Result<(), ServeFault<'a>>
+where
+    R: Files<File = File>
+        + AllocGlobal
+        + Net<Listener = TcpListener, Stream = TcpStream>
+        + Threads
+        + Wait
+        + Clock
+        + Sync,
+    requires args { ArePermittedArgs args.now }
+    requires lines { ArePermitted args.now.pool lines.now }
+    requires files { FitLines ⟦<FileDisk<WatchedFile<'f>> as Disk>⟧.facts lines.now files.items }
+{
     let (parts, passes) = EngineParts::new(
         rt.alloc(),
-        &lines,
+        lines,
         files,
         args.pool,
         workers_of(args),
         NoHold,
     )?;
-    serve_engine::<Brand, _, _, _, _>(rt, parts, passes, &args.mode, out, notes, &watch)
+    serve_engine::<Brand, _, _, _, _>(rt, parts, passes, &args.mode, out, notes, watch)
 }
 
 /// How many workers there are, at most [`MAX_WORKERS`], with that of the administrator's listener.

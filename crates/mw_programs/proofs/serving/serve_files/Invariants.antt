@@ -1,5 +1,5 @@
 use Rattle.mw_engine.specs.Starting.{identity_of}
-use Rattle.mw_programs.proofs.serving.serve_args.Given as goal
+use Rattle.mw_programs.proofs.serving.serve_files.Given as goal
 
 abbrev pub ghosts-serve_engine : goal.ghosts-serve_engine
 ghosts-serve_engine g a = record { identity = identity_of a.parts }
