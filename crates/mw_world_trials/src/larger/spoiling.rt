@@ -1,7 +1,7 @@
 //! What is wrong on purpose, for each group of what is to hold.
 
-use crate::clauses::Group;
-use crate::seen::Seen;
+use crate::larger::clauses::Group;
+use crate::larger::seen::Seen;
 use mw_words::{Status, Word};
 
 /// Makes something wrong of this group.

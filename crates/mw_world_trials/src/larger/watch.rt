@@ -2,13 +2,14 @@
 ghost use Rattle.std.specs.Prelude.{◌≡◌, ◌<◌, ◌≤◌};
 ghost use Rattle.mw_world.specs.Definition.State.{IsConfig};
 
-use crate::clauses::Group;
-use crate::past::{call_deed, step_deed};
-use crate::seen::Seen;
+use crate::dice::Dice;
+use crate::jobs::{job, large_world, stops};
+use crate::larger::clauses::Group;
+use crate::larger::past::{call_deed, step_deed};
+use crate::larger::seen::Seen;
 use mw_look::Op;
 use mw_simulator::{World, WorldFault};
 use mw_world::{Event, Outcome};
-use mw_world_trials::{Dice, job, large_world, stops};
 use std::alloc::{AllocError, Global};
 
 /// Why a run ended before its last event.

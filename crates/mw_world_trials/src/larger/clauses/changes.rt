@@ -1,7 +1,7 @@
 //! What is to hold of requests, and of changes and their slots.
 
-use crate::past::Change;
-use crate::seen::Seen;
+use crate::larger::past::Change;
+use crate::larger::seen::Seen;
 use mw_actor::{Actor, Point, Slot};
 use mw_words::{Entry, Gate, Status};
 

@@ -1,7 +1,7 @@
 //! What has happened to each change since the last start, as the steps of requests tell it.
 ghost use Rattle.std.specs.Prelude.{◌<◌, IfSome, length};
 
-use crate::seen::{Datum, Seen};
+use crate::larger::seen::{Datum, Seen};
 use arrayvec::ArrayVec;
 use mw_actor::{Actor, Point, Slot};
 use mw_look::{Call, Op};

@@ -1,7 +1,7 @@
 //! What is to hold of the tenants' files.
 
-use crate::past::Change;
-use crate::seen::{Datum, Seen, Written};
+use crate::larger::past::Change;
+use crate::larger::seen::{Datum, Seen, Written};
 use mw_words::{Row, Status, Word};
 
 /// The values of the words are those of the file, where it opened; and no two sealed changes of a tenant

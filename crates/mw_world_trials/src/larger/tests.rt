@@ -8,14 +8,14 @@
 //! place of its file a change is, of which it is only looked at that there are as many places as changes.
 //! The words of a file are those with which the tenant started and what was sealed since.
 
-use crate::clauses::{GROUPS, Group, broken, holds};
-use crate::past::Change;
-use crate::seen::{Datum, Seen};
-use crate::spoiling::spoil;
-use crate::watch::{RunFault, Watch};
+use crate::dice::Dice;
+use crate::larger::clauses::{GROUPS, Group, broken, holds};
+use crate::larger::past::Change;
+use crate::larger::seen::{Datum, Seen};
+use crate::larger::spoiling::spoil;
+use crate::larger::watch::{RunFault, Watch};
 use mw_words::{Door, Status, Word};
 use mw_world::Phase;
-use mw_world_trials::Dice;
 use std::alloc::Global;
 
 /// How many runs there are, and how many events each has.

@@ -1,9 +1,9 @@
 //! What is to hold of a change's words, and why no late worker does harm to them.
 
 use super::references::change_of;
-use crate::past::{Change, Held};
-use crate::pins::{cleans, is_owed, owner_of};
-use crate::seen::{Datum, Seat, Seen};
+use crate::larger::past::{Change, Held};
+use crate::larger::pins::{cleans, is_owed, owner_of};
+use crate::larger::seen::{Datum, Seat, Seen};
 use mw_actor::{Point, Slot};
 use mw_words::{Status, Word};
 use mw_world::Phase;

@@ -1,8 +1,8 @@
 //! What is to hold of pins, doors and quotas.
 
-use crate::past::Change;
-use crate::pins::{frees, pins_held, waits};
-use crate::seen::Seen;
+use crate::larger::past::Change;
+use crate::larger::pins::{frees, pins_held, waits};
+use crate::larger::seen::Seen;
 use mw_actor::Slot;
 use mw_words::Gate;
 

@@ -1,6 +1,6 @@
 //! What is to hold of the world at every moment, by its groups, as far as what is seen tells it.
 
-use crate::seen::Seen;
+use crate::larger::seen::Seen;
 
 mod changes;
 mod counts;

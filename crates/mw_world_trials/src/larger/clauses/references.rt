@@ -1,7 +1,7 @@
 //! What is to hold of the references in words, and of the attempts that stand there.
 
-use crate::past::{Change, Held};
-use crate::seen::{Datum, Seat, Seen};
+use crate::larger::past::{Change, Held};
+use crate::larger::seen::{Datum, Seat, Seen};
 use mw_actor::{Point, Slot};
 use mw_words::{Status, Word};
 use mw_world::Phase;

@@ -1,7 +1,7 @@
 //! What can be seen of a world between two events.
 ghost use Rattle.std.specs.Prelude.{◌<◌, ◌≤◌};
 
-use crate::past::Past;
+use crate::larger::past::Past;
 use mw_actor::{Actor, Slot};
 use mw_simulator::World;
 use mw_words::{

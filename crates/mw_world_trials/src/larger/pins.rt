@@ -1,7 +1,7 @@
 //! What a request holds at its point, and what it owes.
 ghost use Rattle.std.specs.Prelude.{◌≤◌};
 
-use crate::seen::{Seat, Seen};
+use crate::larger::seen::{Seat, Seen};
 use mw_actor::{Actor, After, Point, Slot, Sweep, Task};
 use mw_look::{Look, Point as ReadPoint, Trail};
 use mw_words::MAX_ENTRIES;
