@@ -85,17 +85,24 @@ fn tenant_line<'a>(earlier: &[Tenant], free: u16, lines: Lines<'a>) -> Option<(T
     ensures { IfSome result (λ read. IsNext earlier.now free read.0) }
 {
     let (line, after) = lines.split()?;
-    let (name, numbers) = field(b' ', behind(b"tenant ", line)?)?;
+    let tenant = read_tenant(earlier, free, behind(b"tenant ", line)?)?;
+    Some((tenant, after))
+}
+
+// The tenant `NAME WORDS QUOTA`, which has no earlier one's name and at most so many slots.
+fn read_tenant(earlier: &[Tenant], free: u16, text: &[u8]) -> Option<Tenant>
+    ensures { IfSome result (IsNext earlier.now free) }
+{
+    let (name, numbers) = field(b' ', text)?;
     let (words, quota) = field(b' ', numbers)?;
     if is_tenant(earlier, name) {
         return None;
     }
-    let tenant = Tenant {
+    Some(Tenant {
         name: read_name(name)?,
         words: number_within(1, u64::from(MAX_WORDS), words)? as u16,
         quota: number_within(1, u64::from(free.min(u16::from(MAX_QUOTA))), quota)? as u8,
-    };
-    Some((tenant, after))
+    })
 }
 
 fn read_name(text: &[u8]) -> Option<Name>

@@ -26,11 +26,7 @@ pub fn read_stops(
     let mut stops = Vec::new(alloc);
     let mut rest = text;
     while !rest.is_empty() {
-        let Some(items) = behind(b" ", rest) else {
-            return Ok(None);
-        };
-        let (item, after) = item_at(items);
-        let Some(stop) = read_stop(alloc, item, config)? else {
+        let Some((stop, after)) = next_stop(alloc, rest, config)? else {
             return Ok(None);
         };
         if is_named(&stops, stop.tenant) {
@@ -40,6 +36,26 @@ pub fn read_stops(
         rest = after;
     }
     Ok(Some(stops))
+}
+
+// The stop in front, with a space before it, and the text behind it. None where none stands there.
+fn next_stop<'a>(
+    alloc: Global,
+    text: &'a [u8],
+    config: &Config,
+) -> Result<Option<(Stop, &'a [u8])>, AllocError>
+    ensures tenant { IfOk result (λ read. IfSome read (λ next. next.0.tenant < tenants_of config.now)) }
+    ensures worker { IfOk result (λ read. IfSome read (λ next. IsOfWorker next.0.interrupted)) }
+    ensures shorter { IfOk result (λ read. IfSome read (λ next. length next.1.now < length text.now)) }
+{
+    let Some(items) = behind(b" ", text) else {
+        return Ok(None);
+    };
+    let (item, after) = item_at(items);
+    match read_stop(alloc, item, config)? {
+        Some(stop) => Ok(Some((stop, after))),
+        None => Ok(None),
+    }
 }
 
 // The bytes up to a space or the end, and those from there on.
@@ -87,19 +103,33 @@ fn stop_parts<'a>(
     ensures worker { IfSome result (λ read. IsOfWorker read.1) }
 {
     let (name, rest) = field(b'=', text)?;
-    let (worker, rest) = field(b',', rest)?;
-    let (calls, rest) = field(b',', rest)?;
     let tenant = tenant_of(config, name)?;
-    let interrupted = match (worker, calls) {
-        (b"-", b"-") => None,
-        _ => Some(Interrupted {
-            worker: worker_of(worker)?,
-            made: number(calls)?,
-        }),
+    let (interrupted, rest) = interrupted_at(rest)?;
+    let (torn, fails_at) = torn_at(rest)?;
+    Some((tenant, interrupted, torn, fails_at))
+}
+
+// The call that was cut off, `W,K,`, or `-,-,` where none was, and the text behind it.
+fn interrupted_at(text: &[u8]) -> Option<(Option<Interrupted>, &[u8])>
+    ensures { IfSome result (λ read. IsOfWorker read.0) }
+{
+    if let Some(rest) = behind(b"-,-,", text) {
+        return Some((None, rest));
+    }
+    let (worker, rest) = field(b',', text)?;
+    let (calls, rest) = field(b',', rest)?;
+    let interrupted = Interrupted {
+        worker: worker_of(worker)?,
+        made: number(calls)?,
     };
-    match field(b',', rest) {
-        Some((torn, call)) => Some((tenant, interrupted, torn, Some(number(call)?))),
-        None => Some((tenant, interrupted, rest, None)),
+    Some((Some(interrupted), rest))
+}
+
+// The torn bytes as they are written, and the device call that fails if one is named behind them.
+fn torn_at(text: &[u8]) -> Option<(&[u8], Option<u64>)> {
+    match field(b',', text) {
+        Some((torn, call)) => Some((torn, Some(number(call)?))),
+        None => Some((text, None)),
     }
 }
 

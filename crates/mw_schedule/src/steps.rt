@@ -30,28 +30,64 @@ impl StepKind {
     /// The kind with this name. The changes that a call on the file ends with have none: they are made
     /// with the call.
     pub fn named(name: &[u8]) -> Option<StepKind> {
-        let kind = match name {
-            b"load" => StepKind::Load,
-            b"admit" => StepKind::Change(Kind::Admit),
-            b"claim" => StepKind::Change(Kind::Claim),
-            b"fill" => StepKind::Change(Kind::Fill),
-            b"pin" => StepKind::Change(Kind::Pin),
-            b"unpin" => StepKind::Change(Kind::Unpin),
-            b"free" => StepKind::Change(Kind::Free),
-            b"drop" => StepKind::Change(Kind::Drop),
-            b"row" => StepKind::Change(Kind::Row),
-            b"plant" => StepKind::Change(Kind::Plant),
-            b"resolve" => StepKind::Change(Kind::Resolve),
-            b"decide-yes" => StepKind::Change(Kind::DecideYes),
-            b"decide-no" => StepKind::Change(Kind::DecideNo),
-            b"release" => StepKind::Change(Kind::Release),
-            b"clean" => StepKind::Change(Kind::Clean),
-            b"prepare" => StepKind::File(Call::Prepare),
-            b"seal" => StepKind::File(Call::Seal),
-            b"settle" => StepKind::File(Call::Settle),
-            b"cancel" => StepKind::File(Call::Cancel),
-            _ => return None,
-        };
-        Some(kind)
+        match name {
+            b"load" => Some(StepKind::Load),
+            _ => change_named(name)
+                .map(StepKind::Change)
+                .or(call_named(name).map(StepKind::File)),
+        }
+    }
+}
+
+// The change with this name.
+fn change_named(name: &[u8]) -> Option<Kind> {
+    gate_change(name)
+        .or(slot_change(name))
+        .or(word_change(name))
+}
+
+// The change of a door or a gate with this name.
+fn gate_change(name: &[u8]) -> Option<Kind> {
+    match name {
+        b"admit" => Some(Kind::Admit),
+        b"claim" => Some(Kind::Claim),
+        b"pin" => Some(Kind::Pin),
+        b"unpin" => Some(Kind::Unpin),
+        b"free" => Some(Kind::Free),
+        b"drop" => Some(Kind::Drop),
+        _ => None,
+    }
+}
+
+// The change with this name of what is written down of a request's own or another's change.
+fn slot_change(name: &[u8]) -> Option<Kind> {
+    match name {
+        b"fill" => Some(Kind::Fill),
+        b"row" => Some(Kind::Row),
+        b"decide-yes" => Some(Kind::DecideYes),
+        b"decide-no" => Some(Kind::DecideNo),
+        _ => None,
+    }
+}
+
+// The change of a tenant's word with this name.
+fn word_change(name: &[u8]) -> Option<Kind> {
+    match name {
+        b"plant" => Some(Kind::Plant),
+        b"resolve" => Some(Kind::Resolve),
+        b"release" => Some(Kind::Release),
+        b"clean" => Some(Kind::Clean),
+        _ => None,
+    }
+}
+
+// The call on the file with this name.
+fn call_named(name: &[u8]) -> Option<Call> {
+    match name {
+        b"prepare" => Some(Call::Prepare),
+        b"seal" => Some(Call::Seal),
+        b"settle" => Some(Call::Settle),
+        b"cancel" => Some(Call::Cancel),
+        _ => None,
     }
 }

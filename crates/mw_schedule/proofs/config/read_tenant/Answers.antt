@@ -1,7 +1,7 @@
 use Rattle.std.proofs.Common.{List, ℕ, sym, subst, arith}
 use Rattle.mw_schedule.specs.Playing.{IsFree}
 use Rattle.mw_schedule.proofs.Tenants.{none_named}
-use Rattle.mw_schedule.proofs.config.tenant_line.Goals as goal
+use Rattle.mw_schedule.proofs.config.read_tenant.Goals as goal
 
 pub returns : goal.returns
 returns c =
