@@ -1,10 +1,11 @@
+use crate::file_tests::{MEMORY, disk_with};
 use crate::same::same;
 use mw_disk::*;
-use std::alloc::{AllocError, Global};
 use std::cell::Cell;
 use std::fs::{File, Metadata, OpenFile, OpenOptions};
 use std::io::ErrorKind;
 use std::os::unix::fs::FileExt;
+use std::path::PathBuf;
 use std::process::Abort;
 use std::test::Fail;
 use std::{env, fs, io, process};
@@ -24,24 +25,17 @@ fn four_bytes(disk: &mut MemDisk) -> Result<[u8; 4], DiskFault> {
     Ok(out)
 }
 
-/// What a disk is to leave of torn bytes in a crash.
-type Left = (&'static [u8], &'static [u8]);
-
-/// Whether a crash of this disk with these torn bytes leaves just that.
-fn leaves(disk: &MemDisk, crash: Left) -> Result<bool, AllocError> {
-    let (torn, left) = crash;
-    Ok(disk.crash(torn)?.as_slice() == left)
+/// What a crash of this disk leaves, with these torn bytes, is just that.
+fn leaves<R: Abort + AllocGlobal>(rt: &R, disk: &MemDisk, torn: &[u8], left: &[u8]) {
+    let found = disk.crash(torn).expect(rt, MEMORY);
+    same(rt, &found.as_slice(), &left);
 }
 
-/// A disk of the bytes 1 to 4, of whose calls the second and the sixth fail.
-fn scripted_disk(alloc: Global) -> Result<MemDisk, AllocError> {
-    let script = vec![in alloc; 2, 6]?;
-    MemDisk::new(alloc, vec![in alloc; 1, 2, 3, 4]?, script)
-}
-
-/// A disk of the bytes 1 to 4, of whose calls none is to fail.
-fn disk_of_four(alloc: Global) -> Result<MemDisk, AllocError> {
-    MemDisk::new(alloc, vec![in alloc; 1, 2, 3, 4]?, Vec::new(alloc))
+/// A disk of the bytes 1 to 4, of whose calls these fail.
+fn disk_of_four<R: Abort + AllocGlobal>(rt: &R, script: &[u64]) -> MemDisk {
+    let bytes = [1, 2, 3, 4].to_vec(rt.alloc()).expect(rt, MEMORY);
+    let script = script.to_vec(rt.alloc()).expect(rt, MEMORY);
+    MemDisk::new(rt.alloc(), bytes, script).expect(rt, MEMORY)
 }
 
 /// What a disk of four bytes answers to its length, to a sync, to writes at 1, behind its end and at 4, and
@@ -64,25 +58,24 @@ fn call_by_script(disk: &mut MemDisk) -> Answers {
 }
 
 #[test]
-fn a_disk_in_memory_fails_where_its_script_says(rt: HostRuntime) -> Result<(), Fail> {
-    let mut disk = scripted_disk(rt.alloc())?;
+fn a_disk_in_memory_fails_where_its_script_says(rt: HostRuntime) {
+    let mut disk = disk_of_four(&rt, &[2, 6]);
     let wanted = (
         Ok(4),
         [Err(DiskFault), Ok(()), Ok(()), Err(DiskFault)],
         Ok([1, 9, 9, 4]),
     );
-    let told = call_by_script(&mut disk);
-    same(&rt, &told, &wanted);
+    same(&rt, &call_by_script(&mut disk), &wanted);
     same(&rt, &(disk.faults(), disk.refused()), &(2, 0));
-    let crashes: [Left; 3] = [
-        (&[], &[1, 9, 9, 4, 0, 0, 7]),
-        (&[10, 11, 12], &[1, 10, 11, 4, 12, 0, 7]),
-        (&[10, 11, 12, 13, 14, 15], &[1, 10, 11, 4, 12, 13, 14]),
-    ];
-    for crash in crashes {
-        assert!(rt; leaves(&disk, crash)?, "{crash:?}");
-    }
-    Ok(())
+    crashes_by_script(&rt, &disk);
+}
+
+/// Crashes of the disk whose script was followed leave its writes, and what was torn of them.
+fn crashes_by_script<R: Abort + AllocGlobal>(rt: &R, disk: &MemDisk) {
+    leaves(rt, disk, &[], &[1, 9, 9, 4, 0, 0, 7]);
+    leaves(rt, disk, &[10, 11, 12], &[1, 10, 11, 4, 12, 0, 7]);
+    let torn = [10, 11, 12, 13, 14, 15];
+    leaves(rt, disk, &torn, &[1, 10, 11, 4, 12, 13, 14]);
 }
 
 /// Two writes, of which the second is told to fail.
@@ -99,20 +92,13 @@ fn ask_too_much(disk: &mut MemDisk) -> [Result<(), DiskFault>; 3] {
 }
 
 /// The second call from now on fails, and no other one.
-fn fails_when_told<R: Abort>(rt: &R, disk: &mut MemDisk) -> Result<(), AllocError> {
-    disk.fail_next(2)?;
-    let written = write_twice(disk);
-    let left_unsynced = leaves(disk, (&[7, 8], &[7, 2, 3, 4, 0, 8]))?;
-    same(
-        rt,
-        &(written, left_unsynced),
-        &([Ok(()), Err(DiskFault)], true),
-    );
-    let refused = ask_too_much(disk);
-    let left_synced = leaves(disk, (&[7, 8], &[5, 2, 3, 4]))?;
-    let answers = [Ok(()), Err(DiskFault), Err(DiskFault)];
-    same(rt, &(refused, left_synced), &(answers, true));
-    Ok(())
+fn fails_when_told<R: Abort + AllocGlobal>(rt: &R, disk: &mut MemDisk) {
+    disk.fail_next(2).expect(rt, MEMORY);
+    same(rt, &write_twice(disk), &[Ok(()), Err(DiskFault)]);
+    leaves(rt, disk, &[7, 8], &[7, 2, 3, 4, 0, 8]);
+    let wanted = [Ok(()), Err(DiskFault), Err(DiskFault)];
+    same(rt, &ask_too_much(disk), &wanted);
+    leaves(rt, disk, &[7, 8], &[5, 2, 3, 4]);
 }
 
 /// Two writes, of which the second comes when the disk has stopped.
@@ -122,49 +108,37 @@ fn write_past_the_stop(disk: &mut MemDisk) -> [Result<(), DiskFault>; 2] {
     [first, disk.write_at(2, &[9])]
 }
 
-/// What a copy of a disk that has stopped answers to its length, and how many calls of the copy have failed
-/// then, if a crash of it leaves that.
-fn copy_of_stopped(disk: &MemDisk, crash: Left) -> Result<Option<Counted>, AllocError> {
-    let mut copy = disk.copy()?;
-    if !leaves(&copy, crash)? {
-        return Ok(None);
-    }
+/// A copy of a disk that has stopped has stopped too.
+fn copy_has_stopped<R: Abort + AllocGlobal>(rt: &R, disk: &MemDisk) {
+    let mut copy = disk.copy().expect(rt, MEMORY);
+    leaves(rt, &copy, &[6, 6], &[5, 6, 3, 4]);
     let len = copy.len();
-    Ok(Some((len, copy.faults())))
+    same(rt, &(len, copy.faults()), &(Err(DiskFault), 5));
 }
 
-/// The length that a disk tells, and how many of its calls have failed.
-type Counted = (Result<u64, DiskFault>, u64);
-
 #[test]
-fn a_disk_in_memory_fails_and_stops_when_told(rt: HostRuntime) -> Result<(), Fail> {
-    let mut disk = disk_of_four(rt.alloc())?;
-    fails_when_told(&rt, &mut disk)?;
+fn a_disk_in_memory_fails_and_stops_when_told(rt: HostRuntime) {
+    let mut disk = disk_of_four(&rt, &[]);
+    fails_when_told(&rt, &mut disk);
     same(&rt, &(disk.faults(), disk.refused()), &(3, 1));
     let written = write_past_the_stop(&mut disk);
     same(&rt, &written, &[Ok(()), Err(DiskFault)]);
-    let copied = copy_of_stopped(&disk, (&[6, 6], &[5, 6, 3, 4]))?;
-    same(&rt, &copied, &Some((Err(DiskFault), 5)));
+    copy_has_stopped(&rt, &disk);
     same(&rt, &disk.faults(), &4);
-    Ok(())
 }
 
-/// What a disk of no bytes in memory gives of four that are written to it.
-fn read_from_memory(alloc: Global) -> Result<Result<[u8; 4], DiskFault>, AllocError> {
-    let mut memory = MemDisk::new(alloc, Vec::new(alloc), Vec::new(alloc))?;
-    Ok(write_and_read(&mut memory, 3, b"abcd"))
+/// The path of a file of this process alone.
+fn path_of_test(rt: &HostRuntime) -> Result<PathBuf, Fail> {
+    let name = format!(in rt.alloc(); "mw_disk-test-{}", process::id(rt.process()))?;
+    Ok(env::temp_dir(rt)?.join(rt.alloc(), name.as_str())?)
 }
 
 /// A new file, open for both, whose name is gone.
 fn nameless_file(rt: &HostRuntime) -> Result<File, Fail> {
-    let name = format!(in rt.alloc(); "mw_disk-test-{}", process::id(rt.process()))?;
-    let path = env::temp_dir(rt)?.join(rt.alloc(), name.as_str())?;
+    let path = path_of_test(rt)?;
     let mut options = OpenOptions::new();
-    let file = options
-        .read(true)
-        .write(true)
-        .create(true)
-        .open(rt, path.as_path())?;
+    options.read(true).write(true).create(true);
+    let file = options.open(rt, path.as_path())?;
     fs::remove_file(rt, path.as_path())?;
     Ok(file)
 }
@@ -178,7 +152,9 @@ fn go_too_far<D: Disk>(disk: &mut D) -> [Result<(), DiskFault>; 3] {
 
 #[test]
 fn a_disk_in_memory_and_one_over_a_file_are_used_alike(rt: HostRuntime) -> Result<(), Fail> {
-    same(&rt, &read_from_memory(rt.alloc())?, &Ok(*b"abcd"));
+    let mut memory = disk_with(&rt, &[]);
+    let read = write_and_read(&mut memory, 3, b"abcd");
+    same(&rt, &read, &Ok(*b"abcd"));
     let mut disk = FileDisk::new(nameless_file(&rt)?);
     let read = write_and_read(&mut disk, 3, b"abcd");
     same(&rt, &(read, disk.len()), &(Ok(*b"abcd"), Ok(7)));

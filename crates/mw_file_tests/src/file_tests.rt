@@ -7,9 +7,8 @@ use mw_disk::{Disk, DiskFault, MemDisk};
 use mw_file::*;
 use mw_record::{header, size};
 use mw_words::{Entries, Entry, is_change};
-use std::alloc::{AllocError, Global};
+use std::alloc::Global;
 use std::process::Abort;
-use std::test::Fail;
 
 /// Four bytes that a crash leaves, over and over, in what was not synced: none are given, all are
 /// zero, all are ones, and a mixture that begins with a clear commit byte or with a set one.
@@ -21,23 +20,28 @@ const TORN: [&[u8]; 5] = [
     &[0xa5, 0xff, 0x5a, 0x00],
 ];
 
+/// What a test says that is refused memory.
+pub(crate) const MEMORY: &str = "memory";
+
 /// The bytes of a new file, all of whose words are 0.
-pub(crate) fn new_bytes(alloc: Global, words: u16, places: u16) -> Result<Vec<u8>, AllocError>
+pub(crate) fn new_bytes<R: Abort + AllocGlobal>(rt: &R, words: u16, places: u16) -> Vec<u8>
     requires some_word { 1 ≤ words }
     requires words_fit { words ≤ MAX_WORDS }
     requires some_place { 1 ≤ places }
     requires places_fit { places ≤ MAX_PLACES }
 {
-    let mut bytes = vec![in alloc; 0; size(words, places) as usize]?;
-    for (to, from) in bytes.iter_mut().zip(header(words, places)) {
-        *to = from;
-    }
-    Ok(bytes)
+    let start = header(words, places);
+    let mut bytes = Vec::from_slice(rt.alloc(), &start).expect(rt, MEMORY);
+    bytes
+        .resize(size(words, places) as usize, 0)
+        .expect(rt, MEMORY);
+    bytes
 }
 
 /// A disk of these bytes.
-pub(crate) fn disk_with(alloc: Global, bytes: &[u8]) -> Result<MemDisk, AllocError> {
-    MemDisk::new(alloc, bytes.to_vec(alloc)?, Vec::new(alloc))
+pub(crate) fn disk_with<R: Abort + AllocGlobal>(rt: &R, bytes: &[u8]) -> MemDisk {
+    let bytes = bytes.to_vec(rt.alloc()).expect(rt, MEMORY);
+    MemDisk::new(rt.alloc(), bytes, Vec::new(rt.alloc())).expect(rt, MEMORY)
 }
 
 /// How a device fails after so many calls that go well.
@@ -50,27 +54,22 @@ enum Trouble {
 }
 
 /// A disk of these bytes that has trouble after so many calls.
-fn troubled(
-    alloc: Global,
-    bytes: &[u8],
-    calls: u8,
-    trouble: Trouble,
-) -> Result<MemDisk, AllocError> {
-    let mut disk = disk_with(alloc, bytes)?;
+fn troubled<R: Abort + AllocGlobal>(rt: &R, bytes: &[u8], calls: u8, trouble: Trouble) -> MemDisk {
+    let mut disk = disk_with(rt, bytes);
     match trouble {
-        Trouble::Once => disk.fail_next(u64::from(calls) + 1)?,
+        Trouble::Once => disk.fail_next(u64::from(calls) + 1).expect(rt, MEMORY),
         Trouble::Stop => disk.stop_next(u64::from(calls)),
     }
-    Ok(disk)
+    disk
 }
 
 /// These torn bytes over and over, longer than any one write.
-fn over_and_over(alloc: Global, torn: &[u8]) -> Result<Vec<u8>, AllocError> {
-    let mut bytes = Vec::new(alloc);
+fn over_and_over<R: Abort + AllocGlobal>(rt: &R, torn: &[u8]) -> Vec<u8> {
+    let mut bytes = Vec::new(rt.alloc());
     for _ in 0..50 {
-        bytes.extend_from_slice(torn)?;
+        bytes.extend_from_slice(torn).expect(rt, MEMORY);
     }
-    Ok(bytes)
+    bytes
 }
 
 /// How an opening ends, and the disk then.
@@ -99,13 +98,11 @@ fn two_of(words: &[u64]) -> Option<Words> {
 }
 
 /// The words of a file of two words with these bytes, if it opens.
-fn words_of(alloc: Global, bytes: &[u8]) -> Result<Option<Words>, AllocError> {
-    match TenantFile::open(alloc, disk_with(alloc, bytes)?) {
-        Ok(opened) => {
-            let (_, words) = opened;
-            Ok(two_of(&words))
-        }
-        Err(_) => Ok(None),
+fn words_of<R: Abort + AllocGlobal>(rt: &R, bytes: &[u8]) -> Option<Words> {
+    let (ended, _) = opening(rt.alloc(), disk_with(rt, bytes));
+    match ended {
+        Ok(words) => two_of(&words),
+        Err(_) => None,
     }
 }
 
@@ -199,51 +196,43 @@ fn cancel(file: &mut TenantFile<MemDisk>, place: Place) -> Option<()> {
 }
 
 /// A new file of two words and two places, but that its first word is 5.
-fn bytes_with_a_word(alloc: Global) -> Result<Vec<u8>, AllocError> {
-    let mut bytes = new_bytes(alloc, 2, 2)?;
+fn bytes_with_a_word<R: Abort + AllocGlobal>(rt: &R) -> Vec<u8> {
+    let mut bytes = new_bytes(rt, 2, 2);
     if let Some(byte) = bytes.get_mut(32) {
         *byte = 5;
     }
-    Ok(bytes)
+    bytes
 }
 
-/// The number of places of the file with these bytes, and whether one of them is free, if it opens.
-fn places_in(alloc: Global, bytes: &[u8]) -> Result<Option<(u16, bool)>, AllocError> {
-    match opened(alloc, disk_with(alloc, bytes)?) {
-        Some(file) => Ok(Some((file.places(), file.has_place()))),
-        None => Ok(None),
-    }
-}
-
-/// The words and the places of the file of [`bytes_with_a_word`], if it opens.
-fn words_and_places(alloc: Global) -> Result<(Option<Words>, Option<(u16, bool)>), AllocError> {
-    let bytes = bytes_with_a_word(alloc)?;
-    Ok((words_of(alloc, &bytes)?, places_in(alloc, &bytes)?))
+/// The number of places of the file on this disk, and whether one of them is free, if it opens.
+fn places_on(alloc: Global, disk: MemDisk) -> Option<(u16, bool)> {
+    let file = opened(alloc, disk)?;
+    Some((file.places(), file.has_place()))
 }
 
 #[test]
-fn a_new_file_opens_with_all_places_free(rt: HostRuntime) -> Result<(), Fail> {
-    let found = words_and_places(rt.alloc())?;
-    same(&rt, &found, &(Some([5, 0]), Some((2, true))));
-    Ok(())
+fn a_new_file_opens_with_all_places_free(rt: HostRuntime) {
+    let bytes = bytes_with_a_word(&rt);
+    same(&rt, &words_of(&rt, &bytes), &Some([5, 0]));
+    let places = places_on(rt.alloc(), disk_with(&rt, &bytes));
+    same(&rt, &places, &Some((2, true)));
 }
 
 /// The fault of an opening whose device has trouble after so many calls, if it has one, and how many
 /// calls have failed then.
-fn fault_of(
-    alloc: Global,
+fn fault_of<R: Abort + AllocGlobal>(
+    rt: &R,
     bytes: &[u8],
     calls: u8,
     trouble: Trouble,
-) -> Result<(Option<OpenFault>, u64), AllocError> {
-    let (ended, disk) = opening(alloc, troubled(alloc, bytes, calls, trouble)?);
-    Ok((ended.err(), disk.faults()))
+) -> (Option<OpenFault>, u64) {
+    let (ended, disk) = opening(rt.alloc(), troubled(rt, bytes, calls, trouble));
+    (ended.err(), disk.faults())
 }
 
 #[test]
-fn each_device_call_of_an_opening_fails(rt: HostRuntime) -> Result<(), Fail> {
-    let alloc = rt.alloc();
-    let bytes = bytes_with_a_word(alloc)?;
+fn each_device_call_of_an_opening_fails(rt: HostRuntime) {
+    let bytes = bytes_with_a_word(&rt);
     for calls in 0..=2 {
         let wanted = if calls < 2 {
             (Some(OpenFault::Disk), 1)
@@ -251,31 +240,30 @@ fn each_device_call_of_an_opening_fails(rt: HostRuntime) -> Result<(), Fail> {
             (None, 0)
         };
         for trouble in [Trouble::Once, Trouble::Stop] {
-            let found = fault_of(alloc, &bytes, calls, trouble)?;
+            let found = fault_of(&rt, &bytes, calls, trouble);
             same_at(&rt, u64::from(calls), &found, &wanted);
         }
     }
-    Ok(())
 }
 
 /// The file of two words and so many places with these bytes changed, of which so many are kept.
-fn damaged_bytes(
-    alloc: Global,
+fn damaged_bytes<R: Abort + AllocGlobal>(
+    rt: &R,
     places: u16,
     changes: &[(usize, u8)],
     kept: usize,
-) -> Result<Vec<u8>, AllocError>
+) -> Vec<u8>
     requires some_place { 1 ≤ places }
     requires places_fit { places ≤ MAX_PLACES }
 {
-    let mut bytes = new_bytes(alloc, 2, places)?;
+    let mut bytes = new_bytes(rt, 2, places);
     for change in changes {
         if let Some(byte) = bytes.get_mut(change.0) {
             *byte = change.1;
         }
     }
     bytes.truncate(kept);
-    Ok(bytes)
+    bytes
 }
 
 /// Two open records, each of address 0 and value 1.
@@ -306,71 +294,73 @@ const DAMAGED: [(u16, &[(usize, u8)], usize, u8); 11] = [
 
 /// The number of the damage that an opening of these bytes ends with, 0 where it ends otherwise, how
 /// many calls failed, and what a crash leaves then.
-fn damage_of(alloc: Global, bytes: &[u8]) -> Result<(u8, u64, Vec<u8>), AllocError> {
-    let (ended, disk) = opening(alloc, disk_with(alloc, bytes)?);
+fn damage_of<R: Abort + AllocGlobal>(rt: &R, bytes: &[u8]) -> (u8, u64, Vec<u8>) {
+    let (ended, disk) = opening(rt.alloc(), disk_with(rt, bytes));
     let found = match ended {
         Err(OpenFault::Damage(damage)) => damage.number(),
         _ => 0,
     };
-    Ok((found, disk.faults(), disk.crash(&[])?))
+    (found, disk.faults(), disk.crash(&[]).expect(rt, MEMORY))
 }
 
 #[test]
-fn damaged_files(rt: HostRuntime) -> Result<(), Fail> {
-    let alloc = rt.alloc();
+fn damaged_files(rt: HostRuntime) {
     for case in DAMAGED {
         let (places, changes, kept, number) = case;
-        let bytes = damaged_bytes(alloc, places, changes, kept)?;
-        let found = (bytes.len(), damage_of(alloc, &bytes)?);
-        same(&rt, &found, &(kept, (number, 0, bytes)));
+        let bytes = damaged_bytes(&rt, places, changes, kept);
+        same(&rt, &bytes.len(), &kept);
+        same(&rt, &damage_of(&rt, &bytes), &(number, 0, bytes));
     }
-    Ok(())
 }
 
 /// A file of three words and two places, with the change of word 0 prepared in its first place and that
-/// of the others sealed in its second, if all of that goes well.
-fn with_two_records(alloc: Global) -> Result<Option<TenantFile<MemDisk>>, AllocError> {
-    let bytes = new_bytes(alloc, 3, 2)?;
-    let Some(mut file) = opened(alloc, disk_with(alloc, &bytes)?) else {
-        return Ok(None);
-    };
+/// of the others sealed in its second.
+fn with_two_records<R: Abort + AllocGlobal>(rt: &R) -> TenantFile<MemDisk> {
+    let disk = disk_with(rt, &new_bytes(rt, 3, 2));
+    let mut file = opened(rt.alloc(), disk).expect(rt, "the file opens");
     let first = prepare(&mut file, &change(&[(0, 1)]));
     let second = prepare(&mut file, &change(&[(1, 2), (2, 3)]));
-    let sealed = seal(&mut file, Place(1));
-    let is_so = (first, second, sealed) == (Some(Ok(Place(0))), Some(Ok(Place(1))), Some(Ok(())));
-    Ok(if is_so { Some(file) } else { None })
+    same(
+        rt,
+        &[first, second],
+        &[Some(Ok(Place(0))), Some(Ok(Place(1)))],
+    );
+    same(rt, &seal(&mut file, Place(1)), &Some(Ok(())));
+    file
 }
 
 /// How an opening of these bytes ends whose device stops after so many calls: with these words or not, or
 /// with a fault.
-fn ended_after(
-    alloc: Global,
+fn ended_after<R: Abort + AllocGlobal>(
+    rt: &R,
     bytes: &[u8],
     calls: u8,
     words: &[u64],
-) -> Result<Result<bool, OpenFault>, AllocError> {
-    let (ended, _) = opening(alloc, troubled(alloc, bytes, calls, Trouble::Stop)?);
-    Ok(match ended {
+) -> Result<bool, OpenFault> {
+    let (ended, _) = opening(rt.alloc(), troubled(rt, bytes, calls, Trouble::Stop));
+    match ended {
         Ok(found) => Ok(found.as_slice() == words),
         Err(fault) => Err(fault),
-    })
+    }
 }
 
-/// What a crash leaves of the file with two records.
-fn left_of_two_records(alloc: Global) -> Result<Vec<u8>, Fail> {
-    let file = with_two_records(alloc)?.ok_or("both records are written")?;
-    Ok(file.crash(&[])?)
+/// What a crash with these torn bytes leaves of a file.
+pub(crate) fn left<R: Abort + AllocGlobal>(
+    rt: &R,
+    file: &TenantFile<MemDisk>,
+    torn: &[u8],
+) -> Vec<u8> {
+    file.crash(torn).expect(rt, MEMORY)
 }
 
 #[test]
-fn two_records(rt: HostRuntime) -> Result<(), Fail> {
-    let left = left_of_two_records(rt.alloc())?;
+fn two_records(rt: HostRuntime) {
+    let left = left(&rt, &with_two_records(&rt), &[]);
     same(&rt, &left.len(), &328);
     for (calls, wanted) in [(7, Ok(true)), (6, Err(OpenFault::Disk))] {
-        let ended = ended_after(rt.alloc(), &left, calls, &[0, 2, 3])?;
+        let ended = ended_after(&rt, &left, calls, &[0, 2, 3]);
         same_at(&rt, u64::from(calls), &ended, &wanted);
     }
-    Ok(())
 }
 
 /// What a file without a free place answers to a change, to the cancel of the first place, and to the
@@ -389,11 +379,10 @@ fn cancel_between(
 }
 
 #[test]
-fn a_cancelled_place_is_taken_again(rt: HostRuntime) -> Result<(), Fail> {
-    let mut file = with_two_records(rt.alloc())?.ok_or("both records are written")?;
+fn a_cancelled_place_is_taken_again(rt: HostRuntime) {
+    let mut file = with_two_records(&rt);
     let told = cancel_between(&mut file, &change(&[(0, 1)]));
     same(&rt, &told, &(None, Some(()), Some(Ok(Place(0)))));
-    Ok(())
 }
 
 /// The change of both words of a file, from 0 to 1 and 2.
@@ -402,24 +391,22 @@ fn both() -> Entries {
 }
 
 /// A file of two words and so many places whose disk has trouble so many calls after its opening.
-fn troubled_file(
-    alloc: Global,
+fn troubled_file<R: Abort + AllocGlobal>(
+    rt: &R,
     places: u16,
     calls: u8,
     trouble: Trouble,
-) -> Result<Option<TenantFile<MemDisk>>, AllocError>
+) -> TenantFile<MemDisk>
     requires some_place { 1 ≤ places }
     requires places_fit { places ≤ MAX_PLACES }
 {
-    let bytes = new_bytes(alloc, 2, places)?;
-    let Some(mut file) = opened(alloc, disk_with(alloc, &bytes)?) else {
-        return Ok(None);
-    };
+    let disk = disk_with(rt, &new_bytes(rt, 2, places));
+    let mut file = opened(rt.alloc(), disk).expect(rt, "the file opens");
     match trouble {
-        Trouble::Once => file.fail_next(u64::from(calls) + 1)?,
+        Trouble::Once => file.fail_next(u64::from(calls) + 1).expect(rt, MEMORY),
         Trouble::Stop => file.stop_next(u64::from(calls)),
     }
-    Ok(Some(file))
+    file
 }
 
 /// What a file answers to prepare, seal and settle of a change in its first place, of which each is
@@ -471,21 +458,27 @@ fn is_sealed(calls: u8, trouble: Trouble, torn: &[u8]) -> bool {
 }
 
 /// The words that a crash leaves, with these torn bytes, if the file opens then.
-pub(crate) fn words_left(
-    alloc: Global,
+pub(crate) fn words_left<R: Abort + AllocGlobal>(
+    rt: &R,
     file: &TenantFile<MemDisk>,
     torn: &[u8],
-) -> Result<Option<Words>, AllocError> {
-    words_of(alloc, &file.crash(torn)?)
+) -> Option<Words> {
+    words_of(rt, &left(rt, file, torn))
+}
+
+/// How many device calls of a file have failed.
+fn faults<R: Abort + AllocGlobal>(rt: &R, file: &TenantFile<MemDisk>) -> u64 {
+    let copy = file.copy(rt.alloc()).expect(rt, MEMORY);
+    copy.into_disk().faults()
 }
 
 /// What a file answers, and how many device calls have failed then.
-fn answers_and_faults(
-    alloc: Global,
+fn answers_and_faults<R: Abort + AllocGlobal>(
+    rt: &R,
     file: &mut TenantFile<MemDisk>,
-) -> Result<(Answers, u64), AllocError> {
+) -> (Answers, u64) {
     let told = answers(file);
-    Ok((told, file.copy(alloc)?.into_disk().faults()))
+    (told, faults(rt, file))
 }
 
 /// The words that a crash with these torn bytes leaves where the device had trouble after so many calls.
@@ -503,26 +496,16 @@ fn leaves_words<R: Abort + AllocGlobal>(
     file: &TenantFile<MemDisk>,
     calls: u8,
     trouble: Trouble,
-) -> Result<(), AllocError> {
+) {
     for torn in TORN {
-        let found = words_left(rt.alloc(), file, &over_and_over(rt.alloc(), torn)?)?;
+        let found = words_left(rt, file, &over_and_over(rt, torn));
         let wanted = Some(words_after(calls, trouble, torn));
         same_at(rt, u64::from(calls), &found, &wanted);
     }
-    Ok(())
 }
 
-/// What a file answers whose device has trouble after so many calls, twice, each time with how many calls
-/// have failed.
-fn answers_twice(
-    alloc: Global,
-    file: &mut TenantFile<MemDisk>,
-) -> Result<[(Answers, u64); 2], AllocError> {
-    let first = answers_and_faults(alloc, file)?;
-    Ok([first, answers_and_faults(alloc, file)?])
-}
-
-/// What it is to answer.
+/// What a file is to answer whose device has trouble after so many calls, twice, each time with how many
+/// calls have failed then.
 fn wanted_twice(calls: u8, places: u16) -> [(Answers, u64); 2] {
     let (first, again) = answers_to(calls, places);
     let faults = if calls < 9 { 1 } else { 0 };
@@ -531,99 +514,100 @@ fn wanted_twice(calls: u8, places: u16) -> [(Answers, u64); 2] {
 
 /// A file whose device has trouble after so many calls answers as it should, twice, and crashes leave the
 /// right words then.
-fn crash_in_a_call<R: Abort + AllocGlobal>(
-    rt: &R,
-    calls: u8,
-    trouble: Trouble,
-    places: u16,
-) -> Result<(), Fail>
+fn crash_in_a_call<R: Abort + AllocGlobal>(rt: &R, calls: u8, trouble: Trouble, places: u16)
     requires some_place { 1 ≤ places }
     requires places_fit { places ≤ MAX_PLACES }
 {
-    let mut file = troubled_file(rt.alloc(), places, calls, trouble)?.ok_or("the file opens")?;
-    let found = answers_twice(rt.alloc(), &mut file)?;
-    let wanted = wanted_twice(calls, places);
-    same_at(rt, u64::from(calls), &found, &wanted);
-    Ok(leaves_words(rt, &file, calls, trouble)?)
+    let mut file = troubled_file(rt, places, calls, trouble);
+    let first = answers_and_faults(rt, &mut file);
+    let found = [first, answers_and_faults(rt, &mut file)];
+    same_at(rt, u64::from(calls), &found, &wanted_twice(calls, places));
+    leaves_words(rt, &file, calls, trouble);
 }
 
 #[test]
-fn a_crash_in_each_call(rt: HostRuntime) -> Result<(), Fail> {
+fn a_crash_in_each_call(rt: HostRuntime) {
     for calls in 0..=9 {
         for trouble in [Trouble::Once, Trouble::Stop] {
             for places in [1, 2] {
-                crash_in_a_call(&rt, calls, trouble, places)?;
+                crash_in_a_call(&rt, calls, trouble, places);
             }
         }
     }
-    Ok(())
 }
 
 /// Adds what crashes of this disk leave.
-fn add_crashes(alloc: Global, disk: &MemDisk, images: &mut Vec<Vec<u8>>) -> Result<(), AllocError> {
+fn add_crashes<R: Abort + AllocGlobal>(rt: &R, disk: &MemDisk, images: &mut Vec<Vec<u8>>) {
     for torn in TORN {
-        images.push(disk.crash(&over_and_over(alloc, torn)?)?)?;
+        let image = disk.crash(&over_and_over(rt, torn)).expect(rt, MEMORY);
+        images.push(image).expect(rt, MEMORY);
     }
-    Ok(())
 }
 
 /// What crashes leave after openings of a file with these bytes, each with trouble at another call.
-fn left_by_openings(alloc: Global, bytes: &[u8]) -> Result<Vec<Vec<u8>>, AllocError> {
-    let mut images = Vec::new(alloc);
+fn left_by_openings<R: Abort + AllocGlobal>(rt: &R, bytes: &[u8]) -> Vec<Vec<u8>> {
+    let mut images = Vec::new(rt.alloc());
     for calls in 0..7 {
         for trouble in [Trouble::Once, Trouble::Stop] {
-            let (_, disk) = opening(alloc, troubled(alloc, bytes, calls, trouble)?);
-            add_crashes(alloc, &disk, &mut images)?;
+            let (_, disk) = opening(rt.alloc(), troubled(rt, bytes, calls, trouble));
+            add_crashes(rt, &disk, &mut images);
         }
     }
-    Ok(images)
+    images
 }
 
-/// What a crash leaves of a file whose change is sealed, if that goes well: the device stops before
-/// settle's first call.
-fn sealed_image(alloc: Global) -> Result<Option<Vec<u8>>, AllocError> {
-    let Some(mut file) = troubled_file(alloc, 1, 4, Trouble::Stop)? else {
-        return Ok(None);
+/// What a crash leaves of a file whose change is sealed: the device stops before settle's first call.
+fn sealed_image<R: Abort + AllocGlobal>(rt: &R) -> Vec<u8> {
+    let mut file = troubled_file(rt, 1, 4, Trouble::Stop);
+    same(rt, &answers(&mut file), &answers_to(4, 1).0);
+    left(rt, &file, &[])
+}
+
+/// How an opening of these bytes ends whose device has trouble after so many calls, and how many calls have
+/// failed then.
+fn opening_with_trouble<R: Abort + AllocGlobal>(
+    rt: &R,
+    image: &[u8],
+    calls: u8,
+    trouble: Trouble,
+) -> (Result<Option<Words>, OpenFault>, u64) {
+    let (ended, disk) = opening(rt.alloc(), troubled(rt, image, calls, trouble));
+    let words = match ended {
+        Ok(words) => Ok(two_of(&words)),
+        Err(fault) => Err(fault),
     };
-    if answers(&mut file) != answers_to(4, 1).0 {
-        return Ok(None);
-    }
-    Ok(Some(file.crash(&[])?))
+    (words, disk.faults())
 }
 
 /// How openings of a sealed file's bytes end, each with trouble at another call.
-fn open_with_trouble<R: Abort + AllocGlobal>(rt: &R, image: &[u8]) -> Result<(), Fail> {
-    let alloc = rt.alloc();
+fn open_with_trouble<R: Abort + AllocGlobal>(rt: &R, image: &[u8]) {
     for calls in 0..=7 {
+        let wanted = if calls < 7 {
+            (Err(OpenFault::Disk), 1)
+        } else {
+            (Ok(Some([1, 2])), 0)
+        };
         for trouble in [Trouble::Once, Trouble::Stop] {
-            let (ended, disk) = opening(alloc, troubled(alloc, image, calls, trouble)?);
-            let wanted = if calls < 7 {
-                (Err(OpenFault::Disk), 1)
-            } else {
-                (Ok(vec![in alloc; 1, 2]?), 0)
-            };
-            same_at(rt, u64::from(calls), &(ended, disk.faults()), &wanted);
+            let found = opening_with_trouble(rt, image, calls, trouble);
+            same_at(rt, u64::from(calls), &found, &wanted);
         }
     }
-    Ok(())
 }
 
-/// A file with these bytes opens, and has the words of the sealed change.
-fn has_the_change<R: Abort + AllocGlobal>(rt: &R, bytes: &[u8]) -> Result<(), Fail> {
-    same(rt, &words_of(rt.alloc(), bytes)?, &Some([1, 2]));
-    Ok(())
+/// Files with these bytes open, and have the words of the sealed change.
+fn have_the_change<R: Abort + AllocGlobal>(rt: &R, images: &[Vec<u8>]) {
+    for image in images {
+        same(rt, &words_of(rt, image), &Some([1, 2]));
+    }
 }
 
 #[test]
-fn opening_sweep(rt: HostRuntime) -> Result<(), Fail> {
-    let alloc = rt.alloc();
-    let image = sealed_image(alloc)?.ok_or("the change is sealed")?;
-    open_with_trouble(&rt, &image)?;
-    for first in left_by_openings(alloc, &image)? {
-        has_the_change(&rt, &first)?;
-        for second in left_by_openings(alloc, &first)? {
-            has_the_change(&rt, &second)?;
-        }
+fn opening_sweep(rt: HostRuntime) {
+    let image = sealed_image(&rt);
+    open_with_trouble(&rt, &image);
+    let once = left_by_openings(&rt, &image);
+    have_the_change(&rt, &once);
+    for image in &once {
+        have_the_change(&rt, &left_by_openings(&rt, image));
     }
-    Ok(())
 }

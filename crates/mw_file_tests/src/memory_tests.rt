@@ -1,26 +1,25 @@
 //! A tenant's file on a disk in memory: it is copied, its calls are told to fail, and refused memory.
 use crate::file_tests::{
-    Answers, Words, answers, answers_to, disk_with, new_bytes, opened, words_left,
+    Answers, MEMORY, Words, answers, answers_to, disk_with, left, new_bytes, opened, words_left,
 };
 use crate::same::same;
 use mw_disk::{Disk, DiskFault, MemDisk};
 use mw_file::*;
-use std::alloc::{AllocError, Global};
-use std::test::Fail;
+use std::process::Abort;
 
 /// The file of two words on this disk, which is a new one.
-fn file_on(alloc: Global, disk: MemDisk) -> Result<TenantFile<MemDisk>, Fail> {
-    Ok(opened(alloc, disk).ok_or("the file opens")?)
+fn file_on<R: Abort + AllocGlobal>(rt: &R, disk: MemDisk) -> TenantFile<MemDisk> {
+    opened(rt.alloc(), disk).expect(rt, "the file opens")
 }
 
 /// A disk with a new file of two words and one place.
-fn new_disk(alloc: Global) -> Result<MemDisk, AllocError> {
-    disk_with(alloc, &new_bytes(alloc, 2, 1)?)
+fn new_disk<R: Abort + AllocGlobal>(rt: &R) -> MemDisk {
+    disk_with(rt, &new_bytes(rt, 2, 1))
 }
 
 /// A new file of two words and one place.
-fn new_file(alloc: Global) -> Result<TenantFile<MemDisk>, Fail> {
-    file_on(alloc, new_disk(alloc)?)
+fn new_file<R: Abort + AllocGlobal>(rt: &R) -> TenantFile<MemDisk> {
+    file_on(rt, new_disk(rt))
 }
 
 /// The answers of a file on whose device all goes well.
@@ -29,78 +28,58 @@ fn all_well() -> Answers {
 }
 
 /// What a file answers, and the words that a crash leaves then, with these torn bytes and with those.
-fn answers_and_words(
-    alloc: Global,
+fn answers_and_words<R: Abort + AllocGlobal>(
+    rt: &R,
     file: &mut TenantFile<MemDisk>,
     torn: &[u8],
     other: &[u8],
-) -> Result<(Answers, Option<Words>, Option<Words>), AllocError> {
+) -> (Answers, [Option<Words>; 2]) {
     let told = answers(file);
-    let words = words_left(alloc, file, torn)?;
-    Ok((told, words, words_left(alloc, file, other)?))
-}
-
-/// What a copy of this file answers, and the words that a crash of the copy leaves then.
-fn changed_copy(
-    alloc: Global,
-    file: &TenantFile<MemDisk>,
-) -> Result<(Answers, Option<Words>), AllocError> {
-    let mut copy = file.copy(alloc)?;
-    let told = answers(&mut copy);
-    Ok((told, words_left(alloc, &copy, &[])?))
-}
-
-/// Whether a crash of this file leaves a new one.
-fn is_new(alloc: Global, file: &TenantFile<MemDisk>) -> Result<bool, AllocError> {
-    Ok(file.crash(&[])? == new_bytes(alloc, 2, 1)?)
+    let words = words_left(rt, file, torn);
+    (told, [words, words_left(rt, file, other)])
 }
 
 #[test]
-fn a_copy_goes_its_own_way(rt: HostRuntime) -> Result<(), Fail> {
-    let file = new_file(rt.alloc())?;
-    let changed = changed_copy(rt.alloc(), &file)?;
-    same(&rt, &changed, &(all_well(), Some([1, 2])));
-    assert!(rt; is_new(rt.alloc(), &file)?);
-    Ok(())
+fn a_copy_goes_its_own_way(rt: HostRuntime) {
+    let file = new_file(&rt);
+    let mut copy = file.copy(rt.alloc()).expect(&rt, MEMORY);
+    same(&rt, &answers(&mut copy), &all_well());
+    same(&rt, &words_left(&rt, &copy, &[]), &Some([1, 2]));
+    assert!(rt; left(&rt, &file, &[]) == new_bytes(&rt, 2, 1));
 }
 
 #[test]
-fn the_call_that_is_told_to_fails(rt: HostRuntime) -> Result<(), Fail> {
-    let mut file = new_file(rt.alloc())?;
+fn the_call_that_is_told_to_fails(rt: HostRuntime) {
+    let mut file = new_file(&rt);
     // The third call is seal's write of the commit byte.
-    file.fail_next(3)?;
-    let found = answers_and_words(rt.alloc(), &mut file, &[], &[0xa5])?;
-    let wanted = (answers_to(2, 1).0, Some([0, 0]), Some([1, 2]));
+    file.fail_next(3).expect(&rt, MEMORY);
+    let found = answers_and_words(&rt, &mut file, &[], &[0xa5]);
+    let wanted = (answers_to(2, 1).0, [Some([0, 0]), Some([1, 2])]);
     same(&rt, &found, &wanted);
-    Ok(())
 }
 
 #[test]
-fn the_earlier_of_two_stops_counts(rt: HostRuntime) -> Result<(), Fail> {
-    let mut file = new_file(rt.alloc())?;
+fn the_earlier_of_two_stops_counts(rt: HostRuntime) {
+    let mut file = new_file(&rt);
     file.stop_next(3);
     file.stop_next(5);
-    let found = answers_and_words(rt.alloc(), &mut file, &[], &[0])?;
-    let wanted = (answers_to(3, 1).0, Some([1, 2]), Some([0, 0]));
+    let found = answers_and_words(&rt, &mut file, &[], &[0]);
+    let wanted = (answers_to(3, 1).0, [Some([1, 2]), Some([0, 0])]);
     same(&rt, &found, &wanted);
-    Ok(())
 }
 
 #[test]
-fn a_call_that_is_refused_memory_fails(rt: HostRuntime) -> Result<(), Fail> {
-    let mut disk = new_disk(rt.alloc())?;
+fn a_call_that_is_refused_memory_fails(rt: HostRuntime) {
+    let mut disk = new_disk(&rt);
     // There is not so much memory. The next calls go well.
     let written = disk.write_at(1 << 63, &[1]);
-    let mut refused = file_on(rt.alloc(), disk)?;
+    let mut refused = file_on(&rt, disk);
     let count = refused.refused();
     let found = (written, count, answers(&mut refused));
     same(&rt, &found, &(Err(DiskFault), 1, all_well()));
-    Ok(())
 }
 
 #[test]
-fn no_call_of_a_new_file_was_refused_memory(rt: HostRuntime) -> Result<(), Fail> {
-    let file = new_file(rt.alloc())?;
-    same(&rt, &file.refused(), &0);
-    Ok(())
+fn no_call_of_a_new_file_was_refused_memory(rt: HostRuntime) {
+    same(&rt, &new_file(&rt).refused(), &0);
 }

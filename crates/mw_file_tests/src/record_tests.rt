@@ -37,30 +37,45 @@ fn told_of_change(at: usize, byte: u8, len: usize) -> u8 {
     told(&file[..len.min(184)])
 }
 
+/// A byte of the small file and what it becomes, how many bytes are left, and the number of the damage.
+const CHANGES: [(usize, u8, usize, u8); 17] = [
+    (0, 0x58, 184, 1),
+    (8, 0, 184, 2),
+    (8, 3, 184, 6),
+    (9, 0x11, 184, 2),
+    (12, 0, 184, 2),
+    (12, 33, 184, 2),
+    (14, 0x58, 184, 0),
+    (15, 0xa5, 184, 2),
+    (15, 0x7f, 184, 0),
+    (38, 1, 184, 3),
+    (48, 0xa5, 184, 4),
+    (48, 0x7f, 184, 0),
+    (49, 9, 184, 0),
+    (0, b'M', 184, 0),
+    (0, b'M', 183, 6),
+    (0, b'M', 31, 6),
+    (0, 0x58, 31, 6),
+];
+
 #[test]
 fn a_change_of_one_byte_is_told(rt: HostRuntime) {
-    let cases = [
-        (0, 0x58, 184, 1),
-        (8, 0, 184, 2),
-        (8, 3, 184, 6),
-        (9, 0x11, 184, 2),
-        (12, 0, 184, 2),
-        (12, 33, 184, 2),
-        (14, 0x58, 184, 0),
-        (15, 0xa5, 184, 2),
-        (15, 0x7f, 184, 0),
-        (38, 1, 184, 3),
-        (48, 0xa5, 184, 4),
-        (48, 0x7f, 184, 0),
-        (49, 9, 184, 0),
-        (0, b'M', 184, 0),
-        (0, b'M', 183, 6),
-        (0, b'M', 31, 6),
-        (0, 0x58, 31, 6),
-    ];
-    for (at, byte, len, number) in cases {
+    for (at, byte, len, number) in CHANGES {
         same_at(&rt, at as u64, &told_of_change(at, byte, len), &number);
     }
+}
+
+/// A file of two places with an open record in its first, and one in its second whose first byte is this.
+/// Both write address 0.
+fn two_writers(second: u8) -> [u8; 320] {
+    let mut file = file_of_two_places();
+    file[48] = COMMITTED;
+    file[49] = 1;
+    file[64] = 1;
+    file[184] = second;
+    file[185] = 1;
+    file[200] = 1;
+    file
 }
 
 #[test]
@@ -69,17 +84,9 @@ fn records_are_told(rt: HostRuntime) {
     long[48] = COMMITTED;
     long[49] = 9;
     same(&rt, &told(&long), &Damage::Record.number());
-
-    let mut shared = file_of_two_places();
-    shared[48] = COMMITTED;
-    shared[49] = 1;
-    shared[64] = 1;
-    shared[184] = COMMITTED;
-    shared[185] = 1;
-    shared[200] = 1;
+    let shared = two_writers(COMMITTED);
     same(&rt, &told(&shared), &Damage::Overlap.number());
-    shared[184] = 0x7f;
-    same(&rt, &told(&shared), &0);
+    same(&rt, &told(&two_writers(0x7f)), &0);
 }
 
 /// A file with the home words 5 and 0, and one open record, which makes the second word 7.
