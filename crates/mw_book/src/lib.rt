@@ -18,8 +18,6 @@ mod kept;
 mod laws;
 mod making;
 mod telling;
-#[cfg(test)]
-mod tests;
 
 pub use answers::Filed;
 pub use kept::Book;

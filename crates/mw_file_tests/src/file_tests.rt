@@ -118,7 +118,7 @@ pub(crate) fn opened(alloc: Global, disk: MemDisk) -> Option<TenantFile<MemDisk>
 }
 
 /// The change that writes these values where 0 stood.
-fn change(writes: &[(u16, u64)]) -> Entries {
+pub(crate) fn change(writes: &[(u16, u64)]) -> Entries {
     let mut entries = Entries::new();
     for write in writes {
         let _ = entries.try_push(Entry {

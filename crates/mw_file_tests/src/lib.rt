@@ -1,7 +1,9 @@
-//! Tests of the disks, of the file's layout and of a tenant's file. They stand apart from the crates that they test, so that
-//! those are proved once.
+//! Tests of the disks, of the file's layout, of a tenant's file and of its book. They stand apart from the crates that
+//! they test, so that those are proved once.
 #![tactic(auto)]
 
+#[cfg(test)]
+mod book_tests;
 #[cfg(test)]
 mod disk_tests;
 #[cfg(test)]
