@@ -15,6 +15,8 @@ mod test_clients;
 #[cfg(test)]
 mod test_crowd;
 #[cfg(test)]
+mod test_serving;
+#[cfg(test)]
 mod test_shelf;
 #[cfg(test)]
 mod workers_tests;

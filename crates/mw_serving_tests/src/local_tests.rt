@@ -1,73 +1,82 @@
 //! Clients who come by a local socket.
-use crate::silence_tests::serve_one_by_one;
-use mw_workers::{Clients, ServeEnd, listen_at};
+use crate::test_clients::Caller;
+use crate::test_serving::{Shop, serves_beside};
+use mw_workers::listen_at;
 use std::fs::File;
-use std::io::{ErrorKind, Read, Write};
+use std::io::ErrorKind;
 use std::net::{Net, TcpListener, TcpStream};
 use std::os::unix::fs::PermissionsExt;
-use std::os::unix::net::UnixStream;
-use std::path::PathBuf;
 use std::rt::Files;
+use std::sync::Wait;
 use std::test::Fail;
-use std::time::Duration;
-use std::{env, fs, io, process, thread};
+use std::thread::Threads;
+use std::time::Clock;
+use std::{env, fs, io, process};
 
 /// Who may speak at the socket.
 const OWNER_AND_GROUP: u32 = 0o660;
 
-/// True if who says this at the socket with this path hears just that to the end.
-fn asks<R: Net>(rt: &R, path: &str, says: &[u8], answer: &[u8; 15]) -> io::Result<bool> {
-    let mut stream = UnixStream::connect(rt, path)?;
-    stream.set_read_timeout(Some(Duration::from_secs(10)))?;
-    stream.write_all(says)?;
-    let mut heard = [0; 15];
-    stream.read_exact(&mut heard)?;
-    let mut more = [0; 1];
-    Ok(heard == *answer && stream.read(&mut more)? == 0)
+/// One worker, who serves who looks whether somebody listens, and then a client.
+const SHOP: Shop = Shop {
+    words: 2,
+    workers: 1,
+    connections: 2,
+};
+
+/// A new folder for the socket.
+fn new_folder(rt: &HostRuntime) -> Result<String, Fail> {
+    let id = process::id(rt.process());
+    let above = env::temp_dir(rt)?;
+    let folder = format!(in rt.alloc(); "{}/mondlexi-local-{id}", above.as_str())?;
+    fs::create_dir(rt, folder.as_str())?;
+    Ok(folder)
 }
 
-/// Listens at a socket with this path, at which nobody else listens then.
-fn listen_alone<'r, R>(rt: &'r R, path: &str) -> Result<Clients<'r, R>, Fail>
+/// Whether just its owner and group may speak at the socket with this path, and nobody may listen there.
+fn is_kept<R>(rt: &R, path: &str, address: &str) -> io::Result<bool>
 where
-    R: Files<File = File> + AllocGlobal + Net<Listener = TcpListener, Stream = TcpStream>,
+    R: Files<File = File> + Net<Listener = TcpListener, Stream = TcpStream>,
+{
+    let mode = fs::metadata(rt, path)?.permissions().mode();
+    let taken = match listen_at(rt, address, OWNER_AND_GROUP, None) {
+        Ok(_) => false,
+        Err(fault) => fault.kind() == ErrorKind::AddrInUse,
+    };
+    Ok(taken && mode % 0o1000 == OWNER_AND_GROUP)
+}
+
+/// Whether a client at the socket with this path is served.
+fn is_served<R: Net>(rt: &R, path: &str) -> io::Result<bool> {
+    let mut client = Caller::local(rt, path)?;
+    Ok(client.asks_at_last(b"TENANT t\nGET 0\nQUIT\n", b"OK 2\nVAL 0\nBYE\n"))
+}
+
+/// Listens at the socket with this path until a client was served there. Whether nobody else could listen
+/// meanwhile, and the client was served.
+fn serves_alone<R>(rt: &R, path: &str) -> Result<bool, Fail>
+where
+    R: Files<File = File>
+        + Net<Listener = TcpListener, Stream = TcpStream>
+        + AllocGlobal
+        + Threads
+        + Wait
+        + Clock
+        + Sync,
 {
     let address = format!(in rt.alloc(); "unix:{path}")?;
     let clients = listen_at(rt, address.as_str(), OWNER_AND_GROUP, None)?;
-    let mode = fs::metadata(rt, path)?.permissions().mode();
-    let second = listen_at(rt, address.as_str(), OWNER_AND_GROUP, None);
-    let alone = second.is_err_and(|fault| fault.kind() == ErrorKind::AddrInUse);
-    if alone && mode % 0o1000 == OWNER_AND_GROUP {
-        Ok(clients)
-    } else {
-        Err(Fail::from("others may listen or speak there"))
+    if !is_kept(rt, path, address.as_str())? {
+        return Ok(false);
     }
-}
-
-/// A new folder for the socket.
-fn new_folder(rt: &HostRuntime) -> Result<PathBuf, Fail> {
-    let id = process::id(rt.process());
-    let name = format!(in rt.alloc(); "mondlexi-local-{id}")?;
-    let folder = env::temp_dir(rt)?.join(rt.alloc(), name.as_str())?;
-    fs::create_dir(rt, folder.as_path())?;
-    Ok(folder)
+    serves_beside(rt, rt.alloc(), clients, SHOP, || is_served(rt, path))
 }
 
 #[test]
 fn a_local_socket_that_was_left_is_taken_over(rt: HostRuntime) -> Result<(), Fail> {
     let folder = new_folder(&rt)?;
-    let path = folder.as_path().join(rt.alloc(), "s")?;
-    let path = path.as_path().as_str();
-    for _ in 0..2u8 {
-        // The first client is who has looked whether somebody listens.
-        let clients = listen_alone(&rt, path)?;
-        let (heard, end) = thread::join(
-            &rt,
-            || asks(&rt, path, b"TENANT t\nGET 0\nQUIT\n", b"OK 2\nVAL 0\nBYE\n"),
-            || serve_one_by_one(&rt, rt.alloc(), clients, 2),
-        );
-        let right = heard? && end? == ServeEnd::Served;
-        assert!(rt; right);
-    }
-    fs::remove_dir_all(&rt, folder.as_path())?;
+    let path = format!(in rt.alloc(); "{folder}/s")?;
+    let served = serves_alone(&rt, path.as_str())? && serves_alone(&rt, path.as_str())?;
+    assert!(rt; served);
+    fs::remove_dir_all(&rt, folder.as_str())?;
     Ok(())
 }

@@ -1,40 +1,51 @@
 //! Ends of a session for the tests: readers and writers that fail where they are told to, and a
-//! service in memory.
+//! service that notes what it is asked for.
 ghost use Rattle.std.specs.Prelude.{None, []};
 
 use arrayvec::ArrayVec;
-use mw_report::{Figures, TenantFigures};
+use mw_report::Figures;
 use mw_session::Service;
-use mw_words::{Entries, Entry, Job, Name, Reply};
+use mw_words::{Job, Name, Reply};
 use std::alloc::Global;
 use std::io;
 use std::io::{ErrorKind, Read, Write};
 
-/// A reader of these bytes, so many a call. A call with this number, counted from 1, and each after
-/// it fails.
+/// What a peer does behind its last byte.
+#[derive(Clone, Copy)]
+pub enum Failure {
+    /// It answers an error.
+    Error,
+    /// It gives or takes nothing.
+    Nothing,
+}
+
+impl Failure {
+    fn is_error(self) -> bool {
+        matches!(self, Failure::Error)
+    }
+}
+
+/// A reader of these bytes, so many a call. Behind them it fails.
 #[derive(Drop)]
 pub struct Sender<'a> {
     pub rest: &'a [u8],
     pub piece: usize,
-    pub fails_at: usize,
-    pub calls: usize,
+    pub failure: Failure,
 }
 
 impl<'a> Sender<'a> {
-    pub fn new(bytes: &'a [u8], piece: usize, fails_at: usize) -> Self {
+    pub fn new(bytes: &'a [u8], piece: usize, failure: Failure) -> Self {
         Sender {
             rest: bytes,
             piece,
-            fails_at,
-            calls: 0,
+            failure,
         }
     }
 }
 
 impl<'a> Read for Sender<'a> {
     fn read(&mut self, buf: &mut [u8]) -> io::Result<usize> {
-        self.calls = self.calls.saturating_add(1);
-        if self.calls >= self.fails_at {
+        if self.rest.is_empty() && self.failure.is_error() {
             return Err(io::Error::from(ErrorKind::Interrupted));
         }
         let count = self.piece.min(self.rest.len()).min(buf.len());
@@ -44,32 +55,22 @@ impl<'a> Read for Sender<'a> {
     }
 }
 
-/// What a writer does at the call at which it fails.
-#[derive(Clone, Copy, Debug, PartialEq, Eq)]
-pub enum Failure {
-    /// It answers an error.
-    Error,
-    /// It takes nothing.
-    Nothing,
-}
-
-/// A writer that takes so many bytes a call, and fails at the call of this number, counted from 1,
-/// and at each after it.
+/// A writer that takes so many bytes a call, and so many in all. At the next byte it fails.
 #[derive(Drop)]
 pub struct Page {
     pub text: ArrayVec<u8, 256>,
     pub piece: usize,
-    pub fails_at: usize,
+    pub room: usize,
     pub failure: Failure,
     pub calls: usize,
 }
 
 impl Page {
-    pub fn new(piece: usize, fails_at: usize, failure: Failure) -> Self {
+    pub fn new(piece: usize, room: usize, failure: Failure) -> Self {
         Page {
             text: ArrayVec::new(),
             piece,
-            fails_at,
+            room,
             failure,
             calls: 0,
         }
@@ -79,13 +80,11 @@ impl Page {
 impl Write for Page {
     fn write(&mut self, buf: &[u8]) -> io::Result<usize> {
         self.calls = self.calls.saturating_add(1);
-        if self.calls >= self.fails_at {
-            return match self.failure {
-                Failure::Error => Err(io::Error::from(ErrorKind::Interrupted)),
-                Failure::Nothing => Ok(0),
-            };
+        let room = self.room.saturating_sub(self.text.len());
+        let count = self.piece.min(buf.len()).min(room);
+        if count == 0 && self.failure.is_error() {
+            return Err(io::Error::from(ErrorKind::Interrupted));
         }
-        let count = self.piece.min(buf.len());
         match self.text.try_extend_from_slice(&buf[..count]) {
             Ok(()) => Ok(count),
             Err(_) => Err(io::Error::from(ErrorKind::WriteZero)),
@@ -94,91 +93,6 @@ impl Write for Page {
 
     fn flush(&mut self) -> io::Result<()> {
         Ok(())
-    }
-}
-
-/// The words of one tenant, `t`.
-#[derive(Drop)]
-pub struct Store {
-    pub words: [u64; 4],
-    /// How many of the words the tenant has.
-    pub len: u16,
-}
-
-impl Store {
-    pub fn new(len: u16) -> Self {
-        Store { words: [0; 4], len }
-    }
-
-    fn word(&self, addr: u16) -> u64 {
-        self.words.get(usize::from(addr)).copied().unwrap_or(0)
-    }
-
-    fn first_miss(&self, entries: &Entries) -> Option<Entry> {
-        for entry in entries {
-            if self.word(entry.addr) != entry.expected {
-                return Some(*entry);
-            }
-        }
-        None
-    }
-
-    fn put(&mut self, entries: &Entries) {
-        for entry in entries {
-            if let Some(word) = self.words.get_mut(usize::from(entry.addr)) {
-                *word = entry.new;
-            }
-        }
-    }
-}
-
-impl Service for Store {
-    ghost use Rattle.std.specs.Prelude.{false};
-
-    ghost tells = { λ _. false };
-
-    ghost noted = { λ _. [] };
-
-    ghost found = { λ _ _. None };
-
-    ghost has_words = { λ _ _ _. Unit {0} };
-
-    fn find(&self, name: &Name) -> Option<(u8, u16)> {
-        if name.as_slice() == b"t".as_slice() {
-            Some((0, self.len))
-        } else {
-            None
-        }
-    }
-
-    fn ask(&mut self, _: u8, job: &Job) -> Reply {
-        match job {
-            Job::Get(addr) => Reply::Val(self.word(*addr)),
-            Job::Cas(entries) => match self.first_miss(entries) {
-                Some(entry) => Reply::No(entry.addr, self.word(entry.addr)),
-                None => {
-                    self.put(entries);
-                    Reply::Yes
-                }
-            },
-        }
-    }
-
-    #[tactic(auto, using(crate::proofs::Figured::one_within))]
-    fn figures(&mut self) -> Figures {
-        let tenant = TenantFigures {
-            name: Name::try_from(b"t".as_slice()).unwrap_or_default(),
-            words: 2,
-            quota: 1,
-            used: 0,
-            up: true,
-        };
-        let mut tenants = ArrayVec::new();
-        tenants.push(tenant);
-        Figures {
-            tenants,
-            pool_free: 256,
-        }
     }
 }
 
@@ -204,6 +118,13 @@ impl Notebook {
             notes: Vec::new(alloc),
             complete: true,
         }
+    }
+
+    /// Whether it was asked for the words at these addresses, in order, and for no more.
+    pub fn was_asked_for(&self, addresses: &[u16]) -> bool {
+        let as_many = self.complete && self.notes.len() == addresses.len();
+        let mut pairs = self.notes.iter().zip(addresses);
+        as_many && pairs.all(|(note, address)| note.job == Job::Get(*address))
     }
 }
 

@@ -1,200 +1,233 @@
-use crate::session_peers::{Failure, Notebook, Page, Sender, Store};
+use crate::session_peers::{Failure, Notebook, Page, Sender};
+use crate::test_shelf::Shelf;
 use arrayvec::ArrayVec;
-use mw_session::{Ended, Session};
-use mw_words::{Job, MAX_LINE};
-use std::alloc::Global;
+use mw_session::{Ended, Service, Session};
+use mw_words::MAX_LINE;
 use std::sync::Wait;
 
-/// A call that isn't reached.
-const NEVER: usize = usize::MAX;
+/// More bytes than are read or written.
+const ALL: usize = usize::MAX;
 
-/// More bytes than are read at a time.
-const ALL: usize = 1024;
-
-/// A session over this input, in pieces of this size, and what it wrote.
-fn session(
-    alloc: Global,
-    rt: &impl Wait,
-    store: &mut Store,
-    input: &[u8],
-    piece: usize,
-) -> (Ended, Page) {
-    let mut page = Page::new(ALL, NEVER, Failure::Error);
-    let mut sender = Sender::new(input, piece, NEVER);
-    let ended = Session::run(alloc, rt, &mut sender, &mut page, store);
-    (ended, page)
+/// Whether a session of this service with this peer tells it just that, and ends so.
+fn is_told<S: Service, R: Wait + AllocGlobal>(
+    rt: &R,
+    service: &mut S,
+    sender: Sender<'_>,
+    told: &[u8],
+    wanted: Ended,
+) -> bool {
+    let mut sender = sender;
+    let mut page = Page::new(ALL, ALL, Failure::Error);
+    let ended = Session::run(rt.alloc(), rt, &mut sender, &mut page, service);
+    ended == wanted && page.text.as_slice() == told
 }
 
-type Case = (u16, &'static [u8], &'static [u8], Ended);
+/// How a session ends that is told this, where its peer doesn't fail.
+fn end_of(told: &[u8]) -> Ended {
+    if told.ends_with(b"BYE\n") {
+        Ended::Quit
+    } else if told.ends_with(b"ERR 1\n") {
+        Ended::TooLong
+    } else {
+        Ended::PeerEnd
+    }
+}
 
-fn lines_of_all_kinds() -> [Case; 10] {
-    [
-        (2, b"", b"", Ended::PeerEnd),
-        (2, b"\n", b"ERR 2\n", Ended::PeerEnd),
-        (2, b"TENANT t", b"", Ended::PeerEnd),
-        (
-            2,
-            b"TENANT t\nCAS 0:0:281474976710655\nGET 0\nCAS 0:281474976710655:281474976710656\n",
-            b"OK 2\nYES\nVAL 281474976710655\nERR 9\n",
-            Ended::PeerEnd,
-        ),
-        (
-            4,
-            b"TENANT t\nCAS 3:0:1 3:1:2\nCAS 3:0:1 2:0:1\nCAS 0:9:1 1:9:1\n",
-            b"OK 4\nERR 7\nERR 7\nNO 0 0\n",
-            Ended::PeerEnd,
-        ),
-        (
-            2,
-            b"GET 0\nGET 5000\nTENANT x\nTENANT t\nTENANT x\nREPORT\nGET 2\nGET 01\nGET 0\r\nQUIT\nGET 0\n",
-            b"ERR 3\nERR 6\nERR 5\nOK 2\nERR 4\nERR 10\nERR 6\nERR 2\nERR 2\nBYE\n",
-            Ended::Quit,
-        ),
-        (
-            2,
-            b"TENANT t\nCAS\nCAS 0:0:1 \nCAS 0:0:1 0:0:1 0:0:1 0:0:1 0:0:1 0:0:1 0:0:1 0:0:1 0:0:1\n",
-            b"OK 2\nERR 2\nERR 2\nERR 8\n",
-            Ended::PeerEnd,
-        ),
-        (
-            2,
-            b"ADMIN\nGET 0\nREPORT\nADMIN\n",
-            b"OK ADMIN\nERR 10\nt                   2  1  0 up\nfree 256\nERR 4\n",
-            Ended::PeerEnd,
-        ),
-        (
-            2,
-            b"TENANT t\nCAS 0:0:1 1:0:2\nCAS 1:0:3 2:0:1\nGET 1\n",
-            b"OK 2\nYES\nERR 6\nVAL 2\n",
-            Ended::PeerEnd,
-        ),
-        (2, b"REPORT\nQUIT", b"ERR 3\n", Ended::PeerEnd),
-    ]
+/// Whether a peer who says this to a tenant of so many words, whole and a byte at a time, is told just
+/// that.
+fn is_told_however_cut(
+    rt: &(impl Wait + AllocGlobal),
+    words: u16,
+    says: &[u8],
+    told: &[u8],
+) -> bool {
+    [ALL, 1].into_iter().all(|piece| {
+        let sender = Sender::new(says, piece, Failure::Nothing);
+        is_told(rt, &mut Shelf::new(words), sender, told, end_of(told))
+    })
+}
+
+/// Sessions of a tenant of two words, one a line: what the peer says and, behind `|`, what it is told. A
+/// line of a session ends where `/` stands.
+const SESSIONS: &str = "\
+|
+/|ERR 2/
+TENANT t|
+TENANT t/CAS 0:0:281474976710655/GET 0/CAS 0:281474976710655:281474976710656/|OK 2/YES/VAL 281474976710655/ERR 9/
+GET 0/GET 5000/TENANT x/TENANT t/TENANT x/REPORT/GET 2/GET 01/GET 0\r/QUIT/GET 0/|\
+ERR 3/ERR 6/ERR 5/OK 2/ERR 4/ERR 10/ERR 6/ERR 2/ERR 2/BYE/
+TENANT t/CAS/CAS 0:0:1 /CAS 0:0:1 0:0:1 0:0:1 0:0:1 0:0:1 0:0:1 0:0:1 0:0:1 0:0:1/|OK 2/ERR 2/ERR 2/ERR 8/
+ADMIN/GET 0/REPORT/ADMIN/|OK ADMIN/ERR 10/t                   2  1  0 up/free 256/ERR 4/
+TENANT t/CAS 0:0:1 1:0:2/CAS 1:0:3 2:0:1/GET 1/|OK 2/YES/ERR 6/VAL 2/
+REPORT/QUIT|ERR 3/";
+
+/// A session of a tenant of four words.
+const SESSION_OF_FOUR: &str =
+    "TENANT t/CAS 3:0:1 3:1:2/CAS 3:0:1 2:0:1/CAS 0:9:1 1:9:1/|OK 4/ERR 7/ERR 7/NO 0 0/";
+
+/// A text whose lines end where `/` stands.
+fn with_line_ends(text: &str) -> ArrayVec<u8, 256> {
+    let mut bytes = ArrayVec::new();
+    for byte in text.as_bytes() {
+        // Where there is no room, the test sees that something is missing.
+        let _ = bytes.try_push(if *byte == b'/' { b'\n' } else { *byte });
+    }
+    bytes
+}
+
+/// Whether a session of a tenant of so many words goes as this line says.
+fn goes_so(rt: &(impl Wait + AllocGlobal), words: u16, line: &str) -> bool {
+    let Some((says, told)) = line.split_once('|') else {
+        return false;
+    };
+    is_told_however_cut(rt, words, &with_line_ends(says), &with_line_ends(told))
 }
 
 #[test]
 fn sessions_however_cut(rt: HostRuntime) {
-    for (words, input, output, wanted) in lines_of_all_kinds() {
-        for piece in [ALL, 1] {
-            let (ended, page) = session(rt.alloc(), &rt, &mut Store::new(words), input, piece);
-            assert!(rt; page.text.as_slice() == output, "{input:?}");
-            assert!(rt; ended == wanted, "{input:?}");
-        }
+    for line in SESSIONS.lines() {
+        assert!(rt; goes_so(&rt, 2, line), "{line}");
     }
+    assert!(rt; goes_so(&rt, 4, SESSION_OF_FOUR));
+}
+
+/// Whether a peer who says this to these words is told just that.
+fn asks(rt: &(impl Wait + AllocGlobal), shelf: &mut Shelf, says: &[u8], told: &[u8]) -> bool {
+    let sender = Sender::new(says, ALL, Failure::Nothing);
+    is_told(rt, shelf, sender, told, end_of(told))
 }
 
 #[test]
 fn two_sessions(rt: HostRuntime) {
-    let mut store = Store::new(2);
-    let (_, first) = session(
-        rt.alloc(),
-        &rt,
-        &mut store,
-        b"TENANT t\nCAS 0:0:1 1:0:2\n",
-        ALL,
+    let mut shelf = Shelf::new(2);
+    assert!(rt;
+        asks(
+            &rt,
+            &mut shelf,
+            b"TENANT t\nCAS 0:0:1 1:0:2\n",
+            b"OK 2\nYES\n"
+        )
     );
-    assert!(rt; first.text.as_slice() == b"OK 2\nYES\n".as_slice());
-    let (_, second) = session(rt.alloc(), &rt, &mut store, b"TENANT t\nGET 1\n", ALL);
-    assert!(rt; second.text.as_slice() == b"OK 2\nVAL 2\n".as_slice());
+    assert!(rt; asks(&rt, &mut shelf, b"TENANT t\nGET 1\n", b"OK 2\nVAL 2\n"));
 }
 
-/// These bytes in front, so many bytes `A`, and these bytes behind.
-fn with_long_line(front: &[u8], count: usize, behind: &[u8]) -> Option<ArrayVec<u8, 512>> {
-    let mut input = ArrayVec::new();
-    input.try_extend_from_slice(front).ok()?;
-    for _ in 0..count {
-        input.try_push(b'A').ok()?;
-    }
-    input.try_extend_from_slice(behind).ok()?;
-    Some(input)
+/// A line of so many bytes, with these before and behind it.
+fn with_long_line(front: &[u8], count: usize, behind: &[u8]) -> ArrayVec<u8, 512> {
+    let mut text = ArrayVec::new();
+    let line = [b'A'; 400];
+    // Where there is no room, the test sees that something is missing.
+    let _ = text.try_extend_from_slice(front);
+    let _ = text.try_extend_from_slice(line.get(..count).unwrap_or(b""));
+    let _ = text.try_extend_from_slice(behind);
+    text
+}
+
+/// Whether a peer who says such a line is told just that.
+fn long_line_is_told(
+    rt: &(impl Wait + AllocGlobal),
+    front: &[u8],
+    count: usize,
+    behind: &[u8],
+    told: &[u8],
+) -> bool {
+    is_told_however_cut(rt, 2, &with_long_line(front, count, behind), told)
 }
 
 #[test]
 fn long_lines(rt: HostRuntime) {
-    let bound = b"TENANT t\n".as_slice();
-    let cases: [(&[u8], usize, &[u8], &[u8], Ended); 4] = [
-        (b"", MAX_LINE, b"\nQUIT\n", b"ERR 2\nBYE\n", Ended::Quit),
-        (b"", MAX_LINE + 1, b"\n", b"ERR 1\n", Ended::TooLong),
-        (bound, 400, b"", b"OK 2\nERR 1\n", Ended::TooLong),
-        (bound, 400, b"\nGET 0\n", b"OK 2\nERR 1\n", Ended::TooLong),
-    ];
-    for (front, count, behind, output, wanted) in cases {
-        let input = with_long_line(front, count, behind).unwrap_or_default();
-        for piece in [ALL, 1] {
-            let (ended, page) = session(rt.alloc(), &rt, &mut Store::new(2), &input, piece);
-            assert!(rt; page.text.as_slice() == output);
-            assert!(rt; ended == wanted);
-        }
-    }
+    let bound = b"TENANT t\n";
+    assert!(rt; long_line_is_told(&rt, b"", MAX_LINE, b"\nQUIT\n", b"ERR 2\nBYE\n"));
+    assert!(rt; long_line_is_told(&rt, b"", MAX_LINE + 1, b"\n", b"ERR 1\n"));
+    assert!(rt; long_line_is_told(&rt, bound, 400, b"", b"OK 2\nERR 1\n"));
+    assert!(rt; long_line_is_told(&rt, bound, 400, b"\nGET 0\n", b"OK 2\nERR 1\n"));
 }
 
-/// What the sweeps read, and what a session writes to it.
+/// What the peers of the sweeps say, and what they are told.
 const INPUT: &[u8] = b"TENANT t\nCAS 0:0:1\nQUIT\n";
 
 const OUTPUT: &[u8] = b"OK 2\nYES\nBYE\n";
 
+/// Whether a session whose peer takes so many bytes, one at a time, and then fails, tells it no more, asks
+/// it no more and ends by that.
+fn breaks_off(
+    rt: &(impl Wait + AllocGlobal),
+    shelf: &mut Shelf,
+    taken: u8,
+    failure: Failure,
+) -> bool {
+    let mut sender = Sender::new(INPUT, ALL, Failure::Nothing);
+    let mut page = Page::new(1, usize::from(taken), failure);
+    let ended = Session::run(rt.alloc(), rt, &mut sender, &mut page, shelf);
+    ended == Ended::WriteFault(u64::from(taken))
+        && Some(page.text.as_slice()) == OUTPUT.get(..usize::from(taken))
+        && page.calls == usize::from(taken) + 1
+}
+
+/// Whether it breaks off, and the change is made as soon as the reply before it was taken.
+fn is_swept(rt: &(impl Wait + AllocGlobal), taken: u8, failure: Failure) -> bool {
+    let mut shelf = Shelf::new(2);
+    breaks_off(rt, &mut shelf, taken, failure) && shelf.word(0) == u64::from(taken >= 5)
+}
+
 #[test]
 fn writer_sweep(rt: HostRuntime) {
-    for call in 1..=OUTPUT.len() {
-        for failure in [Failure::Error, Failure::Nothing] {
-            let mut store = Store::new(2);
-            let mut page = Page::new(1, call, failure);
-            let mut sender = Sender::new(INPUT, ALL, NEVER);
-            let ended = Session::run(rt.alloc(), &rt, &mut sender, &mut page, &mut store);
-            assert!(rt; ended == Ended::WriteFault(call as u64 - 1));
-            assert!(rt; page.text.as_slice() == &OUTPUT[..call - 1]);
-            assert_eq!(rt; page.calls, call);
-            assert_eq!(rt; store.words[0], u64::from(call > 5));
-        }
+    for taken in 0..13 {
+        let swept = is_swept(&rt, taken, Failure::Error) && is_swept(&rt, taken, Failure::Nothing);
+        assert!(rt; swept, "{taken} bytes taken");
+    }
+}
+
+/// Whether a peer who says so many bytes of the whole, one at a time, and then does this is told the
+/// replies to the lines among them.
+fn part_is_told(rt: &(impl Wait + AllocGlobal), count: usize, failure: Failure) -> bool {
+    let (says, told) = (INPUT.get(..count), OUTPUT.get(..replied(count)));
+    let (Some(says), Some(told)) = (says, told) else {
+        return false;
+    };
+    let wanted = match failure {
+        Failure::Error => Ended::ReadFault,
+        Failure::Nothing => Ended::PeerEnd,
+    };
+    is_told(
+        rt,
+        &mut Shelf::new(2),
+        Sender::new(says, 1, failure),
+        told,
+        wanted,
+    )
+}
+
+/// How many bytes the replies to the lines in so many bytes have.
+fn replied(count: usize) -> usize {
+    match count {
+        ..=8 => 0,
+        ..=18 => 5,
+        _ => 9,
     }
 }
 
 #[test]
 fn reader_sweep(rt: HostRuntime) {
-    for call in 1..=INPUT.len() {
-        let replied = match call {
-            ..=9 => 0,
-            ..=19 => 5,
-            _ => 9,
-        };
-        let mut page = Page::new(ALL, NEVER, Failure::Error);
-        let mut sender = Sender::new(INPUT, 1, call);
-        let mut store = Store::new(2);
-        let ended = Session::run(rt.alloc(), &rt, &mut sender, &mut page, &mut store);
-        assert!(rt; ended == Ended::ReadFault);
-        assert!(rt; page.text.as_slice() == &OUTPUT[..replied]);
-        let (ended, page) = session(rt.alloc(), &rt, &mut Store::new(2), &INPUT[..call - 1], 1);
-        assert!(rt; ended == Ended::PeerEnd);
-        assert!(rt; page.text.as_slice() == &OUTPUT[..replied]);
+    for count in 0..24 {
+        let told = part_is_told(&rt, count, Failure::Error)
+            && part_is_told(&rt, count, Failure::Nothing);
+        assert!(rt; told, "{count} bytes said");
     }
 }
 
 #[test]
 fn failing_writer(rt: HostRuntime) {
-    let mut store = Store::new(2);
-    let mut page = Page::new(1, 6, Failure::Error);
-    let mut sender = Sender::new(b"TENANT t\nCAS 0:0:1\n", ALL, NEVER);
-    let ended = Session::run(rt.alloc(), &rt, &mut sender, &mut page, &mut store);
-    assert!(rt; ended == Ended::WriteFault(5));
-    let (_, page) = session(rt.alloc(), &rt, &mut store, b"TENANT t\nGET 0\n", ALL);
-    assert!(rt; page.text.as_slice() == b"OK 2\nVAL 1\n".as_slice());
+    let mut shelf = Shelf::new(2);
+    assert!(rt; breaks_off(&rt, &mut shelf, 5, Failure::Error));
+    assert!(rt; asks(&rt, &mut shelf, b"TENANT t\nGET 0\n", b"OK 2\nVAL 1\n"));
 }
 
 #[test]
 fn jobs_that_are_asked_for(rt: HostRuntime) {
     let mut notebook = Notebook::new(rt.alloc());
-    let mut page = Page::new(ALL, NEVER, Failure::Error);
-    let mut sender = Sender::new(
-        b"GET 0\nTENANT t\nGET 1\nGET 2\nGET 0\nQUIT\nGET 0\n",
-        ALL,
-        NEVER,
-    );
-    let ended = Session::run(rt.alloc(), &rt, &mut sender, &mut page, &mut notebook);
-    assert!(rt; ended == Ended::Quit);
-    assert!(rt; page.text.as_slice() == b"ERR 3\nOK 2\nBUSY\nERR 6\nBUSY\nBYE\n".as_slice());
-    assert!(rt; notebook.complete);
-    assert_eq!(rt; notebook.notes.len(), 2);
-    for (note, addr) in notebook.notes.iter().zip([1, 0]) {
-        assert!(rt; note.job == Job::Get(addr));
-    }
+    let says = b"GET 0\nTENANT t\nGET 1\nGET 2\nGET 0\nQUIT\nGET 0\n";
+    let told = b"ERR 3\nOK 2\nBUSY\nERR 6\nBUSY\nBYE\n";
+    let sender = Sender::new(says, ALL, Failure::Nothing);
+    assert!(rt; is_told(&rt, &mut notebook, sender, told, Ended::Quit));
+    assert!(rt; notebook.was_asked_for(&[1, 0]));
 }

@@ -1,19 +1,17 @@
 //! Clients who are silent or slow to leave, and a system without room for connections.
 ghost use Rattle.std.specs.Prelude.{None};
 
-use crate::test_clients::{Caller, come_and_go};
-use crate::test_shelf::{Clerk, Shelf};
+use crate::test_clients::Caller;
+use crate::test_serving::{Shop, serves_right};
 use arrayvec::ArrayVec;
 use mw_session::{Ended, Service, Session};
-use mw_workers::{
-    Connection, Listener, Patient, RoomWatch, ServeEnd, listen_at, port_of, serve_all,
-};
-use std::alloc::{AllocError, Global};
+use mw_workers::{Connection, Listener, Patient, RoomWatch};
+use std::alloc::Global;
 use std::cell::RefCell;
 use std::io::ErrorKind;
 use std::net::{Net, TcpListener, TcpStream};
+use std::sync::Wait;
 use std::sync::atomic::{AtomicBool, Ordering};
-use std::sync::{Mutex, Wait};
 use std::test::Fail;
 use std::thread::Threads;
 use std::time::{Clock, Duration};
@@ -105,42 +103,34 @@ impl RoomWatch for Told {
     }
 }
 
-#[test]
-fn a_listener_waits_longer_each_time(rt: HostRuntime) {
-    let cases: [(&[u8], &[u128]); 5] = [
-        (b"cc", &[]),
-        (b"r", &[0, 1]),
-        (
-            b"rrrrrrrrrrrr",
-            &[0, 1, 2, 4, 8, 16, 32, 64, 128, 256, 512, 1000, 1000],
-        ),
-        (b"rrcrr", &[0, 1, 2, 0, 1, 2]),
-        (b"aarar", &[0, 1, 2]),
-    ];
-    for (answers, wanted) in cases {
-        let told = Told {
-            all: RefCell::new(ArrayVec::new()),
-        };
-        let mut listener = Patient::new(Door { answers }, &told, &told);
-        for _ in answers {
-            let _ = listener.accept();
-        }
-        assert!(rt; told.is(wanted), "{answers:?}");
+/// Whether a listener that answers so waits, and tells of want of room, as these numbers say.
+fn waits_so(answers: &[u8], wanted: &[u128]) -> bool {
+    let told = Told {
+        all: RefCell::new(ArrayVec::new()),
+    };
+    let mut listener = Patient::new(Door { answers }, &told, &told);
+    for _ in answers {
+        let _ = listener.accept();
     }
+    told.is(wanted)
 }
 
-/// Serves so many connections over TCP by one worker.
-pub fn serve_one_by_one<L: Listener + Drop, R: Threads + Wait + Sync>(
-    rt: &R,
-    alloc: Global,
-    listener: L,
-    connections: u32,
-) -> Result<ServeEnd, AllocError> {
-    let shelf = Mutex::new(Shelf::new(2));
-    let mut services = Vec::new(alloc);
-    services.push(Clerk { rt, shelf: &shelf })?;
-    Ok(serve_all(rt, alloc, listener, services, Some(connections)).0)
+#[test]
+fn a_listener_waits_longer_each_time(rt: HostRuntime) {
+    let longest = [0, 1, 2, 4, 8, 16, 32, 64, 128, 256, 512, 1000, 1000];
+    assert!(rt; waits_so(b"cc", &[]));
+    assert!(rt; waits_so(b"r", &[0, 1]));
+    assert!(rt; waits_so(b"rrrrrrrrrrrr", &longest));
+    assert!(rt; waits_so(b"rrcrr", &[0, 1, 2, 0, 1, 2]));
+    assert!(rt; waits_so(b"aarar", &[0, 1, 2]));
 }
+
+/// Two connections, of which one is served after the other.
+const SHOP: Shop = Shop {
+    words: 2,
+    workers: 1,
+    connections: 2,
+};
 
 /// A client who says nothing more is sent away, and the next one is served.
 fn come_silent<R: Net<Listener = TcpListener, Stream = TcpStream>>(
@@ -148,30 +138,17 @@ fn come_silent<R: Net<Listener = TcpListener, Stream = TcpStream>>(
     port: u16,
 ) -> io::Result<bool> {
     let mut silent = Caller::new(rt, port)?;
-    if !silent.asks(b"TENANT t\n", b"OK 2\n") || !silent.hears_the_end() {
+    if !silent.asks_at_last(b"TENANT t\n", b"OK 2\n") {
         return Ok(false);
     }
     let mut second = Caller::new(rt, port)?;
-    let answered = second.asks(b"TENANT t\nGET 0\nQUIT\n", b"OK 2\nVAL 0\nBYE\n");
-    Ok(answered && second.hears_the_end())
+    Ok(second.asks_at_last(b"TENANT t\nGET 0\nQUIT\n", b"OK 2\nVAL 0\nBYE\n"))
 }
 
 #[test]
 fn silent_clients_are_sent_away(rt: HostRuntime) -> Result<(), Fail> {
-    let listener = listen_at(&rt, "127.0.0.1:0", 0, Some(1))?;
-    let port = port_of(&listener)?.unwrap_or(0);
-    let (heard, end) = thread::join(
-        &rt,
-        || {
-            let heard = come_silent(&rt, port);
-            come_and_go(&rt, port, 2);
-            heard
-        },
-        || serve_one_by_one(&rt, rt.alloc(), listener, 2),
-    );
-    assert!(rt; heard?, "a client heard something else");
-    let end = end?;
-    assert!(rt; end == ServeEnd::Served, "{end:?}");
+    let right = serves_right(&rt, SHOP, Some(1), |port| come_silent(&rt, port))?;
+    assert!(rt; right);
     Ok(())
 }
 
@@ -211,19 +188,7 @@ fn come_dripping<R: Net<Listener = TcpListener, Stream = TcpStream> + Threads + 
 
 #[test]
 fn who_sends_on_is_left(rt: HostRuntime) -> Result<(), Fail> {
-    let listener = listen_at(&rt, "127.0.0.1:0", 0, None)?;
-    let port = port_of(&listener)?.unwrap_or(0);
-    let (heard, end) = thread::join(
-        &rt,
-        || {
-            let heard = come_dripping(&rt, port);
-            come_and_go(&rt, port, 2);
-            heard
-        },
-        || serve_one_by_one(&rt, rt.alloc(), listener, 2),
-    );
-    assert!(rt; heard?, "a client heard something else");
-    let end = end?;
-    assert!(rt; end == ServeEnd::Served, "{end:?}");
+    let right = serves_right(&rt, SHOP, None, |port| come_dripping(&rt, port))?;
+    assert!(rt; right);
     Ok(())
 }

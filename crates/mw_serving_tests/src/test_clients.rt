@@ -1,7 +1,9 @@
-//! Clients over loopback for the tests. What they wait for comes within a limit.
+//! Clients by sockets for the tests. What they wait for comes within a limit.
 use std::io;
 use std::io::{Read, Write};
 use std::net::{Net, TcpListener, TcpStream};
+use std::os::fd::OwnedFd;
+use std::os::unix::net::UnixStream;
 use std::time::Duration;
 
 /// How long a client waits for an answer, in seconds.
@@ -19,7 +21,16 @@ impl Caller {
         rt: &R,
         port: u16,
     ) -> io::Result<Self> {
-        let stream = TcpStream::connect(rt, ("127.0.0.1", port))?;
+        Caller::begin(TcpStream::connect(rt, ("127.0.0.1", port))?)
+    }
+
+    /// A client of the server at the local socket with this path.
+    pub fn local<R: Net>(rt: &R, path: &str) -> io::Result<Self> {
+        let socket = UnixStream::connect(rt, path)?;
+        Caller::begin(TcpStream::from(OwnedFd::from(socket)))
+    }
+
+    fn begin(stream: TcpStream) -> io::Result<Self> {
         stream.set_read_timeout(Some(Duration::from_secs(PATIENCE)))?;
         stream.set_write_timeout(Some(Duration::from_millis(100)))?;
         Ok(Caller { stream })
@@ -60,13 +71,18 @@ impl Caller {
     pub fn asks(&mut self, text: &[u8], answer: &[u8]) -> bool {
         self.says(text) && self.hears(answer)
     }
+
+    /// Says this and hears just that to the end.
+    pub fn asks_at_last(&mut self, text: &[u8], answer: &[u8]) -> bool {
+        self.asks(text, answer) && self.hears_the_end()
+    }
 }
 
 /// Comes and goes so many times, so that a server that still waits for clients has them.
 pub fn come_and_go<R: Net<Listener = TcpListener, Stream = TcpStream>>(
     rt: &R,
     port: u16,
-    times: usize,
+    times: u32,
 ) {
     for _ in 0..times {
         // Nobody listens any more where the server has ended.

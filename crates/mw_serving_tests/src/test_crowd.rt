@@ -1,12 +1,13 @@
 //! Clients in memory for the tests.
 ghost use Rattle.std.specs.Prelude.{None, Some};
 
+use crate::session_peers::{Failure, Page};
 use arrayvec::ArrayVec;
 use mw_session::{Ended, Service, Session};
 use mw_workers::{Connection, Listener};
 use std::alloc::Global;
 use std::io;
-use std::io::{ErrorKind, Write};
+use std::io::ErrorKind;
 use std::sync::{Mutex, Wait};
 
 /// What a client says, and what it is told.
@@ -52,27 +53,6 @@ impl Heard {
     }
 }
 
-/// A client's page, which takes so many bytes and then fails.
-#[derive(Drop)]
-struct Page {
-    text: ArrayVec<u8, 256>,
-    room: usize,
-}
-
-impl Write for Page {
-    fn write(&mut self, buf: &[u8]) -> io::Result<usize> {
-        let count = buf.len().min(self.room.saturating_sub(self.text.len()));
-        match self.text.try_extend_from_slice(&buf[..count]) {
-            Ok(()) if count > 0 => Ok(count),
-            _ => Err(io::Error::from(ErrorKind::BrokenPipe)),
-        }
-    }
-
-    fn flush(&mut self) -> io::Result<()> {
-        Ok(())
-    }
-}
-
 /// One client.
 #[derive(Drop)]
 pub struct Client<'a> {
@@ -87,10 +67,7 @@ impl<'a> Connection for Client<'a> {
     ghost sent = { λ _. None };
 
     fn serve<S: Service, R: Wait>(self, rt: &R, alloc: Global, service: &mut S) -> Ended {
-        let mut page = Page {
-            text: ArrayVec::new(),
-            room: self.takes,
-        };
+        let mut page = Page::new(usize::MAX, self.takes, Failure::Error);
         let mut says = self.says;
         let ended = Session::run(alloc, rt, &mut says, &mut page, service);
         self.heard.lock(rt).note(&page.text, ended);

@@ -1,8 +1,9 @@
-//! A service in memory for the tests: one tenant, `t`, whose words lie under a lock.
+//! A service in memory for the tests: one tenant, `t`, and its words. Many may ask for them where they lie
+//! under a lock.
 ghost use Rattle.std.specs.Prelude.{None, []};
 
 use arrayvec::ArrayVec;
-use mw_report::Figures;
+use mw_report::{Figures, TenantFigures};
 use mw_session::Service;
 use mw_words::{Entries, Entry, Job, Name, Reply};
 use std::sync::{Mutex, Wait};
@@ -23,7 +24,7 @@ impl Shelf {
         }
     }
 
-    fn word(&self, addr: u16) -> u64 {
+    pub fn word(&self, addr: u16) -> u64 {
         self.words.get(usize::from(addr)).copied().unwrap_or(0)
     }
 
@@ -44,16 +45,57 @@ impl Shelf {
         }
     }
 
-    fn answer(&mut self, job: &Job) -> Reply {
+    fn change(&mut self, entries: &Entries) -> Reply {
+        match self.first_miss(entries) {
+            Some(entry) => Reply::No(entry.addr, self.word(entry.addr)),
+            None => {
+                self.put(entries);
+                Reply::Yes
+            }
+        }
+    }
+}
+
+impl Service for Shelf {
+    ghost use Rattle.std.specs.Prelude.{false};
+
+    ghost tells = { λ _. false };
+
+    ghost noted = { λ _. [] };
+
+    ghost found = { λ _ _. None };
+
+    ghost has_words = { λ _ _ _. Unit {0} };
+
+    fn find(&self, name: &Name) -> Option<(u8, u16)> {
+        if name.as_slice() == b"t".as_slice() {
+            Some((0, self.len))
+        } else {
+            None
+        }
+    }
+
+    fn ask(&mut self, _: u8, job: &Job) -> Reply {
         match job {
             Job::Get(addr) => Reply::Val(self.word(*addr)),
-            Job::Cas(entries) => match self.first_miss(entries) {
-                Some(entry) => Reply::No(entry.addr, self.word(entry.addr)),
-                None => {
-                    self.put(entries);
-                    Reply::Yes
-                }
-            },
+            Job::Cas(entries) => self.change(entries),
+        }
+    }
+
+    #[tactic(auto, using(crate::proofs::Figured::one_within))]
+    fn figures(&mut self) -> Figures {
+        let tenant = TenantFigures {
+            name: Name::try_from(b"t".as_slice()).unwrap_or_default(),
+            words: 2,
+            quota: 1,
+            used: 0,
+            up: true,
+        };
+        let mut tenants = ArrayVec::new();
+        tenants.push(tenant);
+        Figures {
+            tenants,
+            pool_free: 256,
         }
     }
 }
@@ -77,15 +119,11 @@ impl<'a, R: Wait> Service for Clerk<'a, R> {
     ghost has_words = { λ _ _ _. Unit {0} };
 
     fn find(&self, name: &Name) -> Option<(u8, u16)> {
-        if name.as_slice() == b"t".as_slice() {
-            Some((0, self.shelf.lock(self.rt).len))
-        } else {
-            None
-        }
+        self.shelf.lock(self.rt).find(name)
     }
 
-    fn ask(&mut self, _: u8, job: &Job) -> Reply {
-        self.shelf.lock(self.rt).answer(job)
+    fn ask(&mut self, tenant: u8, job: &Job) -> Reply {
+        self.shelf.lock(self.rt).ask(tenant, job)
     }
 
     #[tactic(auto, using(crate::proofs::Figured::none_within))]

@@ -1,34 +1,17 @@
 ghost use Rattle.std.specs.Prelude.{◌<◌};
 
-use crate::test_clients::{Caller, come_and_go};
+use crate::test_clients::Caller;
 use crate::test_crowd::{Crowd, Heard, Script};
-use crate::test_shelf::{Clerk, Shelf};
+use crate::test_serving::{Shop, serve, serves_right};
 use mw_session::Ended;
-use mw_workers::{Listener, ServeEnd, listen_at, port_of, serve_all};
+use mw_workers::ServeEnd;
 use std::alloc::{AllocError, Global};
 use std::net::{Net, TcpListener, TcpStream};
 use std::sync::{Mutex, Wait};
+use std::test::Fail;
 use std::thread::Threads;
 use std::time::{Clock, Duration};
 use std::{io, thread};
-
-/// Serves so many connections by so many workers over these words.
-fn serve<L: Listener + Drop, R: Threads + Wait + Sync>(
-    rt: &R,
-    alloc: Global,
-    listener: L,
-    shelf: &Mutex<Shelf>,
-    workers: u8,
-    connections: u32,
-) -> Result<(ServeEnd, L), AllocError>
-    requires { 0 < workers }
-{
-    let mut services = Vec::new(alloc);
-    for _ in 0..workers {
-        services.push(Clerk { rt, shelf })?;
-    }
-    Ok(serve_all(rt, alloc, listener, services, Some(connections)))
-}
 
 /// A client who takes all that it is told.
 fn hears_all(says: &'static [u8], told: &'static [u8], ended: Ended) -> Script {
@@ -89,38 +72,42 @@ fn scripts() -> [Script; 9] {
 }
 
 /// Serves all scripts by so many workers, and looks at what each client was told.
-fn served_right<R: Threads + Wait + Sync>(
+fn serves_all<R: Threads + Wait + AllocGlobal + Sync>(
     rt: &R,
-    alloc: Global,
     workers: u8,
 ) -> Result<bool, AllocError>
     requires { 0 < workers }
 {
     let scripts = scripts();
     let heard = [(); 9].map(|_| Mutex::new(Heard::new()));
-    let shelf = Mutex::new(Shelf::new(32));
     let crowd = Crowd {
         scripts: &scripts,
         heard: &heard,
         asked: 0,
     };
-    let (end, crowd) = serve(rt, alloc, crowd, &shelf, workers, 9)?;
+    let shop = Shop {
+        words: 32,
+        workers,
+        connections: 9,
+    };
+    let (end, crowd) = serve(rt, rt.alloc(), crowd, shop)?;
     if end == ServeEnd::Memory && crowd.asked == 0 {
         return Err(AllocError);
     }
     let all = end == ServeEnd::Served && crowd.asked == 9;
-    for (script, heard) in scripts.iter().zip(&heard) {
-        if !heard.lock(rt).suits(script) {
-            return Ok(false);
-        }
-    }
-    Ok(all)
+    Ok(all && all_suit(rt, &scripts, &heard))
+}
+
+/// Whether each client was told what its script says.
+fn all_suit<R: Wait>(rt: &R, scripts: &[Script], heard: &[Mutex<Heard>]) -> bool {
+    let mut pairs = scripts.iter().zip(heard);
+    pairs.all(|(script, heard)| heard.lock(rt).suits(script))
 }
 
 #[test]
 fn each_client_is_served_once(rt: HostRuntime) -> Result<(), AllocError> {
     for workers in [1, 3, 12] {
-        let right = served_right(&rt, rt.alloc(), workers)?;
+        let right = serves_all(&rt, workers)?;
         assert!(rt; right, "{workers} workers");
     }
     Ok(())
@@ -133,34 +120,23 @@ fn two_clients<R: Net<Listener = TcpListener, Stream = TcpStream>>(
     port: u16,
 ) -> io::Result<bool> {
     let mut first = Caller::new(rt, port)?;
-    if !first.asks(b"TENANT t\n", b"OK 2\n") {
-        return Ok(false);
-    }
-    if !first.asks(b"CAS 0:0:1\nQUIT\n", b"YES\nBYE\n") || !first.hears_the_end() {
+    let bound = first.asks(b"TENANT t\n", b"OK 2\n");
+    if !bound || !first.asks_at_last(b"CAS 0:0:1\nQUIT\n", b"YES\nBYE\n") {
         return Ok(false);
     }
     let mut second = Caller::new(rt, port)?;
-    let answered = second.asks(b"TENANT t\nGET 0\nQUIT\n", b"OK 2\nVAL 1\nBYE\n");
-    Ok(answered && second.hears_the_end())
+    Ok(second.asks_at_last(b"TENANT t\nGET 0\nQUIT\n", b"OK 2\nVAL 1\nBYE\n"))
 }
 
 #[test]
-fn one_client_after_the_other(rt: HostRuntime) -> io::Result<()> {
-    let listener = listen_at(&rt, "127.0.0.1:0", 0, None)?;
-    let port = port_of(&listener)?.unwrap_or(0);
-    let shelf = Mutex::new(Shelf::new(2));
-    let (heard, end) = thread::join(
-        &rt,
-        || {
-            let heard = two_clients(&rt, port);
-            come_and_go(&rt, port, 2);
-            heard
-        },
-        || serve(&rt, rt.alloc(), listener, &shelf, 1, 2),
-    );
-    assert!(rt; heard?, "a client heard something else");
-    let (end, _) = end?;
-    assert!(rt; end == ServeEnd::Served, "{end:?}");
+fn one_client_after_the_other(rt: HostRuntime) -> Result<(), Fail> {
+    let shop = Shop {
+        words: 2,
+        workers: 1,
+        connections: 2,
+    };
+    let right = serves_right(&rt, shop, None, |port| two_clients(&rt, port))?;
+    assert!(rt; right);
     Ok(())
 }
 
@@ -172,19 +148,26 @@ fn has_its_word<R: Net<Listener = TcpListener, Stream = TcpStream>>(
     word: usize,
 ) -> io::Result<bool> {
     let mut client = Caller::new(rt, port)?;
-    if !client.asks(b"TENANT t\n", b"OK 32\n") {
-        return Ok(false);
+    let mut right = client.asks(b"TENANT t\n", b"OK 32\n");
+    for value in 0..20u8 {
+        right = right && changes(&mut client, alloc, word, value)?;
     }
-    for turn in 0..20usize {
-        let change = format!(in alloc; "CAS {word}:{turn}:{}\n", turn + 1)?;
-        let look = format!(in alloc; "GET {word}\n")?;
-        let seen = format!(in alloc; "VAL {}\n", turn + 1)?;
-        let changed = client.asks(change.as_bytes(), b"YES\n");
-        if !changed || !client.asks(look.as_bytes(), seen.as_bytes()) {
-            return Ok(false);
-        }
-    }
-    Ok(client.asks(b"QUIT\n", b"BYE\n") && client.hears_the_end())
+    Ok(right && client.asks_at_last(b"QUIT\n", b"BYE\n"))
+}
+
+/// Whether a client changes its word from this value to the next, and then reads that.
+fn changes(client: &mut Caller, alloc: Global, word: usize, value: u8) -> io::Result<bool> {
+    let next = value.saturating_add(1);
+    let change = format!(in alloc; "CAS {word}:{value}:{next}\n")?;
+    let changed = client.asks(change.as_bytes(), b"YES\n");
+    Ok(changed && reads(client, alloc, word, next)?)
+}
+
+/// Whether a client reads this value of a word.
+fn reads(client: &mut Caller, alloc: Global, word: usize, value: u8) -> io::Result<bool> {
+    let look = format!(in alloc; "GET {word}\n")?;
+    let seen = format!(in alloc; "VAL {value}\n")?;
+    Ok(client.asks(look.as_bytes(), seen.as_bytes()))
 }
 
 /// How many bytes a hasty client says behind the end of its session.
@@ -199,13 +182,42 @@ fn hears_in_the_end<R: Net<Listener = TcpListener, Stream = TcpStream> + Clock>(
     says: &str,
     told: &str,
 ) -> io::Result<bool> {
-    let mut client = Caller::new(rt, port)?;
     let more = "x".repeat(alloc, TOO_MUCH)?;
     let all = format!(in alloc; "{says}{more}")?;
+    let mut client = Caller::new(rt, port)?;
     let said = client.says(all.as_bytes());
     thread::sleep(rt, Duration::from_millis(200));
     Ok(said && client.hears(told.as_bytes()) && client.hears_the_end())
 }
+
+/// What a client says who changes a word over and over and quits, and what it is told.
+const CHANGES: &str = "\
+TENANT t
+CAS 29:0:1
+CAS 29:1:0
+CAS 29:0:1
+CAS 29:1:0
+CAS 29:0:1
+CAS 29:1:0
+CAS 29:0:1
+CAS 29:1:0
+CAS 29:0:1
+CAS 29:1:0
+CAS 29:0:1
+CAS 29:1:0
+CAS 29:0:1
+CAS 29:1:0
+CAS 29:0:1
+CAS 29:1:0
+CAS 29:0:1
+CAS 29:1:0
+CAS 29:0:1
+CAS 29:1:0
+QUIT
+";
+
+const REPLIES: &str =
+    "OK 32\nYES\nYES\nYES\nYES\nYES\nYES\nYES\nYES\nYES\nYES\nYES\nYES\nYES\nYES\nYES\nYES\nYES\nYES\nYES\nYES\nBYE\n";
 
 /// Clients who say more than their session looks at, behind `QUIT` and without a line feed, and yet
 /// hear every reply.
@@ -214,21 +226,14 @@ fn hasty_ones<R: Net<Listener = TcpListener, Stream = TcpStream> + Clock>(
     alloc: Global,
     port: u16,
 ) -> io::Result<bool> {
-    let changes = "CAS 29:0:1\nCAS 29:1:0\n".repeat(alloc, 10)?;
-    let replies = "YES\n".repeat(alloc, 20)?;
-    let says = format!(in alloc; "TENANT t\n{changes}QUIT\n")?;
-    let told = format!(in alloc; "OK 32\n{replies}BYE\n")?;
-    let quit = hears_in_the_end(rt, alloc, port, says.as_str(), told.as_str())?;
-    let endless = "x".repeat(alloc, 400)?;
-    let too_long = hears_in_the_end(rt, alloc, port, endless.as_str(), "ERR 1\n")?;
-    Ok(quit && too_long)
+    let quit = hears_in_the_end(rt, alloc, port, CHANGES, REPLIES)?;
+    Ok(quit && hears_in_the_end(rt, alloc, port, "", "ERR 1\n")?)
 }
 
 /// How many clients with a word of their own there are.
 const MANY: usize = 16;
 
-/// Clients who say nothing, cut a line, don't end it, never listen and say too much, and beside them
-/// one who is served on and many with a word of their own.
+/// A client who is served on, beside one who says nothing and all others.
 fn all_kinds<R: Net<Listener = TcpListener, Stream = TcpStream> + Threads + Clock + Sync>(
     rt: &R,
     alloc: Global,
@@ -236,15 +241,32 @@ fn all_kinds<R: Net<Listener = TcpListener, Stream = TcpStream> + Threads + Cloc
 ) -> io::Result<bool> {
     let mut steady = Caller::new(rt, port)?;
     let _silent = Caller::new(rt, port)?;
-    let mut cut = Caller::new(rt, port)?;
-    let mut endless = Caller::new(rt, port)?;
-    let mut deaf = Caller::new(rt, port)?;
     let bound = steady.asks(b"TENANT t\nCAS 31:0:1\n", b"OK 32\nYES\n");
+    Ok(bound && others_are_served(rt, alloc, port)? && is_served_on(&mut steady))
+}
+
+/// Clients who cut a line and never listen, beside those who say too much and many with a word of their
+/// own.
+fn others_are_served<R: Net<Listener = TcpListener, Stream = TcpStream> + Threads + Clock + Sync>(
+    rt: &R,
+    alloc: Global,
+    port: u16,
+) -> io::Result<bool> {
+    let mut cut = Caller::new(rt, port)?;
+    let mut deaf = Caller::new(rt, port)?;
     let cuts = cut.says(b"TENANT t\nCAS 30:0:1");
-    let too_long = endless.asks(&[b'x'; 400], b"ERR 1\n") && endless.hears_the_end();
     let held = deaf.insists(b"TENANT t\nGET 0\nGET 0\nGET 0\n", 4_000_000);
-    let all = bound && cuts && too_long && held && hasty_ones(rt, alloc, port)?;
-    Ok(all && many_have_their_words(rt, alloc, port)? && is_served_on(&mut steady))
+    let all = cuts && held && is_endless(rt, port)? && hasty_ones(rt, alloc, port)?;
+    Ok(all && many_have_their_words(rt, alloc, port)?)
+}
+
+/// A client who doesn't end its line.
+fn is_endless<R: Net<Listener = TcpListener, Stream = TcpStream>>(
+    rt: &R,
+    port: u16,
+) -> io::Result<bool> {
+    let mut endless = Caller::new(rt, port)?;
+    Ok(endless.asks_at_last(&[b'x'; 400], b"ERR 1\n"))
 }
 
 /// Many clients with a word of their own, at once.
@@ -269,21 +291,13 @@ fn is_served_on(steady: &mut Caller) -> bool {
 }
 
 #[test]
-fn clients_of_all_kinds_at_once(rt: HostRuntime) -> io::Result<()> {
-    let listener = listen_at(&rt, "127.0.0.1:0", 0, None)?;
-    let port = port_of(&listener)?.unwrap_or(0);
-    let shelf = Mutex::new(Shelf::new(32));
-    let (heard, end) = thread::join(
-        &rt,
-        || {
-            let heard = all_kinds(&rt, rt.alloc(), port);
-            come_and_go(&rt, port, 23);
-            heard
-        },
-        || serve(&rt, rt.alloc(), listener, &shelf, 24, 23),
-    );
-    assert!(rt; heard?, "a client heard something else");
-    let (end, _) = end?;
-    assert!(rt; end == ServeEnd::Served, "{end:?}");
+fn clients_of_all_kinds_at_once(rt: HostRuntime) -> Result<(), Fail> {
+    let shop = Shop {
+        words: 32,
+        workers: 24,
+        connections: 23,
+    };
+    let right = serves_right(&rt, shop, None, |port| all_kinds(&rt, rt.alloc(), port))?;
+    assert!(rt; right);
     Ok(())
 }

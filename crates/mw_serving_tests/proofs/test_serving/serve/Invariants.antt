@@ -1,5 +1,5 @@
 use Rattle.std.proofs.Common.{◌≡◌, vec_len}
-use Rattle.mw_serving_tests.proofs.workers_tests.serve.Given as goal
+use Rattle.mw_serving_tests.proofs.test_serving.serve.Given as goal
 
 -- a service a round
 abbrev pub invariant-loop : goal.invariant-loop
