@@ -14,8 +14,6 @@ mod meanings;
 mod pauses;
 mod replies;
 mod requests;
-#[cfg(test)]
-mod tests;
 mod wire;
 
 pub use client::Client;

@@ -1,7 +1,9 @@
-//! Tests of sessions, and of the serving of clients. They stand apart from the crates that they test, so that those
-//! are proved once.
+//! Tests of sessions, of the serving of clients, and of a client. They stand apart from the crates that they
+//! test, so that those are proved once.
 #![tactic(auto)]
 
+#[cfg(test)]
+mod client_tests;
 #[cfg(test)]
 mod local_tests;
 #[cfg(test)]

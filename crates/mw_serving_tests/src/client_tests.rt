@@ -1,11 +1,15 @@
 //! Clients of a server that is a text.
-use crate::client::Client;
-use crate::meanings::{Failure, Outcome};
-use crate::replies::read_reply;
 use arrayvec::ArrayVec;
+use mw_client::{Client, Failure, Outcome, read_reply};
 use mw_words::{Entries, Entry, Name};
 use std::alloc::Global;
-use std::time::Duration;
+use std::time::{Clock, Duration};
+
+/// How long the clients ask again where they may, in seconds.
+const PATIENCE: u64 = 5;
+
+/// A client to whom a text is said.
+type TextClient<'a> = Client<&'a [u8], Vec<u8>>;
 
 /// The name t.
 fn name() -> Name {
@@ -26,11 +30,19 @@ fn entries() -> Entries {
 }
 
 /// A client to whom the server says this.
-fn client(alloc: Global, said: &[u8]) -> Option<Client<&[u8], Vec<u8>>> {
+fn client(alloc: Global, said: &[u8]) -> Option<TextClient<'_>> {
     match Client::begin(said, Vec::new(alloc), &name()) {
         Ok(client) => Some(client),
         Err(_) => None,
     }
+}
+
+/// Whether a client is told a value, that its change is made at last, and that another isn't.
+fn asks<K: Clock>(clock: &K, client: &mut TextClient<'_>) -> bool {
+    let found = client.get(1) == Ok(7);
+    let made = client.cas(clock, &entries(), Duration::from_secs(PATIENCE)) == Ok(Outcome::Made);
+    let differs = client.try_cas(&entries()) == Ok(Outcome::Differs(0, 5));
+    found && made && differs
 }
 
 #[test]
@@ -39,25 +51,26 @@ fn asks_and_is_told(rt: HostRuntime) {
         assert!(rt; false);
         return;
     };
-    let patience = Duration::from_secs(5);
-    let found = client.get(1) == Ok(7);
-    let made = client.cas(&rt, &entries(), patience) == Ok(Outcome::Made);
-    let differs = client.try_cas(&entries()) == Ok(Outcome::Differs(0, 5));
-    assert!(rt; found && made && differs && client.words == 2);
+    assert!(rt; asks(&rt, &mut client) && client.words == 2);
     let sent = b"TENANT t\nGET 1\nCAS 0:0:1\nCAS 0:0:1\nCAS 0:0:1\n";
     assert!(rt; client.writer.as_slice() == sent.as_slice());
 }
 
-#[test]
-fn a_lost_reply_closes(rt: HostRuntime) {
-    let Some(mut client) = client(rt.alloc(), b"OK 2\nYE") else {
-        assert!(rt; false);
-        return;
-    };
+/// Whether a client whose reply breaks off may not ask any more.
+fn is_closed(client: &mut TextClient<'_>) -> bool {
     let range = client.get(2) == Err(Failure::Argument);
     let lost = client.try_cas(&entries()) == Err(Failure::MadeOrNot);
     let closed = client.get(0) == Err(Failure::Closed);
-    assert!(rt; range && lost && closed);
+    range && lost && closed
+}
+
+#[test]
+fn a_lost_reply_closes(rt: HostRuntime) {
+    let closed = match client(rt.alloc(), b"OK 2\nYE") {
+        Some(mut client) => is_closed(&mut client),
+        None => false,
+    };
+    assert!(rt; closed);
 }
 
 #[test]
@@ -71,17 +84,21 @@ fn no_replies(rt: HostRuntime) {
     );
 }
 
+/// The values of words 0 and 1 that a client reads at once.
+fn values_read<K: Clock>(clock: &K, client: &mut TextClient<'_>) -> Option<(u64, u64)> {
+    match client.read(clock, &[0, 1], Duration::from_secs(PATIENCE)) {
+        Ok(seen) => Some((value_at(&seen, 0), value_at(&seen, 1))),
+        Err(_) => None,
+    }
+}
+
 #[test]
 fn several_words_of_one_moment(rt: HostRuntime) {
-    let Some(mut client) = client(rt.alloc(), b"OK 2\nVAL 5\nVAL 6\nNO 1 7\nYES\n") else {
-        assert!(rt; false);
-        return;
+    let values = match client(rt.alloc(), b"OK 2\nVAL 5\nVAL 6\nNO 1 7\nYES\n") {
+        Some(mut client) => values_read(&rt, &mut client),
+        None => None,
     };
-    let values = match client.read(&rt, &[0, 1], Duration::from_secs(5)) {
-        Ok(seen) => (value_at(&seen, 0), value_at(&seen, 1)),
-        Err(_) => (0, 0),
-    };
-    assert!(rt; values == (5, 7));
+    assert!(rt; values == Some((5, 7)));
 }
 
 /// The value in the entry at a place, 0 where there is none.
