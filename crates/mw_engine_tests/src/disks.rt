@@ -1,75 +1,75 @@
 //! Tenants' files in memory.
+use crate::cases::{Case, Device, lines_of};
+use crate::latch::{Latch, LatchedDisk};
 use mw_config::TenantLine;
 use mw_disk::{Disk, MemDisk};
-use mw_engine::{Engine, EngineBrand, Hold};
 use mw_file::TenantFile;
 use mw_record::{header, size};
 use mw_words::{MAX_PLACES, MAX_WORDS};
 use std::alloc::Global;
 
-/// How a tenant's disk is.
-#[derive(Clone, Copy, Debug)]
-pub(crate) enum Device {
-    /// Its calls go well.
-    Sound,
-    /// The call of this number fails, counted from 1 behind the opening.
-    Fails(u64),
-    /// There is none.
-    Missing,
-}
-
 /// How many calls the opening of a new file makes.
 const OPENING: u64 = 3;
 
-/// A disk with a new file for a tenant's line, all words 0 and with as many places as the quota. None where the
-/// device is missing, memory is refused, or no file is of that size.
-fn new_disk(alloc: Global, line: &TenantLine, device: Device) -> Option<MemDisk> {
-    let words = line.words;
-    let places = u16::from(line.quota);
+/// The numbers of the calls that fail. None where the device is missing or memory is refused.
+fn failing_calls(alloc: Global, device: Device) -> Option<Vec<u64>> {
+    match device {
+        Device::Sound => Some(Vec::new(alloc)),
+        Device::Fails(number) => vec![in alloc; number.saturating_add(OPENING); 1].ok(),
+        Device::Missing => None,
+    }
+}
+
+/// A new file for a tenant's line, all words 0 and with as many places as the quota. None where memory is refused, or no
+/// file is of that size.
+fn new_file(alloc: Global, words: u16, places: u16) -> Option<Vec<u8>> {
     if !(1..=MAX_WORDS).contains(&words) || !(1..=MAX_PLACES).contains(&places) {
         return None;
     }
-    let mut failing = Vec::new(alloc);
-    match device {
-        Device::Sound => {}
-        Device::Fails(number) => failing.push(number.saturating_add(OPENING)).ok()?,
-        Device::Missing => return None,
-    }
-    let mut bytes = vec![in alloc; 0; size(words, places) as usize].ok()?;
-    for (to, from) in bytes.iter_mut().zip(header(words, places)) {
-        *to = from;
-    }
+    let mut bytes = header(words, places).to_vec(alloc).ok()?;
+    bytes.resize(size(words, places) as usize, 0).ok()?;
+    Some(bytes)
+}
+
+/// A disk with a new file for a tenant's line. None where the device is missing, or there is no such file.
+fn new_disk(alloc: Global, line: &TenantLine, device: Device) -> Option<MemDisk> {
+    let failing = failing_calls(alloc, device)?;
+    let bytes = new_file(alloc, line.words, u16::from(line.quota))?;
     MemDisk::new(alloc, bytes, failing).ok()
 }
 
-/// A disk with a new file for each line. None where memory is refused.
-pub(crate) fn new_disks(
+/// The same, with a latch before its calls.
+fn new_latched<'l>(
     alloc: Global,
-    lines: &[TenantLine],
-    devices: &[Device],
-) -> Option<Vec<Option<MemDisk>>> {
+    line: &TenantLine,
+    device: Device,
+    latch: &'l Latch,
+) -> Option<LatchedDisk<'l>> {
+    let disk = new_disk(alloc, line, device)?;
+    Some(LatchedDisk { disk, latch })
+}
+
+/// A disk with a new file for each tenant of a case. None where memory is refused.
+pub(crate) fn new_disks<'l>(
+    alloc: Global,
+    case: &Case<'_>,
+    latch: &'l Latch,
+) -> Option<Vec<Option<LatchedDisk<'l>>>> {
+    let lines = lines_of(case)?;
     let mut disks = Vec::with_capacity(alloc, lines.len()).ok()?;
-    for (line, device) in lines.iter().zip(devices) {
-        disks.push(new_disk(alloc, line, *device)).ok()?;
+    for (line, device) in lines.iter().zip(case.devices) {
+        disks.push(new_latched(alloc, line, *device, latch)).ok()?;
     }
     Some(disks)
 }
 
-/// Ends an engine. Whether it leaves files with these first words, once they are opened anew. Of a disk that is missing
-/// none are wanted.
-pub(crate) fn leaves_words<J: EngineBrand, D: Disk + Drop, H: Hold + Drop>(
+/// Whether the files on these disks have these first words, once they are opened anew. Of a disk that is missing none are
+/// wanted.
+pub(crate) fn have_words(
     alloc: Global,
-    engine: Engine<J, D, H>,
+    disks: Vec<Option<LatchedDisk<'_>>>,
     wanted: &[&[u64]],
 ) -> bool {
-    match engine.into_disks(alloc) {
-        Ok(disks) => have_words(alloc, disks, wanted),
-        Err(_) => false,
-    }
-}
-
-/// Whether the files on these disks have these first words.
-fn have_words<D: Disk + Drop>(alloc: Global, disks: Vec<Option<D>>, wanted: &[&[u64]]) -> bool {
     if disks.len() != wanted.len() {
         return false;
     }
@@ -82,15 +82,17 @@ fn have_words<D: Disk + Drop>(alloc: Global, disks: Vec<Option<D>>, wanted: &[&[
 }
 
 /// Whether the file on a disk has these first words.
-fn has_words<D: Disk + Drop>(alloc: Global, disk: Option<D>, wanted: &[u64]) -> bool {
-    let Some(disk) = disk else {
-        return wanted.is_empty();
-    };
+fn has_words(alloc: Global, disk: Option<LatchedDisk<'_>>, wanted: &[u64]) -> bool {
+    match disk {
+        Some(disk) => opens_with(alloc, disk, wanted),
+        None => wanted.is_empty(),
+    }
+}
+
+/// Whether the file on a disk opens, with these first words.
+fn opens_with<D: Disk + Drop>(alloc: Global, disk: D, wanted: &[u64]) -> bool {
     match TenantFile::open(alloc, disk) {
-        Ok(opened) => {
-            let (_, words) = opened;
-            words.as_slice().starts_with(wanted)
-        }
+        Ok(opened) => opened.1.as_slice().starts_with(wanted),
         Err(_) => false,
     }
 }

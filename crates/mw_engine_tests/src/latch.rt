@@ -3,17 +3,31 @@ ghost use Rattle.mw_disk.specs.Memory.{memory_facts};
 
 use mw_disk::{Disk, DiskFault, MemDisk};
 use mw_engine::{Hold, Point};
-use std::alloc::Global;
 use std::sync::atomic::{AtomicBool, AtomicU64, Ordering};
 use std::thread;
 
 /// How often who waits looks again.
 const MOST_TURNS: u32 = 1_000_000;
 
+/// Where a worker comes to the latch.
+#[derive(Clone, Copy, PartialEq, Eq)]
+pub(crate) enum Place {
+    /// Nowhere: all go on.
+    Nowhere,
+    /// Worker 0 is at a point of its request.
+    At(Point),
+    /// Somebody is about to write to a disk.
+    Write,
+    /// Somebody is about to sync a disk.
+    Sync,
+}
+
 /// Stops who comes to it as the one of a number, until all others have left or the turns are over. So a test on workers
 /// that wait for who is stopped fails, and ends.
 #[derive(Drop)]
 pub(crate) struct Latch {
+    /// Where it is.
+    place: Place,
     /// How many come before the one that is stopped.
     before: AtomicU64,
     came: AtomicU64,
@@ -25,22 +39,31 @@ pub(crate) struct Latch {
 }
 
 impl Latch {
-    /// One that stops nobody until it is set. It opens once so many others have left.
-    pub(crate) fn new(others: u64) -> Latch {
+    /// One at a place that stops nobody until it is set.
+    pub(crate) fn new(place: Place) -> Latch {
         Latch {
+            place,
             before: AtomicU64::new(u64::MAX),
             came: AtomicU64::new(0),
             has_stopped: AtomicBool::new(false),
-            others: AtomicU64::new(others),
+            others: AtomicU64::new(0),
             is_open: AtomicBool::new(false),
             has_expired: AtomicBool::new(false),
         }
     }
 
-    /// From now on so many come before the one that is stopped.
-    pub(crate) fn set(&self, before: u64) {
+    /// From now on so many come before the one that is stopped. It opens once so many others have left.
+    pub(crate) fn set(&self, before: u64, others: u64) {
+        self.others.store(others, Ordering::SeqCst);
         self.came.store(0, Ordering::SeqCst);
         self.before.store(before, Ordering::SeqCst);
+    }
+
+    /// A worker is at a place.
+    fn meet(&self, place: Place) {
+        if place == self.place {
+            self.pass();
+        }
     }
 
     /// Comes to it.
@@ -83,59 +106,41 @@ fn comes_true(flag: &AtomicBool) -> bool {
     false
 }
 
-/// Stops worker 0 at a point, by a latch.
+/// Has worker 0 come to a latch at each point of its requests.
 #[derive(Drop)]
-pub(crate) struct StopAt<'l> {
+pub(crate) struct ByLatch<'l> {
     pub(crate) latch: &'l Latch,
-    pub(crate) stop: Point,
 }
 
-impl Hold for StopAt<'_> {
+impl Hold for ByLatch<'_> {
     fn at(&self, worker: u8, point: Point) {
-        if worker == 0 && point == self.stop {
-            self.latch.pass();
+        if worker == 0 {
+            self.latch.meet(Place::At(point));
         }
     }
 }
 
-/// A kind of calls on a disk.
-#[derive(Clone, Copy, Debug, PartialEq, Eq)]
-pub(crate) enum DiskCall {
-    Write,
-    Sync,
-}
-
-/// A disk whose calls of a kind come to a latch before they are made.
+/// A disk whose writes and syncs come to a latch before they are made.
 #[derive(Drop)]
-pub(crate) struct SlowDisk<'l> {
+pub(crate) struct LatchedDisk<'l> {
     pub(crate) disk: MemDisk,
     pub(crate) latch: &'l Latch,
-    pub(crate) slow: DiskCall,
 }
 
-impl SlowDisk<'_> {
-    /// Before a call of this kind.
-    fn before(&self, call: DiskCall) {
-        if call == self.slow {
-            self.latch.pass();
-        }
-    }
-}
-
-impl Disk for SlowDisk<'_> {
-    ghost facts = { λ slow. memory_facts slow.disk };
+impl Disk for LatchedDisk<'_> {
+    ghost facts = { λ latched. memory_facts latched.disk };
 
     fn read_at(&mut self, at: u64, out: &mut [u8]) -> Result<(), DiskFault> {
         self.disk.read_at(at, out)
     }
 
     fn write_at(&mut self, at: u64, bytes: &[u8]) -> Result<(), DiskFault> {
-        self.before(DiskCall::Write);
+        self.latch.meet(Place::Write);
         self.disk.write_at(at, bytes)
     }
 
     fn sync(&mut self) -> Result<(), DiskFault> {
-        self.before(DiskCall::Sync);
+        self.latch.meet(Place::Sync);
         self.disk.sync()
     }
 
@@ -146,22 +151,4 @@ impl Disk for SlowDisk<'_> {
     fn faults(&self) -> u64 {
         self.disk.faults()
     }
-}
-
-/// These disks, whose calls of a kind come to a latch. None where memory is refused.
-pub(crate) fn slow_disks<'l>(
-    alloc: Global,
-    disks: Vec<Option<MemDisk>>,
-    slow: DiskCall,
-    latch: &'l Latch,
-) -> Option<Vec<Option<SlowDisk<'l>>>> {
-    let mut all = Vec::with_capacity(alloc, disks.len()).ok()?;
-    for disk in disks {
-        let disk = match disk {
-            Some(disk) => Some(SlowDisk { disk, latch, slow }),
-            None => None,
-        };
-        all.push(disk).ok()?;
-    }
-    Some(all)
 }

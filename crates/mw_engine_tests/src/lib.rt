@@ -3,6 +3,8 @@
 #![tactic(auto)]
 
 #[cfg(test)]
+mod cases;
+#[cfg(test)]
 mod disks;
 #[cfg(test)]
 mod held_tests;
@@ -10,6 +12,8 @@ mod held_tests;
 mod latch;
 #[cfg(test)]
 mod race_tests;
+#[cfg(test)]
+mod races;
 #[cfg(test)]
 mod session_tests;
 #[cfg(test)]

@@ -1,28 +1,16 @@
 //! The start of an engine.
-ghost use Rattle.std.specs.Prelude.{◌≤◌, All, IfSome};
-ghost use Rattle.mw_config.specs.Limits.{ArePermitted};
-ghost use Rattle.mw_words.specs.declared.limits.TheConstants.{MAX_POOL, MAX_WORKERS};
+ghost use Rattle.std.specs.Prelude.{All, IfSome};
 ghost use Rattle.mw_engine.specs.Opened.{FitLines, FitsLine};
 ghost use Rattle.mw_engine.specs.Passes.{IsNew};
 ghost use Rattle.mw_engine.specs.Starting.{identity_of};
 
-use arrayvec::ArrayVec;
-use mw_config::{TenantLine, read_tenants};
+use crate::cases::{Case, lines_of};
+use crate::latch::{ByLatch, Latch, LatchedDisk};
+use mw_config::TenantLine;
 use mw_disk::Disk;
-use mw_engine::{EngineParts, Hold, Pass};
+use mw_engine::{EngineParts, Pass};
 use mw_file::TenantFile;
-use mw_words::MAX_TENANTS;
 use std::alloc::Global;
-
-/// The lines of a tenants file with this text, whose quotas a pool of so many slots has room for.
-pub(crate) fn lines_of(text: &[u8], pool: u16) -> Option<ArrayVec<TenantLine, MAX_TENANTS>>
-    ensures { IfSome result (λ lines. ArePermitted pool lines.items) }
-{
-    match read_tenants(text, pool) {
-        Ok(lines) => Some(lines),
-        Err(_) => None,
-    }
-}
 
 /// A tenant's file with the words that it was opened with.
 type Opened<D> = (TenantFile<D>, Vec<u64>);
@@ -82,27 +70,26 @@ fn all_opened<D: Disk + Drop>(
 
 /// An engine's parts, and the passes of its workers.
 #[derive(Drop)]
-pub(crate) struct Started<D: Disk, H> {
-    pub(crate) parts: EngineParts<D, H>,
+pub(crate) struct Started<'l> {
+    pub(crate) parts: EngineParts<LatchedDisk<'l>, ByLatch<'l>>,
     pub(crate) passes: Vec<Pass>,
 }
 
-/// An engine of the tenants with these lines, on these disks, for so many workers. None where memory is refused.
-pub(crate) fn start<D: Disk + Drop, H: Hold + Drop>(
+/// How many workers an engine has.
+const WORKERS: u8 = 4;
+
+/// An engine of a case's tenants, whose files are on these disks. None where memory is refused.
+pub(crate) fn start<'l>(
     alloc: Global,
-    lines: &[TenantLine],
-    disks: Vec<Option<D>>,
-    pool: u16,
-    workers: u8,
-    hold: H,
-) -> Option<Started<D, H>>
-    requires permitted { ArePermitted pool lines.now }
-    requires pool { (1 ≤ pool) × (pool ≤ MAX_POOL) }
-    requires workers { (1 ≤ workers) × (workers ≤ MAX_WORKERS) }
+    case: &Case<'_>,
+    disks: Vec<Option<LatchedDisk<'l>>>,
+    latch: &'l Latch,
+) -> Option<Started<'l>>
     ensures { IfSome result (λ started. All (IsNew (identity_of started.parts)) started.passes.items) }
 {
-    let files = all_opened(alloc, lines, disks)?;
-    match EngineParts::new(alloc, lines, files, pool, workers, hold) {
+    let lines = lines_of(case)?;
+    let files = all_opened(alloc, &lines, disks)?;
+    match EngineParts::new(alloc, &lines, files, case.pool, WORKERS, ByLatch { latch }) {
         Ok(made) => {
             let (parts, passes) = made;
             Some(Started { parts, passes })

@@ -1,38 +1,85 @@
-//! What sessions say and are told.
+//! What sessions say and are told, one after the other, or while one of them is held.
+use crate::latch::{Latch, Place};
 use crate::workers::Worker;
-use mw_disk::Disk;
-use mw_engine::{EngineBrand, Hold};
+use mw_engine::EngineBrand;
 use std::alloc::Global;
 use std::sync::Wait;
+use std::thread;
+use std::thread::Threads;
 
 /// What a session says, and what it is to be told.
-#[derive(Clone, Copy, Debug, Drop)]
+#[derive(Clone, Copy, Drop)]
 pub(crate) struct Talk {
     pub(crate) says: &'static [u8],
     pub(crate) told: &'static [u8],
 }
 
-/// Whether who says this to a session of this worker is told what it is to be told.
-pub(crate) fn is_told<J: EngineBrand, D: Disk + Drop, H: Hold + Drop, R: Wait>(
+/// Whether a worker is told what it is to be told in its session: the talk of its number, if there is one.
+fn is_told<J: EngineBrand, R: Wait>(
     alloc: Global,
-    worker: &mut Worker<'_, J, D, H, R>,
-    talk: Talk,
+    worker: &mut Worker<'_, '_, J, R>,
+    talks: &[Talk],
 ) -> bool {
-    let told = worker.session(alloc, talk.says);
-    told.as_slice() == talk.told
+    match talks.get(worker.number()) {
+        Some(talk) => worker.session(alloc, talk.says).as_slice() == talk.told,
+        None => true,
+    }
 }
 
 /// Whether a session of each worker, one after the other, is told what it is to be told.
-pub(crate) fn are_told<J: EngineBrand, D: Disk + Drop, H: Hold + Drop, R: Wait>(
+pub(crate) fn are_told<J: EngineBrand, R: Wait>(
     alloc: Global,
-    workers: Vec<Worker<'_, J, D, H, R>>,
+    workers: Vec<Worker<'_, '_, J, R>>,
     talks: &[Talk],
 ) -> bool {
-    for (worker, talk) in workers.into_iter().zip(talks) {
-        let mut worker = worker;
-        if !is_told(alloc, &mut worker, *talk) {
+    let mut workers = workers;
+    for worker in &mut workers {
+        if !is_told(alloc, worker, talks) {
             return false;
         }
     }
     true
+}
+
+/// Sessions at once, each in a thread of its own. Worker 0 is held in its session until the others have had theirs.
+#[derive(Drop)]
+pub(crate) struct Story<'c> {
+    /// Where worker 0 is held.
+    pub(crate) place: Place,
+    /// How many come there before.
+    pub(crate) before: u64,
+    /// Each of another worker.
+    pub(crate) talks: &'c [Talk],
+}
+
+/// Whether a worker of a story is told what it is to be told. All but worker 0 wait until it is held.
+fn plays<J: EngineBrand, R: Wait>(
+    alloc: Global,
+    mut worker: Worker<'_, '_, J, R>,
+    talks: &[Talk],
+    latch: &Latch,
+) -> bool {
+    if worker.number() == 0 {
+        return is_told(alloc, &mut worker, talks);
+    }
+    let has_stopped = latch.stops_one();
+    let told = is_told(alloc, &mut worker, talks);
+    latch.leave();
+    has_stopped && told
+}
+
+/// Whether all workers of a story are told what they are to be told, and worker 0 was held until the others were.
+pub(crate) fn is_played<J: EngineBrand + Send + Sync, R: Threads + Wait + Sync>(
+    rt: &R,
+    alloc: Global,
+    workers: Vec<Worker<'_, '_, J, R>>,
+    story: &Story<'_>,
+    latch: &Latch,
+) -> bool {
+    let talks = story.talks;
+    latch.set(story.before, workers.len().saturating_sub(1) as u64);
+    match thread::map_vec(rt, workers, &|worker| plays(alloc, worker, talks, latch)) {
+        Ok(told) => !told.as_slice().contains(&false) && latch.has_held(),
+        Err(_) => false,
+    }
 }

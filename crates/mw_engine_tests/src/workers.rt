@@ -2,26 +2,29 @@
 ghost use Rattle.std.specs.Prelude.{◌≡◌, true, All};
 ghost use Rattle.mw_engine.specs.Passes.{IsNew, IsPassOf};
 
-use mw_disk::Disk;
-use mw_engine::{Engine, EngineBrand, Hold, Pass};
+use crate::latch::{ByLatch, LatchedDisk};
+use mw_engine::{Engine, EngineBrand, Pass};
 use mw_report::Figures;
 use mw_session::{Service, Session};
 use mw_words::{Entries, Entry, Job, Name, Reply};
 use std::alloc::Global;
 use std::sync::Wait;
 
+/// An engine whose workers and disks come to a latch.
+pub(crate) type LatchedEngine<'l, J> = Engine<J, LatchedDisk<'l>, ByLatch<'l>>;
+
 /// A worker of an engine, with its pass.
 #[derive(Drop)]
-pub(crate) struct Worker<'a, J: EngineBrand, D: Disk, H, R> {
-    engine: &'a Engine<J, D, H>,
+pub(crate) struct Worker<'a, 'l, J: EngineBrand, R> {
+    engine: &'a LatchedEngine<'l, J>,
     rt: &'a R,
     pass: Pass,
     ghost own: { IsPassOf J.identity pass },
     ghost idle: { pass.idle ≡ true },
 }
 
-impl<'a, J: EngineBrand, D: Disk, H, R> Worker<'a, J, D, H, R> {
-    pub(crate) fn new(engine: &'a Engine<J, D, H>, rt: &'a R, pass: Pass) -> Self
+impl<'a, 'l, J: EngineBrand, R> Worker<'a, 'l, J, R> {
+    fn new(engine: &'a LatchedEngine<'l, J>, rt: &'a R, pass: Pass) -> Self
         requires own { IsPassOf J.identity pass }
         requires idle { pass.idle ≡ true }
     {
@@ -29,7 +32,12 @@ impl<'a, J: EngineBrand, D: Disk, H, R> Worker<'a, J, D, H, R> {
     }
 }
 
-impl<'a, J: EngineBrand, D: Disk + Drop, H: Hold + Drop, R: Wait> Worker<'a, J, D, H, R> {
+impl<'a, 'l, J: EngineBrand, R: Wait> Worker<'a, 'l, J, R> {
+    /// Which worker of the engine it is.
+    pub(crate) fn number(&self) -> usize {
+        usize::from(self.pass.worker())
+    }
+
     /// The reply to a job of the tenant with this name. None where there is no such tenant, or it may not ask for this.
     pub(crate) fn ask(&mut self, name: &[u8], job: &Job) -> Option<Reply> {
         let name = Name::try_from(name).unwrap_or_default();
@@ -65,7 +73,7 @@ impl<'a, J: EngineBrand, D: Disk + Drop, H: Hold + Drop, R: Wait> Worker<'a, J, 
     }
 }
 
-impl<J: EngineBrand, D: Disk + Drop, H: Hold + Drop, R: Wait> Service for Worker<'_, J, D, H, R> {
+impl<J: EngineBrand, R: Wait> Service for Worker<'_, '_, J, R> {
     ghost use Rattle.std.specs.Prelude.{false, None, []};
     ghost use Rattle.mw_engine.specs.Identity.{HasWords};
 
@@ -91,12 +99,12 @@ impl<J: EngineBrand, D: Disk + Drop, H: Hold + Drop, R: Wait> Service for Worker
 }
 
 /// A worker for each pass. None where memory is refused.
-pub(crate) fn workers_of<'a, J: EngineBrand, D: Disk, H, R>(
+pub(crate) fn workers_of<'a, 'l, J: EngineBrand, R>(
     rt: &'a R,
     alloc: Global,
-    engine: &'a Engine<J, D, H>,
+    engine: &'a LatchedEngine<'l, J>,
     passes: Vec<Pass>,
-) -> Option<Vec<Worker<'a, J, D, H, R>>>
+) -> Option<Vec<Worker<'a, 'l, J, R>>>
     requires { All (IsNew J.identity) passes.items }
 {
     let mut workers = Vec::with_capacity(alloc, passes.len()).ok()?;

@@ -1,5 +1,5 @@
 use Rattle.mw_engine.specs.Starting.{identity_of}
-use Rattle.mw_engine_tests.proofs.session_tests.is_so.Given as goal
+use Rattle.mw_engine_tests.proofs.cases.is_so.Given as goal
 
 abbrev pub ghosts-is_so_of : goal.ghosts-is_so_of
 ghosts-is_so_of g a = record { identity = identity_of a.parts }

@@ -1,0 +1,128 @@
+//! Cases: tenants with new files, what the workers of an engine do, and the files afterwards.
+ghost use Rattle.std.specs.Prelude.{◌≡◌, ◌≤◌, All, IfSome};
+ghost use Rattle.mw_config.specs.Limits.{ArePermitted};
+ghost use Rattle.mw_words.specs.declared.limits.TheConstants.{MAX_POOL};
+ghost use Rattle.mw_engine.specs.Passes.{IsNew};
+ghost use Rattle.mw_engine.specs.Starting.{identity_of};
+
+use crate::disks::{have_words, new_disks};
+use crate::latch::{ByLatch, Latch, LatchedDisk, Place};
+use crate::races::{Race, is_run};
+use crate::starts::{Started, start};
+use crate::talks::{Story, Talk, are_told, is_played};
+use crate::workers::{Worker, workers_of};
+use arrayvec::ArrayVec;
+use mw_config::{TenantLine, read_tenants};
+use mw_engine::{EngineBrand, EngineParts, Pass};
+use mw_words::{MAX_POOL, MAX_TENANTS};
+use std::alloc::Global;
+use std::marker::Brand;
+use std::sync::Wait;
+use std::thread::Threads;
+
+/// How a tenant's disk is.
+#[derive(Clone, Copy)]
+pub(crate) enum Device {
+    /// Its calls go well.
+    Sound,
+    /// The call of this number fails, counted from 1 behind the opening.
+    Fails(u64),
+    /// There is none.
+    Missing,
+}
+
+/// What the workers do.
+#[derive(Drop)]
+pub(crate) enum Play<'c> {
+    /// Each has its session, one after the other.
+    Talks(&'c [Talk]),
+    /// They have their sessions at once, while one of them is held.
+    Story(Story<'c>),
+    /// They count up words at once.
+    Race(Race),
+}
+
+/// Tenants with new files, what the workers of an engine do, and what it leaves.
+#[derive(Drop)]
+pub(crate) struct Case<'c> {
+    /// The text of the tenants file.
+    pub(crate) tenants: &'c [u8],
+    pub(crate) pool: u16,
+    pub(crate) devices: &'c [Device],
+    pub(crate) play: Play<'c>,
+    /// The first words of the tenants' files afterwards.
+    pub(crate) words: &'c [&'c [u64]],
+}
+
+/// The lines of a case's tenants file, whose quotas its pool has room for. None where one of them isn't permitted.
+pub(crate) fn lines_of(case: &Case<'_>) -> Option<ArrayVec<TenantLine, MAX_TENANTS>>
+    ensures permitted { IfSome result (λ lines. ArePermitted case.now.pool lines.items) }
+    ensures pool { IfSome result (λ _. (1 ≤ case.now.pool) × (case.now.pool ≤ MAX_POOL)) }
+{
+    if !(1..=MAX_POOL).contains(&case.pool) {
+        return None;
+    }
+    read_tenants(case.tenants, case.pool).ok()
+}
+
+/// Where the latch of a case is.
+fn latch_of(case: &Case<'_>) -> Latch {
+    match &case.play {
+        Play::Story(story) => Latch::new(story.place),
+        _ => Latch::new(Place::Nowhere),
+    }
+}
+
+/// Whether a case is so. False as well where memory is refused.
+pub(crate) fn is_so<R: Threads + Wait + Sync>(rt: &R, alloc: Global, case: &Case<'_>) -> bool {
+    let latch = latch_of(case);
+    let Some(disks) = new_disks(alloc, case, &latch) else {
+        return false;
+    };
+    match start(alloc, case, disks, &latch) {
+        Some(Started { parts, passes }) => {
+            is_so_of::<Brand, R>(rt, alloc, parts, passes, case, &latch)
+        }
+        None => false,
+    }
+}
+
+/// Whether a case is so of the engine of these parts.
+fn is_so_of<'l, J: EngineBrand + Send + Sync, R: Threads + Wait + Sync>(
+    rt: &R,
+    alloc: Global,
+    parts: EngineParts<LatchedDisk<'l>, ByLatch<'l>>,
+    passes: Vec<Pass>,
+    case: &Case<'_>,
+    latch: &Latch,
+) -> bool
+    requires same { identity_of parts ≡ J.identity }
+    requires passes { All (IsNew J.identity) passes.items }
+{
+    let Ok(engine) = parts.into_engine::<J>(alloc) else {
+        return false;
+    };
+    let is_done = match workers_of(rt, alloc, &engine, passes) {
+        Some(workers) => is_done(rt, alloc, workers, &case.play, latch),
+        None => false,
+    };
+    match engine.into_disks(alloc) {
+        Ok(disks) => is_done && have_words(alloc, disks, case.words),
+        Err(_) => false,
+    }
+}
+
+/// Whether the workers do as they are to.
+fn is_done<J: EngineBrand + Send + Sync, R: Threads + Wait + Sync>(
+    rt: &R,
+    alloc: Global,
+    workers: Vec<Worker<'_, '_, J, R>>,
+    play: &Play<'_>,
+    latch: &Latch,
+) -> bool {
+    match play {
+        Play::Talks(talks) => are_told(alloc, workers, talks),
+        Play::Story(story) => is_played(rt, alloc, workers, story, latch),
+        Play::Race(race) => is_run(rt, workers, *race),
+    }
+}

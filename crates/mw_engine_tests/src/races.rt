@@ -1,0 +1,111 @@
+//! Workers that count up words at once.
+use crate::workers::{Worker, change};
+use mw_engine::EngineBrand;
+use mw_words::{Job, MAX_VALUE, Reply};
+use std::sync::Wait;
+use std::thread;
+use std::thread::Threads;
+
+/// How many changes each worker is to make.
+const CHANGES: u64 = 100;
+
+/// The most requests for changes that a worker makes.
+const MOST_REQUESTS: u32 = 100_000;
+
+/// A race of the workers, each in a thread of its own: each counts up word 0 of its tenant.
+#[derive(Clone, Copy, Drop)]
+pub(crate) struct Race {
+    /// The name of each worker's tenant.
+    pub(crate) names: &'static [&'static [u8]],
+    /// What the words come to.
+    pub(crate) word: u64,
+}
+
+/// Reads word 0 of a tenant, and changes it to one more. True if it was so.
+fn adds_one<J: EngineBrand, R: Wait>(worker: &mut Worker<'_, '_, J, R>, name: &[u8]) -> bool {
+    match worker.ask(name, &Job::Get(0)) {
+        Some(Reply::Val(value)) if value < MAX_VALUE => {
+            worker.ask(name, &change(0, value, value + 1)) == Some(Reply::Yes)
+        }
+        _ => false,
+    }
+}
+
+/// Counts up word 0 of a tenant. True once all changes are made.
+fn counts_up<J: EngineBrand, R: Wait>(worker: &mut Worker<'_, '_, J, R>, name: &[u8]) -> bool {
+    let mut made = 0u64;
+    for _ in 0..MOST_REQUESTS {
+        if adds_one(worker, name) {
+            made = made.saturating_add(1);
+        }
+        if made >= CHANGES {
+            return true;
+        }
+    }
+    false
+}
+
+/// The worker, once it has counted up its tenant's word. None if it didn't come to that.
+fn counted<'a, 'l, J: EngineBrand, R: Wait>(
+    mut worker: Worker<'a, 'l, J, R>,
+    race: Race,
+) -> Option<Worker<'a, 'l, J, R>> {
+    let name = race.names.get(worker.number())?;
+    if counts_up(&mut worker, name) {
+        Some(worker)
+    } else {
+        None
+    }
+}
+
+/// Whether a worker reads what its tenant's word comes to.
+fn reads_all<J: EngineBrand, R: Wait>(worker: &mut Worker<'_, '_, J, R>, race: Race) -> bool {
+    match race.names.get(worker.number()) {
+        Some(name) => worker.read(name, 0) == Some(Reply::Val(race.word)),
+        None => false,
+    }
+}
+
+/// Whether a worker that has counted reads what its tenant's word comes to, once it has met the last one.
+fn agrees<'a, 'l, J: EngineBrand, R: Wait>(
+    last: &mut Worker<'a, 'l, J, R>,
+    counter: &mut Option<Worker<'a, 'l, J, R>>,
+    race: Race,
+) -> bool {
+    match counter {
+        Some(worker) => {
+            last.meet(worker);
+            reads_all(worker, race)
+        }
+        None => false,
+    }
+}
+
+/// Whether each has counted, and reads what its tenant's word comes to, once it has met the last one.
+fn all_agree<J: EngineBrand, R: Wait>(
+    counters: Vec<Option<Worker<'_, '_, J, R>>>,
+    race: Race,
+) -> bool {
+    let mut counters = counters;
+    let Some(Some(mut last)) = counters.pop() else {
+        return false;
+    };
+    for counter in &mut counters {
+        if !agrees(&mut last, counter, race) {
+            return false;
+        }
+    }
+    reads_all(&mut last, race)
+}
+
+/// Whether these workers all make their changes, and read them.
+pub(crate) fn is_run<J: EngineBrand + Send + Sync, R: Threads + Wait + Sync>(
+    rt: &R,
+    workers: Vec<Worker<'_, '_, J, R>>,
+    race: Race,
+) -> bool {
+    match thread::map_vec(rt, workers, &|worker| counted(worker, race)) {
+        Ok(counters) => all_agree(counters, race),
+        Err(_) => false,
+    }
+}
