@@ -1,7 +1,7 @@
-use crate::same::same;
+use crate::same::{MEMORY, same, same_text};
 use mw_config::*;
 use std::alloc::{AllocError, Global};
-use std::test::Fail;
+use std::process::Abort;
 
 const SIXTEEN: &[u8] =
     b"a 1 1 a\nb 1 1 b\nc 1 1 c\nd 1 1 d\ne 1 1 e\nf 1 1 f\ng 1 1 g\nh 1 1 h\ni 1 1 i\nj 1 1 j\nk 1 1 k\nl 1 1 l\nm 1 1 m\nn 1 1 n\no 1 1 o\np 1 1 p\n";
@@ -69,25 +69,23 @@ t 1 1 é/",
 ];
 
 /// A text whose lines end where `/` stands.
-fn with_line_ends(alloc: Global, text: &str) -> Result<Vec<u8>, AllocError> {
-    let mut bytes = text.as_bytes().to_vec(alloc)?;
-    for byte in bytes.iter_mut() {
-        if *byte == b'/' {
-            *byte = b'\n';
-        }
+fn with_line_ends<R: Abort + AllocGlobal>(rt: &R, text: &str) -> String {
+    text.replace(rt.alloc(), "/", "\n").expect(rt, MEMORY)
+}
+
+/// Each of these texts, one a line, is refused so.
+fn are_refused<R: Abort + AllocGlobal>(rt: &R, refusal: Refusal, texts: &str) {
+    for text in texts.split('\n') {
+        let text = with_line_ends(rt, text);
+        same(rt, &count(text.as_str().as_bytes(), 256), &Err(refusal));
     }
-    Ok(bytes)
 }
 
 #[test]
-fn one_line_that_is_refused(rt: HostRuntime) -> Result<(), Fail> {
+fn one_line_that_is_refused(rt: HostRuntime) {
     for (refusal, texts) in REFUSED_TEXTS {
-        for text in texts.split('\n') {
-            let text = with_line_ends(rt.alloc(), text)?;
-            same(&rt, &count(&text, 256), &Err(refusal));
-        }
+        are_refused(&rt, refusal, texts);
     }
-    Ok(())
 }
 
 #[test]
@@ -158,36 +156,66 @@ fn long_files_and_paths(rt: HostRuntime) {
     same(&rt, &count(&text, 256), &Err(Refusal::Form(1)));
 }
 
-#[test]
-fn texts_of_refusals(rt: HostRuntime) -> Result<(), Fail> {
-    let cases = [
-        (Refusal::File, "mwserve: refused 2 file"),
-        (Refusal::Form(1), "mwserve: refused 3 form line 1"),
-        (Refusal::Words(2), "mwserve: refused 4 words line 2"),
-        (Refusal::Quota(16), "mwserve: refused 5 quota line 16"),
-        (Refusal::Twice(2), "mwserve: refused 6 twice line 2"),
-        (Refusal::Many(17), "mwserve: refused 7 many line 17"),
-        (Refusal::None, "mwserve: refused 8 none"),
-        (Refusal::Pool, "mwserve: refused 9 pool"),
-    ];
-    for (refusal, wanted) in cases {
-        let text = format!(in rt.alloc(); "{refusal}")?;
-        same(&rt, &text.as_str(), &wanted);
-    }
-    Ok(())
+/// Refusals, and the text of each.
+const REFUSALS: [(Refusal, &str); 8] = [
+    (Refusal::File, "mwserve: refused 2 file"),
+    (Refusal::Form(1), "mwserve: refused 3 form line 1"),
+    (Refusal::Words(2), "mwserve: refused 4 words line 2"),
+    (Refusal::Quota(16), "mwserve: refused 5 quota line 16"),
+    (Refusal::Twice(2), "mwserve: refused 6 twice line 2"),
+    (Refusal::Many(17), "mwserve: refused 7 many line 17"),
+    (Refusal::None, "mwserve: refused 8 none"),
+    (Refusal::Pool, "mwserve: refused 9 pool"),
+];
+
+/// The text of a refusal.
+fn text_of<R: Abort + AllocGlobal>(rt: &R, refusal: Refusal) -> String {
+    format!(in rt.alloc(); "{refusal}").expect(rt, MEMORY)
 }
 
-/// What a command line, its words apart by a space, gives: what it asks for, or the name of its fault.
-fn read(alloc: Global, line: &str) -> Result<String, AllocError> {
-    let mut given = Vec::new(alloc);
-    for word in line.split(' ') {
-        given.push(String::from_str(alloc, word)?)?;
+#[test]
+fn texts_of_refusals(rt: HostRuntime) {
+    for (refusal, wanted) in REFUSALS {
+        same_text(&rt, text_of(&rt, refusal).as_str(), wanted);
     }
-    match read_args(alloc, &given) {
+}
+
+/// A command line, whose words a space parts.
+fn words_of(alloc: Global, line: &str) -> Result<Vec<String>, AllocError> {
+    let mut words = Vec::new(alloc);
+    for word in line.split(' ') {
+        words.push(String::from_str(alloc, word)?)?;
+    }
+    Ok(words)
+}
+
+/// The name of a command line's fault, where it isn't want of memory.
+fn name_of(fault: &ArgFault) -> Result<&'static str, AllocError> {
+    match fault {
+        ArgFault::Refused(_) => Ok("refused"),
+        ArgFault::Mode => Ok("mode"),
+        ArgFault::Memory => Err(AllocError),
+    }
+}
+
+/// What a command line gives: what it asks for, or the name of its fault.
+fn read(alloc: Global, line: &str) -> Result<String, AllocError> {
+    match read_args(alloc, &words_of(alloc, line)?) {
         Ok(args) => format!(in alloc; "{args:?}"),
-        Err(ArgFault::Refused(_)) => String::from_str(alloc, "refused"),
-        Err(ArgFault::Mode) => String::from_str(alloc, "mode"),
-        Err(ArgFault::Memory) => Err(AllocError),
+        Err(fault) => String::from_str(alloc, name_of(&fault)?),
+    }
+}
+
+/// A command line gives this.
+fn gives<R: Abort + AllocGlobal>(rt: &R, line: &str, wanted: &str) {
+    let given = read(rt.alloc(), line).expect(rt, MEMORY);
+    same_text(rt, given.as_str(), wanted);
+}
+
+/// Each of these command lines, one a line, gives this.
+fn each_gives<R: Abort + AllocGlobal>(rt: &R, lines: &str, wanted: &str) {
+    for line in lines.split('\n') {
+        gives(rt, line, wanted);
     }
 }
 
@@ -212,12 +240,10 @@ const LINES: [(&str, &str); 4] = [
 ];
 
 #[test]
-fn command_lines_that_are_accepted(rt: HostRuntime) -> Result<(), Fail> {
+fn command_lines_that_are_accepted(rt: HostRuntime) {
     for (line, wanted) in LINES {
-        let text = read(rt.alloc(), line)?;
-        same(&rt, &text.as_str(), &wanted);
+        gives(&rt, line, wanted);
     }
-    Ok(())
 }
 
 /// Command lines with no mode, with two, with an option of connections and a script, and with a file mode
@@ -233,12 +259,8 @@ mwserve --tenants t --listen a --mode 1000
 mwserve --tenants t --listen a --mode 8";
 
 #[test]
-fn command_lines_without_one_mode(rt: HostRuntime) -> Result<(), Fail> {
-    for line in LINES_WITHOUT_ONE_MODE.split('\n') {
-        let text = read(rt.alloc(), line)?;
-        same(&rt, &text.as_str(), &"mode");
-    }
-    Ok(())
+fn command_lines_without_one_mode(rt: HostRuntime) {
+    each_gives(&rt, LINES_WITHOUT_ONE_MODE, "mode");
 }
 
 /// Command lines that are not of the form that the help tells, with a number out of range, or that ask to
@@ -262,12 +284,8 @@ mwserve --tenants t --script s --what
 mwserve --tenants t --script s more";
 
 #[test]
-fn command_lines_that_are_refused(rt: HostRuntime) -> Result<(), Fail> {
-    for line in REFUSED_LINES.split('\n') {
-        let text = read(rt.alloc(), line)?;
-        same(&rt, &text.as_str(), &"refused");
-    }
-    Ok(())
+fn command_lines_that_are_refused(rt: HostRuntime) {
+    each_gives(&rt, REFUSED_LINES, "refused");
 }
 
 /// Where memory is refused the answer is want of memory, and never another one.
@@ -275,40 +293,37 @@ fn command_lines_that_are_refused(rt: HostRuntime) -> Result<(), Fail> {
 fn no_other_answer_for_want_of_memory(rt: HostRuntime) {
     for (line, wanted) in LINES {
         if let Ok(text) = read(rt.alloc(), line) {
-            same(&rt, &text.as_str(), &wanted);
+            same_text(&rt, text.as_str(), wanted);
         }
     }
 }
 
-/// The text of the fault that a command line of one argument has.
-fn fault_of(alloc: Global, arg: &str) -> Result<String, AllocError> {
-    let mut args = Vec::new(alloc);
-    args.push(String::from_str(alloc, "mwserve")?)?;
-    args.push(String::from_str(alloc, arg)?)?;
-    match read_args(alloc, &args) {
-        Ok(_) => String::from_str(alloc, "none"),
-        Err(fault) => format!(in alloc; "{fault}"),
-    }
+/// The text of the fault that a command line has.
+fn fault_of<R: Abort + AllocGlobal>(rt: &R, line: &str) -> String {
+    let words = words_of(rt.alloc(), line).expect(rt, MEMORY);
+    let fault = read_args(rt.alloc(), &words).expect_err(rt, "a fault");
+    format!(in rt.alloc(); "{fault}").expect(rt, MEMORY)
 }
 
+/// What the help has to name, one a line.
+const OPTIONS: &str = "\
+--tenants <FILE>
+--pool <P>
+--workers <N>
+--listen <ADDR>
+--connections <C>
+--script <FILE>
+--strict
+--version
+--admin <ADDR>
+--idle <SECONDS>
+--mode <MODE>
+--verbose";
+
 #[test]
-fn the_help_names_each_option(rt: HostRuntime) -> Result<(), Fail> {
-    let help = fault_of(rt.alloc(), "--help")?;
-    for option in [
-        "--tenants <FILE>",
-        "--pool <P>",
-        "--workers <N>",
-        "--listen <ADDR>",
-        "--connections <C>",
-        "--script <FILE>",
-        "--strict",
-        "--version",
-        "--admin <ADDR>",
-        "--idle <SECONDS>",
-        "--mode <MODE>",
-        "--verbose",
-    ] {
+fn the_help_names_each_option(rt: HostRuntime) {
+    let help = fault_of(&rt, "mwserve --help");
+    for option in OPTIONS.split('\n') {
         assert!(rt; help.as_str().contains(option), "{option}");
     }
-    Ok(())
 }

@@ -1,7 +1,7 @@
-use crate::same::same;
+use crate::same::{MEMORY, same};
 use mw_lone::*;
 use mw_words::{Entries, Entry, Job, Reply};
-use std::test::Fail;
+use std::process::Abort;
 
 /// A change of one word.
 fn change(addr: u16, expected: u64, new: u64) -> Job {
@@ -100,21 +100,32 @@ fn starts() -> [Told; 15] {
     ]
 }
 
-#[test]
-fn replies_as_the_marks_say(rt: HostRuntime) -> Result<(), Fail> {
-    let mut lone = Lone::new(rt.alloc(), &[10, 20], 1)?;
-    for (mark, want) in requests().into_iter().chain(failures()).chain(starts()) {
-        same(&rt, &lone.mark(mark), &Ok(want));
+/// A store of the words 10 and 20, and a quota of 1.
+fn new_store<R: Abort + AllocGlobal>(rt: &R) -> Lone {
+    Lone::new(rt.alloc(), &[10, 20], 1).expect(rt, MEMORY)
+}
+
+/// Each of these marks can happen, and the store hands out the reply beside it.
+fn tells<R: Abort>(rt: &R, lone: &mut Lone, marks: Vec<Told>) {
+    for (mark, want) in marks {
+        same(rt, &lone.mark(mark), &Ok(want));
     }
-    Ok(())
 }
 
 #[test]
-fn refuses_what_cannot_happen(rt: HostRuntime) -> Result<(), Fail> {
-    let mut lone = Lone::new(rt.alloc(), &[10, 20], 1)?;
-    same(&rt, &lone.mark(Mark::Ask(0, change(0, 10, 11))), &Ok(None));
-    same(&rt, &lone.mark(Mark::Admit(0)), &Ok(None));
-    let marks = [
+fn replies_as_the_marks_say(rt: HostRuntime) {
+    let mut lone = new_store(&rt);
+    let marks = Vec::from_array(rt.alloc(), requests()).expect(&rt, MEMORY);
+    tells(&rt, &mut lone, marks);
+    let marks = Vec::from_array(rt.alloc(), failures()).expect(&rt, MEMORY);
+    tells(&rt, &mut lone, marks);
+    let marks = Vec::from_array(rt.alloc(), starts()).expect(&rt, MEMORY);
+    tells(&rt, &mut lone, marks);
+}
+
+/// Marks that can't happen where request 0 is admitted, and no other one came.
+fn illegal() -> [Mark; 15] {
+    [
         Mark::Ask(0, Job::Get(0)),
         Mark::Ask(2, Job::Get(0)),
         Mark::Ask(1, Job::Get(2)),
@@ -130,10 +141,22 @@ fn refuses_what_cannot_happen(rt: HostRuntime) -> Result<(), Fail> {
         Mark::Reply(0),
         restart(None, true),
         restart(Some(1), false),
-    ];
+    ]
+}
+
+/// None of these marks can happen.
+fn refuses<R: Abort>(rt: &R, lone: &mut Lone, marks: Vec<Mark>) {
     for mark in marks {
-        same(&rt, &lone.mark(mark), &Err(LoneFault::Illegal));
+        same(rt, &lone.mark(mark), &Err(LoneFault::Illegal));
     }
+}
+
+#[test]
+fn refuses_what_cannot_happen(rt: HostRuntime) {
+    let mut lone = new_store(&rt);
+    same(&rt, &lone.mark(Mark::Ask(0, change(0, 10, 11))), &Ok(None));
+    same(&rt, &lone.mark(Mark::Admit(0)), &Ok(None));
+    let marks = Vec::from_array(rt.alloc(), illegal()).expect(&rt, MEMORY);
+    refuses(&rt, &mut lone, marks);
     same(&rt, &lone.mark(Mark::Seal(0)), &Ok(None));
-    Ok(())
 }

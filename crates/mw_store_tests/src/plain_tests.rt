@@ -3,7 +3,7 @@ ghost use Rattle.mw_words.specs.Change.{is_well_formed};
 ghost use Rattle.mw_plain.specs.Lines.{FitsLine};
 ghost use Rattle.mw_plain.specs.Parts.{tenants, words_at};
 
-use crate::same::same;
+use crate::same::{MEMORY, same};
 use mw_config::TenantLine;
 use mw_disk::MemDisk;
 use mw_file::TenantFile;
@@ -11,7 +11,7 @@ use mw_plain::*;
 use mw_record::{header, size};
 use mw_words::{Entries, Entry, Job, Reply};
 use std::alloc::{AllocError, Global};
-use std::test::Fail;
+use std::process::Abort;
 
 /// A line of a tenant with this name of one letter, two words and a quota of one.
 fn line(name: u8) -> TenantLine
@@ -25,13 +25,16 @@ fn line(name: u8) -> TenantLine
     line
 }
 
+/// A disk of these bytes.
+fn disk_with<R: Abort + AllocGlobal>(rt: &R, bytes: Vec<u8>) -> MemDisk {
+    MemDisk::new(rt.alloc(), bytes, Vec::new(rt.alloc())).expect(rt, MEMORY)
+}
+
 /// A disk with a new file of two words and one place, the two words being 0.
-fn new_disk(alloc: Global) -> Result<MemDisk, AllocError> {
-    let mut bytes = vec![in alloc; 0; size(2, 1) as usize]?;
-    for (to, from) in bytes.iter_mut().zip(header(2, 1)) {
-        *to = from;
-    }
-    MemDisk::new(alloc, bytes, Vec::new(alloc))
+fn new_disk<R: Abort + AllocGlobal>(rt: &R) -> MemDisk {
+    let mut bytes = Vec::from_slice(rt.alloc(), &header(2, 1)).expect(rt, MEMORY);
+    bytes.resize(size(2, 1) as usize, 0).expect(rt, MEMORY);
+    disk_with(rt, bytes)
 }
 
 /// The file on a disk, and its words, where it opens and fits the line.
@@ -69,12 +72,12 @@ fn store(alloc: Global, first: MemDisk, second: MemDisk) -> Result<Plain<MemDisk
 }
 
 /// The store of two tenants, t and u, over new disks.
-fn new_store(alloc: Global) -> Result<Plain<MemDisk>, AllocError>
-    ensures count { IfOk result (λ plain. tenants plain ≡ 2) }
-    ensures first { IfOk result (λ plain. words_at plain 0 ≡ 2) }
-    ensures second { IfOk result (λ plain. words_at plain 1 ≡ 2) }
+fn new_store<R: Abort + AllocGlobal>(rt: &R) -> Plain<MemDisk>
+    ensures count { tenants result ≡ 2 }
+    ensures first { words_at result 0 ≡ 2 }
+    ensures second { words_at result 1 ≡ 2 }
 {
-    store(alloc, new_disk(alloc)?, new_disk(alloc)?)
+    store(rt.alloc(), new_disk(rt), new_disk(rt)).expect(rt, MEMORY)
 }
 
 /// The change of one word from 0 to 1.
@@ -141,26 +144,24 @@ fn two_at_a_time(store: &mut Plain<MemDisk>) -> [Option<Reply>; 5]
 /// The replies to two tenants' changes, their words then, and whether both slots are free again.
 type Told = ([Option<Reply>; 5], [Option<Reply>; 4], bool);
 
-fn told_of_tickets(alloc: Global) -> Result<Told, AllocError> {
-    let mut store = new_store(alloc)?;
+fn told_of_tickets<R: Abort + AllocGlobal>(rt: &R) -> Told {
+    let mut store = new_store(rt);
     let replies = two_at_a_time(&mut store);
     let words = words(&mut store);
-    Ok((replies, words, store.figures().pool_free == 2))
+    (replies, words, store.figures().pool_free == 2)
 }
 
 #[test]
-fn tickets(rt: HostRuntime) -> Result<(), Fail> {
+fn tickets(rt: HostRuntime) {
     let yes = Some(Reply::Yes);
     let replies = [Some(Reply::Busy), yes, yes, yes, None];
     let words = [val(1), val(1), val(1), val(0)];
-    let told = told_of_tickets(rt.alloc())?;
-    same(&rt, &told, &(replies, words, true));
-    Ok(())
+    same(&rt, &told_of_tickets(&rt), &(replies, words, true));
 }
 
 /// The replies to two changes of the same word by t, and to a read by u.
-fn replies_in_order(alloc: Global) -> Result<Vec<Reply>, AllocError> {
-    let mut store = new_store(alloc)?;
+fn replies_in_order<R: Abort + AllocGlobal>(rt: &R) -> Vec<Reply> {
+    let mut store = new_store(rt);
     let tasks = [
         Task {
             tenant: 0,
@@ -175,56 +176,46 @@ fn replies_in_order(alloc: Global) -> Result<Vec<Reply>, AllocError> {
             job: Job::Get(0),
         },
     ];
-    store.run(alloc, &tasks)
+    store.run(rt.alloc(), &tasks).expect(rt, MEMORY)
 }
 
 #[test]
-fn tasks_in_order(rt: HostRuntime) -> Result<(), Fail> {
-    let replies = replies_in_order(rt.alloc())?;
+fn tasks_in_order(rt: HostRuntime) {
+    let replies = replies_in_order(&rt);
     let wanted = [Reply::Yes, Reply::No(0, 1), Reply::Val(0)];
     same(&rt, &replies.as_slice(), &wanted.as_slice());
-    Ok(())
 }
 
 /// A new disk that fails at so many calls from the opening.
-fn failing_disk(alloc: Global, calls: u8) -> Result<MemDisk, AllocError> {
-    let mut disk = new_disk(alloc)?;
-    disk.fail_next(u64::from(calls) + 3)?;
-    Ok(disk)
+fn failing_disk<R: Abort + AllocGlobal>(rt: &R, calls: u8) -> MemDisk {
+    let mut disk = new_disk(rt);
+    disk.fail_next(u64::from(calls) + 3).expect(rt, MEMORY);
+    disk
 }
 
 /// What a crash leaves of the first of these disks, if there is one.
-fn left_of_first(alloc: Global, disks: &[Option<MemDisk>]) -> Result<Vec<u8>, AllocError> {
+fn left_of_first<R: Abort + AllocGlobal>(rt: &R, disks: &[Option<MemDisk>]) -> Vec<u8> {
     match disks.first() {
-        Some(Some(disk)) => disk.crash(&[]),
-        _ => Ok(Vec::new(alloc)),
+        Some(Some(disk)) => disk.crash(&[]).expect(rt, MEMORY),
+        _ => Vec::new(rt.alloc()),
     }
 }
 
 /// The reply to t's change where its device fails at so many calls from the opening, and what a crash
 /// leaves then of its disk.
-fn crash_in_trouble(alloc: Global, calls: u8) -> Result<(Option<Reply>, Vec<u8>), AllocError> {
-    let mut first = store(alloc, failing_disk(alloc, calls)?, new_disk(alloc)?)?;
+fn crash_in_trouble<R: Abort + AllocGlobal>(rt: &R, calls: u8) -> (Option<Reply>, Vec<u8>) {
+    let failing = failing_disk(rt, calls);
+    let mut first = store(rt.alloc(), failing, new_disk(rt)).expect(rt, MEMORY);
     let reply = ask(&mut first, 0, &change(1));
-    let disks = first.into_disks(alloc)?;
-    Ok((reply, left_of_first(alloc, &disks)?))
+    let disks = first.into_disks(rt.alloc()).expect(rt, MEMORY);
+    (reply, left_of_first(rt, &disks))
 }
 
 /// The words of t, whose disk has these bytes, and of u, whose disk is new.
-fn words_of_opened(alloc: Global, bytes: Vec<u8>) -> Result<[Option<Reply>; 4], AllocError> {
-    let left = MemDisk::new(alloc, bytes, Vec::new(alloc))?;
-    let mut second = store(alloc, left, new_disk(alloc)?)?;
-    Ok(words(&mut second))
-}
-
-/// The reply to t's change where its device fails at so many calls from the opening, and the words of t
-/// after the next opening.
-fn after_trouble(
-    alloc: Global,
-    calls: u8,
-) -> Result<(Option<Reply>, [Option<Reply>; 4]), AllocError> {
-    let (reply, bytes) = crash_in_trouble(alloc, calls)?;
-    Ok((reply, words_of_opened(alloc, bytes)?))
+fn words_of_opened<R: Abort + AllocGlobal>(rt: &R, bytes: Vec<u8>) -> [Option<Reply>; 4] {
+    let left = disk_with(rt, bytes);
+    let mut second = store(rt.alloc(), left, new_disk(rt)).expect(rt, MEMORY);
+    words(&mut second)
 }
 
 /// The reply to t's change where its device fails at so many calls from the opening, and the words of t and
@@ -238,10 +229,10 @@ fn wanted_after(calls: u8) -> (Option<Reply>, [Option<Reply>; 4]) {
 }
 
 #[test]
-fn each_device_call_fails(rt: HostRuntime) -> Result<(), Fail> {
+fn each_device_call_fails(rt: HostRuntime) {
     for calls in 0..10 {
-        let found = after_trouble(rt.alloc(), calls)?;
-        same(&rt, &(calls, found), &(calls, wanted_after(calls)));
+        let (reply, bytes) = crash_in_trouble(&rt, calls);
+        let found = (calls, (reply, words_of_opened(&rt, bytes)));
+        same(&rt, &found, &(calls, wanted_after(calls)));
     }
-    Ok(())
 }

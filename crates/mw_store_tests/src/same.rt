@@ -6,3 +6,11 @@ use std::process::Abort;
 pub(crate) fn same<R: Abort, T: Debug + PartialEq>(rt: &R, found: &T, wanted: &T) {
     assert_eq!(rt; found, wanted);
 }
+
+/// What a test says that is refused memory.
+pub(crate) const MEMORY: &str = "memory";
+
+/// A text that was found is the one that was wanted.
+pub(crate) fn same_text<R: Abort>(rt: &R, found: &str, wanted: &str) {
+    assert!(rt; found == wanted, "{found:?} in place of {wanted:?}");
+}

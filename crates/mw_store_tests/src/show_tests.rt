@@ -1,44 +1,56 @@
 //! What is shown of a tenant's file.
 
-use crate::same::same;
+use crate::same::{MEMORY, same_text};
 use mw_record::{header, size};
 use mw_show::{show, show_args, show_file};
-use std::alloc::{AllocError, Global};
 use std::fs::File;
+use std::process::Abort;
+use std::rt::Files;
 use std::test::Fail;
 use std::{env, fs, process};
 
 /// The bytes of a new file with 2 words, from byte 32, and 2 record places, from bytes 48 and 184.
-fn new_file(alloc: Global) -> Result<Vec<u8>, AllocError> {
-    let mut bytes = Vec::from_slice(alloc, &header(2, 2))?;
-    bytes.resize(size(2, 2) as usize, 0)?;
-    Ok(bytes)
+fn new_file<R: Abort + AllocGlobal>(rt: &R) -> Vec<u8> {
+    let mut bytes = Vec::from_slice(rt.alloc(), &header(2, 2)).expect(rt, MEMORY);
+    bytes.resize(size(2, 2) as usize, 0).expect(rt, MEMORY);
+    bytes
+}
+
+/// The place and the value of a byte that a text tells: `AT=VALUE`.
+fn read_change(change: &str) -> Option<(usize, u8)> {
+    let (at, value) = change.split_once('=')?;
+    Some((at.parse().ok()?, value.parse().ok()?))
 }
 
 /// A new file with bytes that were changed as a text tells: `AT=VALUE`, with spaces between.
-fn changed_file(alloc: Global, changes: &str) -> Result<Vec<u8>, Fail> {
-    let mut bytes = new_file(alloc)?;
+fn changed_file<R: Abort + AllocGlobal>(rt: &R, changes: &str) -> Vec<u8> {
+    let mut bytes = new_file(rt);
     for change in changes.split_whitespace() {
-        if let Some((at, value)) = change.split_once('=')
-            && let Some(byte) = bytes.get_mut(at.parse::<usize>()?)
-        {
-            *byte = value.parse::<u8>()?;
+        let (at, value) = read_change(change).expect(rt, "a change");
+        if let Some(byte) = bytes.get_mut(at) {
+            *byte = value;
         }
     }
-    Ok(bytes)
+    bytes
+}
+
+/// The text of these bytes.
+fn text_of<R: Abort + AllocGlobal>(rt: &R, bytes: Vec<u8>) -> String {
+    String::from_utf8(bytes).expect(rt, "a text")
 }
 
 /// What is shown of such a file.
-fn shown(alloc: Global, changes: &str, all_words: bool) -> Result<String, Fail> {
-    let bytes = changed_file(alloc, changes)?;
-    let mut out = Vec::new(alloc);
-    show(alloc, &bytes, all_words, &mut out)?;
-    Ok(String::from_utf8(out)?)
+fn shown<R: Abort + AllocGlobal>(rt: &R, changes: &str, all_words: bool) -> String {
+    let bytes = changed_file(rt, changes);
+    let mut out = Vec::new(rt.alloc());
+    show(rt.alloc(), &bytes, all_words, &mut out).expect(rt, "what is shown");
+    text_of(rt, out)
 }
 
-/// Files, and what is shown of each, with ` / ` for a line feed.
+/// Files, and what is shown of each, with ` / ` for a line feed. The first is a new one: 77 is what its first byte
+/// is.
 const FILES: &str = "\
- > words 2 / places 2
+0=77 > words 2 / places 2
 40=7 > words 2 / places 2 / word 1 7
 184=165 185=2 200=3 208=1 216=5 > words 2 / places 2 / open 1 0 3 / open 1 1 5 / word 0 3 / word 1 5
 46=1 184=165 185=1 192=1 200=7 > words 2 / places 2 / open 1 1 7 / word 1 7
@@ -56,23 +68,25 @@ const FILES: &str = "\
 48=165 49=1 56=2 184=165 > damage 4 byte 48
 48=165 49=1 184=165 185=1 > damage 5 byte 184";
 
-#[test]
-fn files_and_damages_are_shown(rt: HostRuntime) -> Result<(), Fail> {
-    for line in FILES.lines() {
-        if let Some((changes, text)) = line.split_once(" > ") {
-            let text = text.replace(rt.alloc(), " / ", "\n")?;
-            let text = format!(in rt.alloc(); "{text}\n")?;
-            same(&rt, &shown(rt.alloc(), changes, false)?, &text);
-        }
-    }
-    Ok(())
+/// What is shown of a file is this text, with ` / ` for a line feed.
+fn shows<R: Abort + AllocGlobal>(rt: &R, changes: &str, text: &str) {
+    let found = shown(rt, changes, false);
+    let lines = found.replace(rt.alloc(), "\n", " / ").expect(rt, MEMORY);
+    same_text(rt, lines.as_str().strip_suffix(" / ").unwrap_or("?"), text);
 }
 
 #[test]
-fn all_words_are_shown(rt: HostRuntime) -> Result<(), Fail> {
-    let text = shown(rt.alloc(), "40=7", true)?;
-    assert!(rt; text.as_str() == "words 2\nplaces 2\nword 0 0\nword 1 7\n");
-    Ok(())
+fn files_and_damages_are_shown(rt: HostRuntime) {
+    for line in FILES.lines() {
+        let (changes, text) = line.split_once(" > ").expect(&rt, "a file");
+        shows(&rt, changes, text);
+    }
+}
+
+#[test]
+fn all_words_are_shown(rt: HostRuntime) {
+    let wanted = "words 2\nplaces 2\nword 0 0\nword 1 7\n";
+    same_text(&rt, shown(&rt, "40=7", true).as_str(), wanted);
 }
 
 /// What a program gave: its exit status, and what it wrote to its two outputs.
@@ -84,83 +98,102 @@ struct Outcome {
 }
 
 impl Outcome {
-    fn is(&self, status: u8, out: &str, err: &str) -> bool {
-        self.status == status && self.out.as_str() == out && self.err.as_str() == err
+    /// The program gave just this.
+    fn is<R: Abort>(&self, rt: &R, status: u8, out: &str, err: &str) {
+        assert!(rt; self.status == status);
+        same_text(rt, self.out.as_str(), out);
+        same_text(rt, self.err.as_str(), err);
     }
 }
 
-/// The program with a command line.
-fn run(rt: &HostRuntime, words: &[&str]) -> Result<Outcome, Fail> {
+/// The program with the command line of these words.
+fn run<R: Abort + AllocGlobal + Files<File = File>>(rt: &R, words: &[&str]) -> Outcome {
     let mut args = Vec::new(rt.alloc());
     for word in words {
-        args.push(String::from_str(rt.alloc(), word)?)?;
+        let word = String::from_str(rt.alloc(), word).expect(rt, MEMORY);
+        args.push(word).expect(rt, MEMORY);
     }
-    let mut out = Vec::new(rt.alloc());
-    let mut err = Vec::new(rt.alloc());
-    let status = show_args(rt, &args, &mut out, &mut err);
-    Ok(Outcome {
-        status,
-        out: String::from_utf8(out)?,
-        err: String::from_utf8(err)?,
-    })
+    outcome_of(rt, &args)
 }
 
-/// The path of a test's own file, with these bytes.
-fn write_file(rt: &HostRuntime, name: &str, changes: &str) -> Result<String, Fail> {
+/// The program with this command line.
+fn outcome_of<R: Abort + AllocGlobal + Files<File = File>>(rt: &R, args: &[String]) -> Outcome {
+    let mut out = Vec::new(rt.alloc());
+    let mut err = Vec::new(rt.alloc());
+    let status = show_args(rt, args, &mut out, &mut err);
+    Outcome {
+        status,
+        out: text_of(rt, out),
+        err: text_of(rt, err),
+    }
+}
+
+/// The path of a test's own file.
+fn path_of(rt: &HostRuntime, name: &str) -> Result<String, Fail> {
     let id = process::id(rt.process());
-    let path = env::temp_dir(rt)?.join(rt.alloc(), format!(in rt.alloc(); "mwshow-{name}-{id}")?)?;
-    let path = String::from_str(rt.alloc(), path.as_path().as_str())?;
-    fs::write(
-        rt,
-        path.as_str(),
-        changed_file(rt.alloc(), changes)?.as_slice(),
-    )?;
-    Ok(path)
+    let name = format!(in rt.alloc(); "mwshow-{name}-{id}")?;
+    let path = env::temp_dir(rt)?.join(rt.alloc(), name.as_str())?;
+    Ok(String::from_str(rt.alloc(), path.as_path().as_str())?)
+}
+
+/// At this path stands a file with these bytes.
+fn write_file<R: Abort + AllocGlobal + Files<File = File>>(rt: &R, path: &str, changes: &str) {
+    let bytes = changed_file(rt, changes);
+    fs::write(rt, path, bytes.as_slice()).expect(rt, "a file");
+}
+
+/// The file at this path is gone.
+fn remove<R: Abort + AllocGlobal + Files<File = File>>(rt: &R, path: &str) {
+    fs::remove_file(rt, path).expect(rt, "a file");
 }
 
 #[test]
 fn a_file_is_shown(rt: HostRuntime) -> Result<(), Fail> {
-    let path = write_file(&rt, "file", "40=7")?;
-    let outcome = run(&rt, &["mwshow", path.as_str()])?;
-    fs::remove_file(&rt, path.as_str())?;
-    assert!(rt; outcome.is(0, "words 2\nplaces 2\nword 1 7\n", ""));
+    let path = path_of(&rt, "file")?;
+    write_file(&rt, path.as_str(), "40=7");
+    let outcome = run(&rt, &["mwshow", path.as_str()]);
+    remove(&rt, path.as_str());
+    outcome.is(&rt, 0, "words 2\nplaces 2\nword 1 7\n", "");
     Ok(())
 }
 
 #[test]
 fn a_damaged_file_ends_with_status_1(rt: HostRuntime) -> Result<(), Fail> {
-    let path = write_file(&rt, "damaged", "0=78")?;
-    let outcome = run(&rt, &["mwshow", "--words", path.as_str()])?;
-    fs::remove_file(&rt, path.as_str())?;
-    assert!(rt; outcome.is(1, "damage 1 byte 0\n", ""));
+    let path = path_of(&rt, "damaged")?;
+    write_file(&rt, path.as_str(), "0=78");
+    let outcome = run(&rt, &["mwshow", "--words", path.as_str()]);
+    remove(&rt, path.as_str());
+    outcome.is(&rt, 1, "damage 1 byte 0\n", "");
     Ok(())
+}
+
+/// What the program gives of a file that is in use.
+fn run_in_use<R: Abort + AllocGlobal + Files<File = File>>(rt: &R, path: &str) -> Outcome {
+    let server = File::open(rt, path).expect(rt, "a file");
+    assert!(rt; server.try_lock().is_ok());
+    run(rt, &["mwshow", path])
 }
 
 #[test]
 fn a_file_in_use_is_not_read(rt: HostRuntime) -> Result<(), Fail> {
-    let path = write_file(&rt, "used", "")?;
-    let server = File::open(&rt, path.as_str())?;
-    let locked = server.try_lock().is_ok();
-    let outcome = run(&rt, &["mwshow", path.as_str()])?;
-    fs::remove_file(&rt, path.as_str())?;
-    assert!(rt; locked && outcome.is(1, "", "mwshow: in use\n"));
+    let path = path_of(&rt, "used")?;
+    write_file(&rt, path.as_str(), "");
+    let outcome = run_in_use(&rt, path.as_str());
+    remove(&rt, path.as_str());
+    outcome.is(&rt, 1, "", "mwshow: in use\n");
     Ok(())
 }
 
 #[test]
-fn a_folder_is_refused(rt: HostRuntime) -> Result<(), Fail> {
-    let outcome = run(&rt, &["mwshow", "."])?;
-    assert!(rt; outcome.is(1, "", "mwshow: not a plain file\n"));
-    Ok(())
+fn a_folder_is_refused(rt: HostRuntime) {
+    run(&rt, &["mwshow", "."]).is(&rt, 1, "", "mwshow: not a plain file\n");
 }
 
 #[test]
-fn a_missing_file_is_told(rt: HostRuntime) -> Result<(), Fail> {
+fn a_missing_file_is_told(rt: HostRuntime) {
     let mut out = Vec::new(rt.alloc());
     let mut err = Vec::new(rt.alloc());
     let status = show_file(&rt, "./no such file", true, &mut out, &mut err);
-    assert!(rt;
-        status == 1 && out.is_empty() && err.as_slice() == b"mwshow: cannot read\n".as_slice()
-    );
-    Ok(())
+    assert!(rt; status == 1 && out.is_empty());
+    same_text(&rt, text_of(&rt, err).as_str(), "mwshow: cannot read\n");
 }
