@@ -10,7 +10,7 @@ use Rattle.mw_words.specs.Name.{is_name}
 use Rattle.mw_world.specs.declared.config.Tenant.{Tenant}
 use Rattle.mw_schedule.specs.Playing.{IsFree, IsNext, AreNamed, AreTenants}
 
-neither : (a b : Bool) → (a || b) ≡ false → (a ≡ false) × (b ≡ false)
+pub neither : (a b : Bool) → (a || b) ≡ false → (a ≡ false) × (b ≡ false)
 neither true b h = absurd cc
 neither false b h = (refl, h)
 
