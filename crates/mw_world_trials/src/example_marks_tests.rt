@@ -1,147 +1,185 @@
 //! The marks of the example runs, which `ComeOut` states, are taken one by one by the store alone, and
 //! hand out the same replies.
 
-use mw_lone::{Lone, LoneFault, Mark};
-use mw_words::{Entries, Entry, Job, Reply};
+use mw_line::{Request, Say, behind, field, read_line, value_at};
+use mw_lone::{Lone, Mark};
+use mw_words::{Job, Reply};
 use std::process::Abort;
 use std::test::Fail;
 
-/// A change of one word.
-fn change(addr: u16, expected: u64, new: u64) -> Job {
-    let mut entries = Entries::new();
-    entries.push(Entry {
-        addr: addr,
-        expected: expected,
-        new: new,
-    });
-    Job::Cas(entries)
-}
-
-/// A change of the words 0 and 1, which have 0.
-fn change_both(first: u64, second: u64) -> Job {
-    let mut entries = Entries::new();
-    entries.push(Entry {
-        addr: 0,
-        expected: 0,
-        new: first,
-    });
-    entries.push(Entry {
-        addr: 1,
-        expected: 0,
-        new: second,
-    });
-    Job::Cas(entries)
-}
-
-/// What a store makes of a mark.
-type Took = Result<Option<Reply>, LoneFault>;
-
-/// What the store makes of a mark is what was wanted; the number tells which mark it is.
-fn same_at<R: Abort>(rt: &R, number: usize, took: Took, wanted: Took) {
-    assert_eq!(rt; took, wanted, "mark {number}");
-}
-
-/// The store takes these marks, and hands out these replies at them.
-fn takes<R: Abort>(rt: &R, lone: &mut Lone, marks: Vec<(Mark, Option<Reply>)>) {
-    for (number, (mark, reply)) in marks.into_iter().enumerate() {
-        same_at(rt, number, lone.mark(mark), Ok(reply));
+/// The mark that a line tells: what happens, the request that it happens to, and what goes with it.
+fn mark_of(line: &[u8]) -> Option<Mark> {
+    if let Some(found) = behind(b"restart ", line) {
+        return restart_of(found);
+    }
+    let (word, rest) = field(b' ', line)?;
+    let (request, rest) = value_at(rest)?;
+    match behind(b" ", rest) {
+        Some(more) => long_mark(word, request, more),
+        None => short_mark(word, request),
     }
 }
 
-#[test]
-fn late_finisher(rt: HostRuntime) -> Result<(), Fail> {
-    let mut lone = Lone::new(rt.alloc(), &[0, 0], 3)?;
-    let marks = [
-        (Mark::Ask(0, change_both(1, 1)), None),
-        (Mark::Admit(0), None),
-        (Mark::Ask(1, change(0, 0, 9)), None),
-        (Mark::Admit(1), None),
-        (Mark::Ask(2, change(1, 1, 0)), None),
-        (Mark::Admit(2), None),
-        (Mark::Seal(0), None),
-        (Mark::Seal(2), None),
-        (Mark::Retire(2), None),
-        (Mark::Reply(2), Some(Reply::Yes)),
-        (Mark::Reply(0), Some(Reply::Yes)),
-        (Mark::Retire(0), None),
-        (Mark::Miss(1, 0), None),
-        (Mark::Retire(1), None),
-        (Mark::Reply(1), Some(Reply::No(0, 1))),
-        (Mark::Ask(3, Job::Get(1)), None),
-        (Mark::Look(3), None),
-        (Mark::Reply(3), Some(Reply::Val(0))),
-    ];
-    takes(&rt, &mut lone, Vec::from_array(rt.alloc(), marks)?);
+/// All stops and starts again, and the file opens: the change in doubt is found, or the change of this
+/// request was under way and is lost.
+fn restart_of(found: &[u8]) -> Option<Mark> {
+    let interrupted = match behind(b"lost ", found) {
+        Some(request) => Some(value_at(request)?.0),
+        None => None,
+    };
+    Some(Mark::Restart {
+        interrupted,
+        take: interrupted.is_none(),
+        opened: true,
+    })
+}
+
+fn long_mark(word: &[u8], request: u64, more: &[u8]) -> Option<Mark> {
+    match word {
+        b"ask" => Some(Mark::Ask(request, job_of(more)?)),
+        b"miss" => Some(Mark::Miss(request, entry_of(more)?)),
+        b"reply" => Some(Mark::Reply(request)),
+        _ => None,
+    }
+}
+
+fn short_mark(word: &[u8], request: u64) -> Option<Mark> {
+    match word {
+        b"admit" => Some(Mark::Admit(request)),
+        b"look" => Some(Mark::Look(request)),
+        b"seal" => Some(Mark::Seal(request)),
+        b"seal-fail" => Some(Mark::SealFail(request)),
+        b"give-up" => Some(Mark::GiveUp(request)),
+        b"retire" => Some(Mark::Retire(request)),
+        _ => None,
+    }
+}
+
+/// The index of an entry.
+fn entry_of(text: &[u8]) -> Option<u8> {
+    let (index, _) = value_at(text)?;
+    u8::try_from(index).ok()
+}
+
+fn job_of(line: &[u8]) -> Option<Job> {
+    match read_line(line) {
+        Ok(Request::Job(job)) => Some(job),
+        _ => None,
+    }
+}
+
+/// The text of the reply that stands behind a mark.
+fn reply_in(line: &[u8]) -> Option<&[u8]> {
+    let (_, reply) = field(b' ', behind(b"reply ", line)?)?;
+    Some(reply)
+}
+
+/// Whether a reply has the text that stands behind a mark.
+fn is_reply(reply: Reply, line: &[u8]) -> bool {
+    match reply_in(line) {
+        Some(text) => matches!(behind(text, &Say::Store(reply).text()), Some(b"\n")),
+        None => false,
+    }
+}
+
+/// Whether the store takes a mark, and hands out the reply that stands behind it, or none.
+fn takes_mark(lone: &mut Lone, line: &[u8]) -> bool {
+    let Some(mark) = mark_of(line) else {
+        return false;
+    };
+    match lone.mark(mark) {
+        Ok(Some(reply)) => is_reply(reply, line),
+        Ok(None) => reply_in(line).is_none(),
+        Err(_) => false,
+    }
+}
+
+/// A new store takes these marks, a line each, and hands out the replies that stand behind them.
+fn takes<R: Abort + AllocGlobal>(
+    rt: &R,
+    words: &[u64],
+    quota: u8,
+    marks: &str,
+) -> Result<(), Fail> {
+    let mut lone = Lone::new(rt.alloc(), words, quota)?;
+    for line in marks.split('\n') {
+        assert!(rt; takes_mark(&mut lone, line.as_bytes()), "{line}");
+    }
     Ok(())
 }
+
+const LATE_FINISHER: &str = "\
+ask 0 CAS 0:0:1 1:0:1
+admit 0
+ask 1 CAS 0:0:9
+admit 1
+ask 2 CAS 1:1:0
+admit 2
+seal 0
+seal 2
+retire 2
+reply 2 YES
+reply 0 YES
+retire 0
+miss 1 0
+retire 1
+reply 1 NO 0 1
+ask 3 GET 1
+look 3
+reply 3 VAL 0";
+
+#[test]
+fn late_finisher(rt: HostRuntime) -> Result<(), Fail> {
+    takes(&rt, &[0, 0], 3, LATE_FINISHER)
+}
+
+const STALE_REFUSAL: &str = "\
+ask 0 CAS 0:5:6
+admit 0
+miss 0 0
+ask 1 CAS 0:0:5
+admit 1
+seal 1
+retire 1
+reply 1 YES
+retire 0
+reply 0 NO 0 0";
 
 #[test]
 fn stale_refusal(rt: HostRuntime) -> Result<(), Fail> {
-    let mut lone = Lone::new(rt.alloc(), &[0], 2)?;
-    let marks = [
-        (Mark::Ask(0, change(0, 5, 6)), None),
-        (Mark::Admit(0), None),
-        (Mark::Miss(0, 0), None),
-        (Mark::Ask(1, change(0, 0, 5)), None),
-        (Mark::Admit(1), None),
-        (Mark::Seal(1), None),
-        (Mark::Retire(1), None),
-        (Mark::Reply(1), Some(Reply::Yes)),
-        (Mark::Retire(0), None),
-        (Mark::Reply(0), Some(Reply::No(0, 0))),
-    ];
-    takes(&rt, &mut lone, Vec::from_array(rt.alloc(), marks)?);
-    Ok(())
+    takes(&rt, &[0], 2, STALE_REFUSAL)
 }
+
+const FAILED_SEAL: &str = "\
+ask 0 CAS 0:0:1
+admit 0
+seal-fail 0
+reply 0 FAULT
+ask 1 GET 0
+give-up 1
+reply 1 FAULT
+restart found
+ask 2 GET 0
+look 2
+reply 2 VAL 1";
 
 #[test]
 fn failed_seal(rt: HostRuntime) -> Result<(), Fail> {
-    let mut lone = Lone::new(rt.alloc(), &[0], 1)?;
-    let marks = [
-        (Mark::Ask(0, change(0, 0, 1)), None),
-        (Mark::Admit(0), None),
-        (Mark::SealFail(0), None),
-        (Mark::Reply(0), Some(Reply::Fault)),
-        (Mark::Ask(1, Job::Get(0)), None),
-        (Mark::GiveUp(1), None),
-        (Mark::Reply(1), Some(Reply::Fault)),
-        (
-            Mark::Restart {
-                interrupted: None,
-                take: true,
-                opened: true,
-            },
-            None,
-        ),
-        (Mark::Ask(2, Job::Get(0)), None),
-        (Mark::Look(2), None),
-        (Mark::Reply(2), Some(Reply::Val(1))),
-    ];
-    takes(&rt, &mut lone, Vec::from_array(rt.alloc(), marks)?);
-    Ok(())
+    takes(&rt, &[0], 1, FAILED_SEAL)
 }
+
+const TORN_GATE: &str = "\
+ask 0 CAS 0:0:1 1:0:2
+admit 0
+restart lost 0
+ask 1 GET 0
+look 1
+reply 1 VAL 0
+ask 2 GET 1
+look 2
+reply 2 VAL 0";
 
 #[test]
 fn torn_gate(rt: HostRuntime) -> Result<(), Fail> {
-    let mut lone = Lone::new(rt.alloc(), &[0, 0], 1)?;
-    let marks = [
-        (Mark::Ask(0, change_both(1, 2)), None),
-        (Mark::Admit(0), None),
-        (
-            Mark::Restart {
-                interrupted: Some(0),
-                take: false,
-                opened: true,
-            },
-            None,
-        ),
-        (Mark::Ask(1, Job::Get(0)), None),
-        (Mark::Look(1), None),
-        (Mark::Reply(1), Some(Reply::Val(0))),
-        (Mark::Ask(2, Job::Get(1)), None),
-        (Mark::Look(2), None),
-        (Mark::Reply(2), Some(Reply::Val(0))),
-    ];
-    takes(&rt, &mut lone, Vec::from_array(rt.alloc(), marks)?);
-    Ok(())
+    takes(&rt, &[0, 0], 1, TORN_GATE)
 }
