@@ -358,52 +358,69 @@ fn is_tenant(tenant: &Tenant, name: &[u8], words: u16, quota: u8) -> bool {
     tenant.name.as_slice() == name && (tenant.words, tenant.quota) == (words, quota)
 }
 
+/// Whether these tenants are those of [`HEAD`].
+fn are_tenants(tenants: &[Tenant]) -> bool {
+    match tenants {
+        [first, second] => is_tenant(first, b"t", 2, 1) && is_tenant(second, b"u-1", 4096, 32),
+        _ => false,
+    }
+}
+
 #[test]
 fn the_world_that_is_told(rt: HostRuntime) {
     let config = schedule_of(&rt, HEAD).config;
-    let numbers = (config.pool, config.workers, config.seq);
-    same(&rt, &numbers, &(33, 2, 7));
-    match config.tenants.as_slice() {
-        [first, second] => {
-            assert!(rt; is_tenant(first, b"t", 2, 1));
-            assert!(rt; is_tenant(second, b"u-1", 4096, 32));
-        }
-        _ => assert!(rt; false, "there are two"),
-    }
+    assert!(rt; (config.pool, config.workers, config.seq) == (33, 2, 7));
+    assert!(rt; are_tenants(&config.tenants));
 }
 
 #[test]
 fn a_world_without_a_first_number(rt: HostRuntime) {
     let plain = schedule_of(&rt, b"pool 1\nworkers 1\ntenant t 1 1\n");
-    same(&rt, &(plain.config.seq, plain.lines.len()), &(0, 0));
+    assert!(rt; (plain.config.seq, plain.lines.len()) == (0, 0));
+}
+
+/// A command a line, from the fifth line on.
+const COMMANDS: &[u8] =
+    b"pool 2\nworkers 1\ntenant t 1 1\ntenant u 9 1\ncome 3 u GET 8\nstep 4\nfile 5 good\nfile 6 7\nbefore 8 plant\nto 9 seal\nend 10\n";
+
+/// Whether a command of [`COMMANDS`] is the one that stands in the line with this number.
+fn is_command(number: u64, command: &Command) -> bool {
+    match command {
+        Command::Come(worker, tenant, job) => {
+            (number, *worker, *tenant) == (5, 3, 1) && *job == Job::Get(8)
+        }
+        Command::Step(worker) => (number, *worker) == (6, 4),
+        Command::File(worker, outcome) => is_file_command(number, *worker, *outcome),
+        Command::Before(worker, kind) => {
+            (number, *worker) == (9, 8) && *kind == StepKind::Change(Kind::Plant)
+        }
+        Command::To(worker, kind) => {
+            (number, *worker) == (10, 9) && *kind == StepKind::File(Call::Seal)
+        }
+        Command::End(worker) => (number, *worker) == (11, 10),
+        Command::Restart(_) => false,
+    }
+}
+
+fn is_file_command(number: u64, worker: u8, outcome: Outcome) -> bool {
+    match outcome {
+        Outcome::Good => (number, worker) == (7, 5),
+        Outcome::Fail(at) => (number, worker, at) == (8, 6, 7),
+    }
 }
 
 #[test]
 fn what_is_to_happen(rt: HostRuntime) {
-    let text =
-        b"pool 2\nworkers 1\ntenant t 1 1\ntenant u 9 1\ncome 3 u GET 8\nstep 4\nfile 5 good\nfile 6 7\nbefore 8 plant\nto 9 seal\nend 10\n";
-    let lines = schedule_of(&rt, text).lines;
-    let mut number = 5;
-    for line in &lines {
-        assert_eq!(rt; line.number, number);
-        let is_told = match (number, &line.command) {
-            (5, Command::Come(worker, tenant, job)) => {
-                (*worker, *tenant) == (3, 1) && *job == Job::Get(8)
-            }
-            (6, Command::Step(worker)) => *worker == 4,
-            (7, Command::File(worker, outcome)) => *worker == 5 && *outcome == Outcome::Good,
-            (8, Command::File(worker, outcome)) => *worker == 6 && *outcome == Outcome::Fail(7),
-            (9, Command::Before(worker, kind)) => {
-                *worker == 8 && *kind == StepKind::Change(Kind::Plant)
-            }
-            (10, Command::To(worker, kind)) => *worker == 9 && *kind == StepKind::File(Call::Seal),
-            (11, Command::End(worker)) => *worker == 10,
-            _ => false,
-        };
-        assert!(rt; is_told, "line {number}");
-        number += 1;
+    let schedule = schedule_of(&rt, COMMANDS);
+    assert!(rt; schedule.lines.len() == 7);
+    let mut number: u64 = 5;
+    for line in &schedule.lines {
+        assert!(rt;
+            line.number == number && is_command(number, &line.command),
+            "line {number}"
+        );
+        number = number.saturating_add(1);
     }
-    assert_eq!(rt; number, 12);
 }
 
 /// Whether a stop is that of this tenant, cut off there, with these torn bytes, and an opening that
@@ -419,38 +436,53 @@ fn is_stop(
     is_cut && stop.torn.as_slice() == torn && stop.fails_at == fails_at
 }
 
+/// A stop that is cut off, and one that isn't.
+const STOPS: &[u8] =
+    b"pool 2\nworkers 1\ntenant t 1 1\ntenant u 9 1\nrestart u=3,4,00a5ff,6 t=-,-,\n";
+
+/// Whether these stops are those of [`STOPS`].
+fn are_stops(stops: &[Stop]) -> bool {
+    let interrupted = Some(Interrupted { worker: 3, made: 4 });
+    match stops {
+        [first, second] => {
+            is_stop(first, 1, interrupted, &[0, 0xa5, 0xff], Some(6))
+                && is_stop(second, 0, None, &[], None)
+        }
+        _ => false,
+    }
+}
+
+/// Whether a schedule's first line has the stops of [`STOPS`].
+fn stops_first(schedule: &Schedule) -> bool {
+    match schedule.lines.first() {
+        Some(line) => match &line.command {
+            Command::Restart(stops) => are_stops(stops),
+            _ => false,
+        },
+        None => false,
+    }
+}
+
 #[test]
 fn how_all_stops(rt: HostRuntime) {
-    let text = b"pool 2\nworkers 1\ntenant t 1 1\ntenant u 9 1\nrestart u=3,4,00a5ff,6 t=-,-,\n";
-    let lines = schedule_of(&rt, text).lines;
-    let Some(line) = lines.first() else {
-        return assert!(rt; false, "there is a line");
-    };
-    let Command::Restart(stops) = &line.command else {
-        return assert!(rt; false, "all stops");
-    };
-    match stops.as_slice() {
-        [first, second] => {
-            let interrupted = Some(Interrupted { worker: 3, made: 4 });
-            assert!(rt; is_stop(first, 1, interrupted, &[0, 0xa5, 0xff], Some(6)));
-            assert!(rt; is_stop(second, 0, None, &[], None));
-        }
-        _ => assert!(rt; false, "there are two"),
+    let schedule = schedule_of(&rt, STOPS);
+    assert!(rt; stops_first(&schedule));
+}
+
+/// Whether a schedule has one line, a call of worker 0 in which a device call fails that never comes.
+fn fails_never(schedule: &Schedule) -> bool {
+    match schedule.lines.as_slice() {
+        [line] => match &line.command {
+            Command::File(0, outcome) => *outcome == Outcome::Fail(u64::MAX),
+            _ => false,
+        },
+        _ => false,
     }
 }
 
 #[test]
 fn numbers_that_are_too_large(rt: HostRuntime) {
     let text = b"pool 1\nworkers 1\ntenant t 1 1\nfile 0 99999999999999999999\n";
-    let lines = schedule_of(&rt, text).lines;
-    match lines.as_slice() {
-        [line] => {
-            let is_told = match &line.command {
-                Command::File(0, outcome) => *outcome == Outcome::Fail(u64::MAX),
-                _ => false,
-            };
-            assert!(rt; is_told);
-        }
-        _ => assert!(rt; false, "there is one"),
-    }
+    let schedule = schedule_of(&rt, text);
+    assert!(rt; fails_never(&schedule));
 }
