@@ -30,6 +30,20 @@ pub enum TrialFault {
     Disagreement(Disagreement),
 }
 
+impl TrialFault {
+    /// What went wrong.
+    pub(crate) fn told(self) -> &'static str {
+        match self {
+            TrialFault::Memory => "memory",
+            TrialFault::Disagreement(Disagreement::Stuck) => "stuck",
+            TrialFault::Disagreement(Disagreement::Mark) => "mark",
+            TrialFault::Disagreement(Disagreement::Reply) => "reply",
+            TrialFault::Disagreement(Disagreement::Replies) => "replies",
+            TrialFault::Disagreement(Disagreement::Word) => "word",
+        }
+    }
+}
+
 impl From<AllocError> for TrialFault {
     fn from(_: AllocError) -> TrialFault {
         TrialFault::Memory
@@ -46,7 +60,7 @@ impl From<LoneFault> for TrialFault {
 }
 
 /// A reply that was handed out to a tenant.
-#[derive(Clone, Copy, Debug)]
+#[derive(Clone, Copy)]
 pub(crate) struct Handed {
     /// The tenant.
     pub(crate) tenant: u8,

@@ -1,7 +1,6 @@
 //! Ten thousand trials.
 
 use crate::trial::play;
-use std::test::Fail;
 
 /// How many trials there are.
 const TRIALS: u64 = 10_000;
@@ -10,18 +9,21 @@ const TRIALS: u64 = 10_000;
 const EVENTS: u64 = 300;
 
 #[test]
-fn worlds_agree_with_stores(rt: HostRuntime) -> Result<(), Fail> {
+fn worlds_agree_with_stores(rt: HostRuntime) {
     let mut starts: u64 = 0;
     let mut failures: u64 = 0;
     for seed in 0..TRIALS {
-        let tally = play(rt.alloc(), seed, EVENTS);
-        assert!(rt; tally.is_ok(), "seed {}: {:?}", seed, tally);
-        if let Ok(tally) = tally {
-            starts = starts.saturating_add(tally.interruptions);
-            failures = failures.saturating_add(tally.failures);
+        match play(rt.alloc(), seed, EVENTS) {
+            Ok(tally) => {
+                starts = starts.saturating_add(tally.interruptions);
+                failures = failures.saturating_add(tally.failures);
+            }
+            Err(fault) => {
+                let wrong = fault.told();
+                assert!(rt; false, "seed {seed}: {wrong}");
+            }
         }
     }
     assert!(rt; starts > TRIALS / 4);
     assert!(rt; failures > TRIALS / 8);
-    Ok(())
 }

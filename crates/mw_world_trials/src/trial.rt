@@ -12,16 +12,11 @@ use mw_world::{Event, Outcome};
 use std::alloc::{AllocError, Global};
 
 /// What happened in a trial.
-#[derive(Clone, Copy, Debug, Default, PartialEq, Eq)]
+#[derive(Clone, Copy, Default)]
 pub struct Tally {
-    /// How many events.
-    pub events: u64,
-    /// How many replies.
-    pub replies: u64,
     /// How many device calls failed.
     pub failures: u64,
-    /// How often all stopped and started again, and how often with a call under way.
-    pub starts: u64,
+    /// How often all stopped as the dice wanted it.
     pub interruptions: u64,
 }
 
@@ -36,7 +31,7 @@ struct Trial {
 }
 
 /// What a worker can do next.
-#[derive(Clone, Copy, Debug)]
+#[derive(Clone, Copy)]
 enum Next {
     /// It has no request.
     Ask,
@@ -123,7 +118,6 @@ impl Trial {
         if self.handed.push(handed).is_err() {
             return Err(TrialFault::Memory);
         }
-        count(&mut self.tally.replies);
         self.must(Event::Hand(worker))
     }
 
@@ -135,7 +129,6 @@ impl Trial {
         } else {
             self.must(Event::Restart(Vec::new(self.alloc)))?;
         }
-        count(&mut self.tally.starts);
         self.judge_start()
     }
 
@@ -151,10 +144,7 @@ impl Trial {
     /// Whether an event can happen; then it does.
     fn may(&mut self, event: Event) -> Result<bool, TrialFault> {
         match self.world.step(event) {
-            Ok(()) => {
-                count(&mut self.tally.events);
-                Ok(true)
-            }
+            Ok(()) => Ok(true),
             Err(WorldFault::NotEnabled | WorldFault::LastNumber) => Ok(false),
             Err(WorldFault::Memory) => Err(TrialFault::Memory),
         }
