@@ -178,6 +178,27 @@ cancel_durable f words contents states next place durable lt is staged = record 
   stores = cancel_done f.reads words contents states next place (writes_of_place states place) durable.stores staged (placed_at f.reads words contents states place durable.stores lt is).shut;
 }
 
+-- a call that gave up a change and touched no device
+pub safe_given_up : {D : Type 0} (facts : D → Facts) (old new : TenantFile D) (place : ℕ) (contents : List ℕ) (doubt : Pairs) → disk_of new ≡ disk_of old → number_of new ≡ number_of old
+    → has_failed new ≡ has_failed old → place < length (states_of old) → stage_of (states_of old) place ≡ Prepared
+    → IsStaged (states_of old) (states_of new) place Free (writes_of_place (states_of old) place) → Keeps facts old contents doubt → CrashSafe facts old new contents doubt contents doubt
+safe_given_up facts old new place contents doubt disk number failed lt is staged was =
+    let was_sound : has_failed new ≡ false → has_failed old ≡ false = λ sound. sym failed ∙ sound in
+    record {
+      moments = subst (λ d. LeavesOnly (facts (disk_of old)) (facts d) (IsEither (length (states_of old)) contents doubt)) (sym disk) (safe_untouched facts old contents doubt was).moments;
+      after = record {
+        count = was.count ∙ sym number;
+        read = λ sound. subst (λ n. IsFile n contents (facts (disk_of new)).reads) (sym staged.count)
+            (subst (λ d. IsFile (length (states_of old)) contents (facts d).reads) (sym disk) (was.read (was_sound sound)));
+        certain = λ sound. was.certain (was_sound sound);
+        left = λ image left. subst (λ n. IsEither n contents doubt image) (sym staged.count) (was.left image (subst (λ d. MayLeave (facts d) image) disk left));
+        inside = λ sound.
+            let durable = subst (λ d. IsDurable (facts d) (number_of old) contents (states_of old)) (sym disk) (was.inside (was_sound sound)) in
+            let next = cancel_durable (facts (disk_of new)) (number_of old) contents (states_of old) (states_of new) place durable lt is staged in
+            durable_as (facts (disk_of new)) (number_of old) (number_of new) contents contents (states_of new) (states_of new) number refl refl next;
+      };
+    }
+
 -- a copy stands for what the file stands for
 pub keeps_copy : {D : Type 0} (facts : D → Facts) (old new : TenantFile D) (contents : List ℕ) (doubt : Pairs) → IsCopy old new → Keeps facts old contents doubt → Keeps facts new contents doubt
 keeps_copy facts old new contents doubt copy was =
