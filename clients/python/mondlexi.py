@@ -1,7 +1,7 @@
 """A client of Mondlexi, a server of durable words: one file, for Python 3.8 or later, with the standard library alone.
 
 A *tenant* owns words at the addresses 0, 1, 2 and so on, at most 4,096 of them. Each word has a value from 0 to 2^48 - 1,
-and is 0 at first. A *change* compares up to eight words with the values that are expected of them, and, where all are
+and is 0 at first. A *change* compares up to sixteen words with the values that are expected of them, and, where all are
 equal, writes a new value to each: durably, and wholly or not at all.
 
     import mondlexi
@@ -64,7 +64,7 @@ once the client is connected:
     def fill(client, values):                                 # the words 1, 2 .. of a new tenant; word 0: how many are filled
         while client.get(0) < len(values):
             done = client.get(0)
-            last = min(done + 7, len(values))
+            last = min(done + 15, len(values))
             client.cas([(0, done, last)] + [(1 + k, 0, values[k]) for k in range(done, last)])
 
 Of a closed client each further call raises Lost and sends nothing, until `reconnect` connects it anew. An exception from
@@ -91,14 +91,14 @@ MAX_VALUE: int = 2 ** 48 - 1
 """The greatest value of a word."""
 MAX_WORDS: int = 4096
 """The most words that a tenant can have; the greatest address is one less."""
-MAX_ENTRIES: int = 8
+MAX_ENTRIES: int = 16
 """The most words of one change, or of one `read`."""
 
 Entry = Tuple[int, int, int]
 """A part of a change: the address of a word, the value expected there, and the new one."""
 
 _MAX_PATH = 107
-_MAX_LINE = 320
+_MAX_LINE = 640
 _MAX_REPLY = 32
 _MAX_SECONDS = 1_000_000.0
 _REPORT_LINES = 17
@@ -475,7 +475,7 @@ class Client(_Session):
     def read(self, addresses: Iterable[int]) -> List[int]:
         """The values of several words, all as they were at one moment, in the order in which `addresses` names them.
 
-        One to eight different addresses, in any order; one may come again. More can't be read of one moment while others
+        One to sixteen different addresses, in any order; one may come again. More can't be read of one moment while others
         change them. A single word is read by `get`. Several are guessed one by one, then confirmed by a change that writes
         to each the value that it has. So it costs the disk as much as a change of them, and as a change can be busy.
         Guesses that have gone stale are mended.
@@ -500,7 +500,7 @@ class Client(_Session):
         """Compares and swaps: writes each entry's new value if all the words have the values expected, else nothing.
 
         An entry is `(address, expected, new)`: an address from 0 to `words` - 1, and two values from 0 to 2^48 - 1, which
-        may be equal, to compare only. One to eight entries in any order, each of another word.
+        may be equal, to compare only. One to sixteen entries in any order, each of another word.
 
         Returns an `Outcome`: made, durably; or a word that had another value. While the server is busy it asks again,
         for `patience` seconds. The server syncs its file four times for a change that is made, once for one that isn't.

@@ -240,6 +240,14 @@ fn a_slot_without_an_entry_of_the_word(rt: HostRuntime) {
         addr(5, 8),
         addr(6, 8),
         addr(7, 8),
+        addr(8, 8),
+        addr(9, 8),
+        addr(10, 8),
+        addr(11, 8),
+        addr(12, 8),
+        addr(13, 8),
+        addr(14, 8),
+        addr(15, 8),
         unpin(TWO_PINS),
     ];
     let parts: [&[Play]; 4] = [&pinned(), &[status(OPEN)], &entries, &again()];

@@ -1,7 +1,8 @@
 -- The reader of a change, step by step, and what it finds wrong at the end.
-use Rattle.std.proofs.Common.{◌≡◌, ℕ, zero, suc, ◌<◌, ◌≤◌, Bool, true, false, cond, eqb, ltb, leb, ◌&&◌, List, [], ◌∷◌, ◌++◌, length, take_all, Option, Some, None, refl, sym, ap, ◌∙◌, arith, append_assoc, append-nil, ne_eqb, le-leb, ltb-false, length-append}
+use Rattle.std.proofs.Common.{◌≡◌, ℕ, zero, suc, ◌<◌, ◌≤◌, Bool, true, false, cond, eqb, ltb, leb, ◌&&◌, List, [], ◌∷◌, ◌++◌, length, take_all, Option, Some, None, refl, sym, ap, ◌∙◌, arith, append_assoc, append-nil, ne_eqb, le-leb, ltb-false, lt-ltb, length-append, nat_lt, take}
 use Rattle.std.specs.Prelude.{codes, flat_map, map}
 use Rattle.std.specs.List.{list_all}
+use Rattle.std.proofs.lemmas.List.{length-take, take-append-le}
 use Rattle.std.proofs.lemmas.Option.{none-some}
 use Rattle.mw_words.specs.declared.limits.TheConstants.{MAX_ENTRIES, MAX_VALUE, MAX_WORDS}
 use Rattle.mw_words.specs.declared.jobs.Entry.{Entry}
@@ -121,6 +122,12 @@ pub stops_at_entry : (listing : Listing) (rest inner all : List ℕ) → GoesOn 
 stops_at_entry listing rest inner all so_far space entry = sym so_far.rest_read ∙ ap (with_front so_far.front) (no_entry narrow rest inner space entry)
 
 -- ---- the limits
+
+-- once as many entries are kept as may be, one more is not kept, and it is known that there are more
+pub full : (most : ℕ) (es kept : List Entry) (e : Entry) → kept ≡ take most es → length kept ≡ most → (kept ≡ take most (es ++ e ∷ [])) × (nat_lt most (length (es ++ e ∷ [])) ≡ true)
+full most es kept e is all =
+    let enough : most ≤ length es = omega (arith, sym all, ap length is, length-take most es) in
+    (is ∙ sym (take-append-le most es (e ∷ []) enough), lt-ltb most (length (es ++ e ∷ [])) (omega (arith, enough, length-append es (e ∷ []))))
 
 -- with no more entries than are kept, all of them are
 pub all_kept : (es : List Entry) (listing : Listing) → Lists es listing → listing.more ≡ false → (listing.kept.items ≡ es) × (ltb MAX_ENTRIES (length es) ≡ false)

@@ -2,14 +2,11 @@
 use arrayvec::ArrayVec;
 use clap::builder::ValueParser;
 use clap::{Arg, ArgAction, ArgMatches, Command};
-use mw_words::Name;
+use mw_words::{MAX_ENTRIES, Name};
 use std::alloc::{AllocError, Global};
 
 /// The most clients, which is as many as a server serves at once.
 const MAX_CLIENTS: u64 = 64;
-
-/// The most words that a change has.
-const MAX_CHANGED: u64 = 8;
 
 /// The longest run, in seconds.
 const MAX_SECONDS: u64 = 60_000;
@@ -88,9 +85,9 @@ fn add_sizes<'a>(alloc: Global, command: Command<'a>) -> Result<Command<'a>, All
     let clients = number(alloc, "clients", "N", 1, MAX_CLIENTS)
         .required(true)
         .help("how many clients there are, 1 to 64");
-    let words = number(alloc, "words", "K", 1, MAX_CHANGED)
+    let words = number(alloc, "words", "K", 1, MAX_ENTRIES as u64)
         .required(true)
-        .help("how many words each change has, 1 to 8");
+        .help("how many words each change has, 1 to 16");
     let seconds = number(alloc, "seconds", "S", 1, MAX_SECONDS)
         .required(true)
         .help("for how many seconds they work, 1 to 60000");

@@ -23,16 +23,16 @@ pub const MAX_POOL: u16 = 256;
 pub const MAX_QUOTA: u8 = 32;
 
 /// The most record places of a tenant's file.
-pub const MAX_PLACES: u16 = 32;
+pub const MAX_PLACES: u16 = 64;
 
 /// The most workers of one server.
 pub const MAX_WORKERS: u8 = 64;
 
 /// The most entries of one change.
-pub const MAX_ENTRIES: usize = 8;
+pub const MAX_ENTRIES: usize = 16;
 
 /// The most bytes of a line, without its LF.
-pub const MAX_LINE: usize = 320;
+pub const MAX_LINE: usize = 640;
 
 /// The most bytes of a tenant's name.
 pub const MAX_NAME: usize = 16;

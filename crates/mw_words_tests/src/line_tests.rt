@@ -46,8 +46,8 @@ fn reads_are_read(rt: HostRuntime) {
     }
 }
 
-/// A change of eight words.
-const EIGHT: [(u16, u64); 8] = [
+/// A change of sixteen words.
+const SIXTEEN: [(u16, u64); 16] = [
     (0, 1),
     (1, 1),
     (2, 1),
@@ -56,6 +56,14 @@ const EIGHT: [(u16, u64); 8] = [
     (5, 1),
     (6, 1),
     (7, 1),
+    (8, 1),
+    (9, 1),
+    (10, 1),
+    (11, 1),
+    (12, 1),
+    (13, 1),
+    (14, 1),
+    (15, 1),
 ];
 
 #[test]
@@ -65,8 +73,8 @@ fn changes_are_read(rt: HostRuntime) {
         (b"CAS 3:0:1 4:0:2", &[(3, 1), (4, 2)]),
         (b"CAS 4095:0:281474976710655", &[(4095, 281474976710655)]),
         (
-            b"CAS 0:0:1 1:0:1 2:0:1 3:0:1 4:0:1 5:0:1 6:0:1 7:0:1",
-            &EIGHT,
+            b"CAS 0:0:1 1:0:1 2:0:1 3:0:1 4:0:1 5:0:1 6:0:1 7:0:1 8:0:1 9:0:1 10:0:1 11:0:1 12:0:1 13:0:1 14:0:1 15:0:1",
+            &SIXTEEN,
         ),
     ];
     for (line, parts) in cases {
@@ -98,7 +106,7 @@ TENANT 1st
 TENANT\x20
 TENANT abc-0123456789-yz
 ADMIN\x20
-CAS 0:0:1 0:0:1 0:0:1 0:0:1 0:0:1 0:0:1 0:0:1 0:0:1 0:0:01";
+CAS 0:0:1 0:0:1 0:0:1 0:0:1 0:0:1 0:0:1 0:0:1 0:0:1 0:0:1 0:0:1 0:0:1 0:0:1 0:0:1 0:0:1 0:0:1 0:0:1 0:0:01";
 
 /// Faults, and lines that have them.
 const FAULTS: [(LineFault, &str); 5] = [
@@ -112,7 +120,13 @@ GET 65536
 GET 18446744073709551616
 CAS 3:0:1 3:0:1 5000:0:1",
     ),
-    (LineFault::AddressOrder, "CAS 3:0:1 3:1:2\nCAS 4:0:1 3:1:2"),
+    (
+        LineFault::AddressOrder,
+        "\
+CAS 3:0:1 3:1:2
+CAS 4:0:1 3:1:2
+CAS 0:0:1 0:0:1 0:0:1 0:0:1 0:0:1 0:0:1 0:0:1 0:0:1 0:0:1",
+    ),
     (
         LineFault::ValueRange,
         "\
@@ -122,7 +136,7 @@ CAS 5000:0:281474976710656",
     ),
     (
         LineFault::TooManyEntries,
-        "CAS 0:0:1 0:0:1 0:0:1 0:0:1 0:0:1 0:0:1 0:0:1 0:0:1 0:0:1",
+        "CAS 0:0:1 0:0:1 0:0:1 0:0:1 0:0:1 0:0:1 0:0:1 0:0:1 0:0:1 0:0:1 0:0:1 0:0:1 0:0:1 0:0:1 0:0:1 0:0:1 0:0:1",
     ),
 ];
 
@@ -143,10 +157,10 @@ fn lines_are_refused(rt: HostRuntime) {
 #[test]
 fn long_lines_are_read_to_their_end(rt: HostRuntime) {
     assert!(rt; read_line(&[b'A'; MAX_LINE]) == Err(LineFault::NotACommand));
-    let mut line = [b'7'; 304];
+    let mut line = [b'7'; MAX_LINE];
     line[..4].copy_from_slice(b"GET ");
     assert!(rt; read_line(&line) == Err(LineFault::AddressRange));
-    line[303] = b'x';
+    line[MAX_LINE - 1] = b'x';
     assert!(rt; read_line(&line) == Err(LineFault::NotACommand));
 }
 

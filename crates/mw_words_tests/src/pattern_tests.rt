@@ -102,13 +102,20 @@ fn gates_and_doors(rt: HostRuntime) {
 
 #[test]
 fn statuses(rt: HostRuntime) {
-    let cases: [(Status, u64); 8] = [
+    let cases: [(Status, u64); 9] = [
         (Status::Draft, 0x0000_0000_0000_0000),
         (Status::Open, 0x1000_0000_0000_0000),
         (Status::YesDirty, 0x2000_0000_0000_0000),
         (Status::Yes, 0x3000_0000_0000_0000),
         (Status::No { entry: 7, value: 0 }, 0x4007_0000_0000_0000),
         (Status::No { entry: 0, value: 9 }, 0x4000_0000_0000_0009),
+        (
+            Status::No {
+                entry: 15,
+                value: 9,
+            },
+            0x400f_0000_0000_0009,
+        ),
         (Status::DoneYes, 0x5000_0000_0000_0000),
         (
             Status::DoneNo {
@@ -130,8 +137,9 @@ fn statuses(rt: HostRuntime) {
 
 #[test]
 fn rows(rt: HostRuntime) {
-    let cases: [(u8, u8, u64, u64); 2] = [
+    let cases: [(u8, u8, u64, u64); 3] = [
         (2, 5, 9, 0x0205_0000_0000_0009),
+        (2, 15, 9, 0x020f_0000_0000_0009),
         (255, 0, WORN_NUMBER, 0xff00_ffff_ffff_ffff),
     ];
     for (slot, entry, seq, bits) in cases {
@@ -196,6 +204,7 @@ fn bits_of_nothing(rt: HostRuntime) {
     let statuses = [
         0x1000_0000_0000_0001,
         0x3001_0000_0000_0000,
+        0x4010_0000_0000_0000,
         0x4100_0000_0000_0000,
         0x60ff_0000_0000_0000,
         0x7000_0000_0000_0000,
@@ -204,7 +213,12 @@ fn bits_of_nothing(rt: HostRuntime) {
     assert!(rt; Gate::unpack(0x0001_0000_0000_0007).is_none());
     assert!(rt; !some_door(&[0x0000_0000_0001_0003, 0x4000_0000_0000_0003]));
     assert!(rt; !some_status(&statuses));
-    assert!(rt; !some_row(&[0x02f5_0000_0000_0009, 0x02ff_0000_0000_0009]));
+    let rows = [
+        0x0210_0000_0000_0009,
+        0x02f5_0000_0000_0009,
+        0x02ff_0000_0000_0009,
+    ];
+    assert!(rt; !some_row(&rows));
 }
 
 #[test]
