@@ -1,11 +1,11 @@
 -- A disk in memory obeys the disk model: lemmas on the calls that it remembers.
-use Rattle.std.proofs.Common.{◌≡◌, ◌<◌, ◌≤◌, ◌-◌, ℕ, ◌+◌, ◌^◌, Bool, true, false, cond, Some, Result, Ok, Err, IsTrue, List, [], ◌∷◌, ◌++◌, length, take, drop, min, max, replicate, get_or, refl, sym, ap, ◌∙◌, subst, inl, inr, ◌⊎◌, leb, arith, append_assoc, length-append}
+use Rattle.std.proofs.Common.{◌≡◌, ◌<◌, ◌≤◌, ◌-◌, ℕ, ◌+◌, ◌^◌, Bool, true, false, cond, Some, Result, Ok, Err, List, [], ◌∷◌, ◌++◌, length, take, drop, min, max, replicate, get_or, refl, sym, ap, ◌∙◌, subst, inl, inr, ◌⊎◌, leb, arith, append_assoc, length-append}
 use Rattle.std.specs.List.{flat_map}
 use Rattle.std.specs.Result.{IsErr, is_ok}
 use Rattle.std.proofs.lemmas.List.{append-nil, take_all, take-append-le, drop_all, length-replicate, length-take, length-drop, get_or_append_left, get_or-take, get_or-drop, get_or-append_right, replicate_more, replicate-append-replicate}
 use Rattle.std.proofs.lemmas.Bool.{cases_lt, false≢true, leb-true, le-leb}
 use Rattle.mw_disk.specs.Facts.{MayLeave, IsAtRest, Torn, Called, Spares, NothingNew, TearsAt, patched, most_counted}
-use Rattle.mw_disk.specs.Memory.{begun, next_turn, plan_of, keeps_bytes, State, only, padded, after, run, went_well, outcomes_of, Memory, state_at, bytes_of, memory_facts, logged, missed_once, refused_once, FailsAs, only_if}
+use Rattle.mw_disk.specs.Memory.{begun, next_turn, plan_of, State, only, padded, after, run, went_well, outcomes_of, Memory, state_at, bytes_of, memory_facts, logged, missed_once, refused_once, FailsAs, only_if}
 use Rattle.mw_disk.proofs.Plans.{plan_begun, not_doomed, goes_now}
 use Rattle.mw_disk.specs.declared.event.Event.{Event}
 use Rattle.mw_disk.specs.declared.event.Call.{Call}
@@ -69,22 +69,12 @@ fails_from call Fails old new fails = elim fails [ inl logs ↦ inr (logs_from c
 
 -- ---- one more call
 
-run_push : (s : State) (es : List Event) (e : Event) → run s (es ++ e ∷ []) ≡ after (run s es) e.call
+pub run_push : (s : State) (es : List Event) (e : Event) → run s (es ++ e ∷ []) ≡ after (run s es) e.call
 run_push s [] e = refl
 run_push s (d ∷ es) e = run_push (after s d.call) es e
 
 pub bytes_push : (first : List ℕ) (es : List Event) (e : Event) → bytes_of first (es ++ e ∷ []) ≡ (after (run (only first) es) e.call).bytes
 bytes_push first es e = ap (λ (s : State). s.bytes) (run_push (only first) es e)
-
-kept_bytes : (s : State) (call : Call) → IsTrue (keeps_bytes call) → (after s call).bytes ≡ s.bytes
-kept_bytes s (Quiet well) keeps = refl
-kept_bytes s (Wrote at block) keeps = cc
-kept_bytes s (Tore at len) keeps = refl
-kept_bytes s Synced keeps = refl
-
--- a call that leaves the bytes as they are
-pub bytes_stay : (first : List ℕ) (es : List Event) (e : Event) → IsTrue (keeps_bytes e.call) → bytes_of first (es ++ e ∷ []) ≡ bytes_of first es
-bytes_stay first es e keeps = bytes_push first es e ∙ kept_bytes (run (only first) es) e.call keeps
 
 outcomes_push : (es : List Event) (e : Event) → flat_map outcomes_of (es ++ e ∷ []) ≡ flat_map outcomes_of es ++ outcomes_of e
 outcomes_push [] e = append-nil (outcomes_of e)

@@ -1,6 +1,6 @@
 -- Torn bytes put at the offsets of ranges, one after the other.
-use Rattle.std.proofs.Common.{◌≡◌, ◌≢◌, ◌<◌, ◌≤◌, ◌-◌, ℕ, ◌+◌, suc, zero, Bool, cond, IsTrue, List, [], ◌∷◌, ◌++◌, length, take, set, get_or, replicate, refl, sym, ap, ◌∙◌, subst, inl, inr, arith, add-one, Some, None}
-use Rattle.std.proofs.lemmas.List.{get_or_past, get_or_append_left, get_or-append_right, get_or-replicate, get_or-set_same, get_or-set_other, length-set, take_more, length-replicate}
+use Rattle.std.proofs.Common.{◌≡◌, ◌≢◌, ◌<◌, ◌≤◌, ◌-◌, ℕ, ◌+◌, suc, zero, Bool, cond, IsTrue, List, [], ◌∷◌, ◌++◌, length, set, get_or, replicate, refl, sym, ap, ◌∙◌, subst, inl, inr, arith, add-one, Some, None}
+use Rattle.std.proofs.lemmas.List.{get_or_past, get_or_append_left, get_or-append_right, get_or-replicate, get_or-set_same, get_or-set_other, length-set, length-replicate}
 use Rattle.std.proofs.lemmas.Bool.{cases_lt, cases_eq, cases_Bool, false≢true}
 use Rattle.mw_disk.specs.Facts.{MayLeave}
 use Rattle.mw_disk.specs.Memory.{padded, Memory, memory_facts}
@@ -12,15 +12,9 @@ use Rattle.mw_disk.specs.declared.event.Event.{Event}
 
 -- ---- the ranges of a log
 
-spans_push : (spans : List Span) (es : List Event) (e : Event) → spans_from spans (es ++ e ∷ []) ≡ spans_after (spans_from spans es) e.call
+pub spans_push : (spans : List Span) (es : List Event) (e : Event) → spans_from spans (es ++ e ∷ []) ≡ spans_after (spans_from spans es) e.call
 spans_push spans [] e = refl
 spans_push spans (d ∷ es) e = spans_push (spans_after spans d.call) es e
-
-pub unsynced_more : (es : List Event) (i : ℕ) (e : Event) (now new : List Span) → i < length es → e ≡ get_or es i e → now ≡ unsynced (take i es) → new ≡ spans_after now e.call
-    → new ≡ unsynced (take (i + 1) es)
-unsynced_more es i e now new lt is was becomes =
-    let more : take (i + 1) es ≡ take i es ++ e ∷ [] = take_more es i e lt ∙ ap (λ (d : Event). take i es ++ d ∷ []) (sym is) in
-    becomes ∙ (ap (λ (l : List Span). spans_after l e.call) was ∙ sym (ap (λ (l : List Event). unsynced l) more ∙ spans_push [] (take i es) e))
 
 -- ---- how many offsets are in the ranges
 

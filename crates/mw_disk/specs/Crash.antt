@@ -1,6 +1,7 @@
 -- What a crash of a disk in memory leaves, with torn bytes at the caller's choice.
 use Rattle.std.specs.Prelude.{min, Option, Some, None, ◌≡◌, ◌<◌, ◌≤◌, ℕ, ◌+◌, zero, suc, Bool, ◌&&◌, List, [], ◌∷◌, ◌++◌, length, nat_lt, nat_le, slice_index, IsTrue, if◌then◌else◌}
 use Rattle.std.specs.List.{list_any}
+use Rattle.mw_disk.specs.Memory.{bytes_of}
 use Rattle.mw_disk.specs.declared.spans.Span.{Span}
 use Rattle.mw_disk.specs.declared.event.Event.{Event}
 use Rattle.mw_disk.specs.declared.event.Call.{Call}
@@ -20,6 +21,11 @@ spans_from spans (e ∷ es) = spans_from (spans_after spans e.call) es
 -- the ranges written since the last sync, those of failed writes too
 abbrev pub unsynced : List Event → List Span
 unsynced log = spans_from [] log
+
+-- These are the bytes after such calls on a disk that had those at first, and these the ranges written since the last sync.
+pub record IsLeftBy (first : List ℕ) (log : List Event) (bytes : List ℕ) (spans : List Span) : Type 0 where
+  pub seen : bytes ≡ bytes_of first log
+  pub written : spans ≡ unsynced log
 
 abbrev pub covers : ℕ → Span → Bool
 covers k span = nat_le span.at k && nat_lt k (span.at + span.len)

@@ -98,13 +98,6 @@ memory_facts m = record {
   plan = plan_of m;
 }
 
--- the call leaves the bytes as they are
-abbrev pub keeps_bytes : Call → Bool
-keeps_bytes (Quiet well) = true
-keeps_bytes (Wrote at block) = false
-keeps_bytes (Tore at len) = true
-keeps_bytes Synced = true
-
 -- no call is left before the stop
 abbrev pub is_stopped : Option ℕ → Bool
 is_stopped None = false

@@ -1,39 +1,28 @@
-//! What a disk in memory remembers of its calls.
-ghost use Rattle.std.specs.Prelude.{◌≡◌, ℕ, List, IfOk, length};
+//! What contracts say of the calls of a disk in memory.
+ghost use Rattle.std.specs.Prelude.{◌≡◌, ℕ, List};
+ghost use Rattle.std.specs.Borrow.{ftrue};
 
-use std::alloc::{AllocError, Global};
 use std::marker::Model;
 
-/// The bytes of a write.
+/// The bytes of a write. Contracts alone read them: a block takes no memory.
 #[derive(Drop)]
 pub(crate) struct Block {
-    bytes: Vec<u8>,
+    ghost bytes: { List ℕ },
 }
 
 impl Model for Block {
     ghost Value = { List ℕ };
 
-    ghost view = { λ b. b.bytes.items };
+    ghost view = { λ b. b.bytes };
+
+    ghost also_owns = { λ _. ftrue };
 }
 
 impl Block {
-    pub(crate) fn of(alloc: Global, bytes: &[u8]) -> Result<Block, AllocError>
-        ensures { IfOk result (λ block. block ≡ bytes.now) }
+    pub(crate) fn of(_bytes: &[u8]) -> Block
+        ensures { result ≡ _bytes.now }
     {
-        let bytes = bytes.to_vec(alloc)?;
-        Ok(Block { bytes })
-    }
-
-    pub(crate) fn len(&self) -> usize
-        ensures { result ≡ length self.now }
-    {
-        self.bytes.len()
-    }
-
-    pub(crate) fn copy(&self, alloc: Global) -> Result<Block, AllocError>
-        ensures { IfOk result (λ block. block ≡ self.now) }
-    {
-        Block::of(alloc, &self.bytes)
+        Block {}
     }
 }
 
@@ -50,48 +39,11 @@ pub(crate) enum Call {
     Synced,
 }
 
-impl Call {
-    ghost use Rattle.mw_disk.specs.Memory.{went_well};
-
-    pub(crate) fn went_well(&self) -> bool
-        ensures { result ≡ went_well self.now }
-    {
-        match self {
-            Call::Quiet(well) => *well,
-            Call::Wrote(..) | Call::Synced => true,
-            Call::Tore(..) => false,
-        }
-    }
-
-    pub(crate) fn copy(&self, alloc: Global) -> Result<Call, AllocError>
-        ensures { IfOk result (λ call. call ≡ self.now) }
-    {
-        Ok(match self {
-            Call::Quiet(well) => Call::Quiet(*well),
-            Call::Wrote(at, block) => Call::Wrote(*at, block.copy(alloc)?),
-            Call::Tore(at, len) => Call::Tore(*at, *len),
-            Call::Synced => Call::Synced,
-        })
-    }
-}
-
 /// A call that left a trace, and how many calls failed before it, since the last such call, without one.
 #[derive(Drop)]
 pub(crate) struct Event {
     pub(crate) missed: u64,
     pub(crate) call: Call,
-}
-
-impl Event {
-    pub(crate) fn copy(&self, alloc: Global) -> Result<Event, AllocError>
-        ensures { IfOk result (λ event. event ≡ self.now) }
-    {
-        let call = self.call.copy(alloc)?;
-        Ok(Event {
-            missed: self.missed,
-            call,
-        })
-    }
 }
 
 /// What becomes of a call.

@@ -5,6 +5,7 @@ mod device;
 mod edits;
 mod event;
 mod file;
+mod history;
 mod memory;
 mod spans;
 

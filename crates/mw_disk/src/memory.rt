@@ -1,18 +1,19 @@
 //! A disk in memory, whose calls fail where they are told to.
-ghost use Rattle.std.specs.Prelude.{◌≡◌, ◌+◌, ◌≤◌, ℕ, min, [], length, slice_range, nat_le, true, false, IsTrue, Some, None, is_ok, IfOk, OnOk, OnErr};
+ghost use Rattle.std.specs.Prelude.{◌≡◌, ◌+◌, ◌≤◌, ℕ, min, [], length, slice_range, nat_le, nat_lt, true, false, Some, None, is_ok, IfOk, OnOk, OnErr};
 ghost use Rattle.mw_disk.specs.Crash.{Tears, unsynced as unsynced_spans};
 ghost use Rattle.mw_disk.specs.Facts.{most_counted, Called, Spares, IsAtRest, MayLeave, NothingNew, TearsAt, Torn, patched};
-ghost use Rattle.mw_disk.specs.Memory.{Memory, memory_facts, next_turn, read_turn, begun, logged, missed_once, refused_once, Answers, FailsAs, keeps_bytes, with_name, scripted, with_fault, with_stop, sooner};
+ghost use Rattle.mw_disk.specs.Memory.{Memory, memory_facts, next_turn, read_turn, begun, logged, missed_once, refused_once, Answers, FailsAs, with_name, scripted, with_fault, with_stop, sooner};
 ghost use Rattle.mw_disk.specs.declared.event.Call.TheVariants.{Quiet, Wrote, Tore, Synced};
 
 use crate::device::{Disk, DiskFault};
 use crate::edits::overwrite;
-use crate::event::{Block, Call, Event, Turn};
-use crate::spans::{tear, unsynced};
+use crate::event::{Block, Call, Turn};
+use crate::history::History;
+use crate::spans::{Span, tear};
 use std::alloc::{AllocError, Global};
 use std::marker::Model;
 
-/// A disk in memory, which keeps a record of its calls.
+/// A disk in memory. Contracts see a record of all its calls, of which nothing is kept at run time.
 ///
 /// Its script names the numbers of the calls that fail, counted from 1 since `new`, reads and looks
 /// at the length too. A write that fails leaves the bytes, and its range counts as written; a sync
@@ -22,9 +23,10 @@ use std::marker::Model;
 #[derive(Drop)]
 pub struct MemDisk {
     alloc: Global,
-    first: Vec<u8>,
-    log: Vec<Event>,
     bytes: Vec<u8>,
+    /// The ranges written since the last sync, those of failed writes too.
+    spans: Vec<Span>,
+    history: History,
     script: Vec<u64>,
     stop: Option<u64>,
     calls: u64,
@@ -35,13 +37,14 @@ pub struct MemDisk {
 
 impl Model for MemDisk {
     ghost use Rattle.std.specs.Prelude.{◌≡◌};
-    ghost use Rattle.mw_disk.specs.Memory.{Memory, bytes_of};
+    ghost use Rattle.mw_disk.specs.Memory.{Memory};
+    ghost use Rattle.mw_disk.specs.Crash.{IsLeftBy};
 
     ghost Value = { Memory };
 
     ghost view = { λ d. record {
-      first = d.first.items;
-      log = d.log.items;
+      first = d.history.first;
+      log = d.history.log;
       missed = d.missed;
       faults = d.faults;
       refused = d.refused;
@@ -50,7 +53,7 @@ impl Model for MemDisk {
       stop = d.stop;
     } };
 
-    ghost invariant = { λ d. d.bytes.items ≡ bytes_of d.first.items d.log.items };
+    ghost invariant = { λ d. IsLeftBy d.history.first d.history.log d.bytes.items d.spans.items };
 }
 
 impl MemDisk {
@@ -70,12 +73,12 @@ impl MemDisk {
         ensures seen { IfOk result (λ disk. MayLeave (memory_facts disk) (memory_facts disk).reads) }
         ensures plan { IfOk result (λ disk. (k : ℕ) → (memory_facts disk).plan k ≡ scripted script.items k) }
     {
-        let first = bytes.to_vec(alloc)?;
+        let history = History::new(&bytes);
         Ok(MemDisk {
             alloc,
-            first,
-            log: Vec::new(alloc),
             bytes,
+            spans: Vec::new(alloc),
+            history,
             script,
             stop: None,
             calls: 0,
@@ -83,6 +86,29 @@ impl MemDisk {
             faults: 0,
             refused: 0,
         })
+    }
+
+    /// A disk of these bytes, which a crash now leaves, after [`MemDisk::stop_next`]: `k` calls go well,
+    /// save for want of memory or a read past the end, and each one after them fails and changes nothing.
+    /// The only error is want of memory.
+    pub fn stop_after(alloc: Global, bytes: Vec<u8>, k: u64) -> Result<MemDisk, AllocError>
+        ensures made { IfOk result (λ disk. disk ≡ record {
+          first = bytes.items;
+          log = [];
+          missed = 0;
+          faults = 0;
+          refused = 0;
+          calls = 0;
+          script = [];
+          stop = Some k;
+        }) }
+        ensures at_rest { IfOk result (λ disk. IsAtRest (memory_facts disk)) }
+        ensures seen { IfOk result (λ disk. MayLeave (memory_facts disk) (memory_facts disk).reads) }
+        ensures plan { IfOk result (λ disk. (j : ℕ) → (memory_facts disk).plan j ≡ Some (nat_lt j k)) }
+    {
+        let mut disk = MemDisk::new(alloc, bytes, Vec::new(alloc))?;
+        disk.stop_next(k);
+        Ok(disk)
     }
 
     /// How many calls were refused memory. The count stays at its last value, `2^64 - 1`.
@@ -123,9 +149,9 @@ impl MemDisk {
         let alloc = self.alloc;
         Ok(MemDisk {
             alloc,
-            first: self.first.to_vec(alloc)?,
-            log: copies(alloc, &self.log)?,
             bytes: self.bytes.to_vec(alloc)?,
+            spans: self.spans.to_vec(alloc)?,
+            history: self.history.copy(),
             script: self.script.to_vec(alloc)?,
             stop: self.stop,
             calls: self.calls,
@@ -146,9 +172,8 @@ impl MemDisk {
         // What a read gives is an image too.
         ensures reads { MayLeave (memory_facts self.now) (memory_facts self.now).reads }
     {
-        let spans = unsynced(self.alloc, &self.log)?;
         let mut bytes = self.bytes.to_vec(self.alloc)?;
-        tear(&mut bytes, &spans, torn)?;
+        tear(&mut bytes, &self.spans, torn)?;
         Ok(bytes)
     }
 
@@ -193,47 +218,61 @@ impl MemDisk {
         self.miss()
     }
 
-    fn push(&mut self, call: Call) -> Result<(), AllocError>
-        requires { IsTrue (keeps_bytes call) }
-        ensures ok { OnOk result (self.new ≡ logged self.old call) }
-        ensures err { OnErr result (self.new ≡ self.old) }
+    // Remembers a call that leaves the bytes and the ranges as they are.
+    fn note_quiet(&mut self, well: bool)
+        ensures { self.new ≡ logged self.old (Quiet well) }
     {
-        let well = call.went_well();
-        self.log.push(Event {
-            missed: self.missed,
-            call,
-        })?;
+        self.history = self.history.after(self.missed, Call::Quiet(well));
         self.missed = 0;
         if !well {
             self.count_fault();
         }
+    }
+
+    // Remembers a sync that went well.
+    fn note_sync(&mut self)
+        ensures { self.new ≡ logged self.old Synced }
+    {
+        self.spans.clear();
+        self.history = self.history.after(self.missed, Call::Synced);
+        self.missed = 0;
+    }
+
+    // Remembers a write that failed.
+    fn note_torn(&mut self, at: u64, len: u64) -> Result<(), AllocError>
+        ensures ok { OnOk result (self.new ≡ logged self.old (Tore at len)) }
+        ensures err { OnErr result (self.new ≡ self.old) }
+    {
+        self.spans.push(Span { at, len })?;
+        self.history = self.history.after(self.missed, Call::Tore(at, len));
+        self.missed = 0;
+        self.count_fault();
         Ok(())
     }
 
-    // Remembers a call that leaves the bytes as they are.
-    fn remember(&mut self, call: Call) -> Result<(), DiskFault>
-        requires { IsTrue (keeps_bytes call) }
-        ensures ok { OnOk result (self.new ≡ logged self.old call) }
-        ensures err { OnErr result (self.new ≡ refused_once self.old) }
-    {
-        match self.push(call) {
-            Ok(()) => Ok(()),
-            Err(_) => Err(self.refuse()),
-        }
-    }
-
-    // A call that is to fail.
-    fn fail(&mut self, turn: Turn, call: Call) -> DiskFault
-        requires fails { turn ≡ Turn.Goes → ⊥ }
-        requires keeps { IsTrue (keeps_bytes call) }
-        ensures { FailsAs call turn self.old self.new }
+    // A call that is to fail, and is no write.
+    fn fail(&mut self, turn: Turn) -> DiskFault
+        requires { turn ≡ Turn.Goes → ⊥ }
+        ensures { FailsAs (Quiet false) turn self.old self.new }
     {
         if turn == Turn::Stopped {
             return self.miss();
         }
-        match self.remember(call) {
+        self.note_quiet(false);
+        DiskFault
+    }
+
+    // A write that is to fail.
+    fn fail_write(&mut self, turn: Turn, at: u64, len: u64) -> DiskFault
+        requires { turn ≡ Turn.Goes → ⊥ }
+        ensures { FailsAs (Tore at len) turn self.old self.new }
+    {
+        if turn == Turn::Stopped {
+            return self.miss();
+        }
+        match self.note_torn(at, len) {
             Ok(()) => DiskFault,
-            Err(fault) => fault,
+            Err(_) => self.refuse(),
         }
     }
 
@@ -264,29 +303,21 @@ impl MemDisk {
         ensures ok { OnOk result (self.new ≡ logged self.old (Wrote at bytes.now)) }
         ensures err { OnErr result (self.new ≡ self.old) }
     {
-        let block = Block::of(self.alloc, bytes)?;
-        let before = self.log.len();
-        self.log.push(Event {
-            missed: self.missed,
-            call: Call::Wrote(at, block),
+        let before = self.spans.len();
+        self.spans.push(Span {
+            at,
+            len: bytes.len() as u64,
         })?;
         if let Err(error) = overwrite(&mut self.bytes, at, bytes) {
-            self.log.truncate(before);
+            self.spans.truncate(before);
             return Err(error);
         }
+        self.history = self
+            .history
+            .after(self.missed, Call::Wrote(at, Block::of(bytes)));
         self.missed = 0;
         Ok(())
     }
-}
-
-fn copies(alloc: Global, log: &[Event]) -> Result<Vec<Event>, AllocError>
-    ensures { IfOk result (λ events. events.items ≡ log.now) }
-{
-    let mut events = Vec::new(alloc);
-    for event in log {
-        events.push(event.copy(alloc)?)?;
-    }
-    Ok(events)
 }
 
 impl Disk for MemDisk {
@@ -306,9 +337,9 @@ impl Disk for MemDisk {
         let turn = self.begin();
         let turn = turn.only_if(self.holds(at, out.len()));
         if turn != Turn::Goes {
-            return Err(self.fail(turn, Call::Quiet(false)));
+            return Err(self.fail(turn));
         }
-        self.remember(Call::Quiet(true))?;
+        self.note_quiet(true);
         self.copy_to(at, out);
         Ok(())
     }
@@ -325,7 +356,7 @@ impl Disk for MemDisk {
     {
         let turn = self.begin();
         if turn != Turn::Goes {
-            return Err(self.fail(turn, Call::Tore(at, bytes.len() as u64)));
+            return Err(self.fail_write(turn, at, bytes.len() as u64));
         }
         match self.put(at, bytes) {
             Ok(()) => Ok(()),
@@ -343,9 +374,9 @@ impl Disk for MemDisk {
     {
         let turn = self.begin();
         if turn != Turn::Goes {
-            return Err(self.fail(turn, Call::Quiet(false)));
+            return Err(self.fail(turn));
         }
-        self.remember(Call::Synced)?;
+        self.note_sync();
         Ok(())
     }
 
@@ -359,9 +390,9 @@ impl Disk for MemDisk {
     {
         let turn = self.begin();
         if turn != Turn::Goes {
-            return Err(self.fail(turn, Call::Quiet(false)));
+            return Err(self.fail(turn));
         }
-        self.remember(Call::Quiet(true))?;
+        self.note_quiet(true);
         Ok(self.size())
     }
 

@@ -1,11 +1,10 @@
-//! The ranges of a disk in memory that were written since the last sync.
+//! Ranges of a disk in memory.
 ghost use Rattle.std.specs.Prelude.{◌≡◌, ◌+◌, [], ◌∷◌, length, slice_set, IfOk, OnOk};
 ghost use Rattle.mw_disk.specs.Memory.{padded};
-ghost use Rattle.mw_disk.specs.Crash.{spans_after, unsynced as unsynced_spans, IsNext, nearer as nearer_of, Tears};
+ghost use Rattle.mw_disk.specs.Crash.{IsNext, nearer as nearer_of, Tears};
 
 use crate::edits::lengthen;
-use crate::event::{Call, Event};
-use std::alloc::{AllocError, Global};
+use std::alloc::AllocError;
 
 /// A range of offsets: its first and their number.
 #[derive(Clone, Copy, Debug, PartialEq, Eq)]
@@ -26,32 +25,6 @@ impl Span {
             None
         }
     }
-}
-
-/// The ranges written since the last sync, those of failed writes too.
-pub(crate) fn unsynced(alloc: Global, log: &[Event]) -> Result<Vec<Span>, AllocError>
-    ensures { IfOk result (λ spans. spans.items ≡ unsynced_spans log.now) }
-{
-    let mut spans = Vec::new(alloc);
-    for event in log {
-        note(&mut spans, &event.call)?;
-    }
-    Ok(spans)
-}
-
-fn note(spans: &mut Vec<Span>, call: &Call) -> Result<(), AllocError>
-    ensures { OnOk result (spans.new.items ≡ spans_after spans.old.items call.now) }
-{
-    match call {
-        Call::Quiet(_) => {}
-        Call::Wrote(at, block) => spans.push(Span {
-            at: *at,
-            len: block.len() as u64,
-        })?,
-        Call::Tore(at, len) => spans.push(Span { at: *at, len: *len })?,
-        Call::Synced => spans.clear(),
-    }
-    Ok(())
 }
 
 /// Puts these bytes at the offsets of the ranges, in rising order and each once.

@@ -9,9 +9,6 @@ returns-clause-image c = tears_left c.args.self.now c.args.torn.now c.tear.new.b
 pub returns-clause-reads : goal.returns-clause-reads
 returns-clause-reads c = reads_left c.args.self.now
 
-pub returns-in_err-spans-clause-reads : goal.returns-in_err-spans-clause-reads
-returns-in_err-spans-clause-reads c = reads_left c.args.self.now
-
 pub returns-in_err-bytes-clause-reads : goal.returns-in_err-bytes-clause-reads
 returns-in_err-bytes-clause-reads c = reads_left c.args.self.now
 

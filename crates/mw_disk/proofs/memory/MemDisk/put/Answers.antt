@@ -1,14 +1,11 @@
+use Rattle.std.proofs.Common.{ℕ, List, [], ◌∷◌, ◌++◌, ap, ◌∙◌}
+use Rattle.mw_disk.specs.declared.event.Call.TheVariants.{Wrote}
+use Rattle.mw_disk.specs.declared.history.History.{History}
+use Rattle.mw_disk.proofs.Left.{goes_on}
 use Rattle.mw_disk.proofs.memory.MemDisk.put.Goals as goal
-use Rattle.std.proofs.Common.{sym, ap, ◌∙◌, List, ℕ}
-use Rattle.mw_disk.specs.Facts.{patched}
-use Rattle.mw_disk.specs.Memory.{bytes_of, padded}
-use Rattle.mw_disk.specs.declared.event.Event.{Event}
-use Rattle.mw_disk.proofs.Remembered.{bytes_push}
 
 pub invariant_of-self-2 : goal.invariant_of-self-2
 invariant_of-self-2 c =
-    c.in_default.ensures.ok
-    ∙ (ap (λ (l : List ℕ). patched (padded l c.args.at) c.args.at c.args.bytes.now) c.self.invariant
-    ∙ sym (ap (λ (l : List Event). bytes_of c.self.inside.first.items l) c.in_ok-push.ensures.items
-    ∙ (bytes_push c.self.inside.first.items c.self.inside.log.items _
-    ∙ ap (λ (l : List ℕ). patched (padded (bytes_of c.self.inside.first.items c.self.inside.log.items) c.args.at) c.args.at l) c.in_ok-block.ensures)))
+    let old = c.self.inside.history in
+    let with : List ℕ → History = λ block. record { first = old.first; log = old.log ++ record { missed = c.self.inside.missed; call = Wrote c.args.at block } ∷ [] } in
+    goes_on old _ _ (Wrote c.args.at c.args.bytes.now) _ _ _ _ (c.after-self-inside.ensures ∙ ap with c.of.ensures) c.self.invariant c.in_default.ensures.ok c.in_ok-push.ensures.items

@@ -1,8 +1,6 @@
-use Rattle.std.proofs.Common.{ℕ, Bool, refl, ◌+◌, List, length, ap, ◌∙◌, rules}
+use Rattle.std.proofs.Common.{ℕ, refl, ◌+◌, List, length, ap, ◌∙◌, rules}
 use Rattle.std.specs.List.{slice_range}
-use Rattle.mw_disk.specs.Facts.{Called, Spares}
-use Rattle.mw_disk.specs.Memory.{memory_facts}
-use Rattle.mw_disk.proofs.Remembered.{read_called, read_spared, went_spared, fails_called, refused_called, refused_spared, on_err, fails_nothing, fails_same, quiet_nothing, quiet_same, read_there}
+use Rattle.mw_disk.proofs.Remembered.{read_called, read_spared, went_spared, fails_called, fails_nothing, fails_same, quiet_nothing, quiet_same, read_there}
 use Rattle.mw_disk.proofs.memory.MemDiskDisk.read_at.Goals as goal
 
 pub returns-then-ne-clause-crash : goal.returns-then-ne-clause-crash
@@ -12,19 +10,19 @@ pub returns-then-ne-clause-same : goal.returns-then-ne-clause-same
 returns-then-ne-clause-same c = fails_same c.only_if-turn.result _ _ c.fail.new.self c.begin-turn.ensures.begun c.fail.ensures
 
 pub copy_to-requires : goal.copy_to-requires
-copy_to-requires c = (read_there c.args.at (length c.args.out.now) _ _ _ _ _ _ c.begin-turn.ensures.begun c.in_ok-remember.ensures.ok c.holds.ensures c.only_if-turn.ensures (search rules)).1
+copy_to-requires c = (read_there c.args.at (length c.args.out.now) _ _ _ _ _ _ c.begin-turn.ensures.begun c.note_quiet.ensures c.holds.ensures c.only_if-turn.ensures (search rules)).1
 
 pub returns-clause-crash : goal.returns-clause-crash
-returns-clause-crash c = quiet_nothing _ _ _ c.begin-turn.ensures.begun c.in_ok-remember.ensures.ok
+returns-clause-crash c = quiet_nothing _ _ _ c.begin-turn.ensures.begun c.note_quiet.ensures
 
 pub returns-clause-same : goal.returns-clause-same
-returns-clause-same c = quiet_same _ _ _ c.begin-turn.ensures.begun c.in_ok-remember.ensures.ok
+returns-clause-same c = quiet_same _ _ _ c.begin-turn.ensures.begun c.note_quiet.ensures
 
 pub returns-clause-read : goal.returns-clause-read
 returns-clause-read c = (
-  (read_there c.args.at (length c.args.out.now) _ _ _ _ _ _ c.begin-turn.ensures.begun c.in_ok-remember.ensures.ok c.holds.ensures c.only_if-turn.ensures (search rules)).0,
+  (read_there c.args.at (length c.args.out.now) _ _ _ _ _ _ c.begin-turn.ensures.begun c.note_quiet.ensures c.holds.ensures c.only_if-turn.ensures (search rules)).0,
   c.copy_to.ensures ∙ ap (λ (l : List ℕ). slice_range l c.args.at (c.args.at + length c.args.out.now))
-      (quiet_same _ _ _ c.begin-turn.ensures.begun c.in_ok-remember.ensures.ok),
+      (quiet_same _ _ _ c.begin-turn.ensures.begun c.note_quiet.ensures),
 )
 
 pub returns-then-ne-clause-call : goal.returns-then-ne-clause-call
@@ -35,19 +33,9 @@ returns-then-ne-clause-spared c there =
     read_spared c.args.at (length c.args.out.now) c.begin-turn.result c.only_if-turn.result _ _ _ c.fail.new.self c.begin-turn.ensures.turn c.only_if-turn.ensures c.holds.ensures
     c.begin-turn.ensures.begun c.fail.ensures there
 
-pub returns-in_err-remember-clause-call : goal.returns-in_err-remember-clause-call
-returns-in_err-remember-clause-call c =
-    on_err (λ (b : Bool). Called (memory_facts c.args.self.now) (memory_facts c.remember.new.self) b) c.from_residual.result c.from_residual.ensures.0
-    (refused_called _ _ _ c.begin-turn.ensures.begun c.in_err-remember.ensures.err)
-
-pub returns-in_err-remember-clause-spared : goal.returns-in_err-remember-clause-spared
-returns-in_err-remember-clause-spared c there =
-    on_err (λ (b : Bool). Spares (memory_facts c.args.self.now) (memory_facts c.remember.new.self) b) c.from_residual.result c.from_residual.ensures.0
-    (refused_spared _ _ _ c.begin-turn.ensures.begun c.in_err-remember.ensures.err)
-
 pub returns-clause-call : goal.returns-clause-call
 returns-clause-call c =
-    read_called c.begin-turn.result c.only_if-turn.result _ _ _ _ c.begin-turn.ensures.turn c.only_if-turn.ensures (search rules) c.begin-turn.ensures.begun c.in_ok-remember.ensures.ok
+    read_called c.begin-turn.result c.only_if-turn.result _ _ _ _ c.begin-turn.ensures.turn c.only_if-turn.ensures (search rules) c.begin-turn.ensures.begun c.note_quiet.ensures
 
 pub returns-clause-spared : goal.returns-clause-spared
-returns-clause-spared c there = went_spared c.args.self.now c.remember.new.self
+returns-clause-spared c there = went_spared c.args.self.now c.note_quiet.new.self

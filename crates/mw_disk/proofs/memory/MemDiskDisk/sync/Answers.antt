@@ -1,7 +1,5 @@
-use Rattle.std.proofs.Common.{Bool, refl, rules}
-use Rattle.mw_disk.specs.Facts.{Called, Spares}
-use Rattle.mw_disk.specs.Memory.{memory_facts}
-use Rattle.mw_disk.proofs.Remembered.{went_called, went_spared, fails_called, fails_spared, refused_called, refused_spared, on_err, fails_nothing, fails_same, sync_nothing, sync_same, sync_rest}
+use Rattle.std.proofs.Common.{refl, rules}
+use Rattle.mw_disk.proofs.Remembered.{went_called, went_spared, fails_called, fails_spared, fails_nothing, fails_same, sync_nothing, sync_same, sync_rest}
 use Rattle.mw_disk.proofs.memory.MemDiskDisk.sync.Goals as goal
 
 pub returns-then-ne-clause-crash : goal.returns-then-ne-clause-crash
@@ -11,13 +9,13 @@ pub returns-then-ne-clause-same : goal.returns-then-ne-clause-same
 returns-then-ne-clause-same c = fails_same c.begin-turn.result _ _ c.fail.new.self c.begin-turn.ensures.begun c.fail.ensures
 
 pub returns-clause-crash : goal.returns-clause-crash
-returns-clause-crash c = sync_nothing _ _ _ c.begin-turn.ensures.begun c.in_ok-remember.ensures.ok
+returns-clause-crash c = sync_nothing _ _ _ c.begin-turn.ensures.begun c.note_sync.ensures
 
 pub returns-clause-same : goal.returns-clause-same
-returns-clause-same c = sync_same _ _ _ c.begin-turn.ensures.begun c.in_ok-remember.ensures.ok
+returns-clause-same c = sync_same _ _ _ c.begin-turn.ensures.begun c.note_sync.ensures
 
 pub returns-clause-durable : goal.returns-clause-durable
-returns-clause-durable c = sync_rest _ _ _ c.begin-turn.ensures.begun c.in_ok-remember.ensures.ok
+returns-clause-durable c = sync_rest _ _ _ c.begin-turn.ensures.begun c.note_sync.ensures
 
 pub returns-then-ne-clause-call : goal.returns-then-ne-clause-call
 returns-then-ne-clause-call c = fails_called _ c.begin-turn.result _ _ c.fail.new.self refl c.begin-turn.ensures.begun c.fail.ensures
@@ -25,18 +23,8 @@ returns-then-ne-clause-call c = fails_called _ c.begin-turn.result _ _ c.fail.ne
 pub returns-then-ne-clause-spared : goal.returns-then-ne-clause-spared
 returns-then-ne-clause-spared c = fails_spared _ c.begin-turn.result _ _ c.fail.new.self c.begin-turn.ensures.turn c.begin-turn.ensures.begun c.fail.ensures
 
-pub returns-in_err-remember-clause-call : goal.returns-in_err-remember-clause-call
-returns-in_err-remember-clause-call c =
-    on_err (λ (b : Bool). Called (memory_facts c.args.self.now) (memory_facts c.remember.new.self) b) c.from_residual.result c.from_residual.ensures.0
-    (refused_called _ _ _ c.begin-turn.ensures.begun c.in_err-remember.ensures.err)
-
-pub returns-in_err-remember-clause-spared : goal.returns-in_err-remember-clause-spared
-returns-in_err-remember-clause-spared c =
-    on_err (λ (b : Bool). Spares (memory_facts c.args.self.now) (memory_facts c.remember.new.self) b) c.from_residual.result c.from_residual.ensures.0
-    (refused_spared _ _ _ c.begin-turn.ensures.begun c.in_err-remember.ensures.err)
-
 pub returns-clause-call : goal.returns-clause-call
-returns-clause-call c = went_called _ c.begin-turn.result _ _ _ refl c.begin-turn.ensures.turn (search rules) c.begin-turn.ensures.begun c.in_ok-remember.ensures.ok
+returns-clause-call c = went_called _ c.begin-turn.result _ _ _ refl c.begin-turn.ensures.turn (search rules) c.begin-turn.ensures.begun c.note_sync.ensures
 
 pub returns-clause-spared : goal.returns-clause-spared
-returns-clause-spared c = went_spared c.args.self.now c.remember.new.self
+returns-clause-spared c = went_spared c.args.self.now c.note_sync.new.self

@@ -3,10 +3,10 @@ use Rattle.mw_disk.proofs.Remembered.{went_called, went_spared, fails_called, fa
 use Rattle.mw_disk.proofs.memory.MemDiskDisk.write_at.Goals as goal
 
 pub returns-then-ne-clause-crash : goal.returns-then-ne-clause-crash
-returns-then-ne-clause-crash c = fails_tears c.begin-turn.result c.args.at _ _ _ c.fail.new.self c.begin-turn.ensures.begun c.fail.ensures
+returns-then-ne-clause-crash c = fails_tears c.begin-turn.result c.args.at _ _ _ c.fail_write.new.self c.begin-turn.ensures.begun c.fail_write.ensures
 
 pub returns-then-ne-clause-torn : goal.returns-then-ne-clause-torn
-returns-then-ne-clause-torn c = fails_torn c.begin-turn.result c.args.at _ _ _ c.fail.new.self c.begin-turn.ensures.begun c.fail.ensures
+returns-then-ne-clause-torn c = fails_torn c.begin-turn.result c.args.at _ _ _ c.fail_write.new.self c.begin-turn.ensures.begun c.fail_write.ensures
 
 pub returns-in-Ok-clause-crash : goal.returns-in-Ok-clause-crash
 returns-in-Ok-clause-crash c = wrote_tears c.args.at c.args.bytes.now _ _ _ c.begin-turn.ensures.begun c.in-Ok.ensures.ok
@@ -18,10 +18,10 @@ pub returns-in-Ok-clause-written : goal.returns-in-Ok-clause-written
 returns-in-Ok-clause-written c fits = wrote_written c.args.at c.args.bytes.now _ _ _ c.begin-turn.ensures.begun c.in-Ok.ensures.ok fits
 
 pub returns-then-ne-clause-call : goal.returns-then-ne-clause-call
-returns-then-ne-clause-call c = fails_called _ c.begin-turn.result _ _ c.fail.new.self refl c.begin-turn.ensures.begun c.fail.ensures
+returns-then-ne-clause-call c = fails_called _ c.begin-turn.result _ _ c.fail_write.new.self refl c.begin-turn.ensures.begun c.fail_write.ensures
 
 pub returns-then-ne-clause-spared : goal.returns-then-ne-clause-spared
-returns-then-ne-clause-spared c = fails_spared _ c.begin-turn.result _ _ c.fail.new.self c.begin-turn.ensures.turn c.begin-turn.ensures.begun c.fail.ensures
+returns-then-ne-clause-spared c = fails_spared _ c.begin-turn.result _ _ c.fail_write.new.self c.begin-turn.ensures.turn c.begin-turn.ensures.begun c.fail_write.ensures
 
 pub returns-in-Ok-clause-call : goal.returns-in-Ok-clause-call
 returns-in-Ok-clause-call c = went_called _ c.begin-turn.result _ _ _ refl c.begin-turn.ensures.turn (search rules) c.begin-turn.ensures.begun c.in-Ok.ensures.ok

@@ -1,0 +1,43 @@
+-- What a disk in memory keeps at run time goes along with what contracts see of its calls.
+use Rattle.std.proofs.Common.{◌≡◌, ℕ, List, [], ◌∷◌, ◌++◌, refl, sym, ap, ◌∙◌, subst}
+use Rattle.mw_disk.specs.Facts.{patched}
+use Rattle.mw_disk.specs.Memory.{State, only, padded, after, run}
+use Rattle.mw_disk.specs.Crash.{spans_after, IsLeftBy}
+use Rattle.mw_disk.specs.declared.spans.Span.{Span}
+use Rattle.mw_disk.specs.declared.event.Event.{Event}
+use Rattle.mw_disk.specs.declared.event.Call.{Call}
+use Rattle.mw_disk.specs.declared.event.Call.TheVariants.{Quiet, Wrote, Tore, Synced}
+use Rattle.mw_disk.specs.declared.history.History.{History}
+use Rattle.mw_disk.proofs.Remembered.{run_push}
+use Rattle.mw_disk.proofs.Tearing.{spans_push}
+
+-- the bytes that a read gives once this call was made too
+abbrev pub bytes_after : List ℕ → Call → List ℕ
+bytes_after bytes (Quiet well) = bytes
+bytes_after bytes (Wrote at block) = patched (padded bytes at) at block
+bytes_after bytes (Tore at len) = bytes
+bytes_after bytes Synced = bytes
+
+after_bytes : (s : State) (call : Call) → (after s call).bytes ≡ bytes_after s.bytes call
+after_bytes s (Quiet well) = refl
+after_bytes s (Wrote at block) = refl
+after_bytes s (Tore at len) = refl
+after_bytes s Synced = refl
+
+left_after : (first : List ℕ) (log : List Event) (e : Event) (bytes : List ℕ) (spans : List Span) → IsLeftBy first log bytes spans
+    → IsLeftBy first (log ++ e ∷ []) (bytes_after bytes e.call) (spans_after spans e.call)
+left_after first log e bytes spans left = record {
+  seen = ap (λ (l : List ℕ). bytes_after l e.call) left.seen
+      ∙ sym (ap (λ (s : State). s.bytes) (run_push (only first) log e) ∙ after_bytes (run (only first) log) e.call);
+  written = ap (λ (l : List Span). spans_after l e.call) left.written ∙ sym (spans_push [] log e);
+}
+
+-- a call was made, and the bytes and the ranges are as it leaves them
+pub goes_on : (old new : History) (missed : ℕ) (call : Call) (bytes next : List ℕ) (spans ranges : List Span)
+    → new ≡ record { first = old.first; log = old.log ++ record { missed = missed; call = call } ∷ [] }
+    → IsLeftBy old.first old.log bytes spans → next ≡ bytes_after bytes call → ranges ≡ spans_after spans call → IsLeftBy new.first new.log next ranges
+goes_on old new missed call bytes next spans ranges is left seen written =
+    subst (λ (h : History). IsLeftBy h.first h.log next ranges) (sym is)
+    (subst (λ (l : List ℕ). IsLeftBy old.first (old.log ++ record { missed = missed; call = call } ∷ []) l ranges) (sym seen)
+    (subst (λ (l : List Span). IsLeftBy old.first (old.log ++ record { missed = missed; call = call } ∷ []) (bytes_after bytes call) l) (sym written)
+    (left_after old.first old.log (record { missed = missed; call = call }) bytes spans left)))

@@ -1,0 +1,57 @@
+//! What a disk in memory went through. Contracts alone read it: it takes no memory, and at run time
+//! nothing is done with it.
+ghost use Rattle.std.specs.Prelude.{◌≡◌, ℕ, List, [], ◌∷◌, ◌++◌};
+ghost use Rattle.std.specs.Borrow.{ftrue};
+ghost use Rattle.mw_disk.specs.declared.event.Event.{Event as Remembered};
+
+use crate::event::{Call, Event};
+use std::marker::Model;
+
+/// The bytes that a disk had at first, and its calls since that left a trace, the oldest first.
+#[derive(Drop)]
+pub(crate) struct History {
+    pub(crate) ghost first: { List ℕ },
+    pub(crate) ghost log: { List Remembered },
+}
+
+impl Model for History {
+    ghost also_owns = { λ _. ftrue };
+}
+
+// It owns nothing.
+unsafe impl Send for History {}
+
+unsafe impl Sync for History {}
+
+impl History {
+    /// That of a disk with these bytes, of which no call was made.
+    pub(crate) fn new(_first: &[u8]) -> History
+        ensures { result ≡ record { first = _first.now; log = [] } }
+    {
+        History {}
+    }
+
+    /// An equal one.
+    pub(crate) fn copy(&self) -> History
+        ensures { result ≡ self.now }
+    {
+        History {}
+    }
+
+    /// That of the disk once this call was made too.
+    fn with(&self, _event: &Event) -> History
+        ensures { result ≡ record { first = self.now.first; log = self.now.log ++ _event.now ∷ [] } }
+    {
+        History {}
+    }
+
+    /// That of the disk once this call was made too, and so many before it have failed without a trace.
+    pub(crate) fn after(&self, missed: u64, call: Call) -> History
+        ensures { result ≡ record {
+          first = self.now.first;
+          log = self.now.log ++ record { missed = missed; call = call } ∷ [];
+        } }
+    {
+        self.with(&Event { missed, call })
+    }
+}
