@@ -2,7 +2,9 @@
 use Rattle.std.proofs.Common.{◌≡◌, ℕ, zero, suc, ◌<◌, ◌&&◌, ◌||◌, not, nat_le, Bool, true, false, Option, Some, None, [], ◌∷◌, length, refl, ap, ◌∙◌, arith}
 use Rattle.std.proofs.lemmas.Bool.{and_left, and_right, lt-leb}
 use Rattle.std.specs.Option.{option_map_or}
-use Rattle.mw_words.specs.declared.limits.TheConstants.{MAX_ENTRIES, MAX_VALUE}
+use Rattle.mw_words.specs.declared.limits.TheConstants.{MAX_VALUE}
+use Rattle.mw_record.specs.declared.layout.Layout.{Layout}
+use Rattle.mw_record.specs.Layout.{most_entries}
 use Rattle.mw_record.specs.Records.{Pairs, Kept, is_record, rises_below, each_below, is_covered, is_apart, are_apart, has_values, records_fit, homes_fit}
 use Rattle.mw_record.proofs.Below.{has}
 
@@ -53,7 +55,7 @@ homes_fit_same homes homes2 kept kept2 places words same home_words =
     ∙ ap (λ v. is_covered kept2 places a || nat_le v MAX_VALUE) (home_words a lt))
 
 -- too many entries are no record
-pub too_many : (words : ℕ) (ps : Pairs) → MAX_ENTRIES < length ps → is_record words ps ≡ false
-too_many words ps many =
-    and_left (nat_le 1 (length ps) && nat_le (length ps) MAX_ENTRIES) (rises_below words 0 ps)
-    (and_right (nat_le 1 (length ps)) (nat_le (length ps) MAX_ENTRIES) (lt-leb (length ps) MAX_ENTRIES many))
+pub too_many : (layout : Layout) (words : ℕ) (ps : Pairs) → most_entries layout < length ps → is_record layout words ps ≡ false
+too_many layout words ps many =
+    and_left (nat_le 1 (length ps) && nat_le (length ps) (most_entries layout)) (rises_below words 0 ps)
+    (and_right (nat_le 1 (length ps)) (nat_le (length ps) (most_entries layout)) (lt-leb (length ps) (most_entries layout) many))

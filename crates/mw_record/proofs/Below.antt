@@ -2,7 +2,8 @@
 use Rattle.std.proofs.Common.{◌≡◌, ℕ, zero, suc, ◌+◌, ◌<◌, ◌≤◌, ◌&&◌, Bool, true, false, [], ◌∷◌, slice_get, length, nat_le, Option, Some, refl, sym, ap, ◌∙◌, subst, inl, inr, arith, add-one}
 use Rattle.std.proofs.lemmas.Bool.{leb-true, ltb-true, and_parts, and_from, and_left, and_right, or_left, or_right, or_from, cases_eq}
 use Rattle.std.specs.Option.{option_map_or}
-use Rattle.mw_words.specs.declared.limits.TheConstants.{MAX_ENTRIES}
+use Rattle.mw_record.specs.declared.layout.Layout.{Layout}
+use Rattle.mw_record.specs.Layout.{most_entries}
 use Rattle.mw_record.specs.Records.{Pairs, Kept, is_record, rises_below, is_formed, are_formed, each_below, is_covered, holds, all_over, record_over}
 
 pub each_more : (test : ℕ → Bool) (i : ℕ) → each_below test i ≡ true → test i ≡ true → each_below test (i + 1) ≡ true
@@ -47,24 +48,24 @@ covered_at kept (suc n) i addr lt here =
 pub over_more : (kept : Kept) (i addr value : ℕ) → all_over kept (i + 1) addr value ≡ record_over (kept i) addr (all_over kept i addr value)
 over_more kept i addr value = ap (λ n. all_over kept n addr value) (add-one i)
 
--- a record has no more entries than a change may have
-pub few_entries : (words : ℕ) (pairs : Pairs) → is_record words pairs ≡ true → length pairs ≤ MAX_ENTRIES
-few_entries words pairs formed =
-    let outer = and_parts (nat_le 1 (length pairs) && nat_le (length pairs) MAX_ENTRIES) (rises_below words 0 pairs) formed in
-    let inner = and_parts (nat_le 1 (length pairs)) (nat_le (length pairs) MAX_ENTRIES) outer.0 in
-    leb-true (length pairs) MAX_ENTRIES inner.1
+-- a record has no more entries than one of the layout may have
+pub few_entries : (layout : Layout) (words : ℕ) (pairs : Pairs) → is_record layout words pairs ≡ true → length pairs ≤ most_entries layout
+few_entries layout words pairs formed =
+    let outer = and_parts (nat_le 1 (length pairs) && nat_le (length pairs) (most_entries layout)) (rises_below words 0 pairs) formed in
+    let inner = and_parts (nat_le 1 (length pairs)) (nat_le (length pairs) (most_entries layout)) outer.0 in
+    leb-true (length pairs) (most_entries layout) inner.1
 
 -- and one at least
-pub some_entries : (words : ℕ) (pairs : Pairs) → is_record words pairs ≡ true → 1 ≤ length pairs
-some_entries words pairs formed =
-    let outer = and_parts (nat_le 1 (length pairs) && nat_le (length pairs) MAX_ENTRIES) (rises_below words 0 pairs) formed in
-    let inner = and_parts (nat_le 1 (length pairs)) (nat_le (length pairs) MAX_ENTRIES) outer.0 in
+pub some_entries : (layout : Layout) (words : ℕ) (pairs : Pairs) → is_record layout words pairs ≡ true → 1 ≤ length pairs
+some_entries layout words pairs formed =
+    let outer = and_parts (nat_le 1 (length pairs) && nat_le (length pairs) (most_entries layout)) (rises_below words 0 pairs) formed in
+    let inner = and_parts (nat_le 1 (length pairs)) (nat_le (length pairs) (most_entries layout)) outer.0 in
     leb-true 1 (length pairs) inner.0
 
 -- where all open records are in order, each is
-pub formed_at : (words places place : ℕ) (kept : Kept) (pairs : Pairs) → are_formed words kept places ≡ true → place < places → kept place ≡ Some pairs → is_record words pairs ≡ true
-formed_at words places place kept pairs all lt is =
-    sym (ap (is_formed words) is) ∙ each_at (λ j. is_formed words (kept j)) places place all lt
+pub formed_at : (layout : Layout) (words places place : ℕ) (kept : Kept) (pairs : Pairs) → are_formed layout words kept places ≡ true → place < places → kept place ≡ Some pairs → is_record layout words pairs ≡ true
+formed_at layout words places place kept pairs all lt is =
+    sym (ap (is_formed layout words) is) ∙ each_at (λ j. is_formed layout words (kept j)) places place all lt
 
 -- each address of a record is below the number of words
 pub rises_at : (words lowest : ℕ) (pairs : Pairs) (i : ℕ) (p : ℕ × ℕ) → rises_below words lowest pairs ≡ true → slice_get pairs i ≡ Some p → p.0 < words
@@ -75,5 +76,5 @@ rises_at words lowest (q ∷ pairs) zero p ok read =
 rises_at words lowest (q ∷ pairs) (suc i) p ok read =
     rises_at words (q.0 + 1) pairs i p (and_parts _ _ ok).1 read
 
-pub address_below : (words : ℕ) (pairs : Pairs) (i : ℕ) (p : ℕ × ℕ) → is_record words pairs ≡ true → slice_get pairs i ≡ Some p → p.0 < words
-address_below words pairs i p formed read = rises_at words 0 pairs i p (and_parts _ _ formed).1 read
+pub address_below : (layout : Layout) (words : ℕ) (pairs : Pairs) (i : ℕ) (p : ℕ × ℕ) → is_record layout words pairs ≡ true → slice_get pairs i ≡ Some p → p.0 < words
+address_below layout words pairs i p formed read = rises_at words 0 pairs i p (and_parts _ _ formed).1 read

@@ -3,6 +3,7 @@ use Rattle.std.proofs.Common.{◌≡◌, ℕ, ◌<◌, ◌≤◌, ◌==◌, ◌�
 use Rattle.std.proofs.lemmas.Bool.{cases_Bool, cases_eq, both_ways, cond-true, cond-false, eq-eqb, ne_eqb}
 use Rattle.std.proofs.lemmas.List.{length-set, get_or-set_same, get_or-set_other}
 use Rattle.mw_words.specs.declared.limits.TheConstants.{MAX_VALUE}
+use Rattle.mw_record.specs.declared.layout.Layout.{Layout}
 use Rattle.mw_record.specs.Records.{Pairs, Kept, over, all_over, holds, put_pairs, is_covered, has_values, is_record}
 use Rattle.mw_record.specs.Stands.{Apart, Stands}
 use Rattle.mw_record.proofs.Over.{Covers, covers, covered, all_miss, all_hit, over_small, over_hit, over_miss}
@@ -74,10 +75,10 @@ module _ (places : ℕ) (homes2 : ℕ → ℕ) (kept kept2 : Kept) (records : (j
 
 -- The words stay where each record stays, or is shut while its values stand in the new home words, and each home word
 -- stays or is covered by an open record.
-pub stands_same : (words places : ℕ) (homes homes2 : ℕ → ℕ) (kept kept2 : Kept) (contents : List ℕ)
+pub stands_same : (layout : Layout) (words places : ℕ) (homes homes2 : ℕ → ℕ) (kept kept2 : Kept) (contents : List ℕ)
     → ((j : ℕ) → j < places → StaysOrShut (kept j) (kept2 j) homes2) → ((a : ℕ) → a < words → StaysOrCovered homes homes2 kept places a)
-    → Stands words places homes kept contents → Stands words places homes2 kept2 contents
-stands_same words places homes homes2 kept kept2 contents records home_words was = record {
+    → Stands layout words places homes kept contents → Stands layout words places homes2 kept2 contents
+stands_same layout words places homes homes2 kept kept2 contents records home_words was = record {
   count = was.count;
   each = λ a lt. was.each a lt ∙ value_stays places homes2 kept kept2 records homes a was.apart (home_words a lt);
   small = was.small;
@@ -105,16 +106,16 @@ get_or-put_pairs (p ∷ ps) words a lt =
     get_or-put_pairs ps (set words p.0 p.1) a longer ∙ ap (over ps a) here
 
 -- One place more is open: a record of the file with small new values, which shares no address with an open one.
-pub record Opens (words places place : ℕ) (ps : Pairs) (kept kept2 : Kept) : Type 0 where
+pub record Opens (layout : Layout) (words places place : ℕ) (ps : Pairs) (kept kept2 : Kept) : Type 0 where
   pub within : place < places
   pub was_shut : kept place ≡ None
   pub is_open : kept2 place ≡ Some ps
   pub others : (j : ℕ) → j < places → (j ≡ place → ⊥) → kept2 j ≡ kept j
-  pub formed : is_record words ps ≡ true
+  pub formed : is_record layout words ps ≡ true
   pub values : has_values ps ≡ true
   pub alone : (j : ℕ) (qs : Pairs) (a : ℕ) → j < places → kept j ≡ Some qs → holds ps a ≡ true → holds qs a ≡ true → ⊥
 
-module _ (words places place : ℕ) (ps : Pairs) (kept kept2 : Kept) (opens : Opens words places place ps kept kept2) where
+module _ (layout : Layout) (words places place : ℕ) (ps : Pairs) (kept kept2 : Kept) (opens : Opens layout words places place ps kept kept2) where
   -- an open record is the new one, or was open
   old_or_new : (j : ℕ) (qs : Pairs) → j < places → kept2 j ≡ Some qs → ((j ≡ place) × (qs ≡ ps)) ⊎ ((j ≡ place → ⊥) × (kept j ≡ Some qs))
   old_or_new j qs lt is =
@@ -176,18 +177,18 @@ small_put ps a v w is small values =
     ]
 
 -- Where a place is opened, the words are those before with the record put over them.
-pub stands_more : (words places place : ℕ) (ps : Pairs) (homes : ℕ → ℕ) (kept kept2 : Kept) (contents : List ℕ)
-    → Opens words places place ps kept kept2 → Stands words places homes kept contents → Stands words places homes kept2 (put_pairs ps contents)
-stands_more words places place ps homes kept kept2 contents opens was =
+pub stands_more : (layout : Layout) (words places place : ℕ) (ps : Pairs) (homes : ℕ → ℕ) (kept kept2 : Kept) (contents : List ℕ)
+    → Opens layout words places place ps kept kept2 → Stands layout words places homes kept contents → Stands layout words places homes kept2 (put_pairs ps contents)
+stands_more layout words places place ps homes kept kept2 contents opens was =
     let read : (a : ℕ) → a < words → get_or (put_pairs ps contents) a 0 ≡ over ps a (get_or contents a 0) = λ a lt.
     get_or-put_pairs ps contents a (omega (arith, lt, was.count)) in
     record {
       count = length-put_pairs ps contents ∙ was.count;
-      each = λ a lt. read a lt ∙ ap (over ps a) (was.each a lt) ∙ value_put words places place ps kept kept2 opens a (homes a) was.apart;
+      each = λ a lt. read a lt ∙ ap (over ps a) (was.each a lt) ∙ value_put layout words places place ps kept kept2 opens a (homes a) was.apart;
       small = λ a lt. small_put ps a (get_or contents a 0) (get_or (put_pairs ps contents) a 0) (read a lt) (was.small a lt) opens.values;
-      formed = λ j qs lt is. elim (old_or_new words places place ps kept kept2 opens j qs lt is) [
-        | inl new ↦ ap (is_record words) new.1 ∙ opens.formed
+      formed = λ j qs lt is. elim (old_or_new layout words places place ps kept kept2 opens j qs lt is) [
+        | inl new ↦ ap (is_record layout words) new.1 ∙ opens.formed
         | inr old ↦ was.formed j qs lt old.1
       ];
-      apart = apart2 words places place ps kept kept2 opens was.apart;
+      apart = apart2 layout words places place ps kept kept2 opens was.apart;
     }

@@ -2,7 +2,10 @@ pub mod Agree
 pub mod Below
 pub mod ChangedBytes
 pub mod Changes
+pub mod ClosedPlaces
+pub mod Decoding
 pub mod Faults
+pub mod Layouts
 pub mod Longer
 pub mod Over
 pub mod ReadAgain
@@ -10,5 +13,6 @@ pub mod Reading
 pub mod Sizes
 pub mod Sound
 pub mod Turns
+pub mod Undamaged
 pub mod Writes
 pub mod Writing

@@ -1,60 +1,57 @@
 -- What is written is read again: the head of a file, a record, and a new file.
-use Rattle.std.proofs.Common.{◌≡◌, ℕ, zero, suc, ◌+◌, ◌-◌, ◌*◌, ◌^◌, ◌<◌, ◌≤◌, ◌&&◌, ◌||◌, nat_eq, nat_le, nat_lt, Bool, true, false, Some, None, List, [], ◌∷◌, ◌++◌, length, get_or, take, set, replicate, slice_index, refl, sym, ap, ◌∙◌, subst, arith, append_assoc, add-zero}
+use Rattle.std.proofs.Common.{◌≡◌, ℕ, ◌+◌, ◌-◌, ◌*◌, ◌^◌, ◌<◌, ◌≤◌, ◌&&◌, nat_eq, nat_le, nat_lt, Bool, true, Some, List, [], ◌∷◌, ◌++◌, length, get_or, take, set, replicate, slice_index, refl, sym, ap, ◌∙◌, subst, arith, append_assoc, add-zero}
 use Rattle.std.specs.Cmp.Lexicographic.{pointwise}
 use Rattle.std.specs.List.{flat_map, list_all}
 use Rattle.std.proofs.lemmas.Bool.{and_parts, and_from, leb-true, ltb-true}
-use Rattle.std.proofs.lemmas.List.{append-nil, get_or-take, length-append, length-replicate, length-take-le, length-map, ext_get_or, get_or-append_right}
+use Rattle.std.proofs.lemmas.List.{append-nil, get_or-take, length-append, length-take-le, length-map, ext_get_or}
 use Rattle.mw_words.specs.declared.limits.TheConstants.{MAX_ENTRIES, MAX_VALUE, MAX_WORDS}
 use Rattle.mw_words.specs.declared.jobs.Entry.{Entry}
 use Rattle.mw_words.specs.Change.{is_in_range, rises_from, is_change, put}
-use Rattle.mw_record.specs.declared.layout.TheConstants.{HEAD_SIZE, BODY_SIZE, ENTRY_SIZE, COMMITTED, MAGIC}
-use Rattle.mw_record.specs.Layout.{home_at, place_at, number_at, number_bytes, header, entry_bytes, body, pairs_of, new_file, AreNumbers, SameBytes}
-use Rattle.mw_record.specs.Records.{pairs_at, body_at, record_at, home, put_pairs, is_covered, is_record, rises_below, has_values}
-use Rattle.mw_record.specs.Damages.{has_mark, words_of, places_of}
+use Rattle.mw_record.specs.declared.layout.Layout.{Layout}
+use Rattle.mw_record.specs.declared.layout.Layout.TheVariants.{First, Second}
+use Rattle.mw_record.specs.declared.layout.TheConstants.{HEAD_SIZE, PLACES_AT, BODY_SIZE, ENTRY_SIZE, COMMITTED}
+use Rattle.mw_record.specs.Layout.{magic, place_at, number_at, number_bytes, header, entry_bytes, body, pairs_of, AreNumbers, SameBytes}
+use Rattle.mw_record.specs.Records.{pairs_at, body_at, record_at, put_pairs, is_record, rises_below, has_values}
+use Rattle.mw_record.specs.Parts.{has_mark, words_told, places_told}
 use Rattle.mw_record.proofs.Faults.{sizes_are, are_sizes}
-use Rattle.mw_record.proofs.Below.{has}
-use Rattle.mw_record.proofs.Over.{all_miss}
-use Rattle.mw_record.specs.Stands.{MayHave, IsHead, HasWords}
-use Rattle.mw_record.proofs.Reading.{number_same, number_zero, number_written, pairs_same, record_open, record_shut, length-number_bytes}
+use Rattle.mw_record.specs.Stands.{MayHave, IsHead}
+use Rattle.mw_record.proofs.Layouts.{length-magic, most_places_fit}
+use Rattle.mw_record.proofs.Reading.{number_same, number_written, pairs_same, record_open, length-number_bytes}
 
 -- the head, with what follows it
-mark_of_head : (words places : ℕ) (rest : List ℕ) → has_mark (header words places ++ rest) ≡ true
-mark_of_head words places rest = refl
+mark_of_head : (layout : Layout) (words places : ℕ) (rest : List ℕ) → has_mark layout (header layout words places ++ rest) ≡ true
+mark_of_head First words places rest = refl
+mark_of_head Second words places rest = refl
 
-words_of_head : (words places : ℕ) (rest : List ℕ) → words < 2 ^ 32 → words_of (header words places ++ rest) ≡ words
-words_of_head words places rest fits =
+words_of_head : (layout : Layout) (words places : ℕ) (rest : List ℕ) → words < 2 ^ 32 → words_told (header layout words places ++ rest) ≡ words
+words_of_head layout words places rest fits =
     let tail : List ℕ = number_bytes 2 places ++ replicate 18 0 in
-    let is : header words places ++ rest ≡ MAGIC ++ (number_bytes 4 words ++ (tail ++ rest)) =
-    ap (λ xs. MAGIC ++ xs) (append_assoc (number_bytes 4 words) tail rest) in
-    ap words_of is ∙ number_written MAGIC (tail ++ rest) 8 4 words refl fits
+    let is : header layout words places ++ rest ≡ magic layout ++ (number_bytes 4 words ++ (tail ++ rest)) =
+    append_assoc (magic layout) (number_bytes 4 words ++ tail) rest ∙ ap (λ xs. magic layout ++ xs) (append_assoc (number_bytes 4 words) tail rest) in
+    ap words_told is ∙ number_written (magic layout) (tail ++ rest) 8 4 words (length-magic layout) fits
 
-places_of_head : (words places : ℕ) (rest : List ℕ) → places < 2 ^ 16 → places_of (header words places ++ rest) ≡ places
-places_of_head words places rest fits =
-    let front : List ℕ = MAGIC ++ number_bytes 4 words in
+places_of_head : (layout : Layout) (words places : ℕ) (rest : List ℕ) → places < 2 ^ 16 → places_told (header layout words places ++ rest) ≡ places
+places_of_head layout words places rest fits =
+    let front : List ℕ = magic layout ++ number_bytes 4 words in
     let zeros : List ℕ = replicate 18 0 in
-    let long : length front ≡ 12 = omega (arith, length-append MAGIC (number_bytes 4 words), length-number_bytes 4 words) in
-    let is : header words places ++ rest ≡ front ++ (number_bytes 2 places ++ (zeros ++ rest)) =
-    ap (λ xs. MAGIC ++ xs) (append_assoc (number_bytes 4 words) (number_bytes 2 places ++ zeros) rest ∙ ap (λ xs. number_bytes 4 words ++ xs) (append_assoc (number_bytes 2 places) zeros rest))
-    ∙ sym (append_assoc MAGIC (number_bytes 4 words) (number_bytes 2 places ++ (zeros ++ rest))) in
-    ap places_of is ∙ number_written front (zeros ++ rest) 12 2 places long fits
+    let long : length front ≡ 12 = omega (arith, length-append (magic layout) (number_bytes 4 words), length-number_bytes 4 words, length-magic layout) in
+    let is : header layout words places ++ rest ≡ front ++ (number_bytes 2 places ++ (zeros ++ rest)) =
+    append_assoc (magic layout) (number_bytes 4 words ++ (number_bytes 2 places ++ zeros)) rest
+    ∙ ap (λ xs. magic layout ++ xs) (append_assoc (number_bytes 4 words) (number_bytes 2 places ++ zeros) rest ∙ ap (λ xs. number_bytes 4 words ++ xs) (append_assoc (number_bytes 2 places) zeros rest))
+    ∙ sym (append_assoc (magic layout) (number_bytes 4 words) (number_bytes 2 places ++ (zeros ++ rest))) in
+    ap places_told is ∙ number_written front (zeros ++ rest) 12 2 places long fits
 
-second_layout_of_head : (words places : ℕ) (rest : List ℕ) → slice_index (header words places ++ rest) 15 ≡ 0
-unfolding number_bytes
-second_layout_of_head words places rest = refl
-
-pub head_of_header : (words places : ℕ) (rest : List ℕ) → MayHave words places → IsHead words places (header words places ++ rest)
-head_of_header words places rest may =
-    let w = words_of_head words places rest (omega (arith, may.words_fit)) in
-    let p = places_of_head words places rest (omega (arith, may.places_fit)) in
-    let z = second_layout_of_head words places rest in
+pub head_of_header : (layout : Layout) (words places : ℕ) (rest : List ℕ) → MayHave layout words places → IsHead layout words places (header layout words places ++ rest)
+head_of_header layout words places rest may =
+    let w = words_of_head layout words places rest (omega (arith, may.words_fit)) in
+    let p = places_of_head layout words places rest (omega (arith, may.places_fit, most_places_fit layout)) in
     record {
-      mark = mark_of_head words places rest;
-      sizes = are_sizes (header words places ++ rest) (record {
+      mark = mark_of_head layout words places rest;
+      sizes = are_sizes layout (header layout words places ++ rest) (record {
         some_word = omega (arith, w, may.some_word);
         words_fit = omega (arith, w, may.words_fit);
         some_place = omega (arith, p, may.some_place);
         places_fit = omega (arith, p, may.places_fit);
-        one_layout = λ e. omega (arith, z, e);
       });
       words_are = w;
       places_are = p;
@@ -75,53 +72,56 @@ within n m i xs ys same fits k lt =
     ap (λ a. get_or xs a 0) (sym e) ∙ same (i + k) (omega (arith, fits, lt)) ∙ ap (λ a. get_or ys a 0) e
 
 -- whether the first eight bytes are the magic ones
-starts_with_front : List ℕ → Bool
-starts_with_front front = pointwise nat_eq MAGIC front
+starts_with_front : Layout → List ℕ → Bool
+starts_with_front layout front = pointwise nat_eq (magic layout) front
 
-pub mark_same : (xs ys : List ℕ) → take 8 xs ≡ take 8 ys → has_mark xs ≡ has_mark ys
+pub mark_same : (layout : Layout) (xs ys : List ℕ) → take 8 xs ≡ take 8 ys → has_mark layout xs ≡ has_mark layout ys
 unfolding starts_with_front
-mark_same xs ys front = ap (λ f. starts_with_front f) front
+mark_same First xs ys front = ap (λ f. starts_with_front First f) front
+mark_same Second xs ys front = ap (λ f. starts_with_front Second f) front
 
--- A head stays where its bytes stay.
-pub head_same : (words places : ℕ) (xs ys : List ℕ) → HEAD_SIZE ≤ length xs → HEAD_SIZE ≤ length ys → SameBytes HEAD_SIZE 0 0 xs ys → IsHead words places ys → IsHead words places xs
-head_same words places xs ys p q same h =
-    let w : words_of xs ≡ words_of ys = number_same 4 8 8 xs ys (within 32 4 8 xs ys same (omega arith)) in
-    let m : places_of xs ≡ places_of ys = number_same 2 12 12 xs ys (within 32 2 12 xs ys same (omega arith)) in
-    let z : get_or xs 15 0 ≡ get_or ys 15 0 =
-    ap (λ a. get_or xs a 0) (let e : 15 ≡ 15 + 0 = omega arith in e) ∙ within 32 1 15 xs ys same (omega arith) 0 (omega arith) ∙ ap (λ a. get_or ys a 0) (let e : 15 + 0 ≡ 15 = omega arith in e) in
+-- A head stays where the bytes stay with which it begins, up to the last that is looked at.
+pub head_told_same : (layout : Layout) (words places : ℕ) (xs ys : List ℕ) → HEAD_SIZE ≤ length xs → HEAD_SIZE ≤ length ys → SameBytes (PLACES_AT + 2) 0 0 xs ys → IsHead layout words places ys → IsHead layout words places xs
+head_told_same layout words places xs ys p q same h =
+    let w : words_told xs ≡ words_told ys = number_same 4 8 8 xs ys (within 14 4 8 xs ys same (omega arith)) in
+    let m : places_told xs ≡ places_told ys = number_same 2 12 12 xs ys (within 14 2 12 xs ys same (omega arith)) in
     let front : take 8 xs ≡ take 8 ys = take_same 8 xs ys (omega (arith, p)) (omega (arith, q)) (λ k lt. same k (omega (arith, lt))) in
-    let s = sizes_are ys h.sizes in
+    let s = sizes_are layout ys h.sizes in
     record {
-      mark = mark_same xs ys front ∙ h.mark;
-      sizes = are_sizes xs (record {
+      mark = mark_same layout xs ys front ∙ h.mark;
+      sizes = are_sizes layout xs (record {
         some_word = omega (arith, w, s.some_word);
         words_fit = omega (arith, w, s.words_fit);
         some_place = omega (arith, m, s.some_place);
         places_fit = omega (arith, m, s.places_fit);
-        one_layout = λ e. s.one_layout (sym z ∙ e);
       });
       words_are = w ∙ h.words_are;
       places_are = m ∙ h.places_are;
     }
 
-length-header : (words places : ℕ) → length (header words places) ≡ 32
-length-header words places =
+-- A head stays where its bytes stay.
+pub head_same : (layout : Layout) (words places : ℕ) (xs ys : List ℕ) → HEAD_SIZE ≤ length xs → HEAD_SIZE ≤ length ys → SameBytes HEAD_SIZE 0 0 xs ys → IsHead layout words places ys → IsHead layout words places xs
+head_same layout words places xs ys p q same h = head_told_same layout words places xs ys p q (λ k lt. same k (omega (arith, lt))) h
+
+pub length-header : (layout : Layout) (words places : ℕ) → length (header layout words places) ≡ 32
+length-header layout words places =
     let zeros : List ℕ = replicate 18 0 in
     omega (
       arith,
-      length-append MAGIC (number_bytes 4 words ++ (number_bytes 2 places ++ zeros)),
+      length-append (magic layout) (number_bytes 4 words ++ (number_bytes 2 places ++ zeros)),
       length-append (number_bytes 4 words) (number_bytes 2 places ++ zeros),
       length-append (number_bytes 2 places) zeros,
       length-number_bytes 4 words,
+      length-magic layout,
       length-number_bytes 2 places,
     )
 
 -- Where the head of a file is a header, it tells the header's sizes.
-pub header_again : (image : List ℕ) (words places : ℕ) → MayHave words places → HEAD_SIZE ≤ length image → SameBytes HEAD_SIZE 0 0 image (header words places) → IsHead words places image
-header_again image words places may long same =
-    let h : IsHead words places (header words places) = subst (IsHead words places) (append-nil (header words places)) (head_of_header words places [] may) in
-    let n : length (header words places) ≡ 32 = length-header words places in
-    head_same words places image (header words places) long (omega (arith, n)) same h
+pub header_again : (layout : Layout) (image : List ℕ) (words places : ℕ) → MayHave layout words places → HEAD_SIZE ≤ length image → SameBytes HEAD_SIZE 0 0 image (header layout words places) → IsHead layout words places image
+header_again layout image words places may long same =
+    let h : IsHead layout words places (header layout words places) = subst (IsHead layout words places) (append-nil (header layout words places)) (head_of_header layout words places [] may) in
+    let n : length (header layout words places) ≡ 32 = length-header layout words places in
+    head_same layout words places image (header layout words places) long (omega (arith, n)) same h
 
 -- The entries that stand one behind the other are read again.
 pairs_written : (front rest : List ℕ) (entries : List Entry) (i : ℕ) → length front ≡ i → AreNumbers entries
@@ -163,11 +163,11 @@ body_again image at entries few fits same =
 
 -- Where a record's body stands behind a commit byte that is set, its entries are the record of the place.
 pub record_again : (image : List ℕ) (words place : ℕ) (entries : List Entry) → length entries ≤ MAX_ENTRIES → AreNumbers entries
-    → slice_index image (place_at words place) ≡ COMMITTED → SameBytes BODY_SIZE (place_at words place + 1) 0 image (body entries)
-    → record_at image words place ≡ Some (pairs_of entries)
+    → slice_index image (place_at Second words place) ≡ COMMITTED → SameBytes BODY_SIZE (place_at Second words place + 1) 0 image (body entries)
+    → record_at Second image words place ≡ Some (pairs_of entries)
 record_again image words place entries few fits commit same =
-    let at : ℕ = place_at words place in
-    record_open image words place at refl commit ∙ ap Some (body_again image at entries few fits same)
+    let at : ℕ = place_at Second words place in
+    record_open Second image words place at refl commit ∙ ap Some (body_again image at entries few fits same)
 
 -- The entries of a change are a record with small values.
 change_parts : (words : ℕ) (es : List Entry) → is_change words es ≡ true
@@ -205,7 +205,7 @@ entries_numbers words (e ∷ es) few fit =
     let p = entry_parts words e f.0 in
     ((omega (arith, few, ltb-true e.addr words p.0), omega (arith, leb-true e.new MAX_VALUE p.1)), entries_numbers words es few f.1)
 
-pub record_of_change : (words : ℕ) (es : List Entry) → is_change words es ≡ true → is_record words (pairs_of es) ≡ true
+pub record_of_change : (words : ℕ) (es : List Entry) → is_change words es ≡ true → is_record Second words (pairs_of es) ≡ true
 record_of_change words es ok =
     let p = change_parts words es ok in
     let n : length (pairs_of es) ≡ length es = length-map es (λ e. (e.addr, e.new)) in
@@ -226,43 +226,3 @@ length_of_change words es ok = leb-true (length es) MAX_ENTRIES (change_parts wo
 pub put-put_pairs : (es : List Entry) (words : List ℕ) → put words es ≡ put_pairs (pairs_of es) words
 put-put_pairs [] words = refl
 put-put_pairs (e ∷ es) words = put-put_pairs es (set words e.addr e.new)
-
-get_or-zeros : (n k : ℕ) → get_or {A = ℕ} (replicate n 0) k 0 ≡ 0
-get_or-zeros zero k = refl
-get_or-zeros (suc n) zero = refl
-get_or-zeros (suc n) (suc k) = get_or-zeros n k
-
--- A new file has all words 0.
-module _ (words places : ℕ) (may : MayHave words places) where
-  zeros_after_head : (k : ℕ) → 32 ≤ k → get_or (new_file words places) k 0 ≡ 0
-  zeros_after_head k past =
-      let n : ℕ = 8 * words + 136 * places in
-      get_or-append_right (header words places) (replicate n 0) 32 k 0 (length-header words places) past ∙ get_or-zeros n (k - 32)
-
-  no_records : (j : ℕ) → record_at (new_file words places) words j ≡ None
-  no_records j =
-      record_shut (new_file words places) words j (place_at words j) refl (λ commit.
-      omega (arith, commit, zeros_after_head (place_at words j) (omega arith)))
-
-  home_zero : (a : ℕ) → home (new_file words places) a ≡ 0
-  home_zero a = number_zero 8 (home_at a) (new_file words places) (λ k lt. zeros_after_head (home_at a + k) (omega arith))
-
-  uncovered : (p a : ℕ) → is_covered (record_at (new_file words places) words) p a ≡ false
-  uncovered zero a = refl
-  uncovered (suc p) a = ap (λ r. has r a || is_covered (record_at (new_file words places) words) p a) (no_records p) ∙ uncovered p a
-
-  pub new_file_has : HasWords words places (replicate words 0) (new_file words places)
-  new_file_has =
-      let image : List ℕ = new_file words places in
-      let zero_at : (a : ℕ) → get_or {A = ℕ} (replicate words 0) a 0 ≡ 0 = get_or-zeros words in
-      record {
-        head = head_of_header words places (replicate (8 * words + 136 * places) 0) may;
-        long = omega (arith, length-append (header words places) (replicate (8 * words + 136 * places) 0), length-header words places, length-replicate {A = ℕ} (8 * words + 136 * places) 0);
-        stands = record {
-          count = length-replicate words 0;
-          each = λ a lt. zero_at a ∙ sym (all_miss (record_at image words) places a (home image a) (uncovered places a) ∙ home_zero a);
-          small = λ a lt. omega (arith, zero_at a);
-          formed = λ j ps lt is. absurd (let e : ⊥ = cc (is, no_records j) in e);
-          apart = λ i j ps qs a p q ne is js hi hj. (let e : ⊥ = cc (is, no_records i) in e);
-        };
-      }

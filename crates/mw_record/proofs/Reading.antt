@@ -4,9 +4,9 @@ use Rattle.std.proofs.lemmas.List.{get_or-take, get_or-drop, get_or-append-add, 
 use Rattle.std.proofs.lemmas.Bool.{eq-eqb, ne_eqb, cases_eq}
 use Rattle.byteorder.specs.Endian.{little_from}
 use Rattle.byteorder.specs.Numbers.{length-bytes_low_first, little_number-reads_back}
-use Rattle.mw_words.specs.declared.limits.TheConstants.{MAX_ENTRIES}
-use Rattle.mw_record.specs.declared.layout.TheConstants.{BODY_SIZE, COMMITTED, PLACE_SIZE, WORD_SIZE}
-use Rattle.mw_record.specs.Layout.{home_at, place_at, number_at, number_bytes, patched, SameBytes}
+use Rattle.mw_record.specs.declared.layout.Layout.{Layout}
+use Rattle.mw_record.specs.declared.layout.TheConstants.{COMMITTED, WORD_SIZE}
+use Rattle.mw_record.specs.Layout.{most_entries, place_size, home_at, place_at, number_at, number_bytes, patched, SameBytes}
 use Rattle.mw_record.specs.Records.{Pairs, pairs_at, body_at, record_at, home}
 
 little_same : (n i j : ℕ) (xs ys : List ℕ) → SameBytes n i j xs ys → little_from i n xs ≡ little_from j n ys
@@ -65,17 +65,17 @@ unfolding body_at
 length_body image at = length_pairs image (at + 8) (slice_index image (at + 1))
 
 -- the record of a place whose commit byte is set, or clear, where the place begins at an offset
-pub record_open : (image : List ℕ) (words place at : ℕ) → at ≡ place_at words place → slice_index image at ≡ COMMITTED → record_at image words place ≡ Some (body_at image at)
+pub record_open : (layout : Layout) (image : List ℕ) (words place at : ℕ) → at ≡ place_at layout words place → slice_index image at ≡ COMMITTED → record_at layout image words place ≡ Some (body_at image at)
 unfolding record_at
-record_open image words place at is commit =
-    let e : (slice_index image (place_at words place) == COMMITTED) ≡ true = eq-eqb _ _ (ap (λ a. slice_index image a) (sym is) ∙ commit) in
-    ap (λ b. if b then Some (body_at image (place_at words place)) else None) e ∙ ap (λ a. Some (body_at image a)) (sym is)
+record_open layout image words place at is commit =
+    let e : (slice_index image (place_at layout words place) == COMMITTED) ≡ true = eq-eqb _ _ (ap (λ a. slice_index image a) (sym is) ∙ commit) in
+    ap (λ b. if b then Some (body_at image (place_at layout words place)) else None) e ∙ ap (λ a. Some (body_at image a)) (sym is)
 
-pub record_shut : (image : List ℕ) (words place at : ℕ) → at ≡ place_at words place → (slice_index image at ≡ COMMITTED → ⊥) → record_at image words place ≡ None
+pub record_shut : (layout : Layout) (image : List ℕ) (words place at : ℕ) → at ≡ place_at layout words place → (slice_index image at ≡ COMMITTED → ⊥) → record_at layout image words place ≡ None
 unfolding record_at
-record_shut image words place at is commit =
-    let e : (slice_index image (place_at words place) == COMMITTED) ≡ false = ne_eqb _ _ (λ h. commit (ap (λ a. slice_index image a) is ∙ h)) in
-    ap (λ b. if b then Some (body_at image (place_at words place)) else None) e
+record_shut layout image words place at is commit =
+    let e : (slice_index image (place_at layout words place) == COMMITTED) ≡ false = ne_eqb _ _ (λ h. commit (ap (λ a. slice_index image a) is ∙ h)) in
+    ap (λ b. if b then Some (body_at image (place_at layout words place)) else None) e
 
 -- a number is 0 where its bytes are
 little_zero : (n i : ℕ) (xs : List ℕ) → ((k : ℕ) → k < n → get_or xs (i + k) 0 ≡ 0) → little_from i n xs ≡ 0
@@ -135,9 +135,9 @@ get_patched_after old at block k within past =
     ∙ ap (λ a. get_or old a 0) (omega (arith, past))
 
 -- equal bytes are equal places, records and home words
-pub body_same : (xs ys : List ℕ) (i j : ℕ) → slice_index ys (j + 1) ≤ MAX_ENTRIES → SameBytes BODY_SIZE (i + 1) (j + 1) xs ys → body_at xs i ≡ body_at ys j
+pub body_same : (most : ℕ) (xs ys : List ℕ) (i j : ℕ) → slice_index ys (j + 1) ≤ most → SameBytes (7 + 16 * most) (i + 1) (j + 1) xs ys → body_at xs i ≡ body_at ys j
 unfolding body_at
-body_same xs ys i j few same =
+body_same most xs ys i j few same =
     let count : get_or xs (i + 1) 0 ≡ get_or ys (j + 1) 0 =
     ap (λ a. get_or xs a 0) (sym (add-zero (i + 1))) ∙ same 0 (omega arith) ∙ ap (λ a. get_or ys a 0) (add-zero (j + 1)) in
     let n : ℕ = get_or ys (j + 1) 0 in
@@ -150,33 +150,33 @@ pub home_same : (xs ys : List ℕ) (addr : ℕ) → SameBytes WORD_SIZE (home_at
 home_same xs ys addr same = number_same 8 (home_at addr) (home_at addr) xs ys same
 
 -- the commit byte of a closed place is clear, and that of an open one is set
-pub commit_clear : (image : List ℕ) (words place : ℕ) → record_at image words place ≡ None → slice_index image (place_at words place) ≡ COMMITTED → ⊥
-commit_clear image words place none commit = (let e = record_open image words place (place_at words place) refl commit in cc)
+pub commit_clear : (layout : Layout) (image : List ℕ) (words place : ℕ) → record_at layout image words place ≡ None → slice_index image (place_at layout words place) ≡ COMMITTED → ⊥
+commit_clear layout image words place none commit = (let e = record_open layout image words place (place_at layout words place) refl commit in cc)
 
-pub commit_set : (image : List ℕ) (words place : ℕ) (pairs : Pairs) → record_at image words place ≡ Some pairs
-    → (slice_index image (place_at words place) ≡ COMMITTED) × (body_at image (place_at words place) ≡ pairs)
-commit_set image words place pairs is =
-    elim (cases_eq (slice_index image (place_at words place)) COMMITTED) [
-      | inl commit ↦ (commit, (let e = record_open image words place (place_at words place) refl commit in cc))
-      | inr shut ↦ absurd (let e = record_shut image words place (place_at words place) refl shut in let f : ⊥ = cc in f)
+pub commit_set : (layout : Layout) (image : List ℕ) (words place : ℕ) (pairs : Pairs) → record_at layout image words place ≡ Some pairs
+    → (slice_index image (place_at layout words place) ≡ COMMITTED) × (body_at image (place_at layout words place) ≡ pairs)
+commit_set layout image words place pairs is =
+    elim (cases_eq (slice_index image (place_at layout words place)) COMMITTED) [
+      | inl commit ↦ (commit, (let e = record_open layout image words place (place_at layout words place) refl commit in cc))
+      | inr shut ↦ absurd (let e = record_shut layout image words place (place_at layout words place) refl shut in let f : ⊥ = cc in f)
     ]
 
 -- a closed place stays closed where its commit byte stays
-pub shut_stays : (xs ys : List ℕ) (words place : ℕ) → slice_index xs (place_at words place) ≡ slice_index ys (place_at words place)
-    → record_at ys words place ≡ None → record_at xs words place ≡ None
-shut_stays xs ys words place same none =
-    record_shut xs words place (place_at words place) refl (λ commit. commit_clear ys words place none (sym same ∙ commit))
+pub shut_stays : (layout : Layout) (xs ys : List ℕ) (words place : ℕ) → slice_index xs (place_at layout words place) ≡ slice_index ys (place_at layout words place)
+    → record_at layout ys words place ≡ None → record_at layout xs words place ≡ None
+shut_stays layout xs ys words place same none =
+    record_shut layout xs words place (place_at layout words place) refl (λ commit. commit_clear layout ys words place none (sym same ∙ commit))
 
 -- an open place keeps its record where its bytes stay
-pub record_stays : (xs ys : List ℕ) (words place : ℕ) (pairs : Pairs) → SameBytes PLACE_SIZE (place_at words place) (place_at words place) xs ys
-    → length pairs ≤ MAX_ENTRIES → record_at ys words place ≡ Some pairs → record_at xs words place ≡ Some pairs
-record_stays xs ys words place pairs same few is =
-    let at : ℕ = place_at words place in
-    let g = commit_set ys words place pairs is in
+pub record_stays : (layout : Layout) (xs ys : List ℕ) (words place : ℕ) (pairs : Pairs) → SameBytes (place_size layout) (place_at layout words place) (place_at layout words place) xs ys
+    → length pairs ≤ most_entries layout → record_at layout ys words place ≡ Some pairs → record_at layout xs words place ≡ Some pairs
+record_stays layout xs ys words place pairs same few is =
+    let at : ℕ = place_at layout words place in
+    let g = commit_set layout ys words place pairs is in
     let commit : get_or xs at 0 ≡ COMMITTED =
     ap (λ a. get_or xs a 0) (sym (add-zero at)) ∙ same 0 (omega arith) ∙ ap (λ a. get_or ys a 0) (add-zero at) ∙ g.0 in
-    let count : slice_index ys (at + 1) ≤ MAX_ENTRIES = omega (arith, few, length_body ys at, ap length g.1) in
-    record_open xs words place at refl commit
-    ∙ ap Some (body_same xs ys at at count (λ k lt.
+    let count : slice_index ys (at + 1) ≤ most_entries layout = omega (arith, few, length_body ys at, ap length g.1) in
+    record_open layout xs words place at refl commit
+    ∙ ap Some (body_same (most_entries layout) xs ys at at count (λ k lt.
     let e : (at + 1) + k ≡ at + (1 + k) = omega arith in
     ap (λ a. get_or xs a 0) e ∙ same (1 + k) (omega arith) ∙ ap (λ a. get_or ys a 0) (sym e)) ∙ g.1)

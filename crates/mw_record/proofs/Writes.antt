@@ -5,8 +5,9 @@ use Rattle.std.proofs.lemmas.List.{length-take-le, length-append, length-replica
 use Rattle.std.specs.List.{flat_map}
 use Rattle.mw_words.specs.declared.jobs.Entry.{Entry}
 use Rattle.mw_words.specs.declared.limits.TheConstants.{MAX_ENTRIES}
-use Rattle.mw_record.specs.declared.layout.TheConstants.{BODY_SIZE, ENTRY_SIZE, PLACE_SIZE}
-use Rattle.mw_record.specs.Layout.{home_at, place_at, number_bytes, entry_bytes, body, patched, SameBytes}
+use Rattle.mw_record.specs.declared.layout.Layout.{Layout}
+use Rattle.mw_record.specs.declared.layout.TheConstants.{BODY_SIZE, ENTRY_SIZE}
+use Rattle.mw_record.specs.Layout.{most_entries, place_size, home_at, place_at, number_bytes, entry_bytes, body, patched, SameBytes}
 use Rattle.mw_record.specs.Records.{Pairs, record_at, home}
 use Rattle.mw_record.proofs.Reading.{number_written, length-number_bytes, get_patched_before, get_patched_after, home_same, shut_stays, record_stays}
 
@@ -37,21 +38,21 @@ home_written bytes a v b small fits _ =
     ]
 
 -- the commit byte of a place whose bytes stay
-pub commit_same : (xs ys : List ℕ) (at : ℕ) → SameBytes PLACE_SIZE at at xs ys → slice_index xs at ≡ slice_index ys at
-commit_same xs ys at same = ap (λ i. get_or xs i 0) (sym (add-zero at)) ∙ same 0 (omega arith) ∙ ap (λ i. get_or ys i 0) (add-zero at)
+pub commit_same : (layout : Layout) (xs ys : List ℕ) (at : ℕ) → SameBytes (place_size layout) at at xs ys → slice_index xs at ≡ slice_index ys at
+commit_same layout xs ys at same = ap (λ i. get_or xs i 0) (sym (add-zero at)) ∙ same 0 (omega arith) ∙ ap (λ i. get_or ys i 0) (add-zero at)
 
-record_same_as : (xs ys : List ℕ) (words place : ℕ) (kept : Option Pairs) → SameBytes PLACE_SIZE (place_at words place) (place_at words place) xs ys
-    → record_at ys words place ≡ kept → ((ps : Pairs) → kept ≡ Some ps → length ps ≤ MAX_ENTRIES) → record_at xs words place ≡ kept
-record_same_as xs ys words place None same is few = shut_stays xs ys words place (commit_same xs ys (place_at words place) same) is
-record_same_as xs ys words place (Some ps) same is few = record_stays xs ys words place ps same (few ps refl) is
+record_same_as : (layout : Layout) (xs ys : List ℕ) (words place : ℕ) (kept : Option Pairs) → SameBytes (place_size layout) (place_at layout words place) (place_at layout words place) xs ys
+    → record_at layout ys words place ≡ kept → ((ps : Pairs) → kept ≡ Some ps → length ps ≤ most_entries layout) → record_at layout xs words place ≡ kept
+record_same_as layout xs ys words place None same is few = shut_stays layout xs ys words place (commit_same layout xs ys (place_at layout words place) same) is
+record_same_as layout xs ys words place (Some ps) same is few = record_stays layout xs ys words place ps same (few ps refl) is
 
 -- A place whose bytes stay has the record that it had, and stays closed where it had none.
-pub record_same : (xs ys : List ℕ) (words place : ℕ) → SameBytes PLACE_SIZE (place_at words place) (place_at words place) xs ys
-    → ((ps : Pairs) → record_at ys words place ≡ Some ps → length ps ≤ MAX_ENTRIES) → record_at xs words place ≡ record_at ys words place
-record_same xs ys words place same few = record_same_as xs ys words place (record_at ys words place) same refl few
+pub record_same : (layout : Layout) (xs ys : List ℕ) (words place : ℕ) → SameBytes (place_size layout) (place_at layout words place) (place_at layout words place) xs ys
+    → ((ps : Pairs) → record_at layout ys words place ≡ Some ps → length ps ≤ most_entries layout) → record_at layout xs words place ≡ record_at layout ys words place
+record_same layout xs ys words place same few = record_same_as layout xs ys words place (record_at layout ys words place) same refl few
 
 -- the entries of a record take as many bytes as there is room for
-length-entries : (entries : List Entry) → length (flat_map entry_bytes entries) ≡ ENTRY_SIZE * length entries
+pub length-entries : (entries : List Entry) → length (flat_map entry_bytes entries) ≡ ENTRY_SIZE * length entries
 length-entries [] = refl
 length-entries (e ∷ es) =
     omega (

@@ -1,7 +1,7 @@
--- A record's body as it is written, entry by entry.
-use Rattle.std.proofs.Common.{◌≡◌, ℕ, ◌+◌, ◌-◌, ◌*◌, ◌<◌, List, [], ◌∷◌, ◌++◌, length, get_or, take, drop, replicate, refl, sym, ap, ◌∙◌, arith, append_assoc}
+-- A record's body as it is written, entry by entry, and a second layout, word by word.
+use Rattle.std.proofs.Common.{◌≡◌, ℕ, ◌+◌, ◌-◌, ◌*◌, ◌<◌, ◌≤◌, List, [], ◌∷◌, ◌++◌, length, get_or, take, drop, replicate, refl, sym, ap, ◌∙◌, arith, append_assoc}
 use Rattle.std.specs.List.{flat_map}
-use Rattle.std.proofs.lemmas.List.{length-append, take_at, drop-replicate, take_more, flat_map_more, length-take-le}
+use Rattle.std.proofs.lemmas.List.{append-nil, length-append, take_all, take_at, drop-replicate, take_more, flat_map_more, length-take-le}
 use Rattle.std.proofs.Math.Seq.{drop-append-add}
 use Rattle.mw_words.specs.declared.jobs.Entry.{Entry}
 use Rattle.mw_record.specs.Layout.{number_bytes, entry_bytes, patched}
@@ -58,3 +58,40 @@ written_more most head es i d e out seven lt few is was =
     ∙ append_assoc head (flat_map entry_bytes (take i es)) (a ++ b)
     ∙ ap (λ xs. head ++ xs) (sym more) in
     two ∙ ap (λ xs. xs ++ replicate (16 * (most - (i + 1))) 0) joined
+
+-- the bytes of words, one behind the other
+pub length-words : (ws : List ℕ) → length (flat_map (number_bytes 8) ws) ≡ 8 * length ws
+length-words [] = refl
+length-words (w ∷ ws) = length-append (number_bytes 8 w) (flat_map (number_bytes 8) ws) ∙ omega (arith, length-number_bytes 8 w, length-words ws)
+
+-- a head over zeros
+pub head_over_zeros : (out head : List ℕ) (n all : ℕ) → out ≡ replicate all 0 → length head ≡ 32 → all ≡ 32 + n → patched out 0 head ≡ (head ++ []) ++ replicate n 0
+head_over_zeros out head n all zeros long fits =
+    ap (λ xs. patched xs 0 head) zeros
+    ∙ patched_zeros [] head 0 32 n all refl long fits
+    ∙ ap (λ xs. xs ++ replicate n 0) (sym (append-nil head))
+
+-- one word more
+pub word_more : (head ws : List ℕ) (i w n : ℕ) (out : List ℕ) → length head ≡ 32 → i < length ws → w ≡ get_or ws i 0
+    → out ≡ (head ++ flat_map (number_bytes 8) (take i ws)) ++ replicate (8 * (length ws - i) + n) 0
+    → patched out (32 + 8 * i) (number_bytes 8 w) ≡ (head ++ flat_map (number_bytes 8) (take (i + 1) ws)) ++ replicate (8 * (length ws - (i + 1)) + n) 0
+word_more head ws i w n out long lt is was =
+    let front : List ℕ = head ++ flat_map (number_bytes 8) (take i ws) in
+    let block : List ℕ = number_bytes 8 w in
+    let at : length front ≡ 32 + 8 * i =
+    length-append head (flat_map (number_bytes 8) (take i ws)) ∙ omega (arith, long, length-words (take i ws), length-take-le i ws (omega arith)) in
+    let more : flat_map (number_bytes 8) (take (i + 1) ws) ≡ flat_map (number_bytes 8) (take i ws) ++ block =
+    ap (flat_map (number_bytes 8)) (take_more ws i 0 lt ∙ ap (λ x. take i ws ++ x ∷ []) (sym is))
+    ∙ sym (flat_map_more (number_bytes 8) [] (take i ws) w) in
+    ap (λ xs. patched xs (32 + 8 * i) block) was
+    ∙ patched_zeros front block (32 + 8 * i) 8 (8 * (length ws - (i + 1)) + n) (8 * (length ws - i) + n) at (length-number_bytes 8 w) (omega (arith, lt))
+    ∙ ap (λ xs. xs ++ replicate (8 * (length ws - (i + 1)) + n) 0) (append_assoc head (flat_map (number_bytes 8) (take i ws)) block ∙ ap (λ xs. head ++ xs) (sym more))
+
+-- all words
+pub all_words : (head ws : List ℕ) (i n : ℕ) → length ws ≤ i
+    → (head ++ flat_map (number_bytes 8) (take i ws)) ++ replicate (8 * (length ws - i) + n) 0 ≡ head ++ (flat_map (number_bytes 8) ws ++ replicate n 0)
+all_words head ws i n past =
+    let e : 8 * (length ws - i) + n ≡ n = omega (arith, past) in
+    ap (λ xs. (head ++ flat_map (number_bytes 8) xs) ++ replicate (8 * (length ws - i) + n) 0) (take_all i ws past)
+    ∙ ap (λ k. (head ++ flat_map (number_bytes 8) ws) ++ replicate k 0) e
+    ∙ append_assoc head (flat_map (number_bytes 8) ws) (replicate n 0)

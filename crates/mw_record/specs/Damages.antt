@@ -1,12 +1,14 @@
--- What can be wrong with a file, and what it says where nothing is.
-use Rattle.std.specs.Prelude.{◌≡◌, ℕ, ◌==◌, ◌&&◌, not, nat_eq, nat_le, if◌then◌else◌, Bool, Option, Some, None, List, [], ◌∷◌, length, map, slice_index, unwrap_or, is_none}
-use Rattle.std.specs.List.{range_with_len, starts_with}
-use Rattle.mw_words.specs.declared.limits.TheConstants.{MAX_WORDS, MAX_PLACES}
-use Rattle.mw_record.specs.declared.layout.TheConstants.{HEAD_SIZE, MAGIC, COMMITTED, WORDS_AT, PLACES_AT, OTHER_LAYOUT_AT}
+-- What can be wrong with a file, and what it says where nothing is. A file begins with a first layout. Where the switch byte in its
+-- head is set, all that it says stands in a second layout behind, at an offset that the head tells.
+use Rattle.std.specs.Prelude.{◌≡◌, ℕ, ◌*◌, ◌==◌, ◌&&◌, nat_le, if◌then◌else◌, Bool, Option, Some, None, List, [], ◌∷◌, drop, slice_index, is_none}
+use Rattle.mw_record.specs.declared.layout.Layout.{Layout}
+use Rattle.mw_record.specs.declared.layout.Layout.TheVariants.{First, Second}
+use Rattle.mw_record.specs.declared.layout.TheConstants.{HEAD_SIZE, WORD_SIZE, COMMITTED, SWITCH_AT, SECOND_AT, MAX_FIRST, PLACES_GROW}
 use Rattle.mw_record.specs.declared.damages.Damage.{Damage}
-use Rattle.mw_record.specs.declared.damages.Damage.TheVariants.{NotThisFormat, Sizes, Value, Record, Overlap, Short}
-use Rattle.mw_record.specs.Layout.{size, number_at}
-use Rattle.mw_record.specs.Records.{Pairs, Kept, record_at, home, all_over, are_formed, are_apart, records_fit, homes_fit}
+use Rattle.mw_record.specs.declared.damages.Damage.TheVariants.{NotThisFormat, Sizes, Value, Record, Overlap, Short, SecondLayout}
+use Rattle.mw_record.specs.Layout.{number_at}
+use Rattle.mw_record.specs.Records.{Pairs, Kept}
+use Rattle.mw_record.specs.Parts.{words_told, places_told, records_told, has_head, has_mark, part_tests, told_words, told_pairs}
 
 -- the number of each fault
 abbrev pub number_of : Damage → ℕ
@@ -16,48 +18,60 @@ number_of Value = 3
 number_of Record = 4
 number_of Overlap = 5
 number_of Short = 6
+number_of SecondLayout = 7
 
--- the sizes that the head tells
+-- the switch byte is set: what the file says stands in a second layout
+abbrev pub is_switched : List ℕ → Bool
+is_switched image = slice_index image SWITCH_AT == COMMITTED
+
+-- where the head says that the second layout begins
+abbrev pub second_at : List ℕ → ℕ
+second_at image = number_at image SECOND_AT WORD_SIZE
+
+-- a second layout may begin there: behind a head, and no later than the largest first layout ends
+abbrev pub may_begin : ℕ → Bool
+may_begin at = nat_le HEAD_SIZE at && nat_le at MAX_FIRST
+
+-- the layout that says what the file says, where it begins, and its bytes from there on
+abbrev pub layout_of : List ℕ → Layout
+layout_of image = if is_switched image then Second else First
+
+abbrev pub at_of : List ℕ → ℕ
+at_of image = if is_switched image then second_at image else 0
+
+abbrev pub part_of : List ℕ → List ℕ
+part_of image = drop (at_of image) image
+
+-- how many words the file has, and how many record places its layout has
 abbrev pub words_of : List ℕ → ℕ
-words_of image = number_at image WORDS_AT 4
+words_of image = words_told (part_of image)
 
+abbrev pub found_places : List ℕ → ℕ
+found_places image = places_told (part_of image)
+
+-- How many record places the file has once it is opened: those of its second layout, or twice as many as its first one has, which
+-- is then followed by a second.
 abbrev pub places_of : List ℕ → ℕ
-places_of image = number_at image PLACES_AT 2
+places_of image = if is_switched image then found_places image else PLACES_GROW * found_places image
 
--- the open records, at the places that the head tells
+-- its open records, by place
 abbrev pub records_of : List ℕ → Kept
-records_of image = record_at image (words_of image)
+records_of image = records_told (layout_of image) (part_of image)
 
--- it has all bytes of a head
-abbrev pub has_head : List ℕ → Bool
-has_head image = nat_le HEAD_SIZE (length image)
+-- What can be wrong with a second layout, behind the first one's magic bytes: its offset, its head, then what can be wrong with any.
+abbrev pub second_tests : List ℕ → List (Bool × Damage)
+second_tests image =
+    (may_begin (second_at image), SecondLayout)
+    ∷ (has_head (drop (second_at image) image), Short)
+    ∷ (has_mark Second (drop (second_at image) image), SecondLayout)
+    ∷ part_tests Second (drop (second_at image) image)
 
--- it begins with the magic bytes of the format
-abbrev pub has_mark : List ℕ → Bool
-has_mark image = starts_with nat_eq image MAGIC
-
--- it has a word, a place and no more of either than a file may have, and isn't of another layout
-abbrev pub has_sizes : List ℕ → Bool
-has_sizes image =
-    nat_le 1 (words_of image) && nat_le (words_of image) MAX_WORDS && nat_le 1 (places_of image) && nat_le (places_of image) MAX_PLACES
-    && not (slice_index image OTHER_LAYOUT_AT == COMMITTED)
-
--- it has all bytes that its sizes ask for
-abbrev pub has_all_bytes : List ℕ → Bool
-has_all_bytes image = nat_le (size (words_of image) (places_of image)) (length image)
-
--- each open record has entries, no more than a change may have, at strictly rising addresses below the number of words
-abbrev pub has_formed_records : List ℕ → Bool
-has_formed_records image = are_formed (words_of image) (records_of image) (places_of image)
-
--- no two open records share an address
-abbrev pub has_records_apart : List ℕ → Bool
-has_records_apart image = are_apart (records_of image) (places_of image)
-
--- no new value of an open record is above the greatest, and no home word that no open record covers
-abbrev pub has_small_values : List ℕ → Bool
-has_small_values image =
-    records_fit (records_of image) (places_of image) && homes_fit (home image) (records_of image) (places_of image) (words_of image)
+-- all that can be wrong, in the order in which it is looked for
+abbrev pub tests_of : List ℕ → List (Bool × Damage)
+tests_of image =
+    (has_head image, Short)
+    ∷ (has_mark First image, NotThisFormat)
+    ∷ (if is_switched image then second_tests image else part_tests First image)
 
 -- the fault of the first of these tests that fails
 abbrev pub first_fault : List (Bool × Damage) → Option Damage
@@ -66,23 +80,11 @@ first_fault (test ∷ tests) = if test.0 then first_fault tests else Some test.1
 
 -- the damage of a file
 unfoldable pub damage_of : List ℕ → Option Damage
-damage_of image = first_fault (
-    (has_head image, Short)
-    ∷ (has_mark image, NotThisFormat)
-    ∷ (has_sizes image, Sizes)
-    ∷ (has_all_bytes image, Short)
-    ∷ (has_formed_records image, Record)
-    ∷ (has_records_apart image, Overlap)
-    ∷ (has_small_values image, Value)
-    ∷ [])
-
--- what the word at an address is: its home word, with the open records put over it
-unfoldable pub word_at : List ℕ → ℕ → ℕ
-word_at image addr = all_over (records_of image) (places_of image) addr (home image addr)
+damage_of image = first_fault (tests_of image)
 
 -- the words at all addresses
 abbrev pub words_in : List ℕ → List ℕ
-words_in image = map (word_at image) (range_with_len 0 (words_of image))
+words_in image = told_words (layout_of image) (part_of image)
 
 -- a file's words, where it has no damage
 abbrev pub file_words : List ℕ → Option (List ℕ)
@@ -90,10 +92,12 @@ file_words image = if is_none (damage_of image) then Some (words_in image) else 
 
 -- the entries of the open record of a place, none where it is closed
 abbrev pub pairs_in : List ℕ → ℕ → Pairs
-pairs_in image place = unwrap_or (records_of image place) []
+pairs_in image place = told_pairs (layout_of image) (part_of image) place
 
--- these bytes have no damage, and their head tells these sizes
-pub record IsSound (image : List ℕ) (words places : ℕ) : Type 0 where
+-- these bytes have no damage, and what they say stands in this layout, at this offset, with these sizes
+pub record IsSound (image : List ℕ) (layout : Layout) (at words places : ℕ) : Type 0 where
   pub undamaged : damage_of image ≡ None
+  pub same_layout : layout ≡ layout_of image
+  pub same_at : at ≡ at_of image
   pub same_words : words ≡ words_of image
-  pub same_places : places ≡ places_of image
+  pub same_places : places ≡ found_places image

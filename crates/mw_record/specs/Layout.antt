@@ -1,22 +1,44 @@
--- Where each part of a file lies, and how it is spelled in bytes. A file is the list of its bytes.
+-- Where each part of a file lies in one of the two layouts, and how it is spelled in bytes. A file is the list of its bytes, and
+-- offsets here are counted from where the layout begins.
 use Rattle.std.specs.Prelude.{◌≡◌, ℕ, ◌+◌, ◌-◌, ◌*◌, ◌^◌, ◌<◌, List, ◌∷◌, ◌++◌, length, take, drop, replicate, map, get_or}
 use Rattle.std.specs.List.{flat_map, AllByRecursion}
 use Rattle.byteorder.specs.Endian.{little_bytes, little_from}
-use Rattle.mw_words.specs.declared.limits.TheConstants.{MAX_ENTRIES}
+use Rattle.mw_words.specs.declared.limits.TheConstants.{MAX_ENTRIES, MAX_PLACES}
 use Rattle.mw_words.specs.declared.jobs.Entry.{Entry}
-use Rattle.mw_record.specs.declared.layout.TheConstants.{HEAD_SIZE, WORD_SIZE, ENTRY_SIZE, PLACE_SIZE, MAGIC}
+use Rattle.mw_record.specs.declared.layout.Layout.{Layout}
+use Rattle.mw_record.specs.declared.layout.Layout.TheVariants.{First, Second}
+use Rattle.mw_record.specs.declared.layout.TheConstants.{HEAD_SIZE, WORD_SIZE, ENTRY_SIZE, ENTRIES_AT, FIRST_ENTRIES, FIRST_PLACES, FIRST_MAGIC, SECOND_MAGIC}
+
+-- the most entries of a record
+abbrev pub most_entries : Layout → ℕ
+most_entries First = FIRST_ENTRIES
+most_entries Second = MAX_ENTRIES
+
+-- the most record places
+abbrev pub most_places : Layout → ℕ
+most_places First = FIRST_PLACES
+most_places Second = MAX_PLACES
+
+-- the eight bytes that it begins with
+abbrev pub magic : Layout → List ℕ
+magic First = FIRST_MAGIC
+magic Second = SECOND_MAGIC
+
+-- the number of bytes of a record place
+abbrev pub place_size : Layout → ℕ
+place_size layout = ENTRIES_AT + ENTRY_SIZE * most_entries layout
 
 -- where the home word of an address begins
 abbrev pub home_at : ℕ → ℕ
 home_at addr = HEAD_SIZE + WORD_SIZE * addr
 
--- where a record place begins, in a file with so many words
-abbrev pub place_at : ℕ → ℕ → ℕ
-place_at words place = HEAD_SIZE + WORD_SIZE * words + PLACE_SIZE * place
+-- where a record place begins, behind so many words
+abbrev pub place_at : Layout → ℕ → ℕ → ℕ
+place_at layout words place = HEAD_SIZE + WORD_SIZE * words + place_size layout * place
 
 -- where the last place ends
-abbrev pub size : ℕ → ℕ → ℕ
-size words places = place_at words places
+abbrev pub size : Layout → ℕ → ℕ → ℕ
+size layout words places = place_at layout words places
 
 -- the number in the n bytes at an offset, the lowest byte first
 unfoldable pub number_at : List ℕ → ℕ → ℕ → ℕ
@@ -30,15 +52,15 @@ number_bytes n number = little_bytes n number
 abbrev pub patched : List ℕ → ℕ → List ℕ → List ℕ
 patched old at block = take at old ++ (block ++ drop (at + length block) old)
 
--- the head of a new file: the magic bytes, the number of words in four bytes, the number of places in two, and zeros
-abbrev pub header : ℕ → ℕ → List ℕ
-header words places = MAGIC ++ (number_bytes 4 words ++ (number_bytes 2 places ++ replicate 18 0))
+-- the head: the magic bytes, the number of words in four bytes, the number of places in two, and zeros
+abbrev pub header : Layout → ℕ → ℕ → List ℕ
+header layout words places = magic layout ++ (number_bytes 4 words ++ (number_bytes 2 places ++ replicate 18 0))
 
 -- an entry of a record: its address and its new value, in eight bytes each
 abbrev pub entry_bytes : Entry → List ℕ
 entry_bytes e = number_bytes WORD_SIZE e.addr ++ number_bytes WORD_SIZE e.new
 
--- what stands behind the commit byte of a place with these entries: their number, six zeros, the entries in
+-- what stands behind the commit byte of a place of the second layout with these entries: their number, six zeros, the entries in
 -- order, and zeros for the entries that aren't there
 abbrev pub body : List Entry → List ℕ
 body entries =
@@ -48,9 +70,14 @@ body entries =
 abbrev pub pairs_of : List Entry → List (ℕ × ℕ)
 pairs_of entries = map (λ e. (e.addr, e.new)) entries
 
--- the bytes of a new file: its head, and zeros
+-- the bytes of a new file, which is in the first layout: its head, and zeros
 abbrev pub new_file : ℕ → ℕ → List ℕ
-new_file words places = header words places ++ replicate (WORD_SIZE * words + PLACE_SIZE * places) 0
+new_file words places = header First words places ++ replicate (WORD_SIZE * words + place_size First * places) 0
+
+-- the bytes of a second layout with these words and so many places, all of them closed: its head, the home words, and zeros
+abbrev pub second_part : ℕ → List ℕ → List ℕ
+second_part places contents =
+    header Second (length contents) places ++ (flat_map (number_bytes WORD_SIZE) contents ++ replicate (place_size Second * places) 0)
 
 -- each address and each new value fits in eight bytes
 abbrev pub AreNumbers : List Entry → Type 0

@@ -1,4 +1,5 @@
 pub mod Damages
 pub mod Layout
+pub mod Parts
 pub mod Records
 pub mod Stands

@@ -1,10 +1,11 @@
--- The records of a file, and what a word is with the open ones put over its home word.
+-- The records of a layout's bytes, and what a word is with the open ones put over its home word.
 use Rattle.std.specs.Prelude.{ℕ, zero, suc, ◌+◌, ◌==◌, ◌&&◌, ◌||◌, not, if◌then◌else◌, Bool, true, false, Option, Some, None, List, [], ◌∷◌, length, nat_le, nat_lt, slice_index, slice_set}
 use Rattle.std.specs.List.{list_all, list_any}
 use Rattle.std.specs.Option.{option_map_or}
-use Rattle.mw_words.specs.declared.limits.TheConstants.{MAX_ENTRIES, MAX_VALUE}
+use Rattle.mw_words.specs.declared.limits.TheConstants.{MAX_VALUE}
+use Rattle.mw_record.specs.declared.layout.Layout.{Layout}
 use Rattle.mw_record.specs.declared.layout.TheConstants.{COUNT_AT, ENTRIES_AT, ENTRY_SIZE, COMMITTED, WORD_SIZE}
-use Rattle.mw_record.specs.Layout.{home_at, place_at, number_at}
+use Rattle.mw_record.specs.Layout.{most_entries, home_at, place_at, number_at}
 
 -- A record is the list of its entries: addresses, each with its new value. A file's records are a function
 -- from its places, None at a closed one.
@@ -24,9 +25,9 @@ unfoldable pub body_at : List ℕ → ℕ → Pairs
 body_at image at = pairs_at image (at + ENTRIES_AT) (slice_index image (at + COUNT_AT))
 
 -- the record of a place, where its commit byte is set
-unfoldable pub record_at : List ℕ → ℕ → Kept
-record_at image words place =
-    if slice_index image (place_at words place) == COMMITTED then Some (body_at image (place_at words place)) else None
+unfoldable pub record_at : Layout → List ℕ → ℕ → Kept
+record_at layout image words place =
+    if slice_index image (place_at layout words place) == COMMITTED then Some (body_at image (place_at layout words place)) else None
 
 -- the home word of an address
 abbrev pub home : List ℕ → ℕ → ℕ
@@ -70,22 +71,22 @@ abbrev pub rises_below : ℕ → ℕ → Pairs → Bool
 rises_below words lowest [] = true
 rises_below words lowest (p ∷ ps) = nat_le lowest p.0 && nat_lt p.0 words && rises_below words (p.0 + 1) ps
 
--- these are the entries of a record of a file with so many words: one or more, no more than a change may have, at
+-- these are the entries of a record of a file with so many words: one or more, no more than a record of the layout may have, at
 -- strictly rising addresses
-abbrev pub is_record : ℕ → Pairs → Bool
-is_record words pairs = nat_le 1 (length pairs) && nat_le (length pairs) MAX_ENTRIES && rises_below words 0 pairs
+abbrev pub is_record : Layout → ℕ → Pairs → Bool
+is_record layout words pairs = nat_le 1 (length pairs) && nat_le (length pairs) (most_entries layout) && rises_below words 0 pairs
 
 -- no new value is above the greatest
 abbrev pub has_values : Pairs → Bool
 has_values pairs = list_all (λ p. nat_le p.1 MAX_VALUE) pairs
 
 -- a closed place, or a record of a file with so many words
-abbrev pub is_formed : ℕ → Option Pairs → Bool
-is_formed words kept = option_map_or (is_record words) kept true
+abbrev pub is_formed : Layout → ℕ → Option Pairs → Bool
+is_formed layout words kept = option_map_or (is_record layout words) kept true
 
 -- each open record is one of a file with so many words
-abbrev pub are_formed : ℕ → Kept → ℕ → Bool
-are_formed words kept places = each_below (λ j. is_formed words (kept j)) places
+abbrev pub are_formed : Layout → ℕ → Kept → ℕ → Bool
+are_formed layout words kept places = each_below (λ j. is_formed layout words (kept j)) places
 
 -- no address of these is one of an open record of the first places
 abbrev pub is_apart : Kept → ℕ → Pairs → Bool

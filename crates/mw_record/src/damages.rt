@@ -7,7 +7,7 @@ ghost use Rattle.mw_record.specs.Damages as spec;
 pub enum Damage {
     /// It doesn't begin with the eight bytes of this format.
     NotThisFormat,
-    /// It has no word or too many, no record place or too many, or is of another layout.
+    /// It has no word or too many, or no record place or too many.
     Sizes,
     /// A new value of an open record, or a home word that no open record covers, is above the
     /// greatest value of a word.
@@ -17,12 +17,15 @@ pub enum Damage {
     Record,
     /// Two open records share an address.
     Overlap,
-    /// It has fewer bytes than the head, or than its sizes ask for.
+    /// It has fewer bytes than its heads, or than its sizes ask for.
     Short,
+    /// Its switch byte is set, and the offset that it tells is none at which a second layout may begin, or
+    /// none begins there.
+    SecondLayout,
 }
 
 impl Damage {
-    /// The number by which the fault is told, 1 to 6.
+    /// The number by which the fault is told, 1 to 7.
     pub fn number(self) -> u8
         ensures { result ≡ spec.number_of self }
     {
@@ -33,6 +36,7 @@ impl Damage {
             Damage::Record => 4,
             Damage::Overlap => 5,
             Damage::Short => 6,
+            Damage::SecondLayout => 7,
         }
     }
 }

@@ -1,31 +1,32 @@
-//! A file whose bytes are all there, and whose open records are records.
+//! A layout whose bytes are all there, and whose open records are records.
 ghost use Rattle.std.specs.Prelude.{◌≡◌, ◌+◌, ◌≤◌, ◌<◌, ◌&&◌, nat_le, true, length};
-ghost use Rattle.mw_record.specs.Layout as layout;
+ghost use Rattle.mw_record.specs.Layout.{most_entries, place_at, size};
 ghost use Rattle.mw_record.specs.Records as spec;
 
-use crate::layout::{COMMITTED, COUNT_AT, home_at, place_at, read_number};
+use crate::layout::{COMMITTED, COUNT_AT, HEAD_SIZE, Layout, WORD_SIZE, read_number};
 use crate::records::Record;
-use mw_words::{MAX_ENTRIES, MAX_VALUE};
+use mw_words::MAX_VALUE;
 
-/// The bytes of a file with so many words and record places, each open one of which has a record that
-/// is in order by itself.
+/// The bytes of a layout, from where it begins, with so many words and record places, each open one of
+/// which has a record that is in order by itself.
 #[derive(Drop)]
 pub(crate) struct FormedFile<'a> {
+    pub(crate) layout: Layout,
     pub(crate) bytes: &'a [u8],
     pub(crate) words: u16,
     pub(crate) places: u16,
-    ghost whole: { layout.size words places ≤ length bytes.now },
-    ghost formed: { spec.are_formed words (spec.record_at bytes.now words) places ≡ true },
+    ghost whole: { size layout words places ≤ length bytes.now },
+    ghost formed: { spec.are_formed layout words (spec.record_at layout bytes.now words) places ≡ true },
 }
 
-/// Whether each open record has entries, no more than a change may have, at strictly rising addresses
-/// below the number of words.
-pub(crate) fn are_formed(bytes: &[u8], words: u16, places: u16) -> bool
-    requires { layout.size words places ≤ length bytes.now }
-    ensures { result ≡ spec.are_formed words (spec.record_at bytes.now words) places }
+/// Whether each open record has entries, no more than a record of the layout may have, at strictly
+/// rising addresses below the number of words.
+pub(crate) fn are_formed(bytes: &[u8], layout: Layout, words: u16, places: u16) -> bool
+    requires { size layout words places ≤ length bytes.now }
+    ensures { result ≡ spec.are_formed layout words (spec.record_at layout bytes.now words) places }
 {
     for place in 0..places {
-        if !is_formed(bytes, words, place) {
+        if !is_formed(bytes, layout, words, place) {
             return false;
         }
     }
@@ -33,33 +34,33 @@ pub(crate) fn are_formed(bytes: &[u8], words: u16, places: u16) -> bool
 }
 
 /// Whether a place is closed, or its record is in order by itself.
-fn is_formed(bytes: &[u8], words: u16, place: u16) -> bool
-    requires { layout.place_at words (place + 1) ≤ length bytes.now }
-    ensures { result ≡ spec.is_formed words (spec.record_at bytes.now words place) }
+fn is_formed(bytes: &[u8], layout: Layout, words: u16, place: u16) -> bool
+    requires { place_at layout words (place + 1) ≤ length bytes.now }
+    ensures { result ≡ spec.is_formed layout words (spec.record_at layout bytes.now words place) }
 {
-    let at = place_at(words, place) as usize;
+    let at = layout.place_at(words, place) as usize;
     if bytes[at] != COMMITTED {
         return true;
     }
-    is_record_len(bytes[at + COUNT_AT]) && Record::new(bytes, at).rises_below(words)
+    is_record_len(layout, bytes[at + COUNT_AT]) && Record::new(bytes, layout, at).rises_below(words)
 }
 
-/// Whether a record may have so many entries.
-fn is_record_len(count: u8) -> bool
-    ensures { result ≡ (nat_le 1 count && nat_le count MAX_ENTRIES) }
+/// Whether a record of the layout may have so many entries.
+fn is_record_len(layout: Layout, count: u8) -> bool
+    ensures { result ≡ (nat_le 1 count && nat_le count (most_entries layout)) }
 {
-    (1..=MAX_ENTRIES).contains(&(count as usize))
+    (1..=layout.most_entries()).contains(&(count as usize))
 }
 
 impl FormedFile<'_> {
     /// The record of a place, where its commit byte is set.
     pub(crate) fn record(&self, place: u16) -> Option<Record<'_>>
         requires { place < self.now.places }
-        ensures { result ≡ spec.record_at self.now.bytes.now self.now.words place }
+        ensures { result ≡ spec.record_at self.now.layout self.now.bytes.now self.now.words place }
     {
-        let at = place_at(self.words, place) as usize;
+        let at = self.layout.place_at(self.words, place) as usize;
         if self.bytes[at] == COMMITTED {
-            Some(Record::new(self.bytes, at))
+            Some(Record::new(self.bytes, self.layout, at))
         } else {
             None
         }
@@ -70,13 +71,13 @@ impl FormedFile<'_> {
         requires { addr < self.now.words }
         ensures { result ≡ spec.home self.now.bytes.now addr }
     {
-        read_number(self.bytes, home_at(addr) as usize)
+        read_number(self.bytes, HEAD_SIZE + WORD_SIZE * addr as usize)
     }
 
     /// Whether an open record of the first places has the address.
     fn is_covered(&self, places: u16, addr: u64) -> bool
         requires { places ≤ self.now.places }
-        ensures { result ≡ spec.is_covered (spec.record_at self.now.bytes.now self.now.words) places addr }
+        ensures { result ≡ spec.is_covered (spec.record_at self.now.layout self.now.bytes.now self.now.words) places addr }
     {
         for place in 0..places {
             if let Some(record) = self.record(place)
@@ -91,7 +92,7 @@ impl FormedFile<'_> {
     /// Whether no open record of the first places has an address of these entries.
     fn is_apart(&self, places: u16, entries: &Record) -> bool
         requires { places ≤ self.now.places }
-        ensures { result ≡ spec.is_apart (spec.record_at self.now.bytes.now self.now.words) places entries.now }
+        ensures { result ≡ spec.is_apart (spec.record_at self.now.layout self.now.bytes.now self.now.words) places entries.now }
     {
         for i in 0..entries.len() {
             if self.is_covered(places, entries.entry(i).0) {
@@ -103,7 +104,7 @@ impl FormedFile<'_> {
 
     /// Whether no two open records share an address.
     pub(crate) fn are_apart(&self) -> bool
-        ensures { result ≡ spec.are_apart (spec.record_at self.now.bytes.now self.now.words) self.now.places }
+        ensures { result ≡ spec.are_apart (spec.record_at self.now.layout self.now.bytes.now self.now.words) self.now.places }
     {
         for place in 0..self.places {
             if let Some(record) = self.record(place)
@@ -118,15 +119,15 @@ impl FormedFile<'_> {
     /// Whether no new value of an open record is above [`MAX_VALUE`], and no home word that no open
     /// record covers.
     pub(crate) fn has_small_values(&self) -> bool
-        ensures { result ≡ (spec.records_fit (spec.record_at self.now.bytes.now self.now.words) self.now.places
-            && spec.homes_fit (spec.home self.now.bytes.now) (spec.record_at self.now.bytes.now self.now.words) self.now.places self.now.words) }
+        ensures { result ≡ (spec.records_fit (spec.record_at self.now.layout self.now.bytes.now self.now.words) self.now.places
+            && spec.homes_fit (spec.home self.now.bytes.now) (spec.record_at self.now.layout self.now.bytes.now self.now.words) self.now.places self.now.words) }
     {
         self.records_fit() && self.homes_fit()
     }
 
     /// Whether no new value of an open record is above [`MAX_VALUE`].
     fn records_fit(&self) -> bool
-        ensures { result ≡ spec.records_fit (spec.record_at self.now.bytes.now self.now.words) self.now.places }
+        ensures { result ≡ spec.records_fit (spec.record_at self.now.layout self.now.bytes.now self.now.words) self.now.places }
     {
         for place in 0..self.places {
             if let Some(record) = self.record(place)
@@ -140,7 +141,7 @@ impl FormedFile<'_> {
 
     /// Whether no home word that no open record covers is above [`MAX_VALUE`].
     fn homes_fit(&self) -> bool
-        ensures { result ≡ spec.homes_fit (spec.home self.now.bytes.now) (spec.record_at self.now.bytes.now self.now.words) self.now.places self.now.words }
+        ensures { result ≡ spec.homes_fit (spec.home self.now.bytes.now) (spec.record_at self.now.layout self.now.bytes.now self.now.words) self.now.places self.now.words }
     {
         for addr in 0..self.words {
             if self.home(addr) > MAX_VALUE && !self.is_covered(self.places, u64::from(addr)) {
@@ -153,7 +154,7 @@ impl FormedFile<'_> {
     /// The home word of an address with the open records put over it.
     pub(crate) fn word(&self, addr: u16) -> u64
         requires { addr < self.now.words }
-        ensures { result ≡ spec.all_over (spec.record_at self.now.bytes.now self.now.words) self.now.places addr (spec.home self.now.bytes.now addr) }
+        ensures { result ≡ spec.all_over (spec.record_at self.now.layout self.now.bytes.now self.now.words) self.now.places addr (spec.home self.now.bytes.now addr) }
     {
         let mut value = self.home(addr);
         for place in 0..self.places {

@@ -1,30 +1,39 @@
 //! What the bytes of a whole file say.
-ghost use Rattle.std.specs.Prelude.{◌≡◌, ◌<◌, ◌≤◌, true, false, None, Some, length, slice_get, MatchOption, MatchResult};
-ghost use Rattle.mw_words.specs.declared.limits.TheConstants.{MAX_WORDS, MAX_PLACES, MAX_ENTRIES};
+ghost use Rattle.std.specs.Prelude.{◌≡◌, ◌<◌, ◌≤◌, ℕ, true, false, None, Some, length, drop, slice_get, MatchOption, MatchResult};
+ghost use Rattle.mw_words.specs.declared.limits.TheConstants.{MAX_WORDS, MAX_ENTRIES};
+ghost use Rattle.mw_record.specs.declared.layout.Layout.TheVariants.{Second};
+ghost use Rattle.mw_record.specs.Layout.{most_places};
+ghost use Rattle.mw_record.specs.Parts as part;
 ghost use Rattle.mw_record.specs.Damages as spec;
 
 use crate::damages::Damage;
 use crate::formed::{FormedFile, are_formed};
-use crate::layout::{COMMITTED, HEAD_SIZE, MAGIC, OTHER_LAYOUT_AT, PLACES_AT, WORDS_AT, size};
+use crate::layout::{
+    COMMITTED, FIRST_MAGIC, HEAD_SIZE, Layout, MAX_FIRST, PLACES_AT, SECOND_AT, SECOND_MAGIC,
+    SWITCH_AT, WORDS_AT, read_number,
+};
 use byteorder::{ByteOrder, LittleEndian};
-use mw_words::{MAX_PLACES, MAX_WORDS};
+use mw_words::MAX_WORDS;
 use std::marker::Model;
 
 /// The bytes of a file that has no damage, and what they say.
 #[derive(Drop)]
 pub struct Image<'a> {
+    bytes: &'a [u8],
+    at: u64,
     file: FormedFile<'a>,
 }
 
 impl<'a> Model for Image<'a> {
-    ghost use Rattle.std.specs.Prelude.{List, ℕ};
-    ghost use Rattle.mw_record.specs.Damages.{IsSound};
+    ghost use Rattle.std.specs.Prelude.{◌≡◌, List, ℕ};
+    ghost use Rattle.mw_record.specs.Damages.{IsSound, part_of};
 
     ghost Value = { List ℕ };
 
-    ghost view = { λ image. image.file.bytes.now };
+    ghost view = { λ image. image.bytes.now };
 
-    ghost invariant = { λ image. IsSound image.file.bytes.now image.file.words image.file.places };
+    ghost invariant = { λ image. IsSound image.bytes.now image.file.layout image.at image.file.words image.file.places
+        × (image.file.bytes.now ≡ part_of image.bytes.now) };
 }
 
 /// Reads the bytes of a whole file. Of a longer one the first [`crate::MAX_FILE`] bytes are enough: they
@@ -33,8 +42,11 @@ impl<'a> Model for Image<'a> {
 ///
 /// # Errors
 ///
-/// The first damage, in this order: [`Damage::Short`] where there are fewer bytes than the head,
-/// [`Damage::NotThisFormat`], [`Damage::Sizes`], [`Damage::Short`] where there are fewer bytes than the
+/// The first damage, in this order: [`Damage::Short`] where there are fewer bytes than a head,
+/// [`Damage::NotThisFormat`]; where the switch byte is set, [`Damage::SecondLayout`] where no second
+/// layout may begin at the offset that is told, [`Damage::Short`] where fewer bytes than a head stand
+/// there, [`Damage::SecondLayout`] where it doesn't begin with its eight bytes; then, of the layout that
+/// says what the file says, [`Damage::Sizes`], [`Damage::Short`] where there are fewer bytes than the
 /// sizes ask for, [`Damage::Record`], [`Damage::Overlap`] and [`Damage::Value`].
 pub fn decode(bytes: &[u8]) -> Result<Image<'_>, Damage>
     ensures { MatchResult result
@@ -44,19 +56,59 @@ pub fn decode(bytes: &[u8]) -> Result<Image<'_>, Damage>
     if bytes.len() < HEAD_SIZE {
         return Err(Damage::Short);
     }
-    if !bytes.starts_with(&MAGIC) {
+    if !bytes.starts_with(&FIRST_MAGIC) {
         return Err(Damage::NotThisFormat);
     }
-    let Some((words, places)) = sizes(bytes) else {
-        return Err(Damage::Sizes);
-    };
-    if (bytes.len() as u64) < size(words, places) {
+    if bytes[SWITCH_AT] != COMMITTED {
+        let file = decode_part(bytes, Layout::First)?;
+        return Ok(Image { bytes, at: 0, file });
+    }
+    let at = second_at(bytes)?;
+    let file = decode_part(&bytes[at as usize..], Layout::Second)?;
+    Ok(Image { bytes, at, file })
+}
+
+/// Where the second layout begins, whose head is there with its eight bytes; otherwise what is wrong with
+/// that.
+fn second_at(bytes: &[u8]) -> Result<u64, Damage>
+    requires { HEAD_SIZE ≤ length bytes.now }
+    ensures { MatchResult result
+        (λ (at : ℕ). (at ≡ spec.second_at bytes.now) × (spec.may_begin at ≡ true)
+        × (part.has_head (drop at bytes.now) ≡ true) × (part.has_mark Second (drop at bytes.now) ≡ true))
+        (λ damage. spec.first_fault (spec.second_tests bytes.now) ≡ Some damage) }
+{
+    let at = read_number(bytes, SECOND_AT);
+    if at < HEAD_SIZE as u64 || at > MAX_FIRST as u64 {
+        return Err(Damage::SecondLayout);
+    }
+    if bytes.len() < at as usize + HEAD_SIZE {
         return Err(Damage::Short);
     }
-    if !are_formed(bytes, words, places) {
+    if !bytes[at as usize..].starts_with(&SECOND_MAGIC) {
+        return Err(Damage::SecondLayout);
+    }
+    Ok(at)
+}
+
+/// Reads the bytes of a layout from where it begins, behind its magic bytes.
+fn decode_part(bytes: &[u8], layout: Layout) -> Result<FormedFile<'_>, Damage>
+    requires { HEAD_SIZE ≤ length bytes.now }
+    ensures { MatchResult result
+        (λ file. (spec.first_fault (part.part_tests layout bytes.now) ≡ None) × (file.layout ≡ layout) × (file.bytes.now ≡ bytes.now)
+        × (file.words ≡ part.words_told bytes.now) × (file.places ≡ part.places_told bytes.now))
+        (λ damage. spec.first_fault (part.part_tests layout bytes.now) ≡ Some damage) }
+{
+    let Some((words, places)) = sizes(bytes, layout) else {
+        return Err(Damage::Sizes);
+    };
+    if (bytes.len() as u64) < layout.place_at(words, places) {
+        return Err(Damage::Short);
+    }
+    if !are_formed(bytes, layout, words, places) {
         return Err(Damage::Record);
     }
     let file = FormedFile {
+        layout,
         bytes,
         words,
         places,
@@ -67,30 +119,45 @@ pub fn decode(bytes: &[u8]) -> Result<Image<'_>, Damage>
     if !file.has_small_values() {
         return Err(Damage::Value);
     }
-    Ok(Image { file })
+    Ok(file)
 }
 
-/// The number of words and of record places, where the head tells sizes that a file may have.
+/// The number of words and of record places, where the head tells sizes that the layout may have.
 #[tactic(auto, unfolding(crate::specs::Layout::number_at))]
-fn sizes(bytes: &[u8]) -> Option<(u16, u16)>
+fn sizes(bytes: &[u8], layout: Layout) -> Option<(u16, u16)>
     requires { HEAD_SIZE ≤ length bytes.now }
     ensures { MatchOption result
-        (spec.has_sizes bytes.now ≡ false)
-        (λ sizes. (spec.has_sizes bytes.now ≡ true)
-        × (sizes.0 ≡ spec.words_of bytes.now) × (sizes.1 ≡ spec.places_of bytes.now)) }
+        (part.has_sizes layout bytes.now ≡ false)
+        (λ sizes. (part.has_sizes layout bytes.now ≡ true)
+        × (sizes.0 ≡ part.words_told bytes.now) × (sizes.1 ≡ part.places_told bytes.now)) }
 {
     let words = LittleEndian::read_u32(&bytes[WORDS_AT..PLACES_AT]);
     let places = LittleEndian::read_u16(&bytes[PLACES_AT..PLACES_AT + 2]);
     if words == 0 || words > u32::from(MAX_WORDS) {
         return None;
     }
-    if places == 0 || places > MAX_PLACES || bytes[OTHER_LAYOUT_AT] == COMMITTED {
+    if places == 0 || places > layout.most_places() {
         return None;
     }
     Some((words as u16, places))
 }
 
 impl Image<'_> {
+    /// The layout that says what the file says.
+    pub fn layout(&self) -> Layout
+        ensures { result ≡ spec.layout_of self.now }
+    {
+        self.file.layout
+    }
+
+    /// The offset at which that layout begins.
+    pub fn at(&self) -> u64
+        ensures value { result ≡ spec.at_of self.now }
+        ensures fits { result ≤ MAX_FIRST }
+    {
+        self.at
+    }
+
     /// How many words the file has.
     pub fn words(&self) -> u16
         ensures value { result ≡ spec.words_of self.now }
@@ -100,11 +167,11 @@ impl Image<'_> {
         self.file.words
     }
 
-    /// How many record places the file has.
+    /// How many record places that layout has.
     pub fn places(&self) -> u16
-        ensures value { result ≡ spec.places_of self.now }
+        ensures value { result ≡ spec.found_places self.now }
         ensures some { 1 ≤ result }
-        ensures fits { result ≤ MAX_PLACES }
+        ensures fits { result ≤ most_places (spec.layout_of self.now) }
     {
         self.file.places
     }
@@ -120,7 +187,7 @@ impl Image<'_> {
     /// How many entries the record of a place below [`Image::places`] has, 0 where its commit byte is
     /// clear.
     pub fn count(&self, place: u16) -> u8
-        requires { place < spec.places_of self.now }
+        requires { place < spec.found_places self.now }
         ensures value { result ≡ length (spec.pairs_in self.now place) }
         ensures closed { result ≡ 0 → spec.records_of self.now place ≡ None }
         ensures fits { result ≤ MAX_ENTRIES }
@@ -134,7 +201,7 @@ impl Image<'_> {
     /// The address and the new value of an entry, with an index below [`Image::count`], of the record of
     /// a place.
     pub fn pair(&self, place: u16, i: u8) -> (u16, u64)
-        requires place { place < spec.places_of self.now }
+        requires place { place < spec.found_places self.now }
         requires entry { i < length (spec.pairs_in self.now place) }
         ensures { slice_get (spec.pairs_in self.now place) i ≡ Some result }
     {

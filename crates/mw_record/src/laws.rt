@@ -1,67 +1,103 @@
-//! Laws of the layout: what is written is read again, and a file without damage is one whose bytes
-//! stand for its words. None of these functions does anything.
-ghost use Rattle.std.specs.Prelude.{◌≡◌, ◌+◌, ◌<◌, ◌≤◌, ◌↔◌, ℕ, true, Some, None, List, length, replicate, slice_index, take};
+//! Laws of the layouts: what is written is read again, a file without damage is one whose bytes stand
+//! for its words, and what a change of its bytes leaves. None of these functions does anything.
+ghost use Rattle.std.specs.Prelude.{◌≡◌, ◌+◌, ◌*◌, ◌<◌, ◌≤◌, ◌⊎◌, ◌↔◌, ◌++◌, ℕ, true, false, Some, None, List, length, replicate, slice_index, take};
 ghost use Rattle.mw_words.specs.declared.jobs.Entry.{Entry};
-ghost use Rattle.mw_words.specs.Change.{is_change, put};
-ghost use Rattle.mw_record.specs.Damages.{damage_of, file_words, pairs_in, places_of, words_in, words_of};
-ghost use Rattle.mw_record.specs.Layout as layout;
+ghost use Rattle.mw_words.specs.Change.{AreWords, is_change, put};
+ghost use Rattle.mw_record.specs.declared.layout.Layout.{Layout};
+ghost use Rattle.mw_record.specs.declared.layout.Layout.TheVariants.{First, Second};
+ghost use Rattle.mw_record.specs.Damages.{at_of, damage_of, file_words, found_places, is_switched, layout_of, pairs_in, places_of, words_in, words_of};
+ghost use Rattle.mw_record.specs.Layout as spec;
 ghost use Rattle.mw_record.specs.Layout.{AreNumbers, SameBytes};
-ghost use Rattle.mw_record.specs.Stands.{MayHave, HasWords, IsHead};
+ghost use Rattle.mw_record.specs.Stands.{MayHave, HasSecond, HasWords, IsFileOf, IsHead};
 ghost use Rattle.mw_record.specs.Records.{has_values, is_record, put_pairs, record_at};
 
-use crate::layout::{BODY_SIZE, COMMITTED, HEAD_SIZE, MAX_FILE};
+use crate::layout::{BODY_SIZE, COMMITTED, HEAD_SIZE, MAX_FILE, PLACES_AT, PLACES_GROW};
 use mw_words::{MAX_ENTRIES, MAX_WORDS};
 
-/// Where the head of a file is [`header`](crate::header) of sizes that a file may have, the file has
-/// those sizes.
+/// Where the head of a layout's bytes is [`header`](crate::header) or [`header2`](crate::header2) of sizes
+/// that it may have, it tells those sizes.
 pub fn header_is_read_again()
-    ensures { (image : List ℕ) (words places : ℕ) → MayHave words places → HEAD_SIZE ≤ length image
-        → SameBytes HEAD_SIZE 0 0 image (layout.header words places) → IsHead words places image }
+    ensures { (layout : Layout) (part : List ℕ) (words places : ℕ) → MayHave layout words places → HEAD_SIZE ≤ length part
+        → SameBytes HEAD_SIZE 0 0 part (spec.header layout words places) → IsHead layout words places part }
 {}
 
-/// Where [`body`](crate::body) of entries stands behind a commit byte that is set, the place has the
-/// entries' record.
+/// Where [`body`](crate::body) of entries stands behind a commit byte of a second layout that is set, the
+/// place has the entries' record.
 pub fn body_is_read_again()
-    ensures { (image : List ℕ) (words place : ℕ) (entries : List Entry) → length entries ≤ MAX_ENTRIES → AreNumbers entries
-        → slice_index image (layout.place_at words place) ≡ COMMITTED
-        → SameBytes BODY_SIZE (layout.place_at words place + 1) 0 image (layout.body entries)
-        → record_at image words place ≡ Some (layout.pairs_of entries) }
+    ensures { (part : List ℕ) (words place : ℕ) (entries : List Entry) → length entries ≤ MAX_ENTRIES → AreNumbers entries
+        → slice_index part (spec.place_at Second words place) ≡ COMMITTED
+        → SameBytes BODY_SIZE (spec.place_at Second words place + 1) 0 part (spec.body entries)
+        → record_at Second part words place ≡ Some (spec.pairs_of entries) }
 {}
 
-/// The entries of a change are a record without damage, and putting the change and putting the record
-/// over words are one.
+/// The entries of a change are a record of a second layout without damage, and putting the change and
+/// putting the record over words are one.
 pub fn change_is_a_record()
-    ensures formed { (words : ℕ) (entries : List Entry) → is_change words entries ≡ true → is_record words (layout.pairs_of entries) ≡ true }
-    ensures values { (words : ℕ) (entries : List Entry) → is_change words entries ≡ true → has_values (layout.pairs_of entries) ≡ true }
+    ensures formed { (words : ℕ) (entries : List Entry) → is_change words entries ≡ true → is_record Second words (spec.pairs_of entries) ≡ true }
+    ensures values { (words : ℕ) (entries : List Entry) → is_change words entries ≡ true → has_values (spec.pairs_of entries) ≡ true }
     ensures numbers { (words : ℕ) (entries : List Entry) → words ≤ MAX_WORDS → is_change words entries ≡ true → AreNumbers entries }
-    ensures puts { (words : List ℕ) (entries : List Entry) → put words entries ≡ put_pairs (layout.pairs_of entries) words }
+    ensures puts { (words : List ℕ) (entries : List Entry) → put words entries ≡ put_pairs (spec.pairs_of entries) words }
 {}
 
 /// A file has no damage exactly where its bytes stand for words.
 pub fn undamaged_files_have_words()
-    ensures { (image : List ℕ) → (damage_of image ≡ None)
-        ↔ ((contents : List ℕ) × HasWords (words_of image) (places_of image) contents image) }
+    ensures { (image : List ℕ) → (damage_of image ≡ None) ↔ ((contents : List ℕ) × IsFileOf contents image) }
 {}
 
 /// A file's words are exactly those that its bytes stand for.
 pub fn words_are_what_the_bytes_stand_for()
-    ensures { (image contents : List ℕ) → (file_words image ≡ Some contents) ↔ HasWords (words_of image) (places_of image) contents image }
+    ensures { (image contents : List ℕ) → (file_words image ≡ Some contents) ↔ IsFileOf contents image }
+{}
+
+/// Bytes that have a second layout of some words are a file of these words, with the layout's sizes.
+pub fn second_layouts_are_files()
+    ensures { (at words places : ℕ) (contents image : List ℕ) → HasSecond at words places contents image
+        → (file_words image ≡ Some contents) × (words_of image ≡ words) × (places_of image ≡ places) }
+{}
+
+/// Bytes that are a first layout of some words, with a switch byte that isn't set, are a file of these
+/// words.
+pub fn first_layouts_are_files()
+    ensures { (words places : ℕ) (contents image : List ℕ) → is_switched image ≡ false → HasWords First words places contents image
+        → (file_words image ≡ Some contents) × (words_of image ≡ words) × (places_of image ≡ PLACES_GROW * places) }
 {}
 
 /// A new file, [`header`](crate::header) and zeros, has the word 0 at every address.
 pub fn new_files_have_zeros()
-    ensures { (words places : ℕ) → MayHave words places → HasWords words places (replicate words 0) (layout.new_file words places) }
+    ensures has { (words places : ℕ) → MayHave First words places → HasWords First words places (replicate words 0) (spec.new_file words places) }
+    ensures not_switched { (words places : ℕ) → is_switched (spec.new_file words places) ≡ false }
+    ensures words { (words places : ℕ) → MayHave First words places → file_words (spec.new_file words places) ≡ Some (replicate words 0) }
+{}
+
+/// The bytes of [`write_second`](crate::write_second), whatever stands behind them, are a second layout of
+/// the words that were written, and as many as it has.
+pub fn second_layouts_have_their_words()
+    ensures has { (contents rest : List ℕ) (places : ℕ) → MayHave Second (length contents) places → AreWords contents
+        → HasWords Second (length contents) places contents (spec.second_part places contents ++ rest) }
+    ensures long { (contents : List ℕ) (places : ℕ) → length (spec.second_part places contents) ≡ spec.size Second (length contents) places }
+{}
+
+/// A first layout keeps its words where its bytes stay, but for those of its head behind the sizes, among
+/// which are the switch byte and the offset of the second layout.
+pub fn first_layouts_stay()
+    ensures { (words places : ℕ) (contents image image2 : List ℕ) → HasWords First words places contents image
+        → spec.size First words places ≤ length image2
+        → ((k : ℕ) → k < spec.size First words places → (k < PLACES_AT + 2) ⊎ (HEAD_SIZE ≤ k) → slice_index image2 k ≡ slice_index image k)
+        → HasWords First words places contents image2 }
 {}
 
 /// Of a file longer than [`MAX_FILE`](crate::MAX_FILE) bytes the first [`MAX_FILE`](crate::MAX_FILE) say
-/// what the whole file says: the sizes of its head, its damage and its words, and where it has no
-/// damage the entries of each of its record places.
+/// what the whole file says: its layout and where it begins, its damage and its words, and where it has
+/// no damage its sizes and the entries of each of its record places.
 pub fn bytes_past_the_largest_file_do_not_matter()
+    ensures switched { (bytes : List ℕ) → is_switched (take MAX_FILE bytes) ≡ is_switched bytes }
+    ensures layout { (bytes : List ℕ) → layout_of (take MAX_FILE bytes) ≡ layout_of bytes }
+    ensures at { (bytes : List ℕ) → at_of (take MAX_FILE bytes) ≡ at_of bytes }
     ensures damage { (bytes : List ℕ) → damage_of (take MAX_FILE bytes) ≡ damage_of bytes }
     ensures file_words { (bytes : List ℕ) → file_words (take MAX_FILE bytes) ≡ file_words bytes }
-    ensures words { (bytes : List ℕ) → words_of (take MAX_FILE bytes) ≡ words_of bytes }
-    ensures places { (bytes : List ℕ) → places_of (take MAX_FILE bytes) ≡ places_of bytes }
+    ensures words { (bytes : List ℕ) → damage_of bytes ≡ None → words_of (take MAX_FILE bytes) ≡ words_of bytes }
+    ensures places { (bytes : List ℕ) → damage_of bytes ≡ None → places_of (take MAX_FILE bytes) ≡ places_of bytes }
     ensures contents { (bytes : List ℕ) → damage_of bytes ≡ None → words_in (take MAX_FILE bytes) ≡ words_in bytes }
-    ensures pairs { (bytes : List ℕ) (place : ℕ) → damage_of bytes ≡ None → place < places_of bytes
+    ensures pairs { (bytes : List ℕ) (place : ℕ) → damage_of bytes ≡ None → place < found_places bytes
         → pairs_in (take MAX_FILE bytes) place ≡ pairs_in bytes place }
 {}

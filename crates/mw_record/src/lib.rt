@@ -1,24 +1,29 @@
-//! The byte layout of a tenant's file: its head, its home words and its record places, what is
+//! The byte layouts of a tenant's file: its heads, its home words and its record places, what is
 //! written to them, and what a whole file says when it is read again.
 //!
-//! Every number is little-endian. A file of `words` words and `places` record places has at least
-//! `32 + 8 * words + 136 * places` bytes; bytes after those aren't looked at.
+//! Every number is little-endian. A file begins with a first layout. Where its switch byte is
+//! [`COMMITTED`], all that the file says stands in a second layout behind, at the offset that the file
+//! tells; otherwise it stands in the first. Both have the same parts, one behind the other:
 //!
-//! | bytes | content |
-//! |---|---|
-//! | 0..8 | `MWCASF1` and LF |
-//! | 8..12 | number of words |
-//! | 12..14 | number of record places |
-//! | 14 | 0, not looked at |
-//! | 15 | 0; [`COMMITTED`] tells of another layout, which isn't read here |
-//! | 16..32 | 0, not looked at |
-//! | from 32 | home words, 8 bytes each |
-//! | then | record places, 136 bytes each |
+//! | bytes | content of a first layout | of a second one, from its offset |
+//! |---|---|---|
+//! | 0..8 | `MWCASF1` and LF | `MWCASF2` and LF |
+//! | 8..12 | number of words | the same |
+//! | 12..14 | number of record places, up to 32 | the same, up to 64 |
+//! | 14 | 0, not looked at | 0, not looked at |
+//! | 15 | the switch byte | 0, not looked at |
+//! | 16..24 | the offset of the second layout, looked at where the switch byte is set | 0, not looked at |
+//! | 24..32 | 0, not looked at | 0, not looked at |
+//! | from 32 | home words, 8 bytes each | the same |
+//! | then | record places, 136 bytes each | record places, 264 bytes each |
+//!
+//! A second layout begins behind the head of the first, at [`MAX_FIRST`] at the latest. Bytes after a
+//! layout's last place aren't looked at.
 //!
 //! A record place has a commit byte, a count byte, six bytes that aren't looked at, and room for eight
-//! entries of 16 bytes, an address and its new value. A place is open exactly where its commit byte is
-//! [`COMMITTED`]; then the first `count` entries are its record, put over the home words. Of a closed
-//! place nothing is looked at.
+//! entries of 16 bytes in a first layout, for sixteen in a second: an address and its new value. A
+//! place is open exactly where its commit byte is [`COMMITTED`]; then the first `count` entries are its
+//! record, put over the home words. Of a closed place nothing is looked at.
 #![tactic(auto)]
 
 mod damages;
@@ -33,11 +38,13 @@ pub use damages::Damage;
 pub use images::{Image, decode};
 pub use laws::{
     body_is_read_again, bytes_past_the_largest_file_do_not_matter, change_is_a_record,
-    header_is_read_again, new_files_have_zeros, undamaged_files_have_words,
+    first_layouts_are_files, first_layouts_stay, header_is_read_again, new_files_have_zeros,
+    second_layouts_are_files, second_layouts_have_their_words, undamaged_files_have_words,
     words_are_what_the_bytes_stand_for,
 };
 pub use layout::{
-    BODY_SIZE, COMMITTED, ENTRY_SIZE, HEAD_SIZE, MAGIC, MAX_FILE, NOT_COMMITTED, PLACE_SIZE,
-    WORD_SIZE, home_at, place_at, size,
+    BODY_SIZE, COMMITTED, ENTRY_SIZE, FIRST_ENTRIES, FIRST_MAGIC, FIRST_PLACES, HEAD_SIZE, Layout,
+    MAX_FILE, MAX_FIRST, MAX_SECOND, NOT_COMMITTED, PLACES_AT, PLACES_GROW, SECOND_AT,
+    SECOND_MAGIC, SWITCH_AT, WORD_SIZE, WORDS_AT, home_at, place_at, size, size2,
 };
-pub use written::{body, header, home_word};
+pub use written::{body, header, header2, home_word, write_second};

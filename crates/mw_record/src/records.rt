@@ -2,7 +2,7 @@
 ghost use Rattle.std.specs.Prelude.{◌≡◌, ◌+◌, ◌*◌, ◌≤◌, ◌<◌, length, Some, slice_get, slice_index};
 ghost use Rattle.std.specs.Borrow.{Bor};
 
-use crate::layout::{COUNT_AT, ENTRIES_AT, ENTRY_SIZE, PLACE_SIZE, WORD_SIZE, read_number};
+use crate::layout::{COUNT_AT, ENTRIES_AT, ENTRY_SIZE, Layout, WORD_SIZE, read_number};
 use mw_words::{MAX_ENTRIES, MAX_VALUE};
 use std::marker::Model;
 
@@ -28,12 +28,13 @@ impl<'a> Model for Record<'a> {
 
 impl Record<'_> {
     ghost use Rattle.mw_record.specs.Records as spec;
+    ghost use Rattle.mw_record.specs.Layout.{most_entries, place_size};
 
     /// The record of the place at an offset, whose count byte is no more than a record may have.
     #[tactic(auto, unfolding(crate::specs::Records::body_at))]
-    pub(crate) fn new(bytes: &[u8], at: usize) -> Record<'_>
-        requires whole { at + PLACE_SIZE ≤ length bytes.now }
-        requires few { slice_index bytes.now (at + COUNT_AT) ≤ MAX_ENTRIES }
+    pub(crate) fn new(bytes: &[u8], layout: Layout, at: usize) -> Record<'_>
+        requires whole { at + place_size layout ≤ length bytes.now }
+        requires few { slice_index bytes.now (at + COUNT_AT) ≤ most_entries layout }
         ensures { result ≡ spec.body_at bytes.now at }
     {
         Record {

@@ -4,4 +4,4 @@ use Rattle.mw_record.proofs.formed.are_formed.Given as goal
 
 -- the places so far are in order
 abbrev pub invariant-loop-place : goal.invariant-loop-place
-invariant-loop-place l = spec.are_formed l.words (spec.record_at l.bytes l.words) l.place ≡ true
+invariant-loop-place l = spec.are_formed l.layout l.words (spec.record_at l.layout l.bytes l.words) l.place ≡ true

@@ -1,11 +1,13 @@
-use Rattle.std.proofs.Common.{◌≡◌, true, false, nat_le, length, sym, ◌∙◌, refl, arith}
-use Rattle.std.proofs.lemmas.Bool.{le-leb, lt-leb}
-use Rattle.mw_record.specs.Layout.{size}
-use Rattle.mw_record.specs.Damages.{has_head, has_mark, has_all_bytes, has_formed_records, has_records_apart}
-use Rattle.mw_record.proofs.Faults.{no_head, no_mark, no_sizes, too_short, not_formed, not_apart, not_small, undamaged}
-use Rattle.mw_record.proofs.Sizes.{all_bytes, formed, apart, small}
+use Rattle.std.proofs.Common.{◌≡◌, ℕ, ◌-◌, List, None, true, length, take, drop, sym, ap, ◌∙◌, refl}
+use Rattle.std.proofs.lemmas.Bool.{le-leb, lt-leb, eq-eqb, ne_eqb}
+use Rattle.std.proofs.lemmas.List.{take_rest}
+use Rattle.mw_record.specs.declared.layout.Layout.TheVariants.{First, Second}
+use Rattle.mw_record.specs.Parts.{has_head, has_mark, words_told, places_told}
+use Rattle.mw_record.specs.Damages.{damage_of, second_tests, first_fault}
+use Rattle.mw_record.proofs.Faults.{part_fault, no_head, no_mark, first_damage, second_damage}
+use Rattle.mw_record.proofs.Decoding.{handed_on, switched_damage, found_first, found_second}
 use Rattle.mw_record.proofs.images.decode.Goals as goal
-use Rattle.mw_record.proofs.images.decode.Goals.{In-Some, Else-bytes-size, Else-not-are_formed, Else-not-are_apart}
+use Rattle.mw_record.proofs.images.decode.Goals.{Else-not-starts_with}
 
 pub returns-then-bytes-lt-HEAD_SIZE : goal.returns-then-bytes-lt-HEAD_SIZE
 returns-then-bytes-lt-HEAD_SIZE c = no_head c.args.bytes.now (lt-leb _ _ c.if-bytes-lt-HEAD_SIZE.true)
@@ -14,104 +16,69 @@ pub returns-then-not-starts_with : goal.returns-then-not-starts_with
 returns-then-not-starts_with c =
     no_mark c.args.bytes.now (le-leb _ _ c.if-bytes-lt-HEAD_SIZE.false) (sym c.starts_with.ensures.value ∙ c.if-not-starts_with.true)
 
-pub returns-in_default : goal.returns-in_default
-returns-in_default c =
-    no_sizes c.args.bytes.now (le-leb _ _ c.if-bytes-lt-HEAD_SIZE.false) (sym c.starts_with.ensures.value ∙ c.if-not-starts_with.false) c.in_default.ensures
-
--- what holds once the sizes are known
-head : (c : In-Some) → has_head c.args.bytes.now ≡ true
+-- what holds behind the magic bytes
+head : (c : Else-not-starts_with) → has_head c.args.bytes.now ≡ true
 head c = le-leb _ _ c.if-bytes-lt-HEAD_SIZE.false
 
-mark : (c : In-Some) → has_mark c.args.bytes.now ≡ true
+mark : (c : Else-not-starts_with) → has_mark First c.args.bytes.now ≡ true
 mark c = sym c.starts_with.ensures.value ∙ c.if-not-starts_with.false
 
-pub returns-then-bytes-size : goal.returns-then-bytes-size
-returns-then-bytes-size c =
-    let bytes = c.args.bytes.now in
-    let s = (goal.at.returns-then-bytes-size c).In-Some in
-    let short : nat_le (size c.in-Some.words c.in-Some.places) (length bytes) ≡ false =
-    lt-leb _ _ (omega (arith, c.if-bytes-size.true, c.size.ensures)) in
-    too_short bytes (head s) (mark s) c.in-Some.ensures.0 (sym (all_bytes bytes c.in-Some.words c.in-Some.places c.in-Some.ensures.1 c.in-Some.ensures.2) ∙ short)
-
--- what holds once no byte is missing
-enough : (c : Else-bytes-size) → has_all_bytes c.args.bytes.now ≡ true
-enough c =
-    sym (all_bytes c.args.bytes.now c.in-Some.words c.in-Some.places c.in-Some.ensures.1 c.in-Some.ensures.2) ∙ le-leb _ _ (omega (arith, c.if-bytes-size.false, c.size.ensures))
-
-pub returns-then-not-are_formed : goal.returns-then-not-are_formed
-returns-then-not-are_formed c =
-    let bytes = c.args.bytes.now in
-    let s = (goal.at.returns-then-not-are_formed c).In-Some in
-    let e = (goal.at.returns-then-not-are_formed c).Else-bytes-size in
-    not_formed bytes (head s) (mark s) c.in-Some.ensures.0 (enough e)
-    (sym (formed bytes c.in-Some.words c.in-Some.places c.in-Some.ensures.1 c.in-Some.ensures.2) ∙ sym c.are_formed.ensures ∙ c.if-not-are_formed.true)
-
--- what holds once each open record is in order
-in_order : (c : Else-not-are_formed) → has_formed_records c.args.bytes.now ≡ true
-in_order c =
-    sym (formed c.args.bytes.now c.in-Some.words c.in-Some.places c.in-Some.ensures.1 c.in-Some.ensures.2) ∙ sym c.are_formed.ensures ∙ c.if-not-are_formed.false
-
-pub returns-then-not-are_apart : goal.returns-then-not-are_apart
-returns-then-not-are_apart c =
-    let bytes = c.args.bytes.now in
-    let s = (goal.at.returns-then-not-are_apart c).In-Some in
-    let e = (goal.at.returns-then-not-are_apart c).Else-bytes-size in
-    let f = (goal.at.returns-then-not-are_apart c).Else-not-are_formed in
-    not_apart bytes (head s) (mark s) c.in-Some.ensures.0 (enough e) (in_order f)
-    (sym (apart bytes c.in-Some.words c.in-Some.places c.in-Some.ensures.1 c.in-Some.ensures.2) ∙ sym c.are_apart.ensures ∙ c.if-not-are_apart.true)
-
--- what holds once no two of them share an address
-by_themselves : (c : Else-not-are_apart) → has_records_apart c.args.bytes.now ≡ true
-by_themselves c =
-    sym (apart c.args.bytes.now c.in-Some.words c.in-Some.places c.in-Some.ensures.1 c.in-Some.ensures.2) ∙ sym c.are_apart.ensures ∙ c.if-not-are_apart.false
-
-pub returns-then-not-has_small_values : goal.returns-then-not-has_small_values
-returns-then-not-has_small_values c =
-    let bytes = c.args.bytes.now in
-    let s = (goal.at.returns-then-not-has_small_values c).In-Some in
-    let e = (goal.at.returns-then-not-has_small_values c).Else-bytes-size in
-    let f = (goal.at.returns-then-not-has_small_values c).Else-not-are_formed in
-    let a = (goal.at.returns-then-not-has_small_values c).Else-not-are_apart in
-    not_small bytes (head s) (mark s) c.in-Some.ensures.0 (enough e) (in_order f) (by_themselves a)
-    (sym (small bytes c.in-Some.words c.in-Some.places c.in-Some.ensures.1 c.in-Some.ensures.2) ∙ sym c.has_small_values.ensures ∙ c.if-not-has_small_values.true)
+pub returns-in_err-file : goal.returns-in_err-file
+returns-in_err-file c =
+    let bytes : List ℕ = c.args.bytes.now in
+    let e = (goal.at.returns-in_err-file c).Else-not-starts_with in
+    handed_on (λ image. damage_of bytes ≡ None × image ≡ bytes) (damage_of bytes) (part_fault First bytes) c.in_err-file.field-0.0 c.from_residual.result c.from_residual.ensures.1
+    (first_damage bytes (head e) (mark e) (ne_eqb _ _ c.if-bytes.true)) c.in_err-file.ensures
 
 pub invariant_of-result : goal.invariant_of-result
 invariant_of-result c =
-    let bytes = c.args.bytes.now in
-    let s = (goal.at.invariant_of-result c).In-Some in
-    let e = (goal.at.invariant_of-result c).Else-bytes-size in
-    let f = (goal.at.invariant_of-result c).Else-not-are_formed in
-    let a = (goal.at.invariant_of-result c).Else-not-are_apart in
-    let values = sym (small bytes c.in-Some.words c.in-Some.places c.in-Some.ensures.1 c.in-Some.ensures.2) ∙ sym c.has_small_values.ensures ∙ c.if-not-has_small_values.false in
-    record {
-      undamaged = undamaged bytes (record {
-        head = head s;
-        mark = mark s;
-        sizes = c.in-Some.ensures.0;
-        all_bytes = enough e;
-        formed = in_order f;
-        apart = by_themselves a;
-        small = values;
-      });
-      same_words = c.in-Some.ensures.1;
-      same_places = c.in-Some.ensures.2;
-    }
+    let bytes : List ℕ = c.args.bytes.now in
+    let e = (goal.at.invariant_of-result c).Else-not-starts_with in
+    let f = c.in_ok-file.ensures in
+    found_first bytes (head e) (mark e) c.in_ok-file.file.layout c.in_ok-file.file.bytes.now c.in_ok-file.file.words c.in_ok-file.file.places (ne_eqb _ _ c.if-bytes.true) f.0
+    (record { same_layout = f.1; same_bytes = f.2; same_words = f.3; same_places = f.4 })
+
+pub returns-then-bytes : goal.returns-then-bytes
+returns-then-bytes c =
+    let bytes : List ℕ = c.args.bytes.now in
+    let e = (goal.at.returns-then-bytes c).Else-not-starts_with in
+    (first_damage bytes (head e) (mark e) (ne_eqb _ _ c.if-bytes.true) ∙ c.in_ok-file.ensures.0, refl)
+
+pub returns-in_err-at : goal.returns-in_err-at
+returns-in_err-at c =
+    let bytes : List ℕ = c.args.bytes.now in
+    let e = (goal.at.returns-in_err-at c).Else-not-starts_with in
+    handed_on (λ image. damage_of bytes ≡ None × image ≡ bytes) (damage_of bytes) (first_fault (second_tests bytes)) c.in_err-at.field-0.0 c.from_residual-in_err-at.result
+    c.from_residual-in_err-at.ensures.1 (second_damage bytes (head e) (mark e) (eq-eqb _ _ c.if-bytes.false)) c.in_err-at.ensures
+
+pub returns-in_err-file-2 : goal.returns-in_err-file-2
+returns-in_err-file-2 c =
+    let bytes : List ℕ = c.args.bytes.now in
+    let at : ℕ = c.in_ok-at.at in
+    let e = (goal.at.returns-in_err-file-2 c).Else-not-starts_with in
+    let f = c.in_ok-at.ensures in
+    let fault = ap (λ xs. part_fault Second xs) (sym (take_rest bytes at)) ∙ c.in_err-file-2.ensures in
+    handed_on (λ image. damage_of bytes ≡ None × image ≡ bytes) (damage_of bytes) (part_fault Second (drop at bytes)) c.in_err-file-2.field-0.0 c.from_residual-in_err-file-2.result
+    c.from_residual-in_err-file-2.ensures.1 (switched_damage bytes (head e) (mark e) at (eq-eqb _ _ c.if-bytes.false) f.0 f.1 f.2 f.3) fault
+
+pub invariant_of-result-2 : goal.invariant_of-result-2
+invariant_of-result-2 c =
+    let bytes : List ℕ = c.args.bytes.now in
+    let at : ℕ = c.in_ok-at.at in
+    let e = (goal.at.invariant_of-result-2 c).Else-not-starts_with in
+    let f = c.in_ok-at.ensures in
+    let file = c.in_ok-file-2.file in
+    let g = c.in_ok-file-2.ensures in
+    let rest : take (length bytes - at) (drop at bytes) ≡ drop at bytes = take_rest bytes at in
+    found_second bytes (head e) (mark e) at (eq-eqb _ _ c.if-bytes.false) f.0 f.1 f.2 f.3 file.layout file.bytes.now file.words file.places
+    (ap (λ xs. part_fault Second xs) (sym rest) ∙ g.0)
+    (record { same_layout = g.1; same_bytes = g.2 ∙ rest; same_words = g.3 ∙ ap words_told rest; same_places = g.4 ∙ ap places_told rest })
 
 pub returns : goal.returns
 returns c =
-    let bytes = c.args.bytes.now in
-    let s = (goal.at.returns c).In-Some in
-    let e = (goal.at.returns c).Else-bytes-size in
-    let f = (goal.at.returns c).Else-not-are_formed in
-    let a = (goal.at.returns c).Else-not-are_apart in
-    let values = sym (small bytes c.in-Some.words c.in-Some.places c.in-Some.ensures.1 c.in-Some.ensures.2) ∙ sym c.has_small_values.ensures ∙ c.if-not-has_small_values.false in
-    let none = undamaged bytes (record {
-      head = head s;
-      mark = mark s;
-      sizes = c.in-Some.ensures.0;
-      all_bytes = enough e;
-      formed = in_order f;
-      apart = by_themselves a;
-      small = values;
-    }) in
-    (none, refl)
+    let bytes : List ℕ = c.args.bytes.now in
+    let at : ℕ = c.in_ok-at.at in
+    let e = (goal.at.returns c).Else-not-starts_with in
+    let f = c.in_ok-at.ensures in
+    let rest : take (length bytes - at) (drop at bytes) ≡ drop at bytes = take_rest bytes at in
+    (switched_damage bytes (head e) (mark e) at (eq-eqb _ _ c.if-bytes.false) f.0 f.1 f.2 f.3 ∙ ap (λ xs. part_fault Second xs) (sym rest) ∙ c.in_ok-file-2.ensures.0, refl)

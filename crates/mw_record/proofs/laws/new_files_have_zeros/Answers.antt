@@ -1,5 +1,9 @@
-use Rattle.mw_record.proofs.ReadAgain.{new_file_has}
+use Rattle.mw_record.proofs.ClosedPlaces.{new_file_has, new_file_first, new_file_words}
 use Rattle.mw_record.proofs.laws.new_files_have_zeros.Goals as goal
 
 pub returns : goal.returns
-returns c = new_file_has
+returns c = record {
+  has = new_file_has;
+  not_switched = new_file_first;
+  words = new_file_words;
+}

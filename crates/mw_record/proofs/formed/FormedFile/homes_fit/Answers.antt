@@ -8,7 +8,7 @@ use Rattle.mw_record.proofs.formed.FormedFile.homes_fit.Goals as goal
 pub returns-then-not-is_covered : goal.returns-then-not-is_covered
 returns-then-not-is_covered c =
     let file = c.args.self.now in
-    let kept = record_at file.bytes.now file.words in
+    let kept = record_at file.layout file.bytes.now file.words in
     let bare = ap (is_covered kept file.places) (sym c.from.ensures) ∙ sym c.is_covered.ensures ∙ c.if-not-is_covered.true in
     let large = ap (λ v. nat_le v MAX_VALUE) (sym c.home.ensures) ∙ lt-leb _ _ c.if-home-gt-MAX_VALUE.true in
     sym (each_fails (λ a. is_covered kept file.places a || nat_le (home file.bytes.now a) MAX_VALUE) file.words c.loop-addr.addr c.loop-addr-test.true

@@ -4,4 +4,4 @@ use Rattle.mw_record.proofs.formed.FormedFile.homes_fit.Given as goal
 
 -- the words so far fit
 abbrev pub invariant-loop-addr : goal.invariant-loop-addr
-invariant-loop-addr l = spec.homes_fit (spec.home l.self.bytes.now) (spec.record_at l.self.bytes.now l.self.words) l.self.places l.addr ≡ true
+invariant-loop-addr l = spec.homes_fit (spec.home l.self.bytes.now) (spec.record_at l.self.layout l.self.bytes.now l.self.words) l.self.places l.addr ≡ true

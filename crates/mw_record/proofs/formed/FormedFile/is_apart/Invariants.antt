@@ -4,4 +4,4 @@ use Rattle.mw_record.proofs.formed.FormedFile.is_apart.Given as goal
 
 -- what is left decides as all the entries do
 abbrev pub invariant-loop-i : goal.invariant-loop-i
-invariant-loop-i l = spec.is_apart (spec.record_at l.self.bytes.now l.self.words) l.places (drop l.i l.entries) ≡ spec.is_apart (spec.record_at l.self.bytes.now l.self.words) l.places l.entries
+invariant-loop-i l = spec.is_apart (spec.record_at l.self.layout l.self.bytes.now l.self.words) l.places (drop l.i l.entries) ≡ spec.is_apart (spec.record_at l.self.layout l.self.bytes.now l.self.words) l.places l.entries

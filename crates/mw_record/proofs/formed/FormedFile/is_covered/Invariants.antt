@@ -4,4 +4,4 @@ use Rattle.mw_record.proofs.formed.FormedFile.is_covered.Given as goal
 
 -- the places so far do not have the address
 abbrev pub invariant-loop-place : goal.invariant-loop-place
-invariant-loop-place l = spec.is_covered (spec.record_at l.self.bytes.now l.self.words) l.place l.addr ≡ false
+invariant-loop-place l = spec.is_covered (spec.record_at l.self.layout l.self.bytes.now l.self.words) l.place l.addr ≡ false

@@ -7,16 +7,16 @@ use Rattle.mw_record.proofs.formed.FormedFile.record.Goals as goal
 pub new-requires-clause-few : goal.new-requires-clause-few
 new-requires-clause-few c =
     let file = c.args.self.now in
-    let is_open = record_open file.bytes.now file.words c.args.place c.place_at-at.result c.place_at-at.ensures c.if-self-at.true in
-    let few = few_entries file.words (body_at file.bytes.now c.place_at-at.result) (formed_at file.words file.places c.args.place (record_at file.bytes.now file.words) _ file.formed c.requires is_open) in
+    let is_open = record_open file.layout file.bytes.now file.words c.args.place c.place_at-at.result c.place_at-at.ensures c.if-self-at.true in
+    let few = few_entries file.layout file.words (body_at file.bytes.now c.place_at-at.result) (formed_at file.layout file.words file.places c.args.place (record_at file.layout file.bytes.now file.words) _ file.formed c.requires is_open) in
     omega (arith, few, length_body file.bytes.now c.place_at-at.result)
 
 pub returns-then-self-at : goal.returns-then-self-at
 returns-then-self-at c =
     let file = c.args.self.now in
-    ap Some c.new.ensures ∙ sym (record_open file.bytes.now file.words c.args.place c.place_at-at.result c.place_at-at.ensures c.if-self-at.true)
+    ap Some c.new.ensures ∙ sym (record_open file.layout file.bytes.now file.words c.args.place c.place_at-at.result c.place_at-at.ensures c.if-self-at.true)
 
 pub returns-else-self-at : goal.returns-else-self-at
 returns-else-self-at c =
     let file = c.args.self.now in
-    sym (record_shut file.bytes.now file.words c.args.place c.place_at-at.result c.place_at-at.ensures c.if-self-at.false)
+    sym (record_shut file.layout file.bytes.now file.words c.args.place c.place_at-at.result c.place_at-at.ensures c.if-self-at.false)

@@ -6,6 +6,6 @@ use Rattle.mw_record.proofs.formed.FormedFile.records_fit.Goals as goal
 
 pub returns-in-loop-place : goal.returns-in-loop-place
 returns-in-loop-place c =
-    let kept = record_at c.args.self.now.bytes.now c.args.self.now.words in
+    let kept = record_at c.args.self.now.layout c.args.self.now.bytes.now c.args.self.now.words in
     sym (each_fails (λ j. option_map_or has_values (kept j) true) c.args.self.now.places c.loop-place.place c.loop-place-test.true
     (ap (λ r. option_map_or has_values r true) (sym c.in-Some.ensures) ∙ sym c.has_values.ensures ∙ c.if-not-has_values.true))

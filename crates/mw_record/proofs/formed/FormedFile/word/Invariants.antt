@@ -4,4 +4,4 @@ use Rattle.mw_record.proofs.formed.FormedFile.word.Given as goal
 
 -- the records of the places so far are put over the home word
 abbrev pub invariant-loop-place : goal.invariant-loop-place
-invariant-loop-place l = l.value ≡ spec.all_over (spec.record_at l.self.bytes.now l.self.words) l.place l.addr (spec.home l.self.bytes.now l.addr)
+invariant-loop-place l = l.value ≡ spec.all_over (spec.record_at l.self.layout l.self.bytes.now l.self.words) l.place l.addr (spec.home l.self.bytes.now l.addr)
