@@ -1,5 +1,5 @@
 -- A file all of whose places are free, and one change that goes through it alone.
-use Rattle.std.proofs.Common.{◌≡◌, ℕ, zero, suc, ◌+◌, ◌-◌, ◌<◌, ◌≤◌, List, [], ◌∷◌, length, true, Some, IsSome, is_some, if◌then◌else◌, refl, sym, ap, ◌∙◌, inl, inr, arith}
+use Rattle.std.proofs.Common.{◌≡◌, ℕ, zero, suc, ◌+◌, ◌-◌, ◌<◌, ◌≤◌, List, [], ◌∷◌, length, take, true, Some, IsSome, is_some, if◌then◌else◌, refl, sym, ap, ◌∙◌, inl, inr, arith}
 use Rattle.std.proofs.lemmas.Bool.{and_parts, and_from, cases_eq, cases_Bool}
 use Rattle.mw_file.specs.declared.place_states.PlaceState.{PlaceState}
 use Rattle.mw_file.specs.declared.place_states.Stage.{Stage}
@@ -16,6 +16,12 @@ pub stage_of-all_free : (states : List PlaceState) (place : ℕ) → all_free st
 stage_of-all_free [] place all = refl
 stage_of-all_free (s ∷ states) zero all = free_stage s.stage (and_parts _ _ all).0
 stage_of-all_free (s ∷ states) (suc place) all = stage_of-all_free states place (and_parts _ _ all).1
+
+-- the first of places that are all free are so too
+pub first_free : (n : ℕ) (states : List PlaceState) → all_free states ≡ true → all_free (take n states) ≡ true
+first_free zero states all = refl
+first_free (suc n) [] all = refl
+first_free (suc n) (s ∷ states) all = let parts = and_parts _ _ all in and_from _ _ parts.0 (first_free n states parts.1)
 
 -- some place is free, if there is one
 pub free_place-all_free : (states : List PlaceState) → all_free states ≡ true → 0 < length states → IsSome (free_place states)

@@ -2,10 +2,14 @@ pub mod Bytes
 pub mod Changing
 pub mod Ended
 pub mod Free
+pub mod Grown
 pub mod Looping
+pub mod Migrated
 pub mod Opened
+pub mod Parts
 pub mod Places
 pub mod Ran
+pub mod Ready
 pub mod Recalled
 pub mod Reopened
 pub mod Rolled

@@ -1,27 +1,30 @@
 -- What an opening has read, and which device calls it has made.
-use Rattle.std.proofs.Common.{◌≡◌, ℕ, ◌+◌, ◌<◌, ◌≤◌, List, ◌++◌, length, take, min, Some, None, is_none, if◌then◌else◌, IsTrue, refl, sym, ap, ◌∙◌, arith, subst, inl, inr}
-use Rattle.std.proofs.lemmas.List.{take-append-le, take_all, ext_get_or, get_or-take, length-take}
-use Rattle.std.proofs.lemmas.Bool.{cases_lt}
-use Rattle.mw_words.specs.declared.limits.TheConstants.{MAX_WORDS, MAX_PLACES}
+use Rattle.std.proofs.Common.{◌≡◌, ℕ, ◌+◌, ◌<◌, ◌≤◌, Bool, true, false, List, ◌++◌, length, take, drop, min, Some, None, is_none, if◌then◌else◌, IsTrue, refl, sym, ap, ◌∙◌, arith, subst, inl, inr}
+use Rattle.std.proofs.lemmas.List.{take-append-le, take_all, ext_get_or, get_or-take, get_or-drop, length-take}
+use Rattle.std.proofs.lemmas.Bool.{cases_lt, cases_Bool}
 use Rattle.mw_disk.specs.Facts.{Facts, IsAtRest}
 use Rattle.mw_disk.specs.Runs.{SameBut, Later, Touched, LeavesOnly}
-use Rattle.mw_disk.proofs.RunLaws.{leaves, leaves_more, leaves_wider, still_honest}
-use Rattle.mw_record.specs.declared.layout.TheConstants.{MAX_FILE}
+use Rattle.mw_disk.proofs.RunLaws.{leaves, leaves_more, leaves_wider, touched_trans, touched_wider, still_honest}
+use Rattle.mw_record.specs.declared.layout.Layout.{Layout}
+use Rattle.mw_record.specs.declared.layout.Layout.TheVariants.{First, Second}
+use Rattle.mw_record.specs.declared.layout.TheConstants.{MAX_FILE, MAX_FIRST}
 use Rattle.mw_record.specs.declared.damages.Damage.{Damage}
-use Rattle.mw_record.specs.Layout.{size, place_at}
+use Rattle.mw_record.specs.Layout.{place_at}
 use Rattle.mw_record.specs.Records.{record_at}
-use Rattle.mw_record.specs.Damages.{damage_of, file_words, words_in, words_of, places_of}
-use Rattle.mw_record.specs.Stands.{HasWords}
-use Rattle.mw_record.proofs.Sound.{has_words}
-use Rattle.mw_record.proofs.Faults.{sizes_are}
+use Rattle.mw_record.specs.Damages.{damage_of, file_words, is_switched, second_at, at_of, words_in, words_of, found_places, records_of}
+use Rattle.mw_record.specs.Stands.{HasWords, HasSecond, StandsAs}
+use Rattle.mw_record.proofs.Sound.{file_of}
+use Rattle.mw_record.proofs.Faults.{sizes_are, begins_within, second_begins, second_layout}
+use Rattle.mw_record.proofs.Layouts.{place_within, size_fits}
+use Rattle.mw_record.proofs.Longer.{damage_of_first, file_words_first, words_of_first, found_places_first, is_switched_first, at_of_first, words_in_first}
 use Rattle.mw_record.proofs.Below.{few_entries}
 use Rattle.mw_record.proofs.Writes.{record_same}
-use Rattle.mw_record.proofs.Longer.{damage_of_first, words_of_first, places_of_first, words_in_first, file_words_first}
 use Rattle.mw_file.specs.Run.{IsUntouched}
 use Rattle.mw_file.specs.Rolls.{Nowhere, CanFinish}
 use Rattle.mw_file.specs.Keeps.{IsFile}
-use Rattle.mw_file.specs.Opening.{front, SameFile, Unchanged, read_calls, repair_calls, open_calls}
-use Rattle.mw_file.proofs.Safety.{is_file}
+use Rattle.mw_file.specs.Migrating.{CanGrow}
+use Rattle.mw_file.specs.Opening.{front, SameFile, Unchanged, SparesFirst, read_calls, ready_calls, open_calls, CanOpen, OpensAs}
+use Rattle.mw_file.proofs.Ready.{second_as}
 
 -- a list that fills n places, whatever stood behind
 pub whole : {A : Type 0} (n : ℕ) (xs ys : List A) → length xs ≡ n → take n (xs ++ ys) ≡ xs
@@ -43,6 +46,20 @@ front_read f0 f1 len n got is_len is_n same read =
     let n_is : n ≡ min (length bytes) MAX_FILE = is_n ∙ ap (λ l. min l MAX_FILE) is_len in
     let first : got ≡ take n f1.reads = read (omega arith) in
     first ∙ ap (λ k. take k f1.reads) n_is ∙ ap (λ bs. take (min (length bytes) MAX_FILE) bs) same ∙ take_min MAX_FILE bytes
+
+-- a run that wrote nothing wrote nothing to the first layout
+pub first_unwritten : (f0 f1 : Facts) → (IsTrue f0.honest → Touched Nowhere f0 f1) → SparesFirst f0 f1
+first_unwritten f0 f1 quiet honest rest set = touched_wider Nowhere (λ k. second_at f0.reads ≤ k) f0 f1 (λ k z. absurd z) (quiet honest)
+
+-- nor did one that went on from there, where what was read tells the same of the file
+pub first_spared : (f0 f1 f2 : Facts) (image : List ℕ) → (IsTrue f0.honest → Touched Nowhere f0 f1) → (IsTrue f0.honest → image ≡ take MAX_FILE f0.reads)
+    → (IsTrue f0.honest → IsAtRest f0 → is_switched image ≡ true → Touched (λ k. at_of image ≤ k) f1 f2) → SparesFirst f0 f2
+first_spared f0 f1 f2 image quiet seen ran honest rest set =
+    let is = seen honest in
+    let there : is_switched image ≡ true = ap is_switched is ∙ is_switched_first f0.reads ∙ set in
+    let begins : at_of image ≡ second_at f0.reads = ap at_of is ∙ at_of_first f0.reads ∙ second_begins f0.reads set in
+    touched_trans (λ k. second_at f0.reads ≤ k) f0 f1 f2 (first_unwritten f0 f1 quiet honest rest set)
+    (subst (λ (at : ℕ). Touched (λ k. at ≤ k) f1 f2) begins (ran honest rest there))
 
 -- two runs that wrote nothing
 pub untouched_trans : (a b c : Facts) → Later a b → IsUntouched a b → IsUntouched b c → IsUntouched a c
@@ -71,76 +88,102 @@ module _ (f0 f1 : Facts) (touched : Touched Nowhere f0 f1) (rest : IsAtRest f0) 
     left = leaves Nowhere f0 f1 rest touched (λ c same. subst (SameFile f0.reads) (sym (same_all f0.reads c same)) (record { words = refl; places = refl }));
   }
 
-  -- where its changes were finished it is too
-  pub all_finished : (f2 : Facts) (words places : ℕ) (contents : List ℕ) → HasWords words places contents f1.reads → LeavesOnly f1 f2 (HasWords words places contents)
-      → HasWords words places contents f2.reads → Unchanged f0 f2
-  all_finished f2 words places contents has moments read =
-      let before : IsFile places contents f0.reads = is_file words places contents f0.reads (subst (HasWords words places contents) reads_stay has) in
-      let same : (c : List ℕ) → HasWords words places contents c → SameFile f0.reads c = λ c has2.
-      (let now : IsFile places contents c = is_file words places contents c has2 in
-      record { words = now.words_are ∙ sym before.words_are; places = now.places_are ∙ sym before.places_are }) in
+  -- where it was a file of the same words all the time it is too
+  pub all_ready : (f2 : Facts) (places : ℕ) (contents : List ℕ) → IsFile places contents f1.reads → LeavesOnly f1 f2 (IsFile places contents) → IsFile places contents f2.reads → Unchanged f0 f2
+  all_ready f2 places contents has moments read =
+      let before : IsFile places contents f0.reads = subst (IsFile places contents) reads_stay has in
+      let same : (c : List ℕ) → IsFile places contents c → SameFile f0.reads c = λ c now.
+      record { words = now.words_are ∙ sym before.words_are; places = now.places_are ∙ sym before.places_are } in
       record {
         read = same f2.reads read;
         left = leaves_more f0 f1 f2 nothing_written.left (leaves_wider f1 f2 same moments);
       }
 
--- The bytes that can belong to a file, where they have no damage, are those of the file.
-module _ (b : List ℕ) (undamaged : damage_of (take MAX_FILE b) ≡ None) where
-  enough : size MAX_WORDS MAX_PLACES ≤ MAX_FILE
-  enough = omega arith
+-- The bytes that can belong to a file, where they have no damage, tell what all of its bytes tell.
+module _ (f : Facts) (honest : IsTrue f.honest) (rest : IsAtRest f) (undamaged : damage_of (take MAX_FILE f.reads) ≡ None) where
+  none : damage_of f.reads ≡ None
+  none = sym (damage_of_first f.reads) ∙ undamaged
 
-  whole_has : HasWords (words_of b) (places_of b) (words_in b) b
-  whole_has = has_words b (sym (damage_of_first b MAX_FILE enough) ∙ undamaged)
+  -- a file in its first layout
+  module _ (unset : is_switched f.reads ≡ false) where
+    grows : CanGrow f (take MAX_FILE f.reads) (words_in (take MAX_FILE f.reads))
+    grows = record {
+      honest = honest;
+      rest = rest;
+      has =
+          subst (λ (ws : List ℕ). HasWords First (words_of (take MAX_FILE f.reads)) (found_places (take MAX_FILE f.reads)) ws f.reads) (sym (words_in_first f.reads none))
+          (second_as (λ (k n p : ℕ). HasWords First n p (words_in f.reads) f.reads) 0 0 (words_of f.reads) (words_of (take MAX_FILE f.reads)) (found_places f.reads) (found_places (take MAX_FILE f.reads))
+          refl (sym (words_of_first f.reads none)) (sym (found_places_first f.reads none))
+          (subst (λ (b : Bool). StandsAs b (words_in f.reads) f.reads) unset (file_of f.reads none)));
+      unswitched = unset;
+    }
 
-  words_first : words_of (take MAX_FILE b) ≡ words_of b
-  words_first = words_of_first b MAX_FILE enough
+  -- one with a second layout
+  module _ (set : is_switched f.reads ≡ true) where
+    front_set : is_switched (take MAX_FILE f.reads) ≡ true
+    front_set = is_switched_first f.reads ∙ set
 
-  places_first : places_of (take MAX_FILE b) ≡ places_of b
-  places_first = places_of_first b MAX_FILE enough
+    front_has : HasSecond (at_of (take MAX_FILE f.reads)) (words_of (take MAX_FILE f.reads)) (found_places (take MAX_FILE f.reads)) (words_in (take MAX_FILE f.reads)) f.reads
+    front_has =
+        subst (λ (ws : List ℕ). HasSecond (at_of (take MAX_FILE f.reads)) (words_of (take MAX_FILE f.reads)) (found_places (take MAX_FILE f.reads)) ws f.reads) (sym (words_in_first f.reads none))
+        (second_as (λ (k n p : ℕ). HasSecond k n p (words_in f.reads) f.reads) _ _ _ _ _ _
+        (sym (at_of_first f.reads ∙ second_begins f.reads set)) (sym (words_of_first f.reads none)) (sym (found_places_first f.reads none))
+        (subst (λ (b : Bool). StandsAs b (words_in f.reads) f.reads) set (file_of f.reads none)))
 
-  front_has : HasWords (words_of (take MAX_FILE b)) (places_of (take MAX_FILE b)) (words_in (take MAX_FILE b)) b
-  front_has =
-      subst (λ (w : ℕ). HasWords w (places_of (take MAX_FILE b)) (words_in (take MAX_FILE b)) b) (sym words_first)
-      (subst (λ (p : ℕ). HasWords (words_of b) p (words_in (take MAX_FILE b)) b) (sym places_first)
-      (subst (λ (ws : List ℕ). HasWords (words_of b) (places_of b) ws b) (sym (words_in_first b MAX_FILE enough (sym (damage_of_first b MAX_FILE enough) ∙ undamaged))) whole_has))
+    front_records : (place : ℕ) → place < found_places (take MAX_FILE f.reads)
+        → record_at Second (drop (at_of (take MAX_FILE f.reads)) f.reads) (words_of (take MAX_FILE f.reads)) place ≡ records_of (take MAX_FILE f.reads) place
+    front_records place lt =
+        let i : List ℕ = take MAX_FILE f.reads in
+        let at : ℕ = at_of i in
+        let words : ℕ = words_of i in
+        let places : ℕ = found_places i in
+        let low : at ≤ MAX_FIRST = (begins_within at front_has.head.fits).1 in
+        let sizes = sizes_are Second (drop at f.reads) front_has.part.head.sizes in
+        let w = front_has.part.head.words_are in
+        let p = front_has.part.head.places_are in
+        let fits = size_fits Second words places (omega (arith, sizes.words_fit, w)) (omega (arith, sizes.places_fit, p)) in
+        let there = place_within Second words places place lt in
+        sym (record_same Second (drop at i) (drop at f.reads) words place
+        (λ k l.
+        get_or-drop at i (place_at Second words place + k) 0
+        ∙ get_or-take MAX_FILE f.reads (at + (place_at Second words place + k)) 0 (omega (arith, low, fits, there, l))
+        ∙ sym (get_or-drop at f.reads (place_at Second words place + k) 0))
+        (λ ps is. few_entries Second words ps (front_has.part.stands.formed place ps lt is)))
+        ∙ ap (λ (l : Layout). record_at l (drop at i) words place) (sym (second_layout i front_set))
 
-  front_records : (place : ℕ) → place < places_of (take MAX_FILE b)
-      → record_at b (words_of (take MAX_FILE b)) place ≡ record_at (take MAX_FILE b) (words_of (take MAX_FILE b)) place
-  front_records place lt =
-      let words : ℕ = words_of (take MAX_FILE b) in
-      let sizes = sizes_are b front_has.head.sizes in
-      let w : words ≤ MAX_WORDS = omega (arith, sizes.words_fit, words_first) in
-      let p : places_of (take MAX_FILE b) ≤ MAX_PLACES = omega (arith, sizes.places_fit, places_first) in
-      sym (record_same (take MAX_FILE b) b words place
-      (λ k l. get_or-take MAX_FILE b (place_at words place + k) 0 (omega (arith, l, lt, w, p)))
-      (λ ps is. few_entries words ps (front_has.stands.formed place ps lt is)))
+    finishes : CanFinish f (take MAX_FILE f.reads) (words_in (take MAX_FILE f.reads))
+    finishes = record { honest = honest; rest = rest; has = front_has; same = front_records }
 
-pub can_finish : (f : Facts) (image : List ℕ) → IsTrue f.honest → IsAtRest f → image ≡ take MAX_FILE f.reads → damage_of image ≡ None → CanFinish f image (words_in image)
-can_finish f image honest rest is undamaged =
-    let none : damage_of (take MAX_FILE f.reads) ≡ None = sym (ap damage_of is) ∙ undamaged in
-    subst (λ (i : List ℕ). CanFinish f i (words_in i)) (sym is)
-    (record { honest = honest; rest = rest; has = front_has f.reads none; same = front_records f.reads none })
+  front_opens : CanOpen f (take MAX_FILE f.reads) (words_in (take MAX_FILE f.reads))
+  front_opens = elim (cases_Bool (is_switched f.reads)) [
+    | inl set ↦ subst (λ (b : Bool). OpensAs b f (take MAX_FILE f.reads) (words_in (take MAX_FILE f.reads))) (sym (is_switched_first f.reads ∙ set)) (finishes set)
+    | inr unset ↦ subst (λ (b : Bool). OpensAs b f (take MAX_FILE f.reads) (words_in (take MAX_FILE f.reads))) (sym (is_switched_first f.reads ∙ unset)) (grows unset)
+  ]
+
+pub can_open : (f : Facts) (image : List ℕ) → IsTrue f.honest → IsAtRest f → image ≡ take MAX_FILE f.reads → damage_of image ≡ None → CanOpen f image (words_in image)
+can_open f image honest rest is undamaged =
+    subst (λ (i : List ℕ). CanOpen f i (words_in i)) (sym is) (front_opens f honest rest (sym (ap damage_of is) ∙ undamaged))
 
 -- what was read tells of all bytes
 pub whole_words : (b image : List ℕ) → image ≡ take MAX_FILE b → damage_of image ≡ None → file_words b ≡ Some (words_in image)
 whole_words b image is undamaged =
-    sym (file_words_first b MAX_FILE (let e : size MAX_WORDS MAX_PLACES ≤ MAX_FILE = omega arith in e)) ∙ sym (ap file_words is)
+    sym (file_words_first b) ∙ sym (ap file_words is)
     ∙ ap (λ d. if is_none d then Some (words_in image) else None) undamaged
 
 pub whole_damage : (b image : List ℕ) (damage : Damage) → image ≡ take MAX_FILE b → damage_of image ≡ Some damage → damage_of b ≡ Some damage
 whole_damage b image damage is found =
-    sym (damage_of_first b MAX_FILE (let e : size MAX_WORDS MAX_PLACES ≤ MAX_FILE = omega arith in e)) ∙ sym (ap damage_of is) ∙ found
+    sym (damage_of_first b) ∙ sym (ap damage_of is) ∙ found
 
 -- the device calls of an opening, by what was read
-pub calls_sound : (image : List ℕ) (n : ℕ) → length image ≡ n → damage_of image ≡ None → (1 + min 1 n) + repair_calls image ≡ open_calls image
+pub calls_sound : (image : List ℕ) (n : ℕ) → length image ≡ n → damage_of image ≡ None → (1 + min 1 n) + ready_calls image ≡ open_calls image
 calls_sound image n long none =
-    ap (λ k. (1 + min 1 k) + repair_calls image) (sym long)
-    ∙ ap (λ d. read_calls image + (if is_none d then repair_calls image else 0)) (sym none)
+    ap (λ k. (1 + min 1 k) + ready_calls image) (sym long)
+    ∙ ap (λ d. read_calls image + (if is_none d then ready_calls image else 0)) (sym none)
 
 pub calls_damaged : (image : List ℕ) (damage : Damage) (n : ℕ) → length image ≡ n → damage_of image ≡ Some damage → 1 + min 1 n ≡ open_calls image
 calls_damaged image damage n long some =
     let e : read_calls image ≡ read_calls image + 0 = omega arith in
-    ap (λ k. 1 + min 1 k) (sym long) ∙ e ∙ ap (λ d. read_calls image + (if is_none d then repair_calls image else 0)) (sym some)
+    ap (λ k. 1 + min 1 k) (sym long) ∙ e ∙ ap (λ d. read_calls image + (if is_none d then ready_calls image else 0)) (sym some)
 
 -- at most so many calls are made before the bytes were read
 pub calls_before : (f : Facts) (len n : ℕ) → len ≡ length f.reads → n ≡ min len MAX_FILE → 1 + min 1 n ≤ open_calls (front f)

@@ -1,12 +1,13 @@
 -- The places of a file that was read: how many device calls they take to finish, and that they are the file's.
-use Rattle.std.proofs.Common.{◌≡◌, ℕ, zero, suc, ◌+◌, ◌<◌, ◌≤◌, ◌==◌, List, [], length, Some, None, Option, unwrap_or, if◌then◌else◌, min, take, slice_get, get_or, refl, sym, ap, ◌∙◌, inl, inr, arith, subst, IsTrue}
-use Rattle.std.proofs.lemmas.List.{take_all}
+use Rattle.std.proofs.Common.{◌≡◌, ℕ, zero, suc, ◌+◌, ◌<◌, ◌≤◌, ◌==◌, List, [], ◌∷◌, ◌++◌, length, drop, Some, None, Option, unwrap_or, if◌then◌else◌, min, take, slice_get, slice_set, get_or, refl, sym, ap, ◌∙◌, inl, inr, arith, subst, IsTrue}
+use Rattle.std.proofs.lemmas.List.{take_all, take_more, take_more_set}
 use Rattle.std.proofs.lemmas.List.Sums.{sum_by_more, sum_by_more_le}
 use Rattle.std.proofs.lemmas.Option.{slice_get_cases, get_or_from_slice_get}
 use Rattle.mw_disk.specs.Facts.{Facts}
+use Rattle.mw_record.specs.declared.layout.Layout.TheVariants.{Second}
 use Rattle.mw_record.specs.Records.{Pairs, record_at}
-use Rattle.mw_record.specs.Damages.{words_of, places_of}
-use Rattle.mw_record.specs.Stands.{HasWords}
+use Rattle.mw_record.specs.Damages.{at_of, words_of, found_places, records_of}
+use Rattle.mw_record.specs.Stands.{HasSecond}
 use Rattle.mw_file.specs.declared.place_states.PlaceState.{PlaceState}
 use Rattle.mw_file.specs.declared.place_states.Stage.{Stage}
 use Rattle.mw_file.specs.declared.place_states.Stage.TheVariants.{Free, Prepared, Sealed}
@@ -15,7 +16,28 @@ use Rattle.mw_file.proofs.Free.{stage_of-all_free}
 use Rattle.mw_file.specs.Stores.{PlacedAs, Stores, IsDurable}
 use Rattle.mw_file.specs.Rolls.{if_open, IsRecalled, CanRoll, CanFinish, IsRolled}
 use Rattle.mw_file.specs.Opening.{entries_in, entries_below, records_below, open_entries, open_records, repair_calls}
-use Rattle.mw_file.proofs.Settling.{tells_all, open_done}
+use Rattle.mw_file.proofs.Parts.{part_stores}
+use Rattle.mw_file.proofs.Settling.{tells_all}
+use Rattle.mw_file.proofs.Safety.{open_durable}
+
+-- what is read from a list: it is an item of it, and the first items go on with it
+module _ {X : Type 0} (xs : List X) (i : ℕ) (x : X) (read : slice_get xs i ≡ Some x) where
+  read_within : i < length xs
+  read_within = elim ((slice_get_cases xs i).1) [
+    | inl there ↦ there.1
+    | inr past ↦ absurd (let e : ⊥ = cc (past.1, read) in e)
+  ]
+
+  read_next : take i xs ++ x ∷ [] ≡ take (i + 1) xs
+  read_next = ap (λ (p : X). take i xs ++ p ∷ []) (sym (get_or_from_slice_get xs i x x read)) ∙ sym (take_more xs i x read_within)
+
+-- the first entries of a list, and the next one
+pub pairs_more : (xs items new : Pairs) (i : ℕ) (x : ℕ × ℕ) → items ≡ take i xs → slice_get xs i ≡ Some x → new ≡ items ++ x ∷ [] → new ≡ take (i + 1) xs
+pairs_more xs items new i x so_far read is = is ∙ ap (λ (ps : Pairs). ps ++ x ∷ []) so_far ∙ read_next xs i x read
+
+-- the first words of a list, and the next one
+pub word_more : (ws xs : List ℕ) (i w : ℕ) → i < length ws → take i ws ≡ take i xs → slice_get xs i ≡ Some w → take (i + 1) (slice_set ws i w) ≡ take (i + 1) xs
+word_more ws xs i w lt so_far read = take_more_set ws i w lt ∙ ap (λ (ps : List ℕ). ps ++ w ∷ []) so_far ∙ read_next xs i w read
 
 -- a record that has entries is one of an open place
 pub open_pairs : (r : Option Pairs) → (length (unwrap_or r []) ≡ 0 → ⊥) → r ≡ Some (unwrap_or r [])
@@ -53,7 +75,7 @@ records_open Sealed w some = let l = some refl in omega (arith, l)
 
 module _ (image : List ℕ) (states : List PlaceState) (recalled : IsRecalled image states) where
   -- the entries of a place are what it writes, if it is sealed
-  entries_here : (k : ℕ) (s : PlaceState) → k < length states → slice_get states k ≡ Some s → if_open s.stage s.writes.items ≡ record_at image (words_of image) k
+  entries_here : (k : ℕ) (s : PlaceState) → k < length states → slice_get states k ≡ Some s → if_open s.stage s.writes.items ≡ records_of image k
   entries_here k s lt at = sym (ap (λ o. if_open (stage_at o) (writes_in o)) at) ∙ recalled.each k (let e = recalled.count in omega arith)
 
   entries_sum : (k : ℕ) → k ≤ length states → home_writes (take k states) ≡ entries_below image k
@@ -94,32 +116,31 @@ module _ (image : List ℕ) (states : List PlaceState) (recalled : IsRecalled im
 
   -- the bytes that a read gives are a file with these places
   module _ (f : Facts) (contents : List ℕ) (can : CanFinish f image contents) where
-    placed_recalled : (place : ℕ) (s : Stage) (w : Pairs) → (s ≡ Prepared → ⊥) → if_open s w ≡ record_at f.reads (words_of image) place → PlacedAs f.reads (words_of image) place s w
+    placed_recalled : (place : ℕ) (s : Stage) (w : Pairs) → (s ≡ Prepared → ⊥) → if_open s w ≡ record_at Second (drop (at_of image) f.reads) (words_of image) place
+        → PlacedAs (drop (at_of image) f.reads) (words_of image) place s w
     placed_recalled place Free w other is = sym is
     placed_recalled place Prepared w other is = absurd (other refl)
     placed_recalled place Sealed w other is = sym is
 
-    stores_recalled : Stores f.reads (words_of image) contents states
+    stores_recalled : Stores f.reads (at_of image) (words_of image) contents states
     stores_recalled = record {
-      has = subst (λ (n : ℕ). HasWords (words_of image) n contents f.reads) (sym recalled.count) can.has;
+      has = subst (λ (n : ℕ). HasSecond (at_of image) (words_of image) n contents f.reads) (sym recalled.count) can.has;
       placed = λ place lt.
-          let low : place < places_of image = (let e = recalled.count in omega arith) in
+          let low : place < found_places image = (let e = recalled.count in omega arith) in
           placed_recalled place (stage_of states place) (writes_of_place states place) (recalled.none_prepared place low) (recalled.each place low ∙ sym (can.same place low));
     }
 
-    pub roll_recalled : CanRoll f (words_of image) (length states) 0 states contents
+    pub roll_recalled : CanRoll f (at_of image) (words_of image) (length states) 0 states contents
     roll_recalled = record {
       honest = can.honest;
       rest = can.rest;
       has = stores_recalled.has;
       within = omega arith;
-      recorded = (tells_all f.reads (words_of image) contents states stores_recalled).recorded;
+      recorded = (tells_all (drop (at_of image) f.reads) (words_of image) contents states (part_stores f.reads (at_of image) (words_of image) contents states stores_recalled)).recorded;
     }
 
     -- once they were finished every place is free
-    pub finish_durable : (f2 : Facts) (next : List PlaceState) → HasWords (words_of image) (length states) contents f2.reads → IsRolled (words_of image) 0 states f f2 → length next ≡ length states
-        → IsTrue (all_free next) → IsDurable f2 (words_of image) contents next
-    finish_durable f2 next has rolled count free = record {
-      rest = rolled.rest;
-      stores = open_done f.reads f2.reads (words_of image) contents states next stores_recalled rolled.same rolled.shut has count (λ place. stage_of-all_free next place free);
-    }
+    pub finish_durable : (f2 : Facts) (next : List PlaceState) → HasSecond (at_of image) (words_of image) (length states) contents f2.reads → IsRolled (at_of image) (words_of image) 0 states f f2
+        → length next ≡ length states → IsTrue (all_free next) → IsDurable f2 (at_of image) (words_of image) contents next
+    finish_durable f2 next has rolled count free =
+        open_durable f f2 (at_of image) (words_of image) contents states next stores_recalled rolled has count (λ place. stage_of-all_free next place free)

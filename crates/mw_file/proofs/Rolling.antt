@@ -2,8 +2,9 @@
 use Rattle.std.proofs.Common.{◌≡◌, ◌⊎◌, ℕ, ◌+◌, ◌-◌, ◌<◌, ◌≤◌, List, length, Some, None, true, false, slice_index, refl, sym, ap, ◌∙◌, inl, inr, arith, subst}
 use Rattle.std.proofs.lemmas.Bool.{cases_Bool, cases_eq, cases_lt, both_ways}
 use Rattle.mw_disk.specs.Runs.{SameBut}
-use Rattle.mw_record.specs.declared.layout.TheConstants.{HEAD_SIZE, WORD_SIZE, PLACE_SIZE, COMMITTED}
-use Rattle.mw_record.specs.Layout.{home_at, place_at, SameBytes}
+use Rattle.mw_record.specs.declared.layout.TheConstants.{HEAD_SIZE, WORD_SIZE, COMMITTED}
+use Rattle.mw_record.specs.declared.layout.Layout.TheVariants.{Second}
+use Rattle.mw_record.specs.Layout.{place_size, home_at, place_at, SameBytes}
 use Rattle.mw_record.specs.Records.{Pairs, holds, over, all_over, is_covered, record_at, body_at, home}
 use Rattle.mw_record.proofs.Reading.{record_open, record_shut, body_same, length_body, commit_set}
 use Rattle.mw_record.proofs.Below.{few_entries}
@@ -33,12 +34,12 @@ sealed_or_not Sealed = inl refl
 
 -- These states tell which records of the file are open, from the first place on.
 pub record Tells (b : List ℕ) (words first : ℕ) (states : List PlaceState) : Type 0 where
-  pub recorded : (place : ℕ) → place < length states → stage_of states place ≡ Sealed → record_at b words (first + place) ≡ Some (writes_of_place states place)
+  pub recorded : (place : ℕ) → place < length states → stage_of states place ≡ Sealed → record_at Second b words (first + place) ≡ Some (writes_of_place states place)
 
 module _ (b : List ℕ) (words places first : ℕ) (states : List PlaceState) (contents : List ℕ)
-    (has : HasWords words places contents b) (within : first + length states ≤ places) (tells : Tells b words first states) where
+    (has : HasWords Second words places contents b) (within : first + length states ≤ places) (tells : Tells b words first states) where
   -- a record that is written is open in the file
-  pub open_there : (place : ℕ) (ps : Pairs) → place < length states → kept_of states place ≡ Some ps → record_at b words (first + place) ≡ Some ps
+  pub open_there : (place : ℕ) (ps : Pairs) → place < length states → kept_of states place ≡ Some ps → record_at Second b words (first + place) ≡ Some ps
   open_there place ps lt is =
       let o = open_is (stage_of states place) (writes_of_place states place) ps is in
       tells.recorded place lt o.0 ∙ ap Some (sym o.1)
@@ -55,7 +56,7 @@ module _ (b : List ℕ) (words places first : ℕ) (states : List PlaceState) (c
       (below_there s.place r.writes r.addr s.within r.is r.held, r.in_word.from, r.in_word.to)
 
   -- of a word that an open record covers
-  covers_it : (k : ℕ) (s : InHomes states k) → Covers (record_at b words) places s.in_record.addr
+  covers_it : (k : ℕ) (s : InHomes states k) → Covers (record_at Second b words) places s.in_record.addr
   covers_it k s =
       let r = s.in_record in
       record {
@@ -67,22 +68,22 @@ module _ (b : List ℕ) (words places first : ℕ) (states : List PlaceState) (c
       }
 
   -- a home word that was not written
-  missed : (a : ℕ) → is_covered (record_at b words) places a ≡ false → (k : ℕ) → k < WORD_SIZE → InHomes states (home_at a + k) → ⊥
+  missed : (a : ℕ) → is_covered (record_at Second b words) places a ≡ false → (k : ℕ) → k < WORD_SIZE → InHomes states (home_at a + k) → ⊥
   missed a none k lt s =
       let h = home_of (home_at a + k) s in
       let e : s.in_record.addr ≡ a = omega (arith, h.1, h.2, lt) in
-      both_ways (is_covered (record_at b words) places a) none
-      (subst (λ (i : ℕ). is_covered (record_at b words) places i ≡ true) e (covered (record_at b words) places s.in_record.addr (covers_it (home_at a + k) s)))
+      both_ways (is_covered (record_at Second b words) places a) none
+      (subst (λ (i : ℕ). is_covered (record_at Second b words) places i ≡ true) e (covered (record_at Second b words) places s.in_record.addr (covers_it (home_at a + k) s)))
 
   -- Whatever was written to the home words of open records, the words stay.
-  pub homes_torn : (c : List ℕ) → SameBut (InHomes states) b c → HasWords words places contents c
+  pub homes_torn : (c : List ℕ) → SameBut (InHomes states) b c → HasWords Second words places contents c
   homes_torn c same =
       let S : ℕ → Type 0 = InHomes states in
-      words_stay words places contents b c has (still_long words places contents b c S has same)
+      words_stay Second words places contents b c has (still_long words places contents b c S has same)
       (same_bytes S b c HEAD_SIZE 0 same (λ k lt s. (let h = home_of (0 + k) s in omega (arith, h.1, lt))))
-      (λ j lt. inl (record_missed words places contents b c S has same j lt (λ k l s. (let h = home_of (place_at words j + k) s in omega (arith, h.0, h.2)))))
-      (λ a lt. elim (cases_Bool (is_covered (record_at b words) places a)) [
-        | inl is ↦ inr (covers (record_at b words) places a is)
+      (λ j lt. inl (record_missed words places contents b c S has same j lt (λ k l s. (let h = home_of (place_at Second words j + k) s in omega (arith, h.0, h.2)))))
+      (λ a lt. elim (cases_Bool (is_covered (record_at Second b words) places a)) [
+        | inl is ↦ inr (covers (record_at Second b words) places a is)
         | inr none ↦ inl (home_missed words places contents b c S has same a (missed a none))
       ])
 
@@ -106,11 +107,11 @@ module _ (b : List ℕ) (words places first : ℕ) (states : List PlaceState) (c
   tells_still c same = record {
     recorded = λ place lt sealed.
         record_missed words places contents b c (InHomes states) has same (first + place) (omega (arith, within, lt))
-        (λ k l s. (let h = home_of (place_at words (first + place) + k) s in omega (arith, h.0, h.2))) ∙ tells.recorded place lt sealed;
+        (λ k l s. (let h = home_of (place_at Second words (first + place) + k) s in omega (arith, h.0, h.2))) ∙ tells.recorded place lt sealed;
   }
 
   -- a commit byte of another place, or a byte that is no commit byte
-  not_at : (j : ℕ) → (first ≤ j → j < first + length states → stage_of states (j - first) ≡ Sealed → ⊥) → (k : ℕ) → k < PLACE_SIZE → AtCommits words first states (place_at words j + k) → ⊥
+  not_at : (j : ℕ) → (first ≤ j → j < first + length states → stage_of states (j - first) ≡ Sealed → ⊥) → (k : ℕ) → k < place_size Second → AtCommits words first states (place_at Second words j + k) → ⊥
   not_at j none k lt g =
       let e : j ≡ first + g.place = omega (arith, g.at, lt) in
       none (omega (arith, e)) (omega (arith, e, g.within)) (ap (stage_of states) (omega (arith, e)) ∙ g.sealed)
@@ -134,19 +135,19 @@ module _ (b : List ℕ) (words places first : ℕ) (states : List PlaceState) (c
     homes_still : (a : ℕ) → a < words → home c a ≡ home b a
     homes_still a lt = home_missed words places contents b c (AtCommits words first states) has same a (λ k l g. omega (arith, g.at, l, lt))
 
-    torn_commit : (i : ℕ) → i < length states → stage_of states i ≡ Sealed → StaysOrShut (record_at b words (first + i)) (record_at c words (first + i)) (home c)
+    torn_commit : (i : ℕ) → i < length states → stage_of states i ≡ Sealed → StaysOrShut (record_at Second b words (first + i)) (record_at Second c words (first + i)) (home c)
     torn_commit i lt sealed =
         let w : Pairs = writes_of_place states i in
-        let at : ℕ = place_at words (first + i) in
-        let was : record_at b words (first + i) ≡ Some w = tells.recorded i lt sealed in
-        let few : length w ≤ MAX_ENTRIES = few_entries words w (has.stands.formed (first + i) w (omega (arith, within, lt)) was) in
-        let stood = commit_set b words (first + i) w was in
+        let at : ℕ = place_at Second words (first + i) in
+        let was : record_at Second b words (first + i) ≡ Some w = tells.recorded i lt sealed in
+        let few : length w ≤ MAX_ENTRIES = few_entries Second words w (has.stands.formed (first + i) w (omega (arith, within, lt)) was) in
+        let stood = commit_set Second b words (first + i) w was in
         let count : slice_index b (at + 1) ≤ MAX_ENTRIES = omega (arith, few, length_body b at, ap length stood.1) in
-        let behind : body_at c at ≡ w = body_same c b at at count (λ k l. same.outside (at + 1 + k) (λ g. omega (arith, g.at, l))) ∙ stood.1 in
+        let behind : body_at c at ≡ w = body_same MAX_ENTRIES c b at at count (λ k l. same.outside (at + 1 + k) (λ g. omega (arith, g.at, l))) ∙ stood.1 in
         elim (cases_eq (slice_index c at) COMMITTED) [
-          | inl commit ↦ inl (record_open c words (first + i) at refl commit ∙ ap Some behind ∙ sym was)
+          | inl commit ↦ inl (record_open Second c words (first + i) at refl commit ∙ ap Some behind ∙ sym was)
           | inr shut ↦ inr (
-            record_shut c words (first + i) at refl shut,
+            record_shut Second c words (first + i) at refl shut,
             λ ps is a held.
                 let e : ps ≡ w = (let f : Some ps ≡ Some w = sym is ∙ was in cc) in
                 let low : a < words = held_below words ps a (has.stands.formed (first + i) ps (omega (arith, within, lt)) is) held in
@@ -154,13 +155,13 @@ module _ (b : List ℕ) (words places first : ℕ) (states : List PlaceState) (c
           )
         ]
 
-    pub commits_torn : HasWords words places contents c
+    pub commits_torn : HasWords Second words places contents c
     commits_torn =
         let S : ℕ → Type 0 = AtCommits words first states in
-        words_stay words places contents b c has (still_long words places contents b c S has same)
+        words_stay Second words places contents b c has (still_long words places contents b c S has same)
         (same_bytes S b c HEAD_SIZE 0 same (λ k lt g. omega (arith, g.at, lt)))
         (λ j lt. elim (commit_cases j) [
-          | inl g ↦ subst (λ (p : ℕ). StaysOrShut (record_at b words p) (record_at c words p) (home c)) (sym g.2) (torn_commit g.0 g.1 g.3)
+          | inl g ↦ subst (λ (p : ℕ). StaysOrShut (record_at Second b words p) (record_at Second c words p) (home c)) (sym g.2) (torn_commit g.0 g.1 g.3)
           | inr none ↦ inl (record_missed words places contents b c S has same j lt (not_at j none))
         ])
         (λ a lt. inl (homes_still a lt))
@@ -168,16 +169,16 @@ module _ (b : List ℕ) (words places first : ℕ) (states : List PlaceState) (c
   -- After the roll a place whose record was not written has the bytes that it had, and one whose record was written is closed.
   module _ (c : List ℕ) (same : SameBut (λ k. InHomes states k ⊎ AtCommits words first states k) b c) where
     pub rolled_others : (j : ℕ) → (first ≤ j → j < first + length states → stage_of states (j - first) ≡ Sealed → ⊥)
-        → SameBytes PLACE_SIZE (place_at words j) (place_at words j) c b
-    rolled_others j none k lt = same.outside (place_at words j + k) (λ s. elim s [
-      | inl h ↦ (let o = home_of (place_at words j + k) h in omega (arith, o.0, o.2))
+        → SameBytes (place_size Second) (place_at Second words j) (place_at Second words j) c b
+    rolled_others j none k lt = same.outside (place_at Second words j + k) (λ s. elim s [
+      | inl h ↦ (let o = home_of (place_at Second words j + k) h in omega (arith, o.0, o.2))
       | inr g ↦ not_at j none k lt g
     ])
 
     -- where all commit bytes that were written are clear, each place is closed now or had no open record
-    pub rolled_shut : ((place : ℕ) → place < length states → stage_of states place ≡ Sealed → slice_index c (place_at words (first + place)) ≡ 0)
-        → (j : ℕ) → j < places → (first ≤ j → j < first + length states → stage_of states (j - first) ≡ Sealed → ⊥) ⊎ (record_at c words j ≡ None)
+    pub rolled_shut : ((place : ℕ) → place < length states → stage_of states place ≡ Sealed → slice_index c (place_at Second words (first + place)) ≡ 0)
+        → (j : ℕ) → j < places → (first ≤ j → j < first + length states → stage_of states (j - first) ≡ Sealed → ⊥) ⊎ (record_at Second c words j ≡ None)
     rolled_shut shut j lt = elim (commit_cases j) [
-      | inl g ↦ inr (ap (record_at c words) g.2 ∙ record_shut c words (first + g.0) (place_at words (first + g.0)) refl (λ commit. omega (arith, commit, shut g.0 g.1 g.3)))
+      | inl g ↦ inr (ap (record_at Second c words) g.2 ∙ record_shut Second c words (first + g.0) (place_at Second words (first + g.0)) refl (λ commit. omega (arith, commit, shut g.0 g.1 g.3)))
       | inr none ↦ inl none
     ]

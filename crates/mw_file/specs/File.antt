@@ -12,6 +12,10 @@ module _ {D : Type 0} where
   abbrev pub disk_of : TenantFile D → D
   disk_of file = file.disk
 
+  -- where its second layout begins, in bytes
+  abbrev pub at_of : TenantFile D → ℕ
+  at_of file = file.at
+
   -- how many words it has
   abbrev pub words_of : TenantFile D → ℕ
   words_of file = file.words
@@ -27,6 +31,7 @@ module _ {D : Type 0} where
 -- Two files are the same: on equal disks, with equal places, and as far.
 pub record IsCopy {D : Type 0} (old new : TenantFile D) : Type 0 where
   pub disk : disk_of new ≡ disk_of old
+  pub at : at_of new ≡ at_of old
   pub words : words_of new ≡ words_of old
   pub states : states_of new ≡ states_of old
   pub failed : has_failed new ≡ has_failed old
@@ -36,6 +41,7 @@ module _ {D : Type 0} (facts : D → Facts) where
   pub record WentWell (calls : ℕ) (old new : TenantFile D) : Type 0 where
     pub before : has_failed old ≡ false
     pub after : has_failed new ≡ false
+    pub at : at_of new ≡ at_of old
     pub words : words_of new ≡ words_of old
     pub made : Good calls (facts (disk_of old)) (facts (disk_of new))
 
@@ -43,6 +49,7 @@ module _ {D : Type 0} (facts : D → Facts) where
   pub record MetFault (calls : ℕ) (old new : TenantFile D) : Type 0 where
     pub before : has_failed old ≡ false
     pub after : has_failed new ≡ true
+    pub at : at_of new ≡ at_of old
     pub words : words_of new ≡ words_of old
     pub states : states_of new ≡ states_of old
     pub made : Bad calls (facts (disk_of old)) (facts (disk_of new))

@@ -1,13 +1,13 @@
 -- What a file stands for, whatever a crash leaves: its contents, and after a seal that failed perhaps one change more.
-use Rattle.std.specs.Prelude.{◌≡◌, ◌⊎◌, ℕ, false, Some, List, [], length, Result, Ok, Err, IsTrue}
+use Rattle.std.specs.Prelude.{◌≡◌, ◌⊎◌, ◌≤◌, ℕ, false, Some, List, [], length, Result, Ok, Err, IsTrue}
 use Rattle.mw_disk.specs.Facts.{Facts, MayLeave}
-use Rattle.mw_disk.specs.Runs.{LeavesOnly}
+use Rattle.mw_disk.specs.Runs.{LeavesOnly, Touched}
 use Rattle.mw_record.specs.Records.{Pairs, put_pairs}
 use Rattle.mw_record.specs.Damages.{file_words, places_of}
 use Rattle.mw_file.specs.declared.tenant_file.TenantFile.{TenantFile}
 use Rattle.mw_file.specs.declared.tenant_file.FileFault.{FileFault}
 use Rattle.mw_file.specs.declared.tenant_file.FileFault.TheVariants.{Disk, Failed}
-use Rattle.mw_file.specs.File.{disk_of, words_of, states_of, has_failed}
+use Rattle.mw_file.specs.File.{disk_of, at_of, words_of, states_of, has_failed}
 use Rattle.mw_file.specs.Stores.{IsDurable}
 
 -- these bytes are a file with so many places, whose words are these
@@ -32,7 +32,7 @@ module _ {D : Type 0} (facts : D → Facts) where
     -- a crash leaves a file of these words, or of these with the change in doubt put over them
     pub left : (image : List ℕ) → MayLeave (facts (disk_of file)) image → IsEither (length (states_of file)) contents doubt image
     -- for the calls of this crate alone; whoever calls them passes it on
-    pub inside : has_failed file ≡ false → IsDurable (facts (disk_of file)) (words_of file) contents (states_of file)
+    pub inside : has_failed file ≡ false → IsDurable (facts (disk_of file)) (at_of file) (words_of file) contents (states_of file)
 
   -- A call through which a crash does no harm: whenever one comes since the call began, it leaves a file of the words before, or of
   -- these with this change put over them. After the call the file stands for these words, with that change in doubt.
@@ -55,3 +55,9 @@ module _ {D : Type 0} (facts : D → Facts) where
   abbrev pub ChangeIsSealed : TenantFile D → TenantFile D → Pairs → Result (Unit {0}) FileFault → Type 0
   ChangeIsSealed old new change result = IsTrue (facts (disk_of old)).honest → (contents : List ℕ) (doubt : Pairs) → Keeps old contents doubt
       → SealEnds result old new change contents doubt
+
+  -- A call on an honest disk that writes no byte of the first layout: in what a read gives, and in what a crash at any moment leaves,
+  -- only bytes from where the second layout begins may have changed.
+  abbrev pub FirstStays : TenantFile D → TenantFile D → Type 0
+  FirstStays old new = IsTrue (facts (disk_of old)).honest → (contents : List ℕ) (doubt : Pairs) → Keeps old contents doubt
+      → Touched (λ k. at_of old ≤ k) (facts (disk_of old)) (facts (disk_of new))

@@ -1,6 +1,7 @@
 pub mod Again
 pub mod File
 pub mod Keeps
+pub mod Migrating
 pub mod Opening
 pub mod Rolls
 pub mod Run

@@ -1,11 +1,13 @@
 -- How the opening of a file ends.
-use Rattle.std.specs.Prelude.{◌≡◌, ◌≤◌, ◌<◌, ◌==◌, ℕ, zero, suc, ◌+◌, false, Some, None, is_none, List, [], length, take, min, if◌then◌else◌, Vec, Result, Ok, Err, IsTrue}
+use Rattle.std.specs.Prelude.{◌≡◌, ◌≤◌, ◌<◌, ◌==◌, ℕ, zero, suc, ◌+◌, Bool, true, false, Some, None, is_none, List, [], length, take, min, if◌then◌else◌, Vec, Result, Ok, Err, IsTrue}
 use Rattle.std.specs.declared.alloc.Global.{Global}
 use Rattle.mw_disk.specs.Facts.{Facts, IsAtRest}
-use Rattle.mw_disk.specs.Runs.{Good, Bad, Later, LeavesOnly}
+use Rattle.mw_disk.specs.Runs.{Good, Bad, Later, Touched, LeavesOnly}
 use Rattle.mw_record.specs.declared.damages.Damage.{Damage as DamageKind}
+use Rattle.mw_record.specs.declared.layout.Layout.TheVariants.{First}
 use Rattle.mw_record.specs.declared.layout.TheConstants.{MAX_FILE}
-use Rattle.mw_record.specs.Damages.{damage_of, file_words, words_in, places_of, pairs_in}
+use Rattle.mw_record.specs.Layout.{size}
+use Rattle.mw_record.specs.Damages.{damage_of, file_words, is_switched, second_at, at_of, words_of as told_words, found_places, words_in, places_of, pairs_in}
 use Rattle.mw_file.specs.declared.tenant_file.TenantFile.{TenantFile}
 use Rattle.mw_file.specs.declared.opening.OpenFault.{OpenFault}
 use Rattle.mw_file.specs.declared.opening.OpenFault.TheVariants.{Damage, Disk, Memory}
@@ -13,6 +15,8 @@ use Rattle.mw_file.specs.Run.{IsUntouched}
 use Rattle.mw_file.specs.PlaceStates.{all_free}
 use Rattle.mw_file.specs.File.{disk_of, words_of, states_of, has_failed}
 use Rattle.mw_file.specs.Keeps.{Keeps}
+use Rattle.mw_file.specs.Migrating.{migration_calls, CanGrow}
+use Rattle.mw_file.specs.Rolls.{CanFinish}
 
 -- what of a disk's bytes can belong to a file
 abbrev pub front : Facts → List ℕ
@@ -41,21 +45,39 @@ records_below image zero = 0
 records_below image (suc place) = records_below image place + min 1 (entries_in image place)
 
 abbrev pub open_entries : List ℕ → ℕ
-open_entries image = entries_below image (places_of image)
+open_entries image = entries_below image (found_places image)
 
 abbrev pub open_records : List ℕ → ℕ
-open_records image = records_below image (places_of image)
+open_records image = records_below image (found_places image)
 
 -- The device calls that finish the changes whose records are open: their home words, a sync, their commit bytes, a sync; none where
 -- no record is open.
 abbrev pub repair_calls : List ℕ → ℕ
 repair_calls image = if open_records image == 0 then 0 else (open_entries image + 1) + (open_records image + 1)
 
+-- The device calls that bring a file without damage to where calls on it go on: those that finish its changes where it has its
+-- second layout, and otherwise those that give it one.
+abbrev pub ready_calls : List ℕ → ℕ
+ready_calls image = if is_switched image then repair_calls image else migration_calls
+
 -- all device calls of an opening of these bytes
 abbrev pub open_calls : List ℕ → ℕ
-open_calls image = read_calls image + (if is_none (damage_of image) then repair_calls image else 0)
+open_calls image = read_calls image + (if is_none (damage_of image) then ready_calls image else 0)
 
--- These bytes have the same words as those, or none as those, and as many places in their head.
+-- where the second layout of a file without damage begins once it is open: where it began, or behind the first
+abbrev pub begins_at : List ℕ → ℕ
+begins_at image = if is_switched image then at_of image else size First (told_words image) (found_places image)
+
+-- The disk keeps the model and is at rest, and what a read gives is a file of these words that has what the bytes tell that were read:
+-- with a second layout, or in its first one, by whether the switch byte is set in them.
+abbrev pub OpensAs : Bool → Facts → List ℕ → List ℕ → Type 0
+OpensAs true f image contents = CanFinish f image contents
+OpensAs false f image contents = CanGrow f image contents
+
+abbrev pub CanOpen : Facts → List ℕ → List ℕ → Type 0
+CanOpen f image contents = OpensAs (is_switched image) f image contents
+
+-- These bytes have the same words as those, or none as those, and as many places once they are opened.
 pub record SameFile (before image : List ℕ) : Type 0 where
   pub words : file_words image ≡ file_words before
   pub places : places_of image ≡ places_of before
@@ -69,6 +91,11 @@ pub record Unchanged (old new : Facts) : Type 0 where
 abbrev pub OpensSafely : Facts → Facts → Type 0
 OpensSafely old new = IsTrue old.honest → IsAtRest old → Unchanged old new
 
+-- An opening on an honest disk that was at rest does not write to the first layout of a file that has its second one: in what a read
+-- gives, and in what a crash at any moment leaves, only bytes from where the second layout begins may have changed.
+abbrev pub SparesFirst : Facts → Facts → Type 0
+SparesFirst old new = IsTrue old.honest → IsAtRest old → is_switched old.reads ≡ true → Touched (λ k. second_at old.reads ≤ k) old new
+
 -- the disk after an opening
 abbrev pub disk_after : {D : Type 0} → Result (TenantFile D × Vec ℕ Global) (OpenFault × D) → D
 disk_after (Ok opened) = disk_of opened.0
@@ -79,6 +106,7 @@ module _ {D : Type 0} (facts : D → Facts) where
   pub record IsOpened (disk : D) (file : TenantFile D) (words : List ℕ) : Type 0 where
     pub later : Later (facts disk) (facts (disk_of file))
     pub unchanged : OpensSafely (facts disk) (facts (disk_of file))
+    pub first_stays : SparesFirst (facts disk) (facts (disk_of file))
     pub image : List ℕ
     pub seen : WasRead (facts disk) image
     pub undamaged : damage_of image ≡ None
@@ -108,6 +136,7 @@ module _ {D : Type 0} (facts : D → Facts) where
   pub record DiskFailed (disk after : D) : Type 0 where
     pub later : Later (facts disk) (facts after)
     pub unchanged : OpensSafely (facts disk) (facts after)
+    pub first_stays : SparesFirst (facts disk) (facts after)
     pub calls : ℕ
     pub made : Bad calls (facts disk) (facts after)
     pub within : IsTrue (facts disk).honest → calls ≤ open_calls (front (facts disk))

@@ -1,12 +1,13 @@
 -- Which bytes are written where sealed changes are put into the home words, and what then stands there.
-use Rattle.std.specs.Prelude.{◌≡◌, ◌⊎◌, ◌<◌, ◌≤◌, ℕ, ◌+◌, true, Option, Some, None, List, length, slice_index, IsTrue}
+use Rattle.std.specs.Prelude.{◌≡◌, ◌⊎◌, ◌<◌, ◌≤◌, ℕ, ◌+◌, ◌-◌, true, Option, Some, None, List, length, drop, slice_index, IsTrue}
 use Rattle.mw_disk.specs.Facts.{Facts, IsAtRest}
 use Rattle.mw_disk.specs.Runs.{Fits, SameBut}
 use Rattle.mw_record.specs.declared.layout.TheConstants.{WORD_SIZE}
+use Rattle.mw_record.specs.declared.layout.Layout.TheVariants.{Second}
 use Rattle.mw_record.specs.Layout.{home_at, place_at}
 use Rattle.mw_record.specs.Records.{Pairs, Kept, holds, record_at}
-use Rattle.mw_record.specs.Damages.{words_of, places_of}
-use Rattle.mw_record.specs.Stands.{HasWords}
+use Rattle.mw_record.specs.Damages.{at_of, words_of, found_places, records_of}
+use Rattle.mw_record.specs.Stands.{HasSecond}
 use Rattle.mw_file.specs.declared.place_states.PlaceState.{PlaceState}
 use Rattle.mw_file.specs.declared.place_states.Stage.{Stage}
 use Rattle.mw_file.specs.declared.place_states.Stage.TheVariants.{Free, Prepared, Sealed}
@@ -21,6 +22,11 @@ pub record InRange (at n k : ℕ) : Type 0 where
   pub from : at ≤ k
   pub to : k < at + n
 
+-- A byte of a second layout that begins at this offset, where S tells of its bytes, by their offsets from where it begins.
+pub record Behind (at : ℕ) (S : ℕ → Type 0) (k : ℕ) : Type 0 where
+  pub from : at ≤ k
+  pub inside : S (k - at)
+
 -- what a place writes, if its change is sealed
 abbrev pub if_open : Stage → Pairs → Option Pairs
 if_open Free writes = None
@@ -33,7 +39,7 @@ record_of s = if_open s.stage s.writes.items
 abbrev pub kept_of : List PlaceState → Kept
 kept_of states place = if_open (stage_of states place) (writes_of_place states place)
 
--- a byte of a home word that a record has a value for
+-- In a second layout: a byte of a home word that a record has a value for.
 pub record InRecord (r : Option Pairs) (k : ℕ) : Type 0 where
   pub writes : Pairs
   pub is : r ≡ Some writes
@@ -47,12 +53,12 @@ pub record InHomes (states : List PlaceState) (k : ℕ) : Type 0 where
   pub within : place < length states
   pub in_record : InRecord (kept_of states place) k
 
--- the commit byte of a sealed place; state i is that of place first + i
+-- in a second layout the commit byte of a sealed place; state i is that of place first + i
 pub record AtCommits (words first : ℕ) (states : List PlaceState) (k : ℕ) : Type 0 where
   pub place : ℕ
   pub within : place < length states
   pub sealed : stage_of states place ≡ Sealed
-  pub at : k ≡ place_at words (first + place)
+  pub at : k ≡ place_at Second words (first + place)
 
 -- a commit byte that is written, if the place is sealed
 pub record AtCommit (commit : ℕ) (s : PlaceState) (k : ℕ) : Type 0 where
@@ -63,41 +69,42 @@ pub record AtCommit (commit : ℕ) (s : PlaceState) (k : ℕ) : Type 0 where
 abbrev pub IsBelow : ℕ → Option Pairs → Type 0
 IsBelow words r = (writes : Pairs) (addr : ℕ) → r ≡ Some writes → holds writes addr ≡ true → addr < words
 
--- the disk keeps the model, and has all home words of so many words, whatever a crash leaves
-pub record HasHomes (f : Facts) (words : ℕ) : Type 0 where
+-- The disk keeps the model, and has all home words of a second layout with so many words at this offset, whatever a crash leaves.
+pub record HasHomes (f : Facts) (at words : ℕ) : Type 0 where
   pub honest : IsTrue f.honest
-  pub fits : Fits f (home_at words)
+  pub fits : Fits f (at + home_at words)
 
 -- each of these places has values for words below this number alone
 abbrev pub AreBelow : ℕ → List PlaceState → Type 0
 AreBelow words states = (place : ℕ) → place < length states → IsBelow words (kept_of states place)
 
--- The disk keeps the model and is at rest, what a read gives is a file with these words, and each of these places that is sealed has
--- its record open there; state i is that of place first + i.
-pub record CanRoll (f : Facts) (words places first : ℕ) (states : List PlaceState) (contents : List ℕ) : Type 0 where
+-- The disk keeps the model and is at rest, what a read gives is a file with a second layout at this offset and these words, and each
+-- of these places that is sealed has its record open there; state i is that of place first + i.
+pub record CanRoll (f : Facts) (at words places first : ℕ) (states : List PlaceState) (contents : List ℕ) : Type 0 where
   pub honest : IsTrue f.honest
   pub rest : IsAtRest f
-  pub has : HasWords words places contents f.reads
+  pub has : HasSecond at words places contents f.reads
   pub within : first + length states ≤ places
-  pub recorded : (place : ℕ) → place < length states → stage_of states place ≡ Sealed → record_at f.reads words (first + place) ≡ Some (writes_of_place states place)
+  pub recorded : (place : ℕ) → place < length states → stage_of states place ≡ Sealed → record_at Second (drop at f.reads) words (first + place) ≡ Some (writes_of_place states place)
 
--- At rest. Only bytes of the sealed places' home words and commit bytes may have changed, and those commit bytes are 0.
-pub record IsRolled (words first : ℕ) (states : List PlaceState) (old new : Facts) : Type 0 where
+-- At rest. Only bytes of the sealed places' home words and commit bytes may have changed, in the second layout at this offset, and
+-- those commit bytes are 0.
+pub record IsRolled (at words first : ℕ) (states : List PlaceState) (old new : Facts) : Type 0 where
   pub rest : IsAtRest new
-  pub same : SameBut (λ k. InHomes states k ⊎ AtCommits words first states k) old.reads new.reads
-  pub shut : (place : ℕ) → place < length states → stage_of states place ≡ Sealed → slice_index new.reads (place_at words (first + place)) ≡ 0
+  pub same : SameBut (Behind at (λ k. InHomes states k ⊎ AtCommits words first states k)) old.reads new.reads
+  pub shut : (place : ℕ) → place < length states → stage_of states place ≡ Sealed → slice_index (drop at new.reads) (place_at Second words (first + place)) ≡ 0
 
 -- These are the states of the places of a file that was read: sealed where its record is open, with that record, else free.
 pub record IsRecalled (image : List ℕ) (states : List PlaceState) : Type 0 where
-  pub count : length states ≡ places_of image
-  pub each : (place : ℕ) → place < places_of image → kept_of states place ≡ record_at image (words_of image) place
-  pub none_prepared : (place : ℕ) → place < places_of image → stage_of states place ≡ Prepared → ⊥
-  pub some_entries : (place : ℕ) → place < places_of image → stage_of states place ≡ Sealed → 1 ≤ length (writes_of_place states place)
+  pub count : length states ≡ found_places image
+  pub each : (place : ℕ) → place < found_places image → kept_of states place ≡ records_of image place
+  pub none_prepared : (place : ℕ) → place < found_places image → stage_of states place ≡ Prepared → ⊥
+  pub some_entries : (place : ℕ) → place < found_places image → stage_of states place ≡ Sealed → 1 ≤ length (writes_of_place states place)
 
--- The disk keeps the model and is at rest, what a read gives is a file with these words, and it has the sizes and the records of
--- the bytes that were read.
+-- The disk keeps the model and is at rest, what a read gives is a file with a second layout and these words, and the layout has the
+-- offset, the sizes and the records of the bytes that were read.
 pub record CanFinish (f : Facts) (image contents : List ℕ) : Type 0 where
   pub honest : IsTrue f.honest
   pub rest : IsAtRest f
-  pub has : HasWords (words_of image) (places_of image) contents f.reads
-  pub same : (place : ℕ) → place < places_of image → record_at f.reads (words_of image) place ≡ record_at image (words_of image) place
+  pub has : HasSecond (at_of image) (words_of image) (found_places image) contents f.reads
+  pub same : (place : ℕ) → place < found_places image → record_at Second (drop (at_of image) f.reads) (words_of image) place ≡ records_of image place

@@ -19,7 +19,7 @@ use std::slice;
 
 impl<D: Disk> TenantFile<D> {
     ghost use Rattle.mw_file.specs.File.{states_of, words_of, disk_of, Ends};
-    ghost use Rattle.mw_file.specs.Keeps.{ContentsStay, ChangeIsSealed};
+    ghost use Rattle.mw_file.specs.Keeps.{ContentsStay, ChangeIsSealed, FirstStays};
 
     /// How many words the file has.
     pub fn words(&self) -> u16
@@ -66,6 +66,7 @@ impl<D: Disk> TenantFile<D> {
             Stage.Prepared (pairs_of entries.now.items)) }
         ensures later { Later (D.facts (disk_of self.old)) (D.facts (disk_of self.new)) }
         ensures safe { ContentsStay D.facts self.old self.new }
+        ensures first { FirstStays D.facts self.old self.new }
     {
         if self.failed {
             return Err(FileFault::Failed);
@@ -73,7 +74,7 @@ impl<D: Disk> TenantFile<D> {
         let Some(place) = free_place(&self.states) else {
             unreachable!()
         };
-        let at = place_at(self.words, place) + 1;
+        let at = place_at(self.at, self.words, place) + 1;
         if write_and_sync(&mut self.disk, at, &body(entries)).is_err() {
             self.failed = true;
             return Err(FileFault::Disk);
@@ -101,11 +102,12 @@ impl<D: Disk> TenantFile<D> {
             Stage.Sealed (writes_of_place (states_of self.old) place.0)) }
         ensures later { Later (D.facts (disk_of self.old)) (D.facts (disk_of self.new)) }
         ensures safe { ChangeIsSealed D.facts self.old self.new (writes_of_place (states_of self.old) place.0) result }
+        ensures first { FirstStays D.facts self.old self.new }
     {
         if self.failed {
             return Err(FileFault::Failed);
         }
-        let at = place_at(self.words, place.0);
+        let at = place_at(self.at, self.words, place.0);
         if write_and_sync(&mut self.disk, at, &[COMMITTED]).is_err() {
             self.failed = true;
             return Err(FileFault::Disk);
@@ -129,12 +131,13 @@ impl<D: Disk> TenantFile<D> {
             Stage.Free (writes_of_place (states_of self.old) place.0)) }
         ensures later { Later (D.facts (disk_of self.old)) (D.facts (disk_of self.new)) }
         ensures safe { ContentsStay D.facts self.old self.new }
+        ensures first { FirstStays D.facts self.old self.new }
     {
         if self.failed {
             return Err(FileFault::Failed);
         }
         let alone = slice::from_ref(&self.states[place.0 as usize]);
-        if roll_forward(&mut self.disk, self.words, alone, place.0).is_err() {
+        if roll_forward(&mut self.disk, self.at, self.words, alone, place.0).is_err() {
             self.failed = true;
             return Err(FileFault::Disk);
         }
@@ -160,6 +163,7 @@ impl<D: Disk> TenantFile<D> {
     {
         let TenantFile {
             disk,
+            at: _,
             words: _,
             states: _,
             failed: _,
@@ -181,7 +185,7 @@ fn free_place(states: &[PlaceState]) -> Option<u16>
     None
 }
 
-fn write_and_sync<D: Disk>(disk: &mut D, at: u64, bytes: &[u8]) -> Result<(), DiskFault>
+pub(crate) fn write_and_sync<D: Disk>(disk: &mut D, at: u64, bytes: &[u8]) -> Result<(), DiskFault>
     ensures calls { Ran 2 (D.facts disk.old) (D.facts disk.new) result }
     ensures later { Later (D.facts disk.old) (D.facts disk.new) }
     ensures touched { IsTrue (D.facts disk.old).honest → Fits (D.facts disk.old) (at + length bytes.now)

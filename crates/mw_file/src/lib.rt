@@ -5,6 +5,10 @@
 //! and clears the commit byte again. `cancel` gives up a change that was prepared. `open` reads a file
 //! and finishes the changes that were sealed and not settled.
 //!
+//! A file is made in its first layout. Its first opening gives it a second one, behind the first, with
+//! the file's words and twice as many places, and sets the switch byte; from then on all changes go
+//! into the second layout, and the first is never written to again.
+//!
 //! On a device that keeps the model of [`mw_disk::Disk`] a crash at any moment of any of these calls,
 //! of an opening and of the next one too, leaves the words with every sealed change, and with the one
 //! that was being sealed wholly or not at all.
@@ -16,6 +20,7 @@
 mod calls;
 mod laws;
 mod memory;
+mod migrating;
 mod opening;
 mod place_states;
 mod roll;

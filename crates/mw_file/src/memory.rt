@@ -25,6 +25,7 @@ impl TenantFile<MemDisk> {
         let states = copies(alloc, &self.states)?;
         Ok(TenantFile {
             disk,
+            at: self.at,
             words: self.words,
             states,
             failed: self.failed,

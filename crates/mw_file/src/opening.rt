@@ -1,23 +1,30 @@
 //! Opening a file.
-ghost use Rattle.std.specs.Prelude.{◌≡◌, ◌≤◌, ◌<◌, ◌^◌, ◌==◌, ℕ, not, if◌then◌else◌, List, length, None, vec_len, min, take, IsTrue, IfOk, OnOk};
+ghost use Rattle.std.specs.Prelude.{◌≡◌, true, ◌*◌, ◌≤◌, ◌<◌, ◌^◌, ◌==◌, ℕ, not, if◌then◌else◌, List, length, None, vec_len, min, take, IsTrue, IfOk, OnOk};
 ghost use Rattle.mw_words.specs.declared.limits.TheConstants.{MAX_PLACES, MAX_WORDS};
-ghost use Rattle.mw_record.specs.declared.layout.TheConstants.{MAX_FILE};
+ghost use Rattle.mw_record.specs.declared.layout.Layout.TheVariants.{First};
+ghost use Rattle.mw_record.specs.declared.layout.TheConstants.{MAX_FILE, MAX_FIRST, MAX_SECOND, PLACES_GROW};
 ghost use Rattle.mw_disk.specs.Runs.{Later, Touched, LeavesOnly};
-ghost use Rattle.mw_record.specs.Damages.{words_of, places_of, words_in, pairs_in};
-ghost use Rattle.mw_record.specs.Records.{record_at};
-ghost use Rattle.mw_record.specs.Stands.{HasWords};
-ghost use Rattle.mw_file.specs.Opening.{repair_calls};
+ghost use Rattle.mw_record.specs.Layout as layout;
+ghost use Rattle.mw_record.specs.Damages.{is_switched, layout_of, at_of, words_of, found_places, places_of, words_in, pairs_in, records_of};
+ghost use Rattle.mw_record.specs.Stands.{HasSecond};
+ghost use Rattle.mw_file.specs.Keeps.{IsFile};
+ghost use Rattle.mw_file.specs.Migrating.{migration_calls, CanGrow, IsMigrated};
+ghost use Rattle.mw_file.specs.Opening as spec;
+ghost use Rattle.mw_file.specs.Opening.{repair_calls, ready_calls, CanOpen};
 ghost use Rattle.mw_file.specs.Rolls.{CanRoll, CanFinish, IsRolled, IsRecalled, Nowhere, record_of};
 ghost use Rattle.mw_file.specs.Run.{Ran, IsUntouched};
 ghost use Rattle.mw_file.specs.PlaceStates.{all_free, commit_writes, roll_calls};
 ghost use Rattle.mw_file.specs.Stores.{IsDurable};
 ghost use Rattle.mw_file.specs.declared.place_states.Stage.TheVariants.{Prepared, Sealed};
 
+use crate::migrating::migrate;
 use crate::place_states::{PlaceState, Stage, Writes};
 use crate::roll::roll_forward;
 use crate::tenant_file::TenantFile;
 use mw_disk::{Disk, DiskFault};
-use mw_record::{Damage, Image, MAX_FILE, decode};
+use mw_record::{
+    Damage, Image, Layout, MAX_FILE, MAX_SECOND, PLACES_GROW, decode, size, size2, write_second,
+};
 use mw_words::{MAX_PLACES, MAX_WORDS};
 use std::alloc::{AllocError, Global};
 
@@ -38,9 +45,12 @@ impl<D: Disk> TenantFile<D> {
     /// Opens the file on a disk: reads it, and finishes the changes that were sealed and not settled,
     /// so that every place is free then. Gives its words too, in order of address.
     ///
-    /// It asks for the length and reads; if any record is open, it writes the home words of all open
-    /// records, syncs, clears their commit bytes and syncs. On a file it takes memory once, before it reads:
-    /// no other call on the file takes any.
+    /// It asks for the length and reads. A file in its first layout is given its second one: that is
+    /// written behind the first, with the file's words as home words and twice as many places, its offset
+    /// goes into the head, it syncs, sets the switch byte and syncs. Of a file that has its second layout,
+    /// if any record is open, it writes the home words of all open records, syncs, clears their commit
+    /// bytes and syncs. On a file it takes memory once, before it reads: no other call on the file takes
+    /// any.
     ///
     /// # Errors
     ///
@@ -60,6 +70,7 @@ impl<D: Disk> TenantFile<D> {
             mut bytes,
             mut words,
             mut states,
+            mut second,
         } = room;
         if read_front(&mut disk, &mut bytes).is_err() {
             return Err((OpenFault::Disk, disk));
@@ -69,12 +80,13 @@ impl<D: Disk> TenantFile<D> {
             Err(damage) => return Err((OpenFault::Damage(damage), disk)),
         };
         fill_words(&image, &mut words);
-        states.truncate(image.places() as usize);
-        if finish(&mut disk, &image, &mut states).is_err() {
+        states.truncate(places_once_open(&image) as usize);
+        if make_ready(&mut disk, &image, &words, &mut states, &mut second).is_err() {
             return Err((OpenFault::Disk, disk));
         }
         let file = TenantFile {
             disk,
+            at: begins_at(&image),
             words: image.words(),
             states,
             failed: false,
@@ -92,18 +104,22 @@ struct Room {
     words: Vec<u64>,
     /// As many free states as a file may have places.
     states: Vec<PlaceState>,
+    /// As many bytes as a second layout may have.
+    second: Vec<u8>,
 }
 
 impl Room {
     fn new(alloc: Global, len: u64) -> Result<Room, AllocError>
         ensures { IfOk result (λ room. (vec_len room.bytes ≡ min len MAX_FILE)
-            × (vec_len room.words ≡ MAX_WORDS) × (vec_len room.states ≡ MAX_PLACES) × IsTrue (all_free room.states.items)) }
+            × (vec_len room.words ≡ MAX_WORDS) × (vec_len room.states ≡ MAX_PLACES) × IsTrue (all_free room.states.items)
+            × (vec_len room.second ≡ MAX_SECOND)) }
     {
         let size = len.min(MAX_FILE as u64) as usize;
         Ok(Room {
             bytes: vec![in alloc; 0; size]?,
             words: vec![in alloc; 0; MAX_WORDS as usize]?,
             states: free_states(alloc)?,
+            second: vec![in alloc; 0; MAX_SECOND]?,
         })
     }
 }
@@ -148,33 +164,116 @@ fn fill_words(image: &Image<'_>, words: &mut Vec<u64>)
     }
 }
 
-/// Finishes the changes whose records are open. Every place is free then.
+/// How many places the file has once it is open.
+fn places_once_open(image: &Image<'_>) -> u16
+    ensures value { result ≡ places_of image.now }
+    ensures some { 1 ≤ result }
+    ensures fits { result ≤ MAX_PLACES }
+{
+    match image.layout() {
+        Layout::First => PLACES_GROW * image.places(),
+        Layout::Second => image.places(),
+    }
+}
+
+/// Where the file's second layout begins once it is open.
+fn begins_at(image: &Image<'_>) -> u64
+    ensures value { result ≡ spec.begins_at image.now }
+    ensures fits { result ≤ MAX_FIRST }
+{
+    match image.layout() {
+        Layout::First => size(image.words(), image.places()),
+        Layout::Second => image.at(),
+    }
+}
+
+/// Brings a file that was read, and has these words, to where calls on it go on: it has its second layout
+/// and every place is free.
+fn make_ready<D: Disk>(
+    disk: &mut D,
+    image: &Image<'_>,
+    words: &[u64],
+    states: &mut [PlaceState],
+    second: &mut [u8],
+) -> Result<(), DiskFault>
+    requires count { length words.now ≡ words_of image.now }
+    requires each { length states.old ≡ places_of image.now }
+    requires few { length states.old ≤ MAX_PLACES }
+    requires free { IsTrue (all_free states.old) }
+    requires room { length second.old ≡ MAX_SECOND }
+    ensures calls { Ran (ready_calls image.now) (D.facts disk.old) (D.facts disk.new) result }
+    ensures later { Later (D.facts disk.old) (D.facts disk.new) }
+    ensures free { IsTrue (all_free states.new) }
+    ensures moments { CanOpen (D.facts disk.old) image.now words.now
+        → LeavesOnly (D.facts disk.old) (D.facts disk.new) (IsFile (places_of image.now) words.now) }
+    ensures read { CanOpen (D.facts disk.old) image.now words.now → IsFile (places_of image.now) words.now (D.facts disk.new).reads }
+    ensures done { OnOk result (CanOpen (D.facts disk.old) image.now words.now
+        → IsDurable (D.facts disk.new) (spec.begins_at image.now) (words_of image.now) words.now states.new) }
+    ensures touched { CanOpen (D.facts disk.old) image.now words.now → is_switched image.now ≡ true
+        → Touched (λ k. at_of image.now ≤ k) (D.facts disk.old) (D.facts disk.new) }
+{
+    match image.layout() {
+        Layout::First => give_second(disk, image, words, second),
+        Layout::Second => finish(disk, image, states),
+    }
+}
+
+/// Gives a file that was read in its first layout, and has these words, its second one.
+fn give_second<D: Disk>(
+    disk: &mut D,
+    image: &Image<'_>,
+    words: &[u64],
+    second: &mut [u8],
+) -> Result<(), DiskFault>
+    requires first { layout_of image.now ≡ First }
+    requires count { length words.now ≡ words_of image.now }
+    requires room { length second.old ≡ MAX_SECOND }
+    ensures calls { Ran migration_calls (D.facts disk.old) (D.facts disk.new) result }
+    ensures later { Later (D.facts disk.old) (D.facts disk.new) }
+    ensures moments { CanGrow (D.facts disk.old) image.now words.now
+        → LeavesOnly (D.facts disk.old) (D.facts disk.new) (IsFile (PLACES_GROW * found_places image.now) words.now) }
+    ensures read { CanGrow (D.facts disk.old) image.now words.now
+        → IsFile (PLACES_GROW * found_places image.now) words.now (D.facts disk.new).reads }
+    ensures done { OnOk result (CanGrow (D.facts disk.old) image.now words.now
+        → IsMigrated (D.facts disk.new) (layout.size First (words_of image.now) (found_places image.now)) (words_of image.now)
+        (PLACES_GROW * found_places image.now) words.now) }
+{
+    let places = PLACES_GROW * image.places();
+    let out = &mut second[..size2(image.words(), places) as usize];
+    write_second(out, words, places);
+    migrate(disk, out, size(image.words(), image.places()))
+}
+
+/// Finishes the changes whose records are open in a file that has its second layout. Every place is free
+/// then.
 fn finish<D: Disk>(
     disk: &mut D,
     image: &Image<'_>,
     states: &mut [PlaceState],
 ) -> Result<(), DiskFault>
-    requires each { length states.old ≡ places_of image.now }
+    requires each { length states.old ≡ found_places image.now }
     requires few { length states.old ≤ MAX_PLACES }
     ensures calls { Ran (repair_calls image.now) (D.facts disk.old) (D.facts disk.new) result }
     ensures later { Later (D.facts disk.old) (D.facts disk.new) }
     ensures free { IsTrue (all_free states.new) }
     ensures moments { (contents : List ℕ) → CanFinish (D.facts disk.old) image.now contents
-        → LeavesOnly (D.facts disk.old) (D.facts disk.new) (HasWords (words_of image.now) (places_of image.now) contents) }
+        → LeavesOnly (D.facts disk.old) (D.facts disk.new) (HasSecond (at_of image.now) (words_of image.now) (found_places image.now) contents) }
     ensures read { (contents : List ℕ) → CanFinish (D.facts disk.old) image.now contents
-        → HasWords (words_of image.now) (places_of image.now) contents (D.facts disk.new).reads }
+        → HasSecond (at_of image.now) (words_of image.now) (found_places image.now) contents (D.facts disk.new).reads }
     ensures done { OnOk result ((contents : List ℕ) → CanFinish (D.facts disk.old) image.now contents
-        → IsDurable (D.facts disk.new) (words_of image.now) contents states.new) }
+        → IsDurable (D.facts disk.new) (at_of image.now) (words_of image.now) contents states.new) }
+    ensures touched { (contents : List ℕ) → CanFinish (D.facts disk.old) image.now contents
+        → Touched (λ k. at_of image.now ≤ k) (D.facts disk.old) (D.facts disk.new) }
 {
     recall(image, states);
-    let ran = repair(disk, image.words(), states);
+    let ran = repair(disk, image.at(), image.words(), states);
     set_free(states);
     ran
 }
 
 /// Tells each place whose record is open as a sealed one, and the others as free.
 fn recall(image: &Image<'_>, states: &mut [PlaceState])
-    requires { length states.old ≡ places_of image.now }
+    requires { length states.old ≡ found_places image.now }
     ensures { IsRecalled image.now states.new }
 {
     for place in 0..image.places() {
@@ -184,8 +283,8 @@ fn recall(image: &Image<'_>, states: &mut [PlaceState])
 
 /// A place as a file that was read tells it.
 fn state_of(image: &Image<'_>, place: u16) -> PlaceState
-    requires { place < places_of image.now }
-    ensures record { record_of result ≡ record_at image.now (words_of image.now) place }
+    requires { place < found_places image.now }
+    ensures record { record_of result ≡ records_of image.now place }
     ensures stage { result.stage ≡ Prepared → ⊥ }
     ensures some { result.stage ≡ Sealed → 1 ≤ length result.writes.items }
 {
@@ -204,9 +303,9 @@ fn state_of(image: &Image<'_>, place: u16) -> PlaceState
 
 /// What the record of a place writes.
 fn writes_of(image: &Image<'_>, place: u16) -> Writes
-    requires { place < places_of image.now }
+    requires { place < found_places image.now }
     ensures pairs { result.items ≡ pairs_in image.now place }
-    ensures closed { length result.items ≡ 0 → record_at image.now (words_of image.now) place ≡ None }
+    ensures closed { length result.items ≡ 0 → records_of image.now place ≡ None }
 {
     let mut writes = Writes::new();
     for i in 0..image.count(place) {
@@ -216,21 +315,29 @@ fn writes_of(image: &Image<'_>, place: u16) -> Writes
 }
 
 /// Puts the sealed places into their home words, if there are any.
-fn repair<D: Disk>(disk: &mut D, words: u16, states: &[PlaceState]) -> Result<(), DiskFault>
-    requires { length states.now < 2 ^ 16 }
+fn repair<D: Disk>(
+    disk: &mut D,
+    at: u64,
+    words: u16,
+    states: &[PlaceState],
+) -> Result<(), DiskFault>
+    requires near { at ≤ MAX_FIRST }
+    requires few { length states.now < 2 ^ 16 }
     ensures calls { Ran (if commit_writes states.now == 0 then 0 else roll_calls states.now) (D.facts disk.old) (D.facts disk.new) result }
     ensures later { Later (D.facts disk.old) (D.facts disk.new) }
-    ensures moments { (contents : List ℕ) → CanRoll (D.facts disk.old) words (length states.now) 0 states.now contents
-        → LeavesOnly (D.facts disk.old) (D.facts disk.new) (HasWords words (length states.now) contents) }
-    ensures read { (contents : List ℕ) → CanRoll (D.facts disk.old) words (length states.now) 0 states.now contents
-        → HasWords words (length states.now) contents (D.facts disk.new).reads }
-    ensures done { OnOk result ((contents : List ℕ) → CanRoll (D.facts disk.old) words (length states.now) 0 states.now contents
-        → IsRolled words 0 states.now (D.facts disk.old) (D.facts disk.new)) }
+    ensures moments { (contents : List ℕ) → CanRoll (D.facts disk.old) at words (length states.now) 0 states.now contents
+        → LeavesOnly (D.facts disk.old) (D.facts disk.new) (HasSecond at words (length states.now) contents) }
+    ensures read { (contents : List ℕ) → CanRoll (D.facts disk.old) at words (length states.now) 0 states.now contents
+        → HasSecond at words (length states.now) contents (D.facts disk.new).reads }
+    ensures done { OnOk result ((contents : List ℕ) → CanRoll (D.facts disk.old) at words (length states.now) 0 states.now contents
+        → IsRolled at words 0 states.now (D.facts disk.old) (D.facts disk.new)) }
+    ensures touched { (contents : List ℕ) → CanRoll (D.facts disk.old) at words (length states.now) 0 states.now contents
+        → Touched (λ k. at ≤ k) (D.facts disk.old) (D.facts disk.new) }
 {
     if !has_sealed(states) {
         return Ok(());
     }
-    roll_forward(disk, words, states, 0)
+    roll_forward(disk, at, words, states, 0)
 }
 
 fn has_sealed(states: &[PlaceState]) -> bool

@@ -9,7 +9,8 @@ use mw_words::is_change;
 use std::alloc::Global;
 use std::process::Abort;
 
-/// A disk with a new file of two words and two places, of which the call with this number fails.
+/// A disk with a new file of two words and two places, of which the call with this number fails. The first
+/// seven are those of its opening.
 fn failing_disk<R: Abort + AllocGlobal>(rt: &R, number: u64) -> MemDisk {
     let mut disk = disk_with(rt, &new_bytes(rt, 2, 2));
     disk.fail_next(number).expect(rt, MEMORY);
@@ -49,9 +50,9 @@ fn two_prepares(alloc: Global, disk: MemDisk) -> Option<[Option<Filed>; 2]> {
 
 #[test]
 fn a_place_is_used_up_and_a_device_fails(rt: HostRuntime) {
-    let used_up = two_prepares(rt.alloc(), failing_disk(&rt, 9));
+    let used_up = two_prepares(rt.alloc(), failing_disk(&rt, 14));
     same(&rt, &used_up, &Some([Some(Filed::Made), None]));
-    let failed = two_prepares(rt.alloc(), failing_disk(&rt, 4));
+    let failed = two_prepares(rt.alloc(), failing_disk(&rt, 9));
     let wanted = [Some(Filed::Broken), Some(Filed::Untouched)];
     same(&rt, &failed, &Some(wanted));
 }

@@ -1,5 +1,6 @@
 ghost use Rattle.std.specs.Prelude.{◌≡◌, ◌≤◌, ◌==◌, true};
-ghost use Rattle.mw_words.specs.declared.limits.TheConstants.{MAX_PLACES, MAX_WORDS};
+ghost use Rattle.mw_words.specs.declared.limits.TheConstants.{MAX_WORDS};
+ghost use Rattle.mw_record.specs.declared.layout.TheConstants.{FIRST_PLACES};
 ghost use Rattle.mw_file.specs.PlaceStates.{MaySeal, commit_writes, stage_of};
 
 use crate::same::{same, same_at};
@@ -12,7 +13,7 @@ use std::process::Abort;
 
 /// Four bytes that a crash leaves, over and over, in what was not synced: none are given, all are
 /// zero, all are ones, and a mixture that begins with a clear commit byte or with a set one.
-const TORN: [&[u8]; 5] = [
+pub(crate) const TORN: [&[u8]; 5] = [
     &[],
     &[0x00, 0x00, 0x00, 0x00],
     &[0xff, 0xff, 0xff, 0xff],
@@ -23,12 +24,12 @@ const TORN: [&[u8]; 5] = [
 /// What a test says that is refused memory.
 pub(crate) const MEMORY: &str = "memory";
 
-/// The bytes of a new file, all of whose words are 0.
+/// The bytes of a new file, all of whose words are 0. Its opening gives it twice as many places.
 pub(crate) fn new_bytes<R: Abort + AllocGlobal>(rt: &R, words: u16, places: u16) -> Vec<u8>
     requires some_word { 1 ≤ words }
     requires words_fit { words ≤ MAX_WORDS }
     requires some_place { 1 ≤ places }
-    requires places_fit { places ≤ MAX_PLACES }
+    requires places_fit { places ≤ FIRST_PLACES }
 {
     let start = header(words, places);
     let mut bytes = Vec::from_slice(rt.alloc(), &start).expect(rt, MEMORY);
@@ -46,7 +47,7 @@ pub(crate) fn disk_with<R: Abort + AllocGlobal>(rt: &R, bytes: &[u8]) -> MemDisk
 
 /// How a device fails after so many calls that go well.
 #[derive(Clone, Copy, Debug, PartialEq, Eq)]
-enum Trouble {
+pub(crate) enum Trouble {
     /// The next call alone fails.
     Once,
     /// Every further call fails, and changes nothing.
@@ -54,7 +55,12 @@ enum Trouble {
 }
 
 /// A disk of these bytes that has trouble after so many calls.
-fn troubled<R: Abort + AllocGlobal>(rt: &R, bytes: &[u8], calls: u8, trouble: Trouble) -> MemDisk {
+pub(crate) fn troubled<R: Abort + AllocGlobal>(
+    rt: &R,
+    bytes: &[u8],
+    calls: u8,
+    trouble: Trouble,
+) -> MemDisk {
     let mut disk = disk_with(rt, bytes);
     match trouble {
         Trouble::Once => disk.fail_next(u64::from(calls) + 1).expect(rt, MEMORY),
@@ -64,16 +70,16 @@ fn troubled<R: Abort + AllocGlobal>(rt: &R, bytes: &[u8], calls: u8, trouble: Tr
 }
 
 /// These torn bytes over and over, longer than any one write.
-fn over_and_over<R: Abort + AllocGlobal>(rt: &R, torn: &[u8]) -> Vec<u8> {
+pub(crate) fn over_and_over<R: Abort + AllocGlobal>(rt: &R, torn: &[u8]) -> Vec<u8> {
     let mut bytes = Vec::new(rt.alloc());
-    for _ in 0..50 {
+    for _ in 0..300 {
         bytes.extend_from_slice(torn).expect(rt, MEMORY);
     }
     bytes
 }
 
 /// How an opening ends, and the disk then.
-fn opening(alloc: Global, disk: MemDisk) -> (Result<Vec<u64>, OpenFault>, MemDisk) {
+pub(crate) fn opening(alloc: Global, disk: MemDisk) -> (Result<Vec<u64>, OpenFault>, MemDisk) {
     match TenantFile::open(alloc, disk) {
         Ok(opened) => {
             let (file, words) = opened;
@@ -90,7 +96,7 @@ fn opening(alloc: Global, disk: MemDisk) -> (Result<Vec<u64>, OpenFault>, MemDis
 pub(crate) type Words = [u64; 2];
 
 /// The two words among these, if there are two.
-fn two_of(words: &[u64]) -> Option<Words> {
+pub(crate) fn two_of(words: &[u64]) -> Option<Words> {
     match words {
         [first, second] => Some([*first, *second]),
         _ => None,
@@ -98,7 +104,7 @@ fn two_of(words: &[u64]) -> Option<Words> {
 }
 
 /// The words of a file of two words with these bytes, if it opens.
-fn words_of<R: Abort + AllocGlobal>(rt: &R, bytes: &[u8]) -> Option<Words> {
+pub(crate) fn words_of<R: Abort + AllocGlobal>(rt: &R, bytes: &[u8]) -> Option<Words> {
     let (ended, _) = opening(rt.alloc(), disk_with(rt, bytes));
     match ended {
         Ok(words) => two_of(&words),
@@ -195,128 +201,13 @@ fn cancel(file: &mut TenantFile<MemDisk>, place: Place) -> Option<()> {
     }
 }
 
-/// A new file of two words and two places, but that its first word is 5.
-fn bytes_with_a_word<R: Abort + AllocGlobal>(rt: &R) -> Vec<u8> {
-    let mut bytes = new_bytes(rt, 2, 2);
-    if let Some(byte) = bytes.get_mut(32) {
-        *byte = 5;
-    }
-    bytes
-}
-
-/// The number of places of the file on this disk, and whether one of them is free, if it opens.
-fn places_on(alloc: Global, disk: MemDisk) -> Option<(u16, bool)> {
-    let file = opened(alloc, disk)?;
-    Some((file.places(), file.has_place()))
-}
-
-#[test]
-fn a_new_file_opens_with_all_places_free(rt: HostRuntime) {
-    let bytes = bytes_with_a_word(&rt);
-    same(&rt, &words_of(&rt, &bytes), &Some([5, 0]));
-    let places = places_on(rt.alloc(), disk_with(&rt, &bytes));
-    same(&rt, &places, &Some((2, true)));
-}
-
-/// The fault of an opening whose device has trouble after so many calls, if it has one, and how many
-/// calls have failed then.
-fn fault_of<R: Abort + AllocGlobal>(
-    rt: &R,
-    bytes: &[u8],
-    calls: u8,
-    trouble: Trouble,
-) -> (Option<OpenFault>, u64) {
-    let (ended, disk) = opening(rt.alloc(), troubled(rt, bytes, calls, trouble));
-    (ended.err(), disk.faults())
-}
-
-#[test]
-fn each_device_call_of_an_opening_fails(rt: HostRuntime) {
-    let bytes = bytes_with_a_word(&rt);
-    for calls in 0..=2 {
-        let wanted = if calls < 2 {
-            (Some(OpenFault::Disk), 1)
-        } else {
-            (None, 0)
-        };
-        for trouble in [Trouble::Once, Trouble::Stop] {
-            let found = fault_of(&rt, &bytes, calls, trouble);
-            same_at(&rt, u64::from(calls), &found, &wanted);
-        }
-    }
-}
-
-/// The file of two words and so many places with these bytes changed, of which so many are kept.
-fn damaged_bytes<R: Abort + AllocGlobal>(
-    rt: &R,
-    places: u16,
-    changes: &[(usize, u8)],
-    kept: usize,
-) -> Vec<u8>
+/// A file of three words, made with so many places, with the change of word 0 prepared in its first
+/// place and that of the others sealed in its second.
+pub(crate) fn with_two_records<R: Abort + AllocGlobal>(rt: &R, places: u16) -> TenantFile<MemDisk>
     requires some_place { 1 ≤ places }
-    requires places_fit { places ≤ MAX_PLACES }
+    requires places_fit { places ≤ FIRST_PLACES }
 {
-    let mut bytes = new_bytes(rt, 2, places);
-    for change in changes {
-        if let Some(byte) = bytes.get_mut(change.0) {
-            *byte = change.1;
-        }
-    }
-    bytes.truncate(kept);
-    bytes
-}
-
-/// Two open records, each of address 0 and value 1.
-const OVERLAP: [(usize, u8); 6] = [
-    (48, 0xa5),
-    (49, 1),
-    (64, 1),
-    (184, 0xa5),
-    (185, 1),
-    (200, 1),
-];
-
-/// Damaged files: the number of places, the bytes that are changed, how many bytes are kept, and the
-/// number of the damage.
-const DAMAGED: [(u16, &[(usize, u8)], usize, u8); 11] = [
-    (1, &[(0, 0x58)], 184, 1),
-    (1, &[(0, 0)], 184, 1),
-    (1, &[(12, 0)], 184, 2),
-    (1, &[(15, 0xa5)], 184, 2),
-    (1, &[(38, 1)], 184, 3),
-    (1, &[(39, 1)], 184, 3),
-    (1, &[(48, 0xa5)], 184, 4),
-    (1, &[(48, 0xa5), (49, 9)], 184, 4),
-    (2, &OVERLAP, 320, 5),
-    (1, &[], 183, 6),
-    (1, &[], 31, 6),
-];
-
-/// The number of the damage that an opening of these bytes ends with, 0 where it ends otherwise, how
-/// many calls failed, and what a crash leaves then.
-fn damage_of<R: Abort + AllocGlobal>(rt: &R, bytes: &[u8]) -> (u8, u64, Vec<u8>) {
-    let (ended, disk) = opening(rt.alloc(), disk_with(rt, bytes));
-    let found = match ended {
-        Err(OpenFault::Damage(damage)) => damage.number(),
-        _ => 0,
-    };
-    (found, disk.faults(), disk.crash(&[]).expect(rt, MEMORY))
-}
-
-#[test]
-fn damaged_files(rt: HostRuntime) {
-    for case in DAMAGED {
-        let (places, changes, kept, number) = case;
-        let bytes = damaged_bytes(&rt, places, changes, kept);
-        same(&rt, &bytes.len(), &kept);
-        same(&rt, &damage_of(&rt, &bytes), &(number, 0, bytes));
-    }
-}
-
-/// A file of three words and two places, with the change of word 0 prepared in its first place and that
-/// of the others sealed in its second.
-fn with_two_records<R: Abort + AllocGlobal>(rt: &R) -> TenantFile<MemDisk> {
-    let disk = disk_with(rt, &new_bytes(rt, 3, 2));
+    let disk = disk_with(rt, &new_bytes(rt, 3, places));
     let mut file = opened(rt.alloc(), disk).expect(rt, "the file opens");
     let first = prepare(&mut file, &change(&[(0, 1)]));
     let second = prepare(&mut file, &change(&[(1, 2), (2, 3)]));
@@ -329,21 +220,6 @@ fn with_two_records<R: Abort + AllocGlobal>(rt: &R) -> TenantFile<MemDisk> {
     file
 }
 
-/// How an opening of these bytes ends whose device stops after so many calls: with these words or not, or
-/// with a fault.
-fn ended_after<R: Abort + AllocGlobal>(
-    rt: &R,
-    bytes: &[u8],
-    calls: u8,
-    words: &[u64],
-) -> Result<bool, OpenFault> {
-    let (ended, _) = opening(rt.alloc(), troubled(rt, bytes, calls, Trouble::Stop));
-    match ended {
-        Ok(found) => Ok(found.as_slice() == words),
-        Err(fault) => Err(fault),
-    }
-}
-
 /// What a crash with these torn bytes leaves of a file.
 pub(crate) fn left<R: Abort + AllocGlobal>(
     rt: &R,
@@ -351,16 +227,6 @@ pub(crate) fn left<R: Abort + AllocGlobal>(
     torn: &[u8],
 ) -> Vec<u8> {
     file.crash(torn).expect(rt, MEMORY)
-}
-
-#[test]
-fn two_records(rt: HostRuntime) {
-    let left = left(&rt, &with_two_records(&rt), &[]);
-    same(&rt, &left.len(), &328);
-    for (calls, wanted) in [(7, Ok(true)), (6, Err(OpenFault::Disk))] {
-        let ended = ended_after(&rt, &left, calls, &[0, 2, 3]);
-        same_at(&rt, u64::from(calls), &ended, &wanted);
-    }
 }
 
 /// What a file without a free place answers to a change, to the cancel of the first place, and to the
@@ -380,7 +246,7 @@ fn cancel_between(
 
 #[test]
 fn a_cancelled_place_is_taken_again(rt: HostRuntime) {
-    let mut file = with_two_records(&rt);
+    let mut file = with_two_records(&rt, 1);
     let told = cancel_between(&mut file, &change(&[(0, 1)]));
     same(&rt, &told, &(None, Some(()), Some(Ok(Place(0)))));
 }
@@ -390,17 +256,13 @@ fn both() -> Entries {
     change(&[(0, 1), (1, 2)])
 }
 
-/// A file of two words and so many places whose disk has trouble so many calls after its opening.
-fn troubled_file<R: Abort + AllocGlobal>(
+/// A file of two words whose disk has trouble so many calls after its opening.
+pub(crate) fn troubled_file<R: Abort + AllocGlobal>(
     rt: &R,
-    places: u16,
     calls: u8,
     trouble: Trouble,
-) -> TenantFile<MemDisk>
-    requires some_place { 1 ≤ places }
-    requires places_fit { places ≤ MAX_PLACES }
-{
-    let disk = disk_with(rt, &new_bytes(rt, 2, places));
+) -> TenantFile<MemDisk> {
+    let disk = disk_with(rt, &new_bytes(rt, 2, 1));
     let mut file = opened(rt.alloc(), disk).expect(rt, "the file opens");
     match trouble {
         Trouble::Once => file.fail_next(u64::from(calls) + 1).expect(rt, MEMORY),
@@ -425,14 +287,10 @@ pub(crate) fn answers(file: &mut TenantFile<MemDisk>) -> Answers {
 }
 
 /// The answers of a file whose device has trouble after so many calls, and those that come then.
-pub(crate) fn answers_to(calls: u8, places: u16) -> (Answers, Answers) {
+pub(crate) fn answers_to(calls: u8) -> (Answers, Answers) {
     let (first, well) = (Some(Ok(Place(0))), Some(Ok(())));
     let (fault, failed) = (Some(Err(FileFault::Disk)), Some(Err(FileFault::Failed)));
-    let next = if places == 1 {
-        None
-    } else {
-        Some(Err(FileFault::Failed))
-    };
+    let next = Some(Err(FileFault::Failed));
     match calls {
         0..=1 => (
             (Some(Err(FileFault::Disk)), None, None),
@@ -506,22 +364,19 @@ fn leaves_words<R: Abort + AllocGlobal>(
 
 /// What a file is to answer whose device has trouble after so many calls, twice, each time with how many
 /// calls have failed then.
-fn wanted_twice(calls: u8, places: u16) -> [(Answers, u64); 2] {
-    let (first, again) = answers_to(calls, places);
+fn wanted_twice(calls: u8) -> [(Answers, u64); 2] {
+    let (first, again) = answers_to(calls);
     let faults = if calls < 9 { 1 } else { 0 };
     [(first, faults), (again, 1)]
 }
 
 /// A file whose device has trouble after so many calls answers as it should, twice, and crashes leave the
 /// right words then.
-fn crash_in_a_call<R: Abort + AllocGlobal>(rt: &R, calls: u8, trouble: Trouble, places: u16)
-    requires some_place { 1 ≤ places }
-    requires places_fit { places ≤ MAX_PLACES }
-{
-    let mut file = troubled_file(rt, places, calls, trouble);
+fn crash_in_a_call<R: Abort + AllocGlobal>(rt: &R, calls: u8, trouble: Trouble) {
+    let mut file = troubled_file(rt, calls, trouble);
     let first = answers_and_faults(rt, &mut file);
     let found = [first, answers_and_faults(rt, &mut file)];
-    same_at(rt, u64::from(calls), &found, &wanted_twice(calls, places));
+    same_at(rt, u64::from(calls), &found, &wanted_twice(calls));
     leaves_words(rt, &file, calls, trouble);
 }
 
@@ -529,85 +384,7 @@ fn crash_in_a_call<R: Abort + AllocGlobal>(rt: &R, calls: u8, trouble: Trouble, 
 fn a_crash_in_each_call(rt: HostRuntime) {
     for calls in 0..=9 {
         for trouble in [Trouble::Once, Trouble::Stop] {
-            for places in [1, 2] {
-                crash_in_a_call(&rt, calls, trouble, places);
-            }
+            crash_in_a_call(&rt, calls, trouble);
         }
-    }
-}
-
-/// Adds what crashes of this disk leave.
-fn add_crashes<R: Abort + AllocGlobal>(rt: &R, disk: &MemDisk, images: &mut Vec<Vec<u8>>) {
-    for torn in TORN {
-        let image = disk.crash(&over_and_over(rt, torn)).expect(rt, MEMORY);
-        images.push(image).expect(rt, MEMORY);
-    }
-}
-
-/// What crashes leave after openings of a file with these bytes, each with trouble at another call.
-fn left_by_openings<R: Abort + AllocGlobal>(rt: &R, bytes: &[u8]) -> Vec<Vec<u8>> {
-    let mut images = Vec::new(rt.alloc());
-    for calls in 0..7 {
-        for trouble in [Trouble::Once, Trouble::Stop] {
-            let (_, disk) = opening(rt.alloc(), troubled(rt, bytes, calls, trouble));
-            add_crashes(rt, &disk, &mut images);
-        }
-    }
-    images
-}
-
-/// What a crash leaves of a file whose change is sealed: the device stops before settle's first call.
-fn sealed_image<R: Abort + AllocGlobal>(rt: &R) -> Vec<u8> {
-    let mut file = troubled_file(rt, 1, 4, Trouble::Stop);
-    same(rt, &answers(&mut file), &answers_to(4, 1).0);
-    left(rt, &file, &[])
-}
-
-/// How an opening of these bytes ends whose device has trouble after so many calls, and how many calls have
-/// failed then.
-fn opening_with_trouble<R: Abort + AllocGlobal>(
-    rt: &R,
-    image: &[u8],
-    calls: u8,
-    trouble: Trouble,
-) -> (Result<Option<Words>, OpenFault>, u64) {
-    let (ended, disk) = opening(rt.alloc(), troubled(rt, image, calls, trouble));
-    let words = match ended {
-        Ok(words) => Ok(two_of(&words)),
-        Err(fault) => Err(fault),
-    };
-    (words, disk.faults())
-}
-
-/// How openings of a sealed file's bytes end, each with trouble at another call.
-fn open_with_trouble<R: Abort + AllocGlobal>(rt: &R, image: &[u8]) {
-    for calls in 0..=7 {
-        let wanted = if calls < 7 {
-            (Err(OpenFault::Disk), 1)
-        } else {
-            (Ok(Some([1, 2])), 0)
-        };
-        for trouble in [Trouble::Once, Trouble::Stop] {
-            let found = opening_with_trouble(rt, image, calls, trouble);
-            same_at(rt, u64::from(calls), &found, &wanted);
-        }
-    }
-}
-
-/// Files with these bytes open, and have the words of the sealed change.
-fn have_the_change<R: Abort + AllocGlobal>(rt: &R, images: &[Vec<u8>]) {
-    for image in images {
-        same(rt, &words_of(rt, image), &Some([1, 2]));
-    }
-}
-
-#[test]
-fn opening_sweep(rt: HostRuntime) {
-    let image = sealed_image(&rt);
-    open_with_trouble(&rt, &image);
-    let once = left_by_openings(&rt, &image);
-    have_the_change(&rt, &once);
-    for image in &once {
-        have_the_change(&rt, &left_by_openings(&rt, image));
     }
 }

@@ -11,6 +11,8 @@ mod file_tests;
 #[cfg(test)]
 mod memory_tests;
 #[cfg(test)]
+mod opening_tests;
+#[cfg(test)]
 mod record_tests;
 #[cfg(test)]
 mod same;

@@ -1,10 +1,9 @@
-use Rattle.std.proofs.Common.{ℕ, length, sym, subst}
-use Rattle.mw_disk.specs.Runs.{LeavesOnly}
-use Rattle.mw_record.specs.Damages.{places_of}
-use Rattle.mw_record.specs.Stands.{HasWords}
+use Rattle.std.proofs.Common.{◌≤◌, ℕ, refl, subst}
+use Rattle.mw_disk.specs.Runs.{Touched, LeavesOnly}
+use Rattle.mw_record.specs.Stands.{HasSecond}
 use Rattle.mw_file.specs.Run.{Ran}
-use Rattle.mw_file.specs.Rolls.{CanRoll, IsRolled}
 use Rattle.mw_file.proofs.Looping.{on_ok}
+use Rattle.mw_file.proofs.Ready.{roll_as, second_as, rolled_as}
 use Rattle.mw_file.proofs.Recalled.{repair_is, roll_recalled, finish_durable}
 use Rattle.mw_file.proofs.opening.finish.Goals as goal
 
@@ -20,10 +19,10 @@ returns-clause-moments g c contents can =
     let f2 = g.D.Disk.facts c.repair-ran.new.disk in
     let image = c.args.image.now in
     let states = c.recall.new.states in
+    let at = c.at.ensures.value in
     let is = c.words.ensures.value in
-    let roll = subst (λ (n : ℕ). CanRoll f n (length states) 0 states contents) (sym is) (roll_recalled image states c.recall.ensures f contents can) in
-    subst (λ (n : ℕ). LeavesOnly f f2 (HasWords n (places_of image) contents)) is
-    (subst (λ (p : ℕ). LeavesOnly f f2 (HasWords c.words.result p contents)) c.recall.ensures.count (c.repair-ran.ensures.moments contents roll))
+    let roll = roll_as f _ _ _ _ states contents at is (roll_recalled image states c.recall.ensures f contents can) in
+    second_as (λ k n p. LeavesOnly f f2 (HasSecond k n p contents)) _ _ _ _ _ _ at is c.recall.ensures.count (c.repair-ran.ensures.moments contents roll)
 
 pub returns-clause-read : goal.returns-clause-read
 returns-clause-read g c contents can =
@@ -31,10 +30,10 @@ returns-clause-read g c contents can =
     let f2 = g.D.Disk.facts c.repair-ran.new.disk in
     let image = c.args.image.now in
     let states = c.recall.new.states in
+    let at = c.at.ensures.value in
     let is = c.words.ensures.value in
-    let roll = subst (λ (n : ℕ). CanRoll f n (length states) 0 states contents) (sym is) (roll_recalled image states c.recall.ensures f contents can) in
-    subst (λ (n : ℕ). HasWords n (places_of image) contents f2.reads) is
-    (subst (λ (p : ℕ). HasWords c.words.result p contents f2.reads) c.recall.ensures.count (c.repair-ran.ensures.read contents roll))
+    let roll = roll_as f _ _ _ _ states contents at is (roll_recalled image states c.recall.ensures f contents can) in
+    second_as (λ k n p. HasSecond k n p contents f2.reads) _ _ _ _ _ _ at is c.recall.ensures.count (c.repair-ran.ensures.read contents roll)
 
 pub returns-clause-done : goal.returns-clause-done
 returns-clause-done g c =
@@ -42,9 +41,20 @@ returns-clause-done g c =
     let f2 = g.D.Disk.facts c.repair-ran.new.disk in
     let image = c.args.image.now in
     let states = c.recall.new.states in
+    let at = c.at.ensures.value in
     let is = c.words.ensures.value in
     on_ok _ _ c.repair-ran.result (λ done contents can.
-    let roll = subst (λ (n : ℕ). CanRoll f n (length states) 0 states contents) (sym is) (roll_recalled image states c.recall.ensures f contents can) in
-    let has = subst (λ (n : ℕ). HasWords n (length states) contents f2.reads) is (c.repair-ran.ensures.read contents roll) in
-    let rolled = subst (λ (n : ℕ). IsRolled n 0 states f f2) is (done contents roll) in
+    let roll = roll_as f _ _ _ _ states contents at is (roll_recalled image states c.recall.ensures f contents can) in
+    let has = second_as (λ k n p. HasSecond k n p contents f2.reads) _ _ _ _ _ _ at is refl (c.repair-ran.ensures.read contents roll) in
+    let rolled = rolled_as f f2 _ _ _ _ states at is (done contents roll) in
     finish_durable image states c.recall.ensures f contents can f2 c.set_free.new.states has rolled c.set_free.auto.states c.set_free.ensures) c.repair-ran.ensures.done
+
+pub returns-clause-touched : goal.returns-clause-touched
+returns-clause-touched g c contents can =
+    let f = g.D.Disk.facts c.args.disk.now in
+    let f2 = g.D.Disk.facts c.repair-ran.new.disk in
+    let image = c.args.image.now in
+    let states = c.recall.new.states in
+    let at = c.at.ensures.value in
+    let roll = roll_as f _ _ _ _ states contents at c.words.ensures.value (roll_recalled image states c.recall.ensures f contents can) in
+    subst (λ (n : ℕ). Touched (λ k. n ≤ k) f f2) at (c.repair-ran.ensures.touched contents roll)

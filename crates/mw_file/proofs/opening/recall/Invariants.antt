@@ -1,6 +1,5 @@
 use Rattle.std.proofs.Common.{ℕ, ◌≡◌, ◌≤◌, ◌<◌, length}
-use Rattle.mw_record.specs.Records.{record_at}
-use Rattle.mw_record.specs.Damages.{words_of, places_of}
+use Rattle.mw_record.specs.Damages.{found_places, records_of}
 use Rattle.mw_file.specs.declared.place_states.Stage.TheVariants.{Prepared, Sealed}
 use Rattle.mw_file.specs.PlaceStates.{stage_of, writes_of_place}
 use Rattle.mw_file.specs.Rolls.{kept_of}
@@ -9,7 +8,7 @@ use Rattle.mw_file.proofs.opening.recall.Given as goal
 -- the places so far are as the file tells them
 abbrev pub invariant-loop-place : goal.invariant-loop-place
 invariant-loop-place l =
-    (length l.states ≡ places_of l.image)
-    × ((place : ℕ) → place < l.place → kept_of l.states place ≡ record_at l.image (words_of l.image) place)
+    (length l.states ≡ found_places l.image)
+    × ((place : ℕ) → place < l.place → kept_of l.states place ≡ records_of l.image place)
     × ((place : ℕ) → place < l.place → stage_of l.states place ≡ Prepared → ⊥)
     × ((place : ℕ) → place < l.place → stage_of l.states place ≡ Sealed → 1 ≤ length (writes_of_place l.states place))

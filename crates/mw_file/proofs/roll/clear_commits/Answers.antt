@@ -2,9 +2,10 @@ use Rattle.std.proofs.Common.{◌<◌, ◌+◌, ◌∙◌, length, take, arith, 
 use Rattle.std.proofs.lemmas.List.{take_all}
 use Rattle.std.proofs.lemmas.List.Sums.{sum_by_more, sum_by_more_le}
 use Rattle.mw_disk.proofs.RunLaws.{bad_call, later_trans, still_honest, touched_trans, touched_quiet}
+use Rattle.mw_record.specs.declared.layout.Layout.TheVariants.{Second}
 use Rattle.mw_record.specs.Layout.{place_at}
 use Rattle.mw_file.specs.PlaceStates.{commit_writes, commit_writes_of}
-use Rattle.mw_file.specs.Rolls.{AtCommits}
+use Rattle.mw_file.specs.Rolls.{Behind, AtCommits}
 use Rattle.mw_file.proofs.Ran.{goes_on, stops}
 use Rattle.mw_file.proofs.Looping.{item_at, commit_there, commits_more, shut_more}
 use Rattle.mw_file.proofs.roll.clear_commits.Goals as goal
@@ -18,12 +19,12 @@ returns-in_err-clear_commit-clause-touched g c honest fits =
     let k = c.loop-state.state-index in
     let s = c.state-item.result in
     let lt : k < length states = c.loop-state-test.true in
-    let at = item_at states k s lt c.state-item.is in
-    let commit = c.place_at.ensures ∙ ap (place_at c.args.words) c.loop-state.invariant.0 in
+    let here = item_at states k s lt c.state-item.is in
+    let commit = c.place_at.ensures ∙ ap (λ p. c.args.at + place_at Second c.args.words p) c.loop-state.invariant.0 in
     let run = (c.loop-state.invariant.3 honest fits).0 in
-    commits_more start old new c.args.words states k s lt at c.args.first c.place_at.result commit run
+    commits_more start old new c.args.at c.args.words states k s lt here c.args.first c.place_at.result commit run
     (c.clear_commit.ensures.touched (still_honest start old c.loop-state.invariant.2 honest)
-    (commit_there start old new c.args.words states k s lt at c.args.first c.place_at.result commit run fits))
+    (commit_there start old new c.args.at c.args.words states k s lt here c.args.first c.place_at.result commit run fits))
 
 pub loop-state-preserved : goal.loop-state-preserved
 loop-state-preserved g c =
@@ -34,10 +35,10 @@ loop-state-preserved g c =
     let k = c.loop-state.state-index in
     let s = c.state-item.result in
     let lt : k < length states = c.loop-state-test.true in
-    let at = item_at states k s lt c.state-item.is in
+    let here = item_at states k s lt c.state-item.is in
     let item = ap commit_writes_of c.state-item.is in
     let more = sum_by_more commit_writes_of states k s (omega arith) in
-    let commit = c.place_at.ensures ∙ ap (place_at c.args.words) c.loop-state.invariant.0 in
+    let commit = c.place_at.ensures ∙ ap (λ p. c.args.at + place_at Second c.args.words p) c.loop-state.invariant.0 in
     let place = c.loop-state.invariant.0 in (
       omega (arith, place),
       goes_on (commit_writes (take k states)) (commit_writes_of s) (commit_writes (take (k + 1) states)) _ _ _
@@ -46,10 +47,10 @@ loop-state-preserved g c =
       λ honest fits.
           let so_far = c.loop-state.invariant.3 honest fits in
           let honest2 = still_honest start old c.loop-state.invariant.2 honest in
-          let fits2 = commit_there start old new c.args.words states k s lt at c.args.first c.place_at.result commit so_far.0 fits in
+          let fits2 = commit_there start old new c.args.at c.args.words states k s lt here c.args.first c.place_at.result commit so_far.0 fits in
           let touched = c.clear_commit.ensures.touched honest2 fits2 in (
-            commits_more start old new c.args.words states k s lt at c.args.first c.place_at.result commit so_far.0 touched,
-            shut_more start old new c.args.words states k s lt at c.args.first c.place_at.result commit touched so_far.1 (c.in_ok-clear_commit.ensures.shut honest2 fits2),
+            commits_more start old new c.args.at c.args.words states k s lt here c.args.first c.place_at.result commit so_far.0 touched,
+            shut_more start old new c.args.at c.args.words states k s lt here c.args.first c.place_at.result commit touched so_far.1 (c.in_ok-clear_commit.ensures.shut honest2 fits2),
           ),
     )
 
@@ -77,7 +78,7 @@ returns-in_err-sync-clause-touched g c honest fits =
     let start = g.D.Disk.facts c.args.disk.now in
     let mid = g.D.Disk.facts c.loop-state.disk in
     let new = g.D.Disk.facts c.sync.new.self in
-    let S = AtCommits c.args.words c.args.first c.args.states.now in
+    let S = Behind c.args.at (AtCommits c.args.words c.args.first c.args.states.now) in
     let honest2 = still_honest start mid c.loop-state.invariant.2 honest in
     touched_trans S start mid new (c.loop-state.invariant.3 honest fits).0
     (touched_quiet S mid new false c.in_err-sync.ensures.call (c.in_err-sync.ensures.crash honest2) (c.in_err-sync.ensures.same honest2))
@@ -87,7 +88,7 @@ returns-clause-touched g c honest fits =
     let start = g.D.Disk.facts c.args.disk.now in
     let mid = g.D.Disk.facts c.loop-state.disk in
     let new = g.D.Disk.facts c.sync.new.self in
-    let S = AtCommits c.args.words c.args.first c.args.states.now in
+    let S = Behind c.args.at (AtCommits c.args.words c.args.first c.args.states.now) in
     let honest2 = still_honest start mid c.loop-state.invariant.2 honest in
     touched_trans S start mid new (c.loop-state.invariant.3 honest fits).0
     (touched_quiet S mid new true c.in_ok-sync.ensures.call (c.in_ok-sync.ensures.crash honest2) (c.in_ok-sync.ensures.same honest2))

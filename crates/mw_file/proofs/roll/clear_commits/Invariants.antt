@@ -1,9 +1,10 @@
-use Rattle.std.proofs.Common.{ℕ, ◌≡◌, ◌+◌, ◌<◌, length, slice_index, IsTrue, take}
+use Rattle.std.proofs.Common.{ℕ, ◌≡◌, ◌+◌, ◌<◌, length, drop, slice_index, IsTrue, take}
 use Rattle.mw_disk.specs.Runs.{Good, Later, Touched, Fits}
+use Rattle.mw_record.specs.declared.layout.Layout.TheVariants.{Second}
 use Rattle.mw_record.specs.Layout.{place_at}
 use Rattle.mw_file.specs.declared.place_states.Stage.TheVariants.{Sealed}
 use Rattle.mw_file.specs.PlaceStates.{commit_writes, stage_of}
-use Rattle.mw_file.specs.Rolls.{AtCommits}
+use Rattle.mw_file.specs.Rolls.{Behind, AtCommits}
 use Rattle.mw_file.proofs.roll.clear_commits.Given as goal
 
 -- each sealed place so far took a call that went well, and its commit byte is 0
@@ -12,7 +13,7 @@ invariant-loop-state g l =
     (l.place ≡ l.first + l.state-index)
     × Good (commit_writes (take l.state-index l.states)) (g.D.Disk.facts l.initial.disk) (g.D.Disk.facts l.disk)
     × Later (g.D.Disk.facts l.initial.disk) (g.D.Disk.facts l.disk)
-    × (IsTrue (g.D.Disk.facts l.initial.disk).honest → Fits (g.D.Disk.facts l.initial.disk) (place_at l.words (l.first + length l.states))
-    → Touched (AtCommits l.words l.first l.states) (g.D.Disk.facts l.initial.disk) (g.D.Disk.facts l.disk)
+    × (IsTrue (g.D.Disk.facts l.initial.disk).honest → Fits (g.D.Disk.facts l.initial.disk) (l.at + place_at Second l.words (l.first + length l.states))
+    → Touched (Behind l.at (AtCommits l.words l.first l.states)) (g.D.Disk.facts l.initial.disk) (g.D.Disk.facts l.disk)
     × ((place : ℕ) → place < l.state-index → stage_of l.states place ≡ Sealed
-    → slice_index (g.D.Disk.facts l.disk).reads (place_at l.words (l.first + place)) ≡ 0))
+    → slice_index (drop l.at (g.D.Disk.facts l.disk).reads) (place_at Second l.words (l.first + place)) ≡ 0))

@@ -24,10 +24,10 @@ returns-in_err-write_home-clause-touched g c words has below =
     let k = c.loop-state.state-index in
     let s = c.state-item.result in
     let lt : k < length states = c.loop-state-test.true in
-    let at = item_at states k s lt c.state-item.is in
+    let here = item_at states k s lt c.state-item.is in
     let run = (c.loop-state.invariant.2 words has below).0 in
-    let has2 = homes_still_there start old new words states k s lt at c.loop-state.invariant.1 run has in
-    homes_more start old new words states k s lt at run (c.write_home.ensures.touched words has2 (below_item start old new words states k s lt at below))
+    let has2 = homes_still_there start old new c.args.at words states k s lt here c.loop-state.invariant.1 run has in
+    homes_more start old new c.args.at words states k s lt here run (c.write_home.ensures.touched words has2 (below_item start old new c.args.at words states k s lt here below))
 
 pub loop-state-preserved : goal.loop-state-preserved
 loop-state-preserved g c =
@@ -38,7 +38,7 @@ loop-state-preserved g c =
     let k = c.loop-state.state-index in
     let s = c.state-item.result in
     let lt : k < length states = c.loop-state-test.true in
-    let at = item_at states k s lt c.state-item.is in
+    let here = item_at states k s lt c.state-item.is in
     let item = ap home_writes_of c.state-item.is in
     let more = sum_by_more home_writes_of states k s (omega arith) in (
       goes_on (home_writes (take k states)) (home_writes_of s) (home_writes (take (k + 1) states)) _ _ _
@@ -46,9 +46,9 @@ loop-state-preserved g c =
       later_trans _ _ _ c.loop-state.invariant.1 c.write_home.ensures.later,
       λ words has below.
           let so_far = c.loop-state.invariant.2 words has below in
-          let has2 = homes_still_there start old new words states k s lt at c.loop-state.invariant.1 so_far.0 has in
-          let below2 = below_item start old new words states k s lt at below in (
-            homes_more start old new words states k s lt at so_far.0 (c.write_home.ensures.touched words has2 below2),
-            λ addr low. values_more start old new words states k s lt at addr (so_far.1 addr low) (c.in_ok-write_home.ensures.values words has2 below2 addr low),
+          let has2 = homes_still_there start old new c.args.at words states k s lt here c.loop-state.invariant.1 so_far.0 has in
+          let below2 = below_item start old new c.args.at words states k s lt here below in (
+            homes_more start old new c.args.at words states k s lt here so_far.0 (c.write_home.ensures.touched words has2 below2),
+            λ addr low. values_more start old new c.args.at words states k s lt here addr (so_far.1 addr low) (c.in_ok-write_home.ensures.values words has2 below2 addr low),
           ),
     )

@@ -1,8 +1,8 @@
-use Rattle.std.proofs.Common.{ℕ, ◌≡◌, ◌<◌, take}
+use Rattle.std.proofs.Common.{ℕ, ◌≡◌, ◌<◌, take, drop}
 use Rattle.mw_disk.specs.Runs.{Good, Later, Touched}
 use Rattle.mw_record.specs.Records.{home, all_over}
 use Rattle.mw_file.specs.PlaceStates.{home_writes}
-use Rattle.mw_file.specs.Rolls.{InHomes, HasHomes, AreBelow, kept_of}
+use Rattle.mw_file.specs.Rolls.{Behind, InHomes, HasHomes, AreBelow, kept_of}
 use Rattle.mw_file.proofs.roll.write_homes.Given as goal
 
 -- each value of the sealed places so far took a call that went well, and stands in its home word
@@ -10,7 +10,7 @@ abbrev pub invariant-loop-state : goal.invariant-loop-state
 invariant-loop-state g l =
     Good (home_writes (take l.state-index l.states)) (g.D.Disk.facts l.initial.disk) (g.D.Disk.facts l.disk)
     × Later (g.D.Disk.facts l.initial.disk) (g.D.Disk.facts l.disk)
-    × ((words : ℕ) → HasHomes (g.D.Disk.facts l.initial.disk) words → AreBelow words l.states
-    → Touched (InHomes l.states) (g.D.Disk.facts l.initial.disk) (g.D.Disk.facts l.disk)
+    × ((words : ℕ) → HasHomes (g.D.Disk.facts l.initial.disk) l.at words → AreBelow words l.states
+    → Touched (Behind l.at (InHomes l.states)) (g.D.Disk.facts l.initial.disk) (g.D.Disk.facts l.disk)
     × ((addr : ℕ) → addr < words
-    → home (g.D.Disk.facts l.disk).reads addr ≡ all_over (kept_of l.states) l.state-index addr (home (g.D.Disk.facts l.initial.disk).reads addr)))
+    → home (drop l.at (g.D.Disk.facts l.disk).reads) addr ≡ all_over (kept_of l.states) l.state-index addr (home (drop l.at (g.D.Disk.facts l.initial.disk).reads) addr)))

@@ -1,4 +1,4 @@
-use Rattle.std.proofs.Common.{false, ◌^◌, ℕ, ◌≤◌, ◌+◌, ◌<◌, length, get_or, ap, ◌∙◌, arith, subst}
+use Rattle.std.proofs.Common.{◌≡◌, true, false, drop, ◌^◌, ℕ, ◌≤◌, ◌+◌, ◌<◌, length, take, get_or, ap, ◌∙◌, arith, subst}
 use Rattle.std.proofs.lemmas.List.{take_all}
 use Rattle.mw_disk.proofs.RunLaws.{good_call, called_later, later_trans, still_honest}
 use Rattle.mw_record.specs.declared.layout.TheConstants.{WORD_SIZE}
@@ -18,9 +18,9 @@ returns-in_err-write_at-clause-touched g c words has below =
     let is = c.as_slice-write-items.ensures.value in
     let k = c.loop-write.write-index in
     let within : k < length c.args.writes.now.items = (let l = c.loop-write-test.true in let m = ap length is in omega arith) in
-    let at = c.home_at.ensures ∙ ap (λ (ws : Pairs). home_at (get_or ws k (0, 0)).0) is in
+    let at = c.home_at.ensures ∙ ap (λ (ws : Pairs). c.args.at + home_at (get_or ws k (0, 0)).0) is in
     let size = ap length c.home_word.ensures.bytes ∙ length-number_bytes WORD_SIZE (get_or {A = ℕ × ℕ} c.as_slice-write-items.result.now k (0, 0)).1 in
-    next_touched start old words c.args.writes.now.items c.loop-write.write-index (c.loop-write.invariant.2 words has below) has below within new false (length c.home_word.result) c.home_at.result size at
+    next_touched start old c.args.at words c.args.writes.now.items c.loop-write.write-index (c.loop-write.invariant.2 words has below) has below within new false (length c.home_word.result) c.home_at.result size at
     c.in_err-write_at.ensures.call (c.in_err-write_at.ensures.crash honest) (c.in_err-write_at.ensures.torn honest)
 
 pub loop-write-preserved : goal.loop-write-preserved
@@ -30,15 +30,15 @@ loop-write-preserved g c =
     let new = g.D.Disk.facts c.write_at.new.self in
     let k = c.loop-write.write-index in (
       goes_on k 1 (k + 1) start old new (omega arith) c.loop-write.invariant.0 (good_call old new c.in_ok-write_at.ensures.call),
-      later_trans start old new c.loop-write.invariant.1 (called_later old new _ c.in_ok-write_at.ensures.call),
+      later_trans start old new c.loop-write.invariant.1 (called_later old new true c.in_ok-write_at.ensures.call),
       λ words has below.
           let honest = still_honest start old c.loop-write.invariant.1 has.honest in
           let is = c.as_slice-write-items.ensures.value in
           let within : k < length c.args.writes.now.items = (let l = c.loop-write-test.true in let m = ap length is in omega arith) in
-          let at = c.home_at.ensures ∙ ap (λ (ws : Pairs). home_at (get_or ws k (0, 0)).0) is in
+          let at = c.home_at.ensures ∙ ap (λ (ws : Pairs). c.args.at + home_at (get_or ws k (0, 0)).0) is in
           let block = c.home_word.ensures.bytes ∙ ap (λ (ws : Pairs). number_bytes WORD_SIZE (get_or ws k (0, 0)).1) is in
           let small = subst (λ (ws : Pairs). (get_or ws k (0, 0)).1 < 256 ^ WORD_SIZE) is c.home_word.ensures.fits in
-          next_put start old words c.args.writes.now.items k (c.loop-write.invariant.2 words has below) has below within new c.home_word.result c.home_at.result small block at
+          next_put start old c.args.at words c.args.writes.now.items k (c.loop-write.invariant.2 words has below) has below within new c.home_word.result c.home_at.result small block at
           c.in_ok-write_at.ensures.call (c.in_ok-write_at.ensures.crash honest) (c.in_ok-write_at.ensures.torn honest) (c.in_ok-write_at.ensures.written honest),
     )
 
@@ -47,4 +47,7 @@ returns-clause-values g c words has below addr lt =
     let writes = c.args.writes.now.items in
     let k = c.loop-write.write-index in
     let long : length writes ≤ k = (let l = c.loop-write-test.false in let m = ap length c.as_slice-write-items.ensures.value in omega arith) in
-    (c.loop-write.invariant.2 words has below).values addr lt ∙ ap (λ ws. over ws addr (home (g.D.Disk.facts c.args.disk.now).reads addr)) (take_all k writes long)
+    let before : ℕ = home (drop c.args.at (g.D.Disk.facts c.args.disk.now).reads) addr in
+    let all : over (take k writes) addr before ≡ over writes addr before = ap (λ ws. over ws addr before) (take_all k writes long) in
+    let so_far : home (drop c.args.at (g.D.Disk.facts c.loop-write.disk).reads) addr ≡ over (take k writes) addr before = (c.loop-write.invariant.2 words has below).values addr lt in
+    so_far ∙ all

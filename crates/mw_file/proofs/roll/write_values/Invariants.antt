@@ -9,5 +9,5 @@ abbrev pub invariant-loop-write : goal.invariant-loop-write
 invariant-loop-write g l =
     Good l.write-index (g.D.Disk.facts l.initial.disk) (g.D.Disk.facts l.disk)
     × Later (g.D.Disk.facts l.initial.disk) (g.D.Disk.facts l.disk)
-    × ((words : ℕ) → HasHomes (g.D.Disk.facts l.initial.disk) words → IsBelow words (Some l.writes.items)
-    → IsPut words l.writes.items (take l.write-index l.writes.items) (g.D.Disk.facts l.initial.disk) (g.D.Disk.facts l.disk))
+    × ((words : ℕ) → HasHomes (g.D.Disk.facts l.initial.disk) l.at words → IsBelow words (Some l.writes.items)
+    → IsPut l.at words l.writes.items (take l.write-index l.writes.items) (g.D.Disk.facts l.initial.disk) (g.D.Disk.facts l.disk))

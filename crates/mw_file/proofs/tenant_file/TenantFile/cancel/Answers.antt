@@ -20,4 +20,4 @@ returns-clause-safe g c honest contents doubt was =
     let place = c.args.place.0 in
     let at = state_at states place c.index_mut.result.now Prepared c.index_mut.ensures.value c.requires (λ e. cc) in
     let there = state_there states place Prepared c.requires (λ e. cc) in
-    safe_given_up g.D.Disk.facts c.args.self.now _ place contents doubt refl refl refl there c.requires (staged_as states place c.index_mut.result.now _ at refl) was
+    safe_given_up g.D.Disk.facts c.args.self.now _ place contents doubt refl refl refl refl there c.requires (staged_as states place c.index_mut.result.now _ at refl) was

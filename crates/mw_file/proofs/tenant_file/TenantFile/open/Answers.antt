@@ -1,17 +1,20 @@
-use Rattle.std.proofs.Common.{◌≡◌, ◌+◌, ℕ, List, length, min, take, arith, sym, ap, ◌∙◌, refl, Some, true, false, IsTrue, subst}
+use Rattle.std.proofs.Common.{◌≡◌, ◌≤◌, ◌+◌, ℕ, List, length, min, take, arith, sym, ap, ◌∙◌, refl, Some, true, false, IsTrue, subst}
 use Rattle.std.proofs.lemmas.List.FromFn.{length-map-range_with_len}
 use Rattle.mw_disk.specs.Facts.{IsAtRest}
 use Rattle.mw_disk.specs.Runs.{Good, Bad, Touched}
 use Rattle.mw_disk.proofs.RunLaws.{good_call, bad_call, good_trans, then_bad, called_later, later_trans, still_honest, touched_trans, touched_quiet}
 use Rattle.mw_record.specs.declared.layout.TheConstants.{MAX_FILE}
-use Rattle.mw_record.specs.Damages.{words_in, words_of, places_of, word_at}
+use Rattle.mw_record.specs.Damages.{is_switched, at_of, words_in, words_of, places_of, layout_of, part_of}
 use Rattle.mw_file.specs.declared.place_states.PlaceState.{PlaceState}
 use Rattle.mw_file.specs.PlaceStates.{all_free}
+use Rattle.mw_record.specs.Parts.{told_at}
 use Rattle.mw_file.proofs.Ended.{went_well}
-use Rattle.mw_file.specs.Rolls.{Nowhere, CanFinish}
-use Rattle.mw_file.specs.Opening.{front, open_calls, repair_calls, OpensSafely}
+use Rattle.mw_file.proofs.Free.{first_free}
+use Rattle.mw_file.proofs.Ready.{open_file}
+use Rattle.mw_file.specs.Rolls.{Nowhere}
+use Rattle.mw_file.specs.Opening.{front, open_calls, ready_calls, CanOpen, OpensSafely}
 use Rattle.mw_file.proofs.Ran.{ran_well, ran_badly}
-use Rattle.mw_file.proofs.Opened.{whole, front_read, untouched_trans, nothing_written, rest_stays, reads_stay, all_finished, can_finish, whole_words, whole_damage, calls_sound, calls_damaged, calls_before}
+use Rattle.mw_file.proofs.Opened.{whole, front_read, first_unwritten, first_spared, untouched_trans, nothing_written, rest_stays, reads_stay, all_ready, can_open, whole_words, whole_damage, calls_sound, calls_damaged, calls_before}
 use Rattle.mw_file.proofs.Safety.{keeps_well, durable_as}
 use Rattle.mw_file.proofs.tenant_file.TenantFile.open.Goals as goal
 
@@ -22,6 +25,7 @@ returns-in_default g c =
     record {
       later = called_later f0 f1 false c.in_default.ensures.call;
       unchanged = λ honest rest. nothing_written f0 f1 (touched_quiet Nowhere f0 f1 false c.in_default.ensures.call (c.in_default.ensures.crash honest) (c.in_default.ensures.same honest)) rest;
+      first_stays = first_unwritten f0 f1 (λ honest. touched_quiet Nowhere f0 f1 false c.in_default.ensures.call (c.in_default.ensures.crash honest) (c.in_default.ensures.same honest));
       calls = 1;
       made = bad_call f0 f1 c.in_default.ensures.call (λ honest. c.in_default.ensures.spared);
       within = λ honest. omega arith;
@@ -42,6 +46,7 @@ returns-then-is_err g c =
     record {
       later = later_trans f0 f1 f2 first c.read_front.ensures.later;
       unchanged = λ honest rest. nothing_written f0 f2 (quiet honest) rest;
+      first_stays = first_unwritten f0 f2 quiet;
       calls = 1 + n;
       made = then_bad 1 n f0 f1 f2 (good_call f0 f1 c.in-Ok.ensures.call) (ran_badly n n f1 f2 _ refl (sym c.is_err.ensures.value ∙ c.if-is_err.true) c.read_front.ensures.calls);
       within = λ honest. calls_before f0 c.in-Ok.len size (c.in-Ok.ensures.length honest) size_is;
@@ -79,6 +84,16 @@ returns-in-Err g c =
       made = subst (λ (k : ℕ). Good k f0 f2) (calls_damaged image _ size long c.in-Err.ensures) so_far;
     }
 
+pub make_ready-requires-clause-count : goal.make_ready-requires-clause-count
+make_ready-requires-clause-count g c =
+    let image = c.in-Ok-decode.image in
+    ap length (c.deref-2.ensures.value ∙ c.fill_words.ensures) ∙ length-map-range_with_len (told_at (layout_of image) (part_of image)) 0 (words_of image)
+
+pub make_ready-requires-clause-free : goal.make_ready-requires-clause-free
+make_ready-requires-clause-free g c =
+    subst (λ (ss : List PlaceState). IsTrue (all_free ss)) (sym (c.deref_mut-2.ensures.value ∙ c.truncate.ensures.items))
+    (first_free _ c.in-Ok-new.room.states.items c.in-Ok-new.ensures.3)
+
 pub returns-then-is_err-2 : goal.returns-then-is_err-2
 returns-then-is_err-2 g c =
     let f0 = g.D.Disk.facts c.args.disk in
@@ -100,26 +115,32 @@ returns-then-is_err-2 g c =
     let read = went_well c.read_front.result _ well c.read_front.ensures.read (still_honest f0 f1 first honest) in
     is ∙ front_read f0 f1 c.in-Ok.len _ _ (c.in-Ok.ensures.length honest) size_is (c.in-Ok.ensures.same honest) read in
     let so_far = good_trans 1 n f0 f1 f2 (good_call f0 f1 c.in-Ok.ensures.call) (ran_well n n f1 f2 _ refl well c.read_front.ensures.calls) in
-    let f3 = g.D.Disk.facts c.finish.new.disk in
+    let f3 = g.D.Disk.facts c.make_ready.new.disk in
     let none = c.in-Ok-decode.ensures.0 in
     let same = c.in-Ok-decode.ensures.1 in
-    let later = later_trans f0 f2 f3 (later_trans f0 f1 f2 first c.read_front.ensures.later) c.finish.ensures.later in
-    let can : (honest : IsTrue f0.honest) (rest : IsAtRest f0) → CanFinish f2 c.in-Ok-decode.image (words_in c.in-Ok-decode.image) = λ honest rest.
+    let later = later_trans f0 f2 f3 (later_trans f0 f1 f2 first c.read_front.ensures.later) c.make_ready.ensures.later in
+    let words = c.deref-2.result.now in
+    let filled : words ≡ words_in c.in-Ok-decode.image = c.deref-2.ensures.value ∙ c.fill_words.ensures in
+    let can : (honest : IsTrue f0.honest) (rest : IsAtRest f0) → CanOpen f2 c.in-Ok-decode.image words = λ honest rest.
     let touched = quiet honest in
-    subst (λ (i : List ℕ). CanFinish f2 i (words_in i)) (sym same)
-    (can_finish f2 image (still_honest f0 f2 touched.later honest) (rest_stays f0 f2 touched rest) (seen honest ∙ ap (λ b. take MAX_FILE b) (sym (reads_stay f0 f2 touched rest))) none) in
+    subst (λ (ws : List ℕ). CanOpen f2 c.in-Ok-decode.image ws) (sym filled)
+    (subst (λ (i : List ℕ). CanOpen f2 i (words_in i)) (sym same)
+    (can_open f2 image (still_honest f0 f2 touched.later honest) (rest_stays f0 f2 touched rest) (seen honest ∙ ap (λ b. take MAX_FILE b) (sym (reads_stay f0 f2 touched rest))) none)) in
     let unchanged : OpensSafely f0 f3 = λ honest rest.
     let fits = can honest rest in
-    all_finished f0 f2 (quiet honest) rest f3 (words_of c.in-Ok-decode.image) (places_of c.in-Ok-decode.image) (words_in c.in-Ok-decode.image) fits.has
-    (c.finish.ensures.moments (words_in c.in-Ok-decode.image) fits) (c.finish.ensures.read (words_in c.in-Ok-decode.image) fits) in
-    let calls : (1 + n) + repair_calls c.in-Ok-decode.image ≡ open_calls image = ap (λ i. (1 + n) + repair_calls i) same ∙ calls_sound image size long none in
+    all_ready f0 f2 (quiet honest) rest f3 (places_of c.in-Ok-decode.image) words (open_file f2 c.in-Ok-decode.image words fits)
+    (c.make_ready.ensures.moments fits) (c.make_ready.ensures.read fits) in
+    let calls : (1 + n) + ready_calls c.in-Ok-decode.image ≡ open_calls image = ap (λ i. (1 + n) + ready_calls i) same ∙ calls_sound image size long none in
     record {
       later = later;
       unchanged = unchanged;
+      first_stays = first_spared f0 f2 f3 image quiet seen (λ honest rest set.
+          subst (λ (i : List ℕ). Touched (λ k. at_of i ≤ k) f2 f3) same
+          (c.make_ready.ensures.touched (can honest rest) (ap is_switched same ∙ set)));
       calls = open_calls image;
       made = subst (λ (k : ℕ). Bad k f0 f3) calls
-          (then_bad (1 + n) (repair_calls c.in-Ok-decode.image) f0 f2 f3 so_far
-          (ran_badly (repair_calls c.in-Ok-decode.image) (repair_calls c.in-Ok-decode.image) f2 f3 _ refl (sym c.is_err-2.ensures.value ∙ c.if-is_err-2.true) c.finish.ensures.calls));
+          (then_bad (1 + n) (ready_calls c.in-Ok-decode.image) f0 f2 f3 so_far
+          (ran_badly (ready_calls c.in-Ok-decode.image) (ready_calls c.in-Ok-decode.image) f2 f3 _ refl (sym c.is_err-2.ensures.value ∙ c.if-is_err-2.true) c.make_ready.ensures.calls));
       within = λ honest. let e = ap open_calls (seen honest) in omega arith;
     }
 
@@ -144,47 +165,53 @@ returns g c =
     let read = went_well c.read_front.result _ well c.read_front.ensures.read (still_honest f0 f1 first honest) in
     is ∙ front_read f0 f1 c.in-Ok.len _ _ (c.in-Ok.ensures.length honest) size_is (c.in-Ok.ensures.same honest) read in
     let so_far = good_trans 1 n f0 f1 f2 (good_call f0 f1 c.in-Ok.ensures.call) (ran_well n n f1 f2 _ refl well c.read_front.ensures.calls) in
-    let f3 = g.D.Disk.facts c.finish.new.disk in
+    let f3 = g.D.Disk.facts c.make_ready.new.disk in
     let none = c.in-Ok-decode.ensures.0 in
     let same = c.in-Ok-decode.ensures.1 in
-    let later = later_trans f0 f2 f3 (later_trans f0 f1 f2 first c.read_front.ensures.later) c.finish.ensures.later in
-    let can : (honest : IsTrue f0.honest) (rest : IsAtRest f0) → CanFinish f2 c.in-Ok-decode.image (words_in c.in-Ok-decode.image) = λ honest rest.
+    let later = later_trans f0 f2 f3 (later_trans f0 f1 f2 first c.read_front.ensures.later) c.make_ready.ensures.later in
+    let words = c.deref-2.result.now in
+    let filled : words ≡ words_in c.in-Ok-decode.image = c.deref-2.ensures.value ∙ c.fill_words.ensures in
+    let can : (honest : IsTrue f0.honest) (rest : IsAtRest f0) → CanOpen f2 c.in-Ok-decode.image words = λ honest rest.
     let touched = quiet honest in
-    subst (λ (i : List ℕ). CanFinish f2 i (words_in i)) (sym same)
-    (can_finish f2 image (still_honest f0 f2 touched.later honest) (rest_stays f0 f2 touched rest) (seen honest ∙ ap (λ b. take MAX_FILE b) (sym (reads_stay f0 f2 touched rest))) none) in
+    subst (λ (ws : List ℕ). CanOpen f2 c.in-Ok-decode.image ws) (sym filled)
+    (subst (λ (i : List ℕ). CanOpen f2 i (words_in i)) (sym same)
+    (can_open f2 image (still_honest f0 f2 touched.later honest) (rest_stays f0 f2 touched rest) (seen honest ∙ ap (λ b. take MAX_FILE b) (sym (reads_stay f0 f2 touched rest))) none)) in
     let unchanged : OpensSafely f0 f3 = λ honest rest.
     let fits = can honest rest in
-    all_finished f0 f2 (quiet honest) rest f3 (words_of c.in-Ok-decode.image) (places_of c.in-Ok-decode.image) (words_in c.in-Ok-decode.image) fits.has
-    (c.finish.ensures.moments (words_in c.in-Ok-decode.image) fits) (c.finish.ensures.read (words_in c.in-Ok-decode.image) fits) in
-    let calls : (1 + n) + repair_calls c.in-Ok-decode.image ≡ open_calls image = ap (λ i. (1 + n) + repair_calls i) same ∙ calls_sound image size long none in
+    all_ready f0 f2 (quiet honest) rest f3 (places_of c.in-Ok-decode.image) words (open_file f2 c.in-Ok-decode.image words fits)
+    (c.make_ready.ensures.moments fits) (c.make_ready.ensures.read fits) in
+    let calls : (1 + n) + ready_calls c.in-Ok-decode.image ≡ open_calls image = ap (λ i. (1 + n) + ready_calls i) same ∙ calls_sound image size long none in
     let ended = sym c.is_err-2.ensures.value ∙ c.if-is_err-2.false in
     let words_are : c.words.result ≡ words_of c.in-Ok-decode.image = c.words.ensures.value in
-    let states_len = c.finish.auto.states ∙ c.deref_mut-2.ensures.len in
-    let states_are = whole _ c.finish.new.states _ states_len in
+    let states_len = c.make_ready.auto.states ∙ c.deref_mut-2.ensures.len in
+    let states_are = whole _ c.make_ready.new.states _ states_len in
     let few = c.truncate.ensures.len in
     let made = c.in-Ok-new.ensures.2 in
     let states_long = ap length states_are in
-    let count = words_are ∙ sym (ap length c.fill_words.ensures ∙ length-map-range_with_len (word_at c.in-Ok-decode.image) 0 (words_of c.in-Ok-decode.image)) in
+    let count = words_are ∙ sym (ap length c.fill_words.ensures ∙ length-map-range_with_len (told_at (layout_of c.in-Ok-decode.image) (part_of c.in-Ok-decode.image)) 0 (words_of c.in-Ok-decode.image)) in
     record {
       later = later;
       unchanged = unchanged;
+      first_stays = first_spared f0 f2 f3 image quiet seen (λ honest rest set.
+          subst (λ (i : List ℕ). Touched (λ k. at_of i ≤ k) f2 f3) same
+          (c.make_ready.ensures.touched (can honest rest) (ap is_switched same ∙ set)));
       image = image;
       seen = seen;
       undamaged = none;
       made = subst (λ (k : ℕ). Good k f0 f3) calls
-          (good_trans (1 + n) (repair_calls c.in-Ok-decode.image) f0 f2 f3 so_far
-          (ran_well (repair_calls c.in-Ok-decode.image) (repair_calls c.in-Ok-decode.image) f2 f3 _ refl ended c.finish.ensures.calls));
+          (good_trans (1 + n) (ready_calls c.in-Ok-decode.image) f0 f2 f3 so_far
+          (ran_well (ready_calls c.in-Ok-decode.image) (ready_calls c.in-Ok-decode.image) f2 f3 _ refl ended c.make_ready.ensures.calls));
       read = c.fill_words.ensures ∙ ap words_in same;
       count = count;
       places =
           let is_places = ap places_of same in
-          omega (arith, few, made, states_long, states_len, c.places.ensures.value, c.places.ensures.fits, is_places);
-      some_place = omega (arith, few, made, states_long, states_len, c.places.ensures.some, c.places.ensures.fits);
-      free = subst (λ (ss : List PlaceState). IsTrue (all_free ss)) (sym states_are) c.finish.ensures.free;
+          omega (arith, few, made, states_long, states_len, c.places_once_open.ensures.value, c.places_once_open.ensures.fits, is_places);
+      some_place = omega (arith, few, made, states_long, states_len, c.places_once_open.ensures.some, c.places_once_open.ensures.fits);
+      free = subst (λ (ss : List PlaceState). IsTrue (all_free ss)) (sym states_are) c.make_ready.ensures.free;
       sound = refl;
       whole = λ honest. whole_words f0.reads image (seen honest) none ∙ ap Some (sym (ap words_in same) ∙ sym c.fill_words.ensures);
       keeps = λ honest rest.
-          let durable = went_well c.finish.result _ ended c.finish.ensures.done (words_in c.in-Ok-decode.image) (can honest rest) in
+          let durable = went_well c.make_ready.result _ ended c.make_ready.ensures.done (can honest rest) in
           keeps_well g.D.Disk.facts _ c.fill_words.new.words.items (sym count)
-          (durable_as f3 _ _ _ _ _ _ words_are c.fill_words.ensures states_are durable);
+          (durable_as f3 _ _ _ _ _ _ _ _ c.begins_at.ensures.value words_are (sym c.deref-2.ensures.value) states_are durable);
     }

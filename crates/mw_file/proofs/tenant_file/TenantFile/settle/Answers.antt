@@ -19,6 +19,7 @@ returns-then-is_err-clause-ends g c =
     record {
       before = c.if-self.false;
       after = refl;
+      at = refl;
       words = refl;
       states = refl;
       made = ran_badly (roll_calls c.from_ref-alone.result.now) (length (writes_of_place states place) + 3) _ _ _ calls
@@ -34,6 +35,7 @@ returns-clause-ends g c =
     record {
       before = c.if-self.false;
       after = c.if-self.false;
+      at = refl;
       words = refl;
       made = ran_well (roll_calls c.from_ref-alone.result.now) (length (writes_of_place states place) + 3) _ _ _ calls
           (sym c.is_err.ensures.value ∙ c.if-is_err.false) c.roll_forward.ensures.calls;
@@ -53,37 +55,71 @@ pub returns-then-is_err-clause-safe : goal.returns-then-is_err-clause-safe
 returns-then-is_err-clause-safe g c honest contents doubt was =
     let old = g.D.Disk.facts c.args.self.now.disk in
     let new = g.D.Disk.facts c.roll_forward.new.disk in
+    let at = c.args.self.now.at in
     let words = c.args.self.now.words in
     let states = c.args.self.now.states.items in
     let place = c.args.place.0 in
     let s = c.index.result.now in
     let durable = was.inside c.if-self.false in
     let there = state_there states place Sealed c.requires (λ e. cc) in
-    let at = state_at states place s Sealed c.index.ensures c.requires (λ e. cc) in
+    let item = state_at states place s Sealed c.index.ensures c.requires (λ e. cc) in
     let is = c.from_ref-alone.ensures.value in
-    let can = subst (λ (ss : List PlaceState). CanRoll old words (length states) place ss contents) (sym is) (settle_can old new words contents states place durable there honest s at) in
-    let moments = settle_moments old new words contents states place durable there honest s at (c.roll_forward.ensures.moments (length states) contents can) in
+    let can = subst (λ (ss : List PlaceState). CanRoll old at words (length states) place ss contents) (sym is) (settle_can old new at words contents states place durable there honest s item) in
+    let moments = settle_moments old new at words contents states place durable there honest s item (c.roll_forward.ensures.moments (length states) contents can) in
     safe_failed g.D.Disk.facts c.args.self.now _ contents doubt doubt was refl refl refl (leaves_wider old new (λ image file. inl file) moments)
 
 pub returns-clause-safe : goal.returns-clause-safe
 returns-clause-safe g c honest contents doubt was =
     let old = g.D.Disk.facts c.args.self.now.disk in
     let new = g.D.Disk.facts c.roll_forward.new.disk in
+    let at = c.args.self.now.at in
     let words = c.args.self.now.words in
     let states = c.args.self.now.states.items in
     let place = c.args.place.0 in
     let s = c.index.result.now in
     let durable = was.inside c.if-self.false in
     let there = state_there states place Sealed c.requires (λ e. cc) in
-    let at = state_at states place s Sealed c.index.ensures c.requires (λ e. cc) in
+    let item = state_at states place s Sealed c.index.ensures c.requires (λ e. cc) in
     let is = c.from_ref-alone.ensures.value in
-    let can = subst (λ (ss : List PlaceState). CanRoll old words (length states) place ss contents) (sym is) (settle_can old new words contents states place durable there honest s at) in
-    let moments = settle_moments old new words contents states place durable there honest s at (c.roll_forward.ensures.moments (length states) contents can) in
+    let can = subst (λ (ss : List PlaceState). CanRoll old at words (length states) place ss contents) (sym is) (settle_can old new at words contents states place durable there honest s item) in
+    let moments = settle_moments old new at words contents states place durable there honest s item (c.roll_forward.ensures.moments (length states) contents can) in
     let well = sym c.is_err.ensures.value ∙ c.if-is_err.false in
     let done = went_well c.roll_forward.result _ well c.roll_forward.ensures.done (length states) contents can in
-    let rolled = subst (λ (ss : List PlaceState). IsRolled words place ss old new) is done in
+    let rolled = subst (λ (ss : List PlaceState). IsRolled at words place ss old new) is done in
     let has = c.roll_forward.ensures.read (length states) contents can in
     let is_staged = staged_as states place c.index_mut.result.now _ (state_at states place c.index_mut.result.now Sealed c.index_mut.ensures.value c.requires (λ e. cc)) refl in
-    let now = settle_durable old new words contents states place durable there honest s at _ has rolled c.requires is_staged in
+    let now = settle_durable old new at words contents states place durable there honest s item _ has rolled c.requires is_staged in
     safe_same g.D.Disk.facts c.args.self.now _ contents doubt (was.certain c.if-self.false)
     (safe_well g.D.Disk.facts c.args.self.now _ contents [] contents (leaves_wider old new (λ image file. inl file) moments) was.count now)
+
+pub returns-then-is_err-clause-first : goal.returns-then-is_err-clause-first
+returns-then-is_err-clause-first g c honest contents doubt was =
+    let old = g.D.Disk.facts c.args.self.now.disk in
+    let new = g.D.Disk.facts c.roll_forward.new.disk in
+    let at = c.args.self.now.at in
+    let words = c.args.self.now.words in
+    let states = c.args.self.now.states.items in
+    let place = c.args.place.0 in
+    let s = c.index.result.now in
+    let durable = was.inside c.if-self.false in
+    let there = state_there states place Sealed c.requires (λ e. cc) in
+    let item = state_at states place s Sealed c.index.ensures c.requires (λ e. cc) in
+    let is = c.from_ref-alone.ensures.value in
+    let can = subst (λ (ss : List PlaceState). CanRoll old at words (length states) place ss contents) (sym is) (settle_can old new at words contents states place durable there honest s item) in
+    c.roll_forward.ensures.touched (length states) contents can
+
+pub returns-clause-first : goal.returns-clause-first
+returns-clause-first g c honest contents doubt was =
+    let old = g.D.Disk.facts c.args.self.now.disk in
+    let new = g.D.Disk.facts c.roll_forward.new.disk in
+    let at = c.args.self.now.at in
+    let words = c.args.self.now.words in
+    let states = c.args.self.now.states.items in
+    let place = c.args.place.0 in
+    let s = c.index.result.now in
+    let durable = was.inside c.if-self.false in
+    let there = state_there states place Sealed c.requires (λ e. cc) in
+    let item = state_at states place s Sealed c.index.ensures c.requires (λ e. cc) in
+    let is = c.from_ref-alone.ensures.value in
+    let can = subst (λ (ss : List PlaceState). CanRoll old at words (length states) place ss contents) (sym is) (settle_can old new at words contents states place durable there honest s item) in
+    c.roll_forward.ensures.touched (length states) contents can

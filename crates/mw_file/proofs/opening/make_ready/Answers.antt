@@ -1,0 +1,89 @@
+use Rattle.std.proofs.Common.{ℕ, sym, ◌∙◌, subst}
+use Rattle.std.proofs.lemmas.Bool.{both_ways}
+use Rattle.mw_record.specs.Damages.{is_switched, at_of, words_of, found_places}
+use Rattle.mw_file.specs.Keeps.{IsFile}
+use Rattle.mw_file.specs.Stores.{IsDurable}
+use Rattle.mw_file.specs.Run.{Ran}
+use Rattle.mw_file.proofs.Looping.{on_ok}
+use Rattle.mw_file.proofs.Ready.{is_unset, places_unset, places_set, begins_unset, begins_set, calls_unset, calls_set, can_grow, can_finish, migrated_durable, file_moments, second_moments}
+use Rattle.mw_file.proofs.Safety.{is_file}
+use Rattle.mw_file.proofs.opening.make_ready.Goals as goal
+
+pub returns-in-First-clause-calls : goal.returns-in-First-clause-calls
+returns-in-First-clause-calls g c =
+    let first = sym c.layout.ensures ∙ c.in-First.is in
+    subst (λ (n : ℕ). Ran n (g.D.Disk.facts c.args.disk.now) (g.D.Disk.facts c.give_second.new.disk) c.give_second.result) (calls_unset c.args.image.now first) c.give_second.ensures.calls
+
+pub returns-in-First-clause-moments : goal.returns-in-First-clause-moments
+returns-in-First-clause-moments g c can =
+    let f = g.D.Disk.facts c.args.disk.now in
+    let f2 = g.D.Disk.facts c.give_second.new.disk in
+    let image = c.args.image.now in
+    let first = sym c.layout.ensures ∙ c.in-First.is in
+    file_moments f f2 _ _ c.args.words.now (places_unset image first) (c.give_second.ensures.moments (can_grow image f c.args.words.now first can))
+
+pub returns-in-First-clause-read : goal.returns-in-First-clause-read
+returns-in-First-clause-read g c can =
+    let f = g.D.Disk.facts c.args.disk.now in
+    let f2 = g.D.Disk.facts c.give_second.new.disk in
+    let image = c.args.image.now in
+    let first = sym c.layout.ensures ∙ c.in-First.is in
+    subst (λ (n : ℕ). IsFile n c.args.words.now f2.reads) (places_unset image first) (c.give_second.ensures.read (can_grow image f c.args.words.now first can))
+
+pub returns-in-First-clause-done : goal.returns-in-First-clause-done
+returns-in-First-clause-done g c =
+    let f = g.D.Disk.facts c.args.disk.now in
+    let f2 = g.D.Disk.facts c.give_second.new.disk in
+    let image = c.args.image.now in
+    let words = c.args.words.now in
+    let first = sym c.layout.ensures ∙ c.in-First.is in
+    on_ok _ _ c.give_second.result (λ done can.
+    subst (λ (k : ℕ). IsDurable f2 k (words_of image) words c.args.states.now) (begins_unset image first)
+    (migrated_durable f2 _ _ _ words c.args.states.now (done (can_grow image f words first can)) (c.requires.each ∙ sym (places_unset image first)) c.requires.free)) c.give_second.ensures.done
+
+pub returns-in-Second-clause-calls : goal.returns-in-Second-clause-calls
+returns-in-Second-clause-calls g c =
+    let second = sym c.layout.ensures ∙ c.in-Second.is in
+    subst (λ (n : ℕ). Ran n (g.D.Disk.facts c.args.disk.now) (g.D.Disk.facts c.finish.new.disk) c.finish.result) (calls_set c.args.image.now second) c.finish.ensures.calls
+
+pub returns-in-Second-clause-moments : goal.returns-in-Second-clause-moments
+returns-in-Second-clause-moments g c can =
+    let f = g.D.Disk.facts c.args.disk.now in
+    let f2 = g.D.Disk.facts c.finish.new.disk in
+    let image = c.args.image.now in
+    let words = c.args.words.now in
+    let second = sym c.layout.ensures ∙ c.in-Second.is in
+    file_moments f f2 _ _ words (places_set image second)
+    (second_moments f f2 (at_of image) (words_of image) (found_places image) words (c.finish.ensures.moments words (can_finish image f words second can)))
+
+pub returns-in-Second-clause-read : goal.returns-in-Second-clause-read
+returns-in-Second-clause-read g c can =
+    let f = g.D.Disk.facts c.args.disk.now in
+    let f2 = g.D.Disk.facts c.finish.new.disk in
+    let image = c.args.image.now in
+    let words = c.args.words.now in
+    let second = sym c.layout.ensures ∙ c.in-Second.is in
+    subst (λ (n : ℕ). IsFile n words f2.reads) (places_set image second)
+    (is_file (at_of image) (words_of image) (found_places image) words f2.reads (c.finish.ensures.read words (can_finish image f words second can)))
+
+pub returns-in-Second-clause-done : goal.returns-in-Second-clause-done
+returns-in-Second-clause-done g c =
+    let f = g.D.Disk.facts c.args.disk.now in
+    let f2 = g.D.Disk.facts c.finish.new.disk in
+    let image = c.args.image.now in
+    let words = c.args.words.now in
+    let second = sym c.layout.ensures ∙ c.in-Second.is in
+    on_ok _ _ c.finish.result (λ done can.
+    subst (λ (k : ℕ). IsDurable f2 k (words_of image) words c.finish.new.states) (begins_set image second) (done words (can_finish image f words second can))) c.finish.ensures.done
+
+pub returns-in-First-clause-touched : goal.returns-in-First-clause-touched
+returns-in-First-clause-touched g c can set =
+    let unset = is_unset c.args.image.now (sym c.layout.ensures ∙ c.in-First.is) in
+    absurd (both_ways (is_switched c.args.image.now) unset set)
+
+pub returns-in-Second-clause-touched : goal.returns-in-Second-clause-touched
+returns-in-Second-clause-touched g c can set =
+    let f = g.D.Disk.facts c.args.disk.now in
+    let image = c.args.image.now in
+    let words = c.args.words.now in
+    c.finish.ensures.touched words (can_finish image f words (sym c.layout.ensures ∙ c.in-Second.is) can)

@@ -1,0 +1,47 @@
+//! Giving a file its second layout.
+ghost use Rattle.std.specs.Prelude.{◌≡◌, ◌+◌, ◌*◌, ◌≤◌, ℕ, List, length, IsTrue, OnOk};
+ghost use Rattle.mw_disk.specs.Facts.{IsAtRest};
+ghost use Rattle.mw_disk.specs.Runs.{Later, LeavesOnly};
+ghost use Rattle.mw_record.specs.declared.layout.TheConstants.{SECOND_AT, WORD_SIZE, PLACES_GROW};
+ghost use Rattle.mw_file.specs.Keeps.{IsFile};
+ghost use Rattle.mw_file.specs.Migrating.{migration_calls, Grown, IsLaid, CanMigrate, IsMigrated};
+ghost use Rattle.mw_file.specs.Rolls.{InRange};
+ghost use Rattle.mw_file.specs.Run.{Ran};
+
+use crate::calls::write_and_sync;
+use mw_disk::{Disk, DiskFault};
+use mw_record::{COMMITTED, SECOND_AT, SWITCH_AT, home_word};
+
+/// Gives a file in its first layout the second one: writes these bytes, which are the second layout,
+/// behind the first and their offset into the file's head, syncs, sets the switch byte and syncs. Until the
+/// switch byte is set the file's words stand in the first layout, and from then on in the second. A
+/// crash at any moment leaves one or the other, so that the words stay.
+pub(crate) fn migrate<D: Disk>(disk: &mut D, second: &[u8], at: u64) -> Result<(), DiskFault>
+    ensures calls { Ran migration_calls (D.facts disk.old) (D.facts disk.new) result }
+    ensures later { Later (D.facts disk.old) (D.facts disk.new) }
+    ensures moments { (words places : ℕ) (contents : List ℕ) → CanMigrate (D.facts disk.old) at words places contents second.now
+        → LeavesOnly (D.facts disk.old) (D.facts disk.new) (IsFile (PLACES_GROW * places) contents) }
+    ensures read { (words places : ℕ) (contents : List ℕ) → CanMigrate (D.facts disk.old) at words places contents second.now
+        → IsFile (PLACES_GROW * places) contents (D.facts disk.new).reads }
+    ensures done { OnOk result ((words places : ℕ) (contents : List ℕ) → CanMigrate (D.facts disk.old) at words places contents second.now
+        → IsMigrated (D.facts disk.new) at words (PLACES_GROW * places) contents) }
+{
+    lay(disk, second, at)?;
+    write_and_sync(disk, SWITCH_AT as u64, &[COMMITTED])?;
+    Ok(())
+}
+
+/// Writes a second layout to an offset, and the offset into the file's head, and syncs.
+fn lay<D: Disk>(disk: &mut D, second: &[u8], at: u64) -> Result<(), DiskFault>
+    ensures calls { Ran 3 (D.facts disk.old) (D.facts disk.new) result }
+    ensures later { Later (D.facts disk.old) (D.facts disk.new) }
+    ensures grown { IsTrue (D.facts disk.old).honest → Grown (InRange SECOND_AT WORD_SIZE) at (D.facts disk.old) (D.facts disk.new) }
+    ensures rest { OnOk result (IsTrue (D.facts disk.old).honest → IsAtRest (D.facts disk.new)) }
+    ensures laid { OnOk result (IsTrue (D.facts disk.old).honest → SECOND_AT + WORD_SIZE ≤ at → at ≤ length (D.facts disk.old).reads
+        → IsLaid at second.now (D.facts disk.new).reads) }
+{
+    disk.write_at(at, second)?;
+    disk.write_at(SECOND_AT as u64, &home_word(at))?;
+    disk.sync()?;
+    Ok(())
+}
