@@ -1,5 +1,5 @@
 -- What was written, piece by piece.
-use Rattle.std.proofs.Common.{◌≡◌, ℕ, zero, suc, ◌+◌, ◌≤◌, List, [], ◌∷◌, ◌++◌, Option, Some, length, take, slice_get, sym, ap, ◌∙◌, subst, arith, add-one, append-nil}
+use Rattle.std.proofs.Common.{◌≡◌, ℕ, zero, suc, ◌+◌, ◌≤◌, List, [], ◌∷◌, ◌++◌, Option, Some, Result, Ok, Err, OnOk, length, take, slice_get, sym, ap, ◌∙◌, subst, arith, add-one, append-nil}
 use Rattle.std.proofs.lemmas.List.{take_all}
 use Rattle.std.proofs.lemmas.Grind.{flat_map-append}
 use Rattle.std.specs.List.{flat_map, range_with_len}
@@ -45,3 +45,8 @@ item_more a b c f xs i x read so next =
 -- all items of a list
 pub items_all : {X : Type 0} (a b : Option (List ℕ)) (f : X → List ℕ) (xs : List X) (i : ℕ) → length xs ≤ i → Appends a b (flat_map f (take i xs)) → Appends a b (flat_map f xs)
 items_all a b f xs i all so = subst (λ ys. Appends a b (flat_map f ys)) (take_all i xs all) so
+
+-- a last piece behind what was written, where it didn't fail
+pub last_piece : {X E : Type 0} (r : Result X E) (a b c : Option (List ℕ)) (xs ys : List ℕ) → Appends a b xs → OnOk r (Appends b c ys) → OnOk r (Appends a c (xs ++ ys))
+last_piece (Ok x) a b c xs ys so last = Appends-trans a b c xs ys so last
+last_piece (Err e) a b c xs ys so last = last

@@ -4,12 +4,20 @@ use Rattle.std.specs.List.{flat_map, range_with_len}
 use Rattle.std.specs.Option.{option_map_or}
 use Rattle.std.specs.Io.KnownBytes.{Appends}
 use Rattle.mw_record.specs.declared.damages.Damage.{Damage}
-use Rattle.mw_record.specs.Damages.{damage_of, number_of, pairs_in, places_of, word_at, words_of}
+use Rattle.mw_record.specs.declared.layout.Layout.{Layout}
+use Rattle.mw_record.specs.declared.layout.Layout.TheVariants.{First, Second}
+use Rattle.mw_record.specs.Parts.{told_at}
+use Rattle.mw_record.specs.Damages.{at_of, damage_of, found_places, layout_of, number_of, pairs_in, part_of, words_of}
 use Rattle.mw_show.specs.Places.{byte_of}
 
--- how many words there are, and how many record places
+-- which layout says what the file says, and where it begins: only a second one is told
+abbrev pub layout_line : Layout → ℕ → List ℕ
+layout_line First at = []
+layout_line Second at = codes "second layout at " ++ decimal at ++ codes "\n"
+
+-- how many words there are, and how many record places that layout has
 abbrev pub sizes_text : List ℕ → List ℕ
-sizes_text image = codes "words " ++ decimal (words_of image) ++ codes "\n" ++ (codes "places " ++ decimal (places_of image) ++ codes "\n")
+sizes_text image = codes "words " ++ decimal (words_of image) ++ codes "\n" ++ (codes "places " ++ decimal (found_places image) ++ codes "\n")
 
 -- an entry of the open record of a place: its address, and the value that it gives to the word there
 abbrev pub entry_line : ℕ → ℕ × ℕ → List ℕ
@@ -21,9 +29,13 @@ record_text image place = flat_map (entry_line place) (pairs_in image place)
 
 -- those of all places, in order
 abbrev pub records_text : List ℕ → List ℕ
-records_text image = flat_map (record_text image) (range_with_len 0 (places_of image))
+records_text image = flat_map (record_text image) (range_with_len 0 (found_places image))
 
--- the word at an address
+-- what the word at an address is: its home word, with the open records put over it
+abbrev pub word_at : List ℕ → ℕ → ℕ
+word_at image addr = told_at (layout_of image) (part_of image) addr
+
+-- the line of the word at an address
 abbrev pub word_line : ℕ → ℕ → List ℕ
 word_line addr value = codes "word " ++ decimal addr ++ codes " " ++ decimal value ++ codes "\n"
 
@@ -37,7 +49,7 @@ words_text all_words image = flat_map (λ addr. word_text all_words addr (word_a
 
 -- a file without damage
 abbrev pub file_text : Bool → List ℕ → List ℕ
-file_text all_words image = sizes_text image ++ records_text image ++ words_text all_words image
+file_text all_words image = layout_line (layout_of image) (at_of image) ++ sizes_text image ++ records_text image ++ words_text all_words image
 
 -- a damage, by its number and the byte where it lies
 abbrev pub damage_line : Damage → ℕ → List ℕ

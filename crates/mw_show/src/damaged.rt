@@ -1,18 +1,24 @@
 //! Where the damage of a file lies.
 ghost use Rattle.std.specs.Prelude.{◌≡◌, ◌≤◌, IfOk, Some, length};
 ghost use Rattle.mw_record.specs.declared.layout.TheConstants.{HEAD_SIZE};
-ghost use Rattle.mw_record.specs.Damages.{damage_of, places_of, words_of};
+ghost use Rattle.mw_record.specs.Damages.{at_of, damage_of, found_places, layout_of, second_at, words_of};
+ghost use Rattle.mw_record.specs.Parts.{places_told, words_told};
 ghost use Rattle.mw_show.specs.Places as spec;
 
 use crate::sized::SizedFile;
 use byteorder::{ByteOrder, LittleEndian};
-use mw_record::Damage;
-use mw_words::{MAX_PLACES, MAX_WORDS};
+use mw_record::{
+    COMMITTED, Damage, HEAD_SIZE, Layout, MAX_FIRST, PLACES_AT, SECOND_AT, SWITCH_AT, WORD_SIZE,
+    WORDS_AT,
+};
+use mw_words::MAX_WORDS;
 use std::alloc::{AllocError, Global};
 
-/// The byte at which the part that makes a damage begins: of the record place, of the home word, or of
-/// the sizes in the head. Where the file doesn't begin as such a file does it is 0, and where it is too
-/// short the first that is not there.
+/// The byte at which the part that makes a damage begins, counted from the beginning of the file: of the
+/// record place, of the home word, or of the sizes in the head of the layout that says what the file says.
+/// Where the file doesn't begin as such a file does it is 0, and where it is too short the first that is
+/// not there. Where no second layout begins it is the offset at which one should, or the byte where that
+/// offset stands if none may begin there.
 ///
 /// # Errors
 ///
@@ -24,51 +30,96 @@ pub fn damage_byte(alloc: Global, bytes: &[u8], damage: Damage) -> Result<u64, A
     match damage {
         Damage::Short => Ok(bytes.len() as u64),
         Damage::NotThisFormat => Ok(0),
+        Damage::SecondLayout => Ok(second_byte(bytes)),
         Damage::Sizes => Ok(sizes_byte(bytes)),
         Damage::Record | Damage::Overlap => sized(bytes).place_byte(alloc, damage),
         Damage::Value => sized(bytes).value_byte(alloc),
     }
 }
 
-/// The byte of the first size that a file may not have, or else that which tells of another layout.
-fn sizes_byte(bytes: &[u8]) -> u64
+/// The offset at which the second layout should begin, or the byte where it stands.
+fn second_byte(bytes: &[u8]) -> u64
     requires { HEAD_SIZE ≤ length bytes.now }
-    ensures { result ≡ spec.sizes_byte (words_of bytes.now) (places_of bytes.now) }
+    ensures { result ≡ spec.second_byte (second_at bytes.now) }
 {
-    let (words, places) = told_sizes(bytes);
-    if words == 0 || words > u32::from(MAX_WORDS) {
-        return 8;
+    let at = second_offset(bytes);
+    if at < HEAD_SIZE as u64 || at > MAX_FIRST as u64 {
+        return SECOND_AT as u64;
     }
-    if places == 0 || places > MAX_PLACES {
-        return 12;
-    }
-    15
+    at
 }
 
-/// The file with the sizes that its head tells.
-fn sized(bytes: &[u8]) -> SizedFile<'_>
-    requires { spec.IsSized bytes.now }
-    ensures bytes { result.bytes.now ≡ bytes.now }
-    ensures words { result.words ≡ words_of bytes.now }
-    ensures places { result.places ≡ places_of bytes.now }
+/// The byte of the number of words where a file may not have so many, or else of that of record places.
+fn sizes_byte(bytes: &[u8]) -> u64
+    requires long { HEAD_SIZE ≤ length bytes.now }
+    requires head { spec.HasHead (at_of bytes.now) bytes.now }
+    ensures { result ≡ spec.sizes_byte (at_of bytes.now) (words_of bytes.now) }
 {
-    let (words, places) = told_sizes(bytes);
+    let (_, at) = told_layout(bytes);
+    let words = told_words(&bytes[at as usize..]);
+    if words == 0 || words > u32::from(MAX_WORDS) {
+        return at + WORDS_AT as u64;
+    }
+    at + PLACES_AT as u64
+}
+
+/// The file with the layout that says what it says, and the sizes that its head tells.
+fn sized(bytes: &[u8]) -> SizedFile<'_>
+    requires long { HEAD_SIZE ≤ length bytes.now }
+    requires sized { spec.IsSized (layout_of bytes.now) (at_of bytes.now) (words_of bytes.now) (found_places bytes.now) bytes.now }
+    ensures bytes { result.bytes.now ≡ bytes.now }
+    ensures layout { result.layout ≡ layout_of bytes.now }
+    ensures at { result.at ≡ at_of bytes.now }
+    ensures words { result.words ≡ words_of bytes.now }
+    ensures places { result.places ≡ found_places bytes.now }
+{
+    let (layout, at) = told_layout(bytes);
+    let part = &bytes[at as usize..];
     SizedFile {
         bytes,
-        words: words as u16,
-        places,
+        layout,
+        at,
+        words: told_words(part) as u16,
+        places: told_places(part),
     }
 }
 
-/// The sizes that the head tells, of words and of record places.
-#[tactic(auto, unfolding(mw_record::specs::Layout::number_at))]
-fn told_sizes(bytes: &[u8]) -> (u32, u16)
+/// The layout that says what the file says, and the offset at which it begins.
+fn told_layout(bytes: &[u8]) -> (Layout, u64)
     requires { HEAD_SIZE ≤ length bytes.now }
-    ensures words { result.0 ≡ words_of bytes.now }
-    ensures places { result.1 ≡ places_of bytes.now }
+    ensures layout { result.0 ≡ layout_of bytes.now }
+    ensures at { result.1 ≡ at_of bytes.now }
 {
-    (
-        LittleEndian::read_u32(&bytes[8..12]),
-        LittleEndian::read_u16(&bytes[12..14]),
-    )
+    if bytes[SWITCH_AT] == COMMITTED {
+        (Layout::Second, second_offset(bytes))
+    } else {
+        (Layout::First, 0)
+    }
+}
+
+/// The offset of the second layout that the head of a file tells.
+#[tactic(auto, unfolding(mw_record::specs::Layout::number_at))]
+fn second_offset(bytes: &[u8]) -> u64
+    requires { HEAD_SIZE ≤ length bytes.now }
+    ensures { result ≡ second_at bytes.now }
+{
+    LittleEndian::read_u64(&bytes[SECOND_AT..SECOND_AT + WORD_SIZE])
+}
+
+/// The number of words that the head of a layout tells.
+#[tactic(auto, unfolding(mw_record::specs::Layout::number_at))]
+fn told_words(part: &[u8]) -> u32
+    requires { HEAD_SIZE ≤ length part.now }
+    ensures { result ≡ words_told part.now }
+{
+    LittleEndian::read_u32(&part[WORDS_AT..PLACES_AT])
+}
+
+/// The number of record places that it tells.
+#[tactic(auto, unfolding(mw_record::specs::Layout::number_at))]
+fn told_places(part: &[u8]) -> u16
+    requires { HEAD_SIZE ≤ length part.now }
+    ensures { result ≡ places_told part.now }
+{
+    LittleEndian::read_u16(&part[PLACES_AT..PLACES_AT + 2])
 }

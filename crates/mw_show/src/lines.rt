@@ -1,12 +1,12 @@
 //! The lines that are printed of a file's bytes.
 ghost use Rattle.std.specs.Prelude.{◌≡◌, ◌<◌, None, Some, OnOk, is_none, IfOk};
 ghost use Rattle.std.specs.Io.KnownBytes.{Appends};
-ghost use Rattle.mw_record.specs.Damages.{damage_of, places_of};
+ghost use Rattle.mw_record.specs.Damages.{at_of, damage_of, found_places, layout_of};
 ghost use Rattle.mw_show.specs.Text as spec;
 
 use crate::damaged::damage_byte;
 use crate::reading::ShowFault;
-use mw_record::{Damage, Image, decode};
+use mw_record::{Damage, Image, Layout, decode};
 use std::alloc::Global;
 use std::io::{self, Write};
 
@@ -50,9 +50,20 @@ fn show_damage<O: Write>(damage: Damage, byte: u64, out: &mut O) -> io::Result<(
 fn show_image<O: Write>(image: &Image<'_>, all_words: bool, out: &mut O) -> io::Result<()>
     ensures { OnOk result (Appends (O.contents out.old) (O.contents out.new) (spec.file_text all_words image.now)) }
 {
+    show_layout(image, out)?;
     show_sizes(image, out)?;
     show_records(image, out)?;
     show_words(image, all_words, out)
+}
+
+/// Writes where the second layout begins, where it says what the file says.
+fn show_layout<O: Write>(image: &Image<'_>, out: &mut O) -> io::Result<()>
+    ensures { OnOk result (Appends (O.contents out.old) (O.contents out.new) (spec.layout_line (layout_of image.now) (at_of image.now))) }
+{
+    match image.layout() {
+        Layout::First => Ok(()),
+        Layout::Second => writeln!(out, "second layout at {}", image.at()),
+    }
 }
 
 /// Writes how many words and record places there are.
@@ -75,7 +86,7 @@ fn show_records<O: Write>(image: &Image<'_>, out: &mut O) -> io::Result<()>
 
 /// Writes the entries of the record of a place, where it is open.
 fn show_record<O: Write>(image: &Image<'_>, place: u16, out: &mut O) -> io::Result<()>
-    requires { place < places_of image.now }
+    requires { place < found_places image.now }
     ensures { OnOk result (Appends (O.contents out.old) (O.contents out.new) (spec.record_text image.now place)) }
 {
     for i in 0..image.count(place) {

@@ -1,21 +1,21 @@
 //! A damaged file whose sizes are known, and its parts alone.
-ghost use Rattle.std.specs.Prelude.{◌≡◌, ◌+◌, ◌≤◌, IfOk, length};
-ghost use Rattle.mw_record.specs.declared.damages.Damage.TheVariants.{Value};
-ghost use Rattle.mw_record.specs.Layout.{place_at, size};
-ghost use Rattle.mw_record.specs.Stands.{MayHave};
+ghost use Rattle.std.specs.Prelude.{◌≡◌, ◌+◌, ◌≤◌, IfOk};
+ghost use Rattle.mw_record.specs.Layout.{header, place_at};
 ghost use Rattle.mw_show.specs.Places as spec;
 
-use mw_record::{Damage, HEAD_SIZE, decode, header, home_at, place_at};
+use mw_record::{Damage, HEAD_SIZE, Layout, decode, header, header2, home_at};
 use std::alloc::{AllocError, Global};
 
-/// The bytes of a file with sizes that a file may have, none of which is missing.
+/// The bytes of a file whose layout begins at an offset and has sizes that it may have, none of which is
+/// missing.
 #[derive(Drop)]
 pub struct SizedFile<'a> {
     pub bytes: &'a [u8],
+    pub layout: Layout,
+    pub at: u64,
     pub words: u16,
     pub places: u16,
-    ghost sizes: { MayHave words places },
-    ghost whole: { size words places ≤ length bytes.now },
+    ghost sized: { spec.IsSized layout at words places bytes.now },
 }
 
 impl SizedFile<'_> {
@@ -25,10 +25,10 @@ impl SizedFile<'_> {
     ///
     /// Memory was refused.
     pub fn place_byte(&self, alloc: Global, damage: Damage) -> Result<u64, AllocError>
-        ensures { IfOk result (λ byte. byte ≡ place_at self.now.words (spec.place_of self.now.words self.now.places damage self.now.bytes.now)) }
+        ensures { IfOk result (λ byte. byte ≡ spec.place_byte self.now.layout self.now.at self.now.words self.now.places damage self.now.bytes.now) }
     {
         let place = self.place_of(alloc, damage)?;
-        Ok(place_at(self.words, place))
+        Ok(self.byte_of_place(place))
     }
 
     /// The byte of the first record with a value above the greatest, and where none has, of the first
@@ -38,25 +38,34 @@ impl SizedFile<'_> {
     ///
     /// Memory was refused.
     pub fn value_byte(&self, alloc: Global) -> Result<u64, AllocError>
-        ensures { IfOk result (λ byte. byte ≡ spec.value_byte self.now.words self.now.places self.now.bytes.now) }
+        ensures { IfOk result (λ byte. byte ≡ spec.value_byte self.now.layout self.now.at self.now.words self.now.places self.now.bytes.now) }
     {
         let records = self.first_homes(alloc, 0)?;
         let records = SizedFile {
             bytes: &records,
+            layout: self.layout,
+            at: self.at,
             words: self.words,
             places: self.places,
         };
         let place = records.place_of(alloc, Damage::Value)?;
         if place < self.places {
-            return Ok(place_at(self.words, place));
+            return Ok(self.byte_of_place(place));
         }
         let home = self.home_of(alloc)?;
-        Ok(home_at(home))
+        Ok(home_at(self.at, home))
+    }
+
+    /// The byte at which a place begins.
+    fn byte_of_place(&self, place: u16) -> u64
+        ensures { result ≡ self.now.at + place_at self.now.layout self.now.words place }
+    {
+        self.at + self.layout.place_at(self.words, place)
     }
 
     /// The first place with which the damage comes, or how many places there are.
     fn place_of(&self, alloc: Global, damage: Damage) -> Result<u16, AllocError>
-        ensures { IfOk result (λ place. place ≡ spec.place_of self.now.words self.now.places damage self.now.bytes.now) }
+        ensures { IfOk result (λ place. place ≡ spec.place_of self.now.layout self.now.at self.now.words self.now.places damage self.now.bytes.now) }
     {
         for place in 0..self.places {
             let first = self.first_places(alloc, place + 1)?;
@@ -69,7 +78,7 @@ impl SizedFile<'_> {
 
     /// The first home word with which a value is above the greatest, or how many words there are.
     fn home_of(&self, alloc: Global) -> Result<u16, AllocError>
-        ensures { IfOk result (λ addr. addr ≡ spec.home_of self.now.words self.now.bytes.now) }
+        ensures { IfOk result (λ addr. addr ≡ spec.home_of self.now.at self.now.words self.now.bytes.now) }
     {
         for addr in 0..self.words {
             let first = self.first_homes(alloc, addr + 1)?;
@@ -84,20 +93,35 @@ impl SizedFile<'_> {
     fn first_places(&self, alloc: Global, places: u16) -> Result<Vec<u8>, AllocError>
         requires some { 1 ≤ places }
         requires fits { places ≤ self.now.places }
-        ensures { IfOk result (λ first. first.items ≡ spec.first_places self.now.words places self.now.bytes.now) }
+        ensures { IfOk result (λ first. first.items ≡ spec.first_places self.now.layout self.now.at self.now.words places self.now.bytes.now) }
     {
-        let mut first = Vec::from_slice(alloc, &header(self.words, places))?;
-        first.extend_from_slice(&self.bytes[HEAD_SIZE..])?;
+        let at = self.at as usize;
+        let mut first = Vec::from_slice(alloc, &self.bytes[..at])?;
+        first.extend_from_slice(&self.head(places))?;
+        first.extend_from_slice(&self.bytes[at + HEAD_SIZE..])?;
         Ok(first)
+    }
+
+    /// The layout's head with so many places.
+    fn head(&self, places: u16) -> [u8; HEAD_SIZE]
+        requires some { 1 ≤ places }
+        requires fits { places ≤ self.now.places }
+        ensures { result ≡ header self.now.layout self.now.words places }
+    {
+        match self.layout {
+            Layout::First => header(self.words, places),
+            Layout::Second => header2(self.words, places),
+        }
     }
 
     /// The file with zeros in place of all but its first home words.
     fn first_homes(&self, alloc: Global, homes: u16) -> Result<Vec<u8>, AllocError>
         requires { homes ≤ self.now.words }
-        ensures { IfOk result (λ first. first.items ≡ spec.first_homes self.now.words homes self.now.bytes.now) }
+        ensures { IfOk result (λ first. first.items ≡ spec.first_homes self.now.at self.now.words homes self.now.bytes.now) }
     {
-        let end = home_at(self.words) as usize;
-        let mut first = Vec::from_slice(alloc, &self.bytes[..home_at(homes) as usize])?;
+        let begin = home_at(self.at, homes) as usize;
+        let end = home_at(self.at, self.words) as usize;
+        let mut first = Vec::from_slice(alloc, &self.bytes[..begin])?;
         first.resize(end, 0)?;
         first.extend_from_slice(&self.bytes[end..])?;
         Ok(first)

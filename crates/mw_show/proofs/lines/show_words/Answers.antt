@@ -1,8 +1,8 @@
 use Rattle.std.proofs.Common.{◌≡◌, ℕ, subst, arith}
 use Rattle.std.specs.Io.KnownBytes.{Appends}
 use Rattle.mw_record.proofs.Faults.{word_in}
-use Rattle.mw_record.specs.Damages.{word_at}
-use Rattle.mw_show.specs.Text.{word_text}
+use Rattle.mw_record.specs.Damages.{layout_of, part_of}
+use Rattle.mw_show.specs.Text.{word_at, word_text}
 use Rattle.mw_show.proofs.Written.{text_more}
 use Rattle.mw_show.proofs.lines.show_words.Goals as goal
 
@@ -10,7 +10,7 @@ pub loop-addr-preserved : goal.loop-addr-preserved
 loop-addr-preserved g c =
     let W = g.O.Write.contents in
     let image = c.args.image.now in
-    let read = word_in image c.loop-addr.addr (omega (arith, c.loop-addr-test.true, c.words-addr-end.ensures.value)) in
+    let read = word_in (layout_of image) (part_of image) c.loop-addr.addr (omega (arith, c.loop-addr-test.true, c.words-addr-end.ensures.value)) in
     let told = c.word.ensures in
     let value : c.word.result ≡ word_at image c.loop-addr.addr = cc in
     text_more (W c.args.out.now) (W c.loop-addr.out) (W c.show_word.new.out) (λ addr. word_text c.args.all_words addr (word_at image addr)) c.loop-addr.addr c.loop-addr.invariant

@@ -1,7 +1,6 @@
 use Rattle.std.specs.List.{flat_map, range_with_len}
 use Rattle.std.specs.Io.KnownBytes.{Appends}
-use Rattle.mw_record.specs.Damages.{word_at}
-use Rattle.mw_show.specs.Text.{word_text}
+use Rattle.mw_show.specs.Text.{word_at, word_text}
 use Rattle.mw_show.proofs.lines.show_words.Given as goal
 
 -- the words so far were written

@@ -1,12 +1,20 @@
-use Rattle.std.proofs.Common.{◌++◌, ◌-◌, List, ℕ, length, length-drop, drop, ap, ◌∙◌, arith}
+use Rattle.std.proofs.Common.{◌++◌, ◌+◌, ◌-◌, List, ℕ, length, length-drop, take, drop, ap, ◌∙◌, arith, append_assoc}
 use Rattle.std.proofs.lemmas.List.{take_all}
+use Rattle.mw_record.specs.Layout.{header}
 use Rattle.mw_show.proofs.sized.SizedFile.first_places.Goals as goal
 
--- the head, and what stands behind it
+-- the bytes before the layout, its head, and what stands behind that
 pub returns : goal.returns
 returns c =
-    let bytes : List ℕ = c.args.self.now.bytes.now in
-    let first = c.in_ok-first.first.items in
-    c.in_ok-extend_from_slice.ensures.items
-    ∙ ap (λ (rest : List ℕ). first ++ rest) (take_all (length bytes - 32) (drop 32 bytes) (omega (arith, length-drop 32 bytes)))
-    ∙ ap (λ (head : List ℕ). head ++ drop 32 bytes) (c.in_ok-first.ensures.items ∙ c.header.ensures)
+    let file = c.args.self.now in
+    let bytes : List ℕ = file.bytes.now in
+    let head : List ℕ = header file.layout file.words c.args.places in
+    let behind : ℕ = file.at + 32 in
+    let rest : List ℕ = drop behind bytes in
+    let before : List ℕ = c.in_ok-first.first.items in
+    let first : List ℕ = c.extend_from_slice.new.self.items in
+    c.in_ok-extend_from_slice-2.ensures.items
+    ∙ ap (λ (xs : List ℕ). first ++ xs) (take_all (length bytes - behind) rest (omega (arith, length-drop behind bytes)))
+    ∙ ap (λ (xs : List ℕ). xs ++ rest)
+    (c.in_ok-extend_from_slice.ensures.items ∙ ap (λ (xs : List ℕ). before ++ xs) c.head.ensures ∙ ap (λ (xs : List ℕ). xs ++ head) c.in_ok-first.ensures.items)
+    ∙ append_assoc (take file.at bytes) head rest

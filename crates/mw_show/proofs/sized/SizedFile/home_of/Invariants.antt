@@ -4,4 +4,4 @@ use Rattle.mw_show.proofs.sized.SizedFile.home_of.Given as goal
 
 -- none of the home words so far is
 abbrev pub invariant-loop-addr : goal.invariant-loop-addr
-invariant-loop-addr l = first_of (passes_at l.self.words l.self.bytes.now) l.addr ≡ l.addr
+invariant-loop-addr l = first_of (passes_at l.self.at l.self.words l.self.bytes.now) l.addr ≡ l.addr

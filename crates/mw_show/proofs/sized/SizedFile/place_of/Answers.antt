@@ -6,5 +6,5 @@ use Rattle.mw_show.proofs.sized.SizedFile.place_of.Goals as goal
 pub returns-then-has_damage : goal.returns-then-has_damage
 returns-then-has_damage c =
     let file = c.args.self.now in
-    sym (found (comes_at file.words c.args.damage file.bytes.now) file.places c.loop-place.place c.loop-place-test.true c.loop-place.invariant
+    sym (found (comes_at file.layout file.at file.words c.args.damage file.bytes.now) file.places c.loop-place.place c.loop-place-test.true c.loop-place.invariant
     (ap (has_damage c.args.damage) (sym (c.deref.ensures.value ∙ c.in_ok-first.ensures)) ∙ sym c.has_damage.ensures ∙ c.if-has_damage.true))

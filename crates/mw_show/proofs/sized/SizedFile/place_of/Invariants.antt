@@ -4,4 +4,4 @@ use Rattle.mw_show.proofs.sized.SizedFile.place_of.Given as goal
 
 -- the damage comes with none of the places so far
 abbrev pub invariant-loop-place : goal.invariant-loop-place
-invariant-loop-place l = first_of (comes_at l.self.words l.damage l.self.bytes.now) l.place ≡ l.place
+invariant-loop-place l = first_of (comes_at l.self.layout l.self.at l.self.words l.damage l.self.bytes.now) l.place ≡ l.place

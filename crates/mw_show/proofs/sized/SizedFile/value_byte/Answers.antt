@@ -6,8 +6,11 @@ use Rattle.mw_show.proofs.sized.SizedFile.value_byte.Goals as goal
 pub invariant_of-records : goal.invariant_of-records
 invariant_of-records c =
     let file = c.args.self.now in
-    let long = length-first_homes file.words 0 file.bytes.now (omega arith) (omega (arith, file.whole)) in
+    let long = length-first_homes file.at file.words 0 file.bytes.now (omega arith) (omega (arith, file.sized.whole)) in
     record {
-      sizes = file.sizes;
-      whole = omega (arith, file.whole, long, ap length c.in_ok-records.ensures, ap length c.deref.ensures.value);
+      sized = record {
+        begins = file.sized.begins;
+        sizes = file.sized.sizes;
+        whole = omega (arith, file.sized.whole, long, ap length c.in_ok-records.ensures, ap length c.deref.ensures.value);
+      };
     }
