@@ -29,11 +29,13 @@ fn config() -> Config
         name: ArrayVec::new(),
         words: 1,
         quota: 1,
+        old: None,
     });
     tenants.push(Tenant {
         name: ArrayVec::new(),
         words: 1,
         quota: 1,
+        old: None,
     });
     Config {
         pool: 2,

@@ -1,5 +1,5 @@
 -- The world of these lines, and what its start gives.
-use Rattle.std.specs.Prelude.{◌≡◌, ◌≤◌, ◌<◌, ◌+◌, ℕ, zero, suc, All, List, [], ◌∷◌, length, map, slice_get, slice_index_or, sum_by, Option, Some, None, Vec}
+use Rattle.std.specs.Prelude.{◌≡◌, ◌≤◌, ◌<◌, ◌+◌, ℕ, zero, suc, All, List, [], ◌∷◌, length, map, slice_get, slice_index_or, sum_by, IsTrue, Option, Some, None, Vec}
 use Rattle.std.specs.declared.alloc.Global.{Global}
 use Rattle.std.proofs.Common.{refl, sym, ap, subst, ◌∙◌, arith}
 use Rattle.std.proofs.lemmas.List.{length-map, length-replicate}
@@ -13,7 +13,7 @@ use Rattle.mw_config.specs.declared.lines.TenantLine.{TenantLine}
 use Rattle.mw_config.specs.Limits.{ArePermitted}
 use Rattle.mw_world.specs.declared.config.Config.{Config}
 use Rattle.mw_world.specs.declared.config.Tenant.{Tenant}
-use Rattle.mw_world.specs.Definition.State.{IsConfig, IsStart, no_tenant, quotas_together, tenants_of}
+use Rattle.mw_world.specs.Definition.State.{IsConfig, IsStart, may_be_old, no_tenant, quotas_together, tenants_of}
 use Rattle.mw_core.specs.FromTable.{opening_at}
 use Rattle.mw_engine.specs.Agreeing.{line_given}
 use Rattle.mw_engine.specs.Opened.{FitLines, FitsLine, line_read, opening_read, openings_read, tenant_read}
@@ -47,6 +47,8 @@ configured config lines pool workers tenants is_pool is_workers is_seq pools som
           (All-map (λ (tenant : Tenant). (1 ≤ tenant.words) × (tenant.words ≤ MAX_WORDS)) tenant_read lines permitted.words);
       quotas = subst (λ (all : List Tenant). All (λ (tenant : Tenant). (1 ≤ tenant.quota) × (tenant.quota ≤ MAX_QUOTA)) all) (sym tenants)
           (All-map (λ (tenant : Tenant). (1 ≤ tenant.quota) × (tenant.quota ≤ MAX_QUOTA)) tenant_read lines permitted.quotas);
+      old = subst (λ (all : List Tenant). All (λ (tenant : Tenant). IsTrue (may_be_old tenant.words tenant.old)) all) (sym tenants)
+          (All-map (λ (tenant : Tenant). IsTrue (may_be_old tenant.words tenant.old)) tenant_read lines (λ i line low. refl));
       slots = subst (λ (all : List Tenant). sum_by (λ (tenant : Tenant). tenant.quota) all ≤ config.pool) (sym tenants)
           (let slots = permitted.slots in let same = quotas_so lines in omega (arith, slots, same, is_pool));
     }

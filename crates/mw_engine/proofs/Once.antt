@@ -1,5 +1,5 @@
 -- A book agrees with a right in the one form just where it does in the other.
-use Rattle.std.specs.Prelude.{◌≡◌, ◌⊎◌, ℕ, List, [], ◌∷◌, length, Option, Some, None, IsTrue}
+use Rattle.std.specs.Prelude.{◌≡◌, ◌⊎◌, ℕ, List, [], ◌∷◌, drop, length, Option, Some, None, IsTrue}
 use Rattle.std.specs.Coded.{Coded-set, coded_option, coded_list, coded_ℕ}
 use Rattle.std.proofs.Common.{refl, ap, subst, ◌∙◌, inl, inr}
 use Rattle.std.proofs.Math.Logic.{∥∥₁_elim}
@@ -11,7 +11,7 @@ use Rattle.mw_record.specs.Damages.{file_words, places_of}
 use Rattle.mw_file.specs.declared.place_states.Stage.{Stage}
 use Rattle.mw_file.specs.declared.place_states.Stage.TheVariants.{Free, Prepared, Sealed}
 use Rattle.mw_file.specs.declared.tenant_file.TenantFile.{TenantFile}
-use Rattle.mw_file.specs.File.{disk_of, words_of, states_of}
+use Rattle.mw_file.specs.File.{at_of, disk_of, words_of, states_of}
 use Rattle.mw_file.specs.Keeps.{IsEither, IsFile, Keeps}
 use Rattle.mw_file.specs.PlaceStates.{stage_of, writes_of_place}
 use Rattle.mw_file.specs.Stores.{PlacedAs}
@@ -56,15 +56,15 @@ either_of places contents doubt image some = elim (is_file_or_not places content
     only other (inl file) = absurd (other file)
     only other (inr file) = file
 
-stored_once : (image : List ℕ) (words place : ℕ) (stage : Stage) (writes : Pairs) → PlacedAs image words place stage writes → IsStoredAs image words place stage writes
-stored_once image words place Free writes placed = record { free = λ is. placed; prepared = λ is. absurd (cc); sealed = λ is. absurd (cc) }
-stored_once image words place Prepared writes placed = record { free = λ is. absurd (cc); prepared = λ is. placed; sealed = λ is. absurd (cc) }
-stored_once image words place Sealed writes placed = record { free = λ is. absurd (cc); prepared = λ is. absurd (cc); sealed = λ is. placed }
+stored_once : (part : List ℕ) (words place : ℕ) (stage : Stage) (writes : Pairs) → PlacedAs part words place stage writes → IsStoredAs part words place stage writes
+stored_once part words place Free writes placed = record { free = λ is. placed; prepared = λ is. absurd (cc); sealed = λ is. absurd (cc) }
+stored_once part words place Prepared writes placed = record { free = λ is. absurd (cc); prepared = λ is. placed; sealed = λ is. absurd (cc) }
+stored_once part words place Sealed writes placed = record { free = λ is. absurd (cc); prepared = λ is. absurd (cc); sealed = λ is. placed }
 
-stored_of : (image : List ℕ) (words place : ℕ) (stage : Stage) (writes : Pairs) → IsStoredAs image words place stage writes → PlacedAs image words place stage writes
-stored_of image words place Free writes once = once.free refl
-stored_of image words place Prepared writes once = once.prepared refl
-stored_of image words place Sealed writes once = once.sealed refl
+stored_of : (part : List ℕ) (words place : ℕ) (stage : Stage) (writes : Pairs) → IsStoredAs part words place stage writes → PlacedAs part words place stage writes
+stored_of part words place Free writes once = once.free refl
+stored_of part words place Prepared writes once = once.prepared refl
+stored_of part words place Sealed writes once = once.sealed refl
 
 module _ {D : Type 0} (facts : D → Facts) where
   stands_once : (file : TenantFile D) (contents : List ℕ) (doubt : Pairs) → Keeps facts file contents doubt → StandsOnce facts file contents doubt
@@ -76,7 +76,7 @@ module _ {D : Type 0} (facts : D → Facts) where
     rest = λ sound. (keeps.inside sound).rest;
     has = λ sound. (keeps.inside sound).stores.has;
     placed = λ sound place low.
-        stored_once (facts (disk_of file)).reads (words_of file) place (stage_of (states_of file) place) (writes_of_place (states_of file) place) ((keeps.inside sound).stores.placed place low);
+        stored_once (drop (at_of file) (facts (disk_of file)).reads) (words_of file) place (stage_of (states_of file) place) (writes_of_place (states_of file) place) ((keeps.inside sound).stores.placed place low);
   }
 
   stands_of : (file : TenantFile D) (contents : List ℕ) (doubt : Pairs) → StandsOnce facts file contents doubt → Keeps facts file contents doubt
@@ -90,7 +90,7 @@ module _ {D : Type 0} (facts : D → Facts) where
       stores = record {
         has = once.has sound;
         placed = λ place low.
-            stored_of (facts (disk_of file)).reads (words_of file) place (stage_of (states_of file) place) (writes_of_place (states_of file) place) (once.placed sound place low);
+            stored_of (drop (at_of file) (facts (disk_of file)).reads) (words_of file) place (stage_of (states_of file) place) (writes_of_place (states_of file) place) (once.placed sound place low);
       };
     };
   }

@@ -1,14 +1,15 @@
 -- A tenant's book, and the right to its file. What is said here of them is what `Agrees` of mw_core says, in a form that has one proof at most, as the invariant of a type must.
-use Rattle.std.specs.Prelude.{◌≡◌, ◌<◌, ℕ, true, false, is_some, List, [], length, slice_get, slice_index, Option, Some, None, IsTrue}
+use Rattle.std.specs.Prelude.{◌≡◌, ◌<◌, ℕ, true, false, is_some, List, [], drop, length, slice_get, slice_index, Option, Some, None, IsTrue}
 use Rattle.mw_words.specs.declared.limits.TheConstants.{MAX_POOL}
 use Rattle.mw_disk.specs.Facts.{Facts, IsAtRest, MayLeave}
 use Rattle.mw_record.specs.Layout.{pairs_of}
 use Rattle.mw_record.specs.Records.{Pairs, record_at}
-use Rattle.mw_record.specs.Stands.{HasWords}
+use Rattle.mw_record.specs.Stands.{HasSecond}
+use Rattle.mw_record.specs.declared.layout.Layout.TheVariants.{Second}
 use Rattle.mw_file.specs.declared.place_states.Stage.{Stage}
 use Rattle.mw_file.specs.declared.place_states.Stage.TheVariants.{Free, Prepared, Sealed}
 use Rattle.mw_file.specs.declared.tenant_file.TenantFile.{TenantFile}
-use Rattle.mw_file.specs.File.{disk_of, words_of, states_of, has_failed}
+use Rattle.mw_file.specs.File.{at_of, disk_of, words_of, states_of, has_failed}
 use Rattle.mw_file.specs.Keeps.{IsEither, IsFile}
 use Rattle.mw_file.specs.PlaceStates.{stage_of, writes_of_place}
 use Rattle.mw_file.specs.Stores.{IsWritten}
@@ -19,11 +20,11 @@ use Rattle.mw_book.specs.Shown.{ArePlaced}
 use Rattle.mw_core.specs.FromTable.{FileRight, FileRights, file_kept, file_told, opening_at}
 use Rattle.mw_engine.specs.Branding.{Identity}
 
--- the bytes of a place, by how far its change is
-pub record IsStoredAs (image : List ℕ) (words place : ℕ) (stage : Stage) (writes : Pairs) : Type 0 where
-  pub free : stage ≡ Free → record_at image words place ≡ None
-  pub prepared : stage ≡ Prepared → IsWritten image words place writes
-  pub sealed : stage ≡ Sealed → record_at image words place ≡ Some writes
+-- the bytes of a place of a second layout, by how far its change is
+pub record IsStoredAs (part : List ℕ) (words place : ℕ) (stage : Stage) (writes : Pairs) : Type 0 where
+  pub free : stage ≡ Free → record_at Second part words place ≡ None
+  pub prepared : stage ≡ Prepared → IsWritten part words place writes
+  pub sealed : stage ≡ Sealed → record_at Second part words place ≡ Some writes
 
 module _ {D : Type 0} (facts : D → Facts) where
   -- a file stands for these words, with this change in doubt
@@ -33,9 +34,9 @@ module _ {D : Type 0} (facts : D → Facts) where
     pub certain : has_failed file ≡ false → doubt ≡ []
     pub left : (image : List ℕ) → MayLeave (facts (disk_of file)) image → ∥ IsEither (length (states_of file)) contents doubt image ∥₁
     pub rest : has_failed file ≡ false → IsAtRest (facts (disk_of file))
-    pub has : has_failed file ≡ false → HasWords (words_of file) (length (states_of file)) contents (facts (disk_of file)).reads
+    pub has : has_failed file ≡ false → HasSecond (at_of file) (words_of file) (length (states_of file)) contents (facts (disk_of file)).reads
     pub placed : has_failed file ≡ false → (place : ℕ) → place < length (states_of file)
-        → IsStoredAs (facts (disk_of file)).reads (words_of file) place (stage_of (states_of file) place) (writes_of_place (states_of file) place)
+        → IsStoredAs (drop (at_of file) (facts (disk_of file)).reads) (words_of file) place (stage_of (states_of file) place) (writes_of_place (states_of file) place)
 
   -- The book shows the file of which the right tells. Both speak of so many places, and the right of the changes of so many slots.
   pub record AgreesOnce (book : Book D) (rights : FileRights) (places slots : ℕ) : Type 0 where

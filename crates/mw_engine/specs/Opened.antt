@@ -21,7 +21,7 @@ abbrev pub line_read : TenantLine → Line
 line_read line = record { name = line.name.items; words = line.words; quota = line.quota }
 
 abbrev pub tenant_read : TenantLine → Tenant
-tenant_read line = record { name = line.name; words = line.words; quota = line.quota }
+tenant_read line = record { name = line.name; words = line.words; quota = line.quota; old = None }
 
 module _ {D : Type 0} where
   -- What the start gives a tenant, by its line and its file with the words that were read: none where the file didn't open, or isn't as the line says. Then zeros stand for its words, of which nobody is told.

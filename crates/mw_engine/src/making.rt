@@ -83,6 +83,7 @@ fn config_of(lines: &[TenantLine], pool: u16, workers: u8) -> Config
             name: copy_of_name(&line.name),
             words: line.words,
             quota: line.quota,
+            old: None,
         });
     }
     Config {

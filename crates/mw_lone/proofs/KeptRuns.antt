@@ -15,7 +15,7 @@ use Rattle.mw_words.specs.Change.{AreWords, is_in_range, is_well_formed, put}
 use Rattle.mw_lone.specs.Sound.{IsSound}
 use Rattle.mw_lone.proofs.SoundStores.{sound-insert, sound-words, sound-new_store, entries-fit, length-put, new_fits}
 use Rattle.mw_lone.specs.declared.marks.Mark.{Mark}
-use Rattle.mw_lone.specs.Store.{Store, RequestState, new_store, step, run, outgoing, replies_from, request, with_request, with_reply, is_waiting, entries_of, ask, asked, admit, refuse_busy, look_at, miss_at, seal, fail_seal, give_up, retire, hand_out, restart, store_after_start, entries_in_doubt}
+use Rattle.mw_lone.specs.Store.{Store, RequestState, first_store, step, run, outgoing, replies_from, request, with_request, with_reply, is_waiting, entries_of, ask, asked, admit, refuse_busy, look_at, miss_at, seal, fail_seal, give_up, retire, hand_out, restart, store_after_start, entries_in_doubt}
 use Rattle.mw_words.specs.declared.replies.Reply.{Reply}
 use Rattle.mw_words.specs.declared.replies.Reply.TheVariants.{Yes, Fault}
 use Rattle.mw_lone.specs.declared.marks.Mark.TheVariants.{Ask, Admit, Busy, Look, Miss, Seal, SealFail, FileFail, GiveUp, Retire, Reply as HandOut, Restart}
@@ -61,7 +61,7 @@ and_last : (a b : Bool) → a && b ≡ true → b ≡ true
 and_last true b h = h
 and_last false b h = absurd (cc)
 
-put_words : (count : ℕ) (words : List ℕ) (es : List Entry) → IsTrue (list_all (is_in_range count) es) → AreWords words → AreWords (put words es)
+pub put_words : (count : ℕ) (words : List ℕ) (es : List Entry) → IsTrue (list_all (is_in_range count) es) → AreWords words → AreWords (put words es)
 put_words count words [] h a = a
 put_words count words (e ∷ es) h a =
     let fits : is_in_range count e ≡ true = grind arith in
@@ -202,15 +202,15 @@ kept-run first quota s t [] e k = subst (IsKept first quota) (same_Some s t e) k
 kept-run first quota s t (mark ∷ marks) e k =
     option_and_then_some (λ u. run u marks) (step s mark) t e (λ u at f. kept-run first quota u t marks f (kept-step first quota s u mark at k))
 
-kept_fresh : (words : List ℕ) (quota : ℕ) → IsKept words quota (new_store words quota)
-kept_fresh words quota = record { are_words = λ a. a; as_many = refl; sound = sound-new_store words [] refl; same_quota = refl; within = omega arith }
+kept_fresh : (words : List ℕ) (quota : ℕ) (faulted : Bool) → IsKept words quota (first_store words quota faulted)
+kept_fresh words quota faulted = record { are_words = λ a. a; as_many = refl; sound = sound-new_store words [] refl; same_quota = refl; within = omega arith }
 
 pub words-stay-words : WordsStayWords
-words-stay-words words quota marks t a e =
-    let k = kept-run words quota (new_store words quota) t marks e (kept_fresh words quota) in
+words-stay-words words quota faulted marks t a e =
+    let k = kept-run words quota (first_store words quota faulted) t marks e (kept_fresh words quota faulted) in
     (k.are_words a, k.as_many)
 
 pub used-stays-within : UsedStaysWithin
-used-stays-within words quota marks t e =
-    let k = kept-run words quota (new_store words quota) t marks e (kept_fresh words quota) in
+used-stays-within words quota faulted marks t e =
+    let k = kept-run words quota (first_store words quota faulted) t marks e (kept_fresh words quota faulted) in
     (k.same_quota, k.within)

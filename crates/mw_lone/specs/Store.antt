@@ -44,6 +44,10 @@ pub record Store : Type 0 where
 abbrev pub new_store : List ℕ → ℕ → Store
 new_store words quota = record { words = words; quota = quota; used = 0; next = 0; requests = map.empty; faulted = false; in_doubt = [] }
 
+-- the same, and its file has failed or didn't open, or neither
+abbrev pub first_store : List ℕ → ℕ → Bool → Store
+first_store words quota faulted = record (new_store words quota) { faulted = faulted }
+
 -- the request of this number, if it was asked
 abbrev pub request : Store → ℕ → Option RequestState
 request s n = map.get s.requests n
@@ -229,9 +233,9 @@ abbrev pub run : Store → List Mark → Option Store
 run s [] = Some s
 run s (mark ∷ marks) = option_and_then (λ t. run t marks) (step s mark)
 
--- these marks, in this order, can happen to a store with these words and this quota
-abbrev pub IsLegalRun : List ℕ → ℕ → List Mark → Type 0
-IsLegalRun words quota marks = IsSome (run (new_store words quota) marks)
+-- these marks, in this order, can happen to a store with these words and this quota, whose file has failed at first or hasn't
+abbrev pub IsLegalRun : List ℕ → ℕ → Bool → List Mark → Type 0
+IsLegalRun words quota faulted marks = IsSome (run (first_store words quota faulted) marks)
 
 -- the replies that a list of marks hands out, each with its request's number, in order
 abbrev pub replies_from : Store → List Mark → List (ℕ × Reply)
@@ -239,5 +243,5 @@ replies_from s [] = []
 replies_from s (mark ∷ marks) =
     option_to_list (outgoing s mark) ++ unwrap_or (option_map (λ t. replies_from t marks) (step s mark)) []
 
-abbrev pub replies : List ℕ → ℕ → List Mark → List (ℕ × Reply)
-replies words quota marks = replies_from (new_store words quota) marks
+abbrev pub replies : List ℕ → ℕ → Bool → List Mark → List (ℕ × Reply)
+replies words quota faulted marks = replies_from (first_store words quota faulted) marks

@@ -50,19 +50,20 @@ impl Model for Lone {
 }
 
 impl Lone {
-    /// A store with these words, of which nothing was asked.
+    /// A store with these words, of which nothing was asked. Its file has failed from the start where that is
+    /// told: it didn't open.
     ///
     /// # Errors
     ///
     /// [`AllocError`] for want of memory.
-    pub fn new(alloc: Global, words: &[u64], quota: u8) -> Result<Lone, AllocError>
-        ensures { IfOk result (λ lone. lone ≡ spec.new_store words.now quota) }
+    pub fn new(alloc: Global, words: &[u64], quota: u8, faulted: bool) -> Result<Lone, AllocError>
+        ensures { IfOk result (λ lone. lone ≡ spec.first_store words.now quota faulted) }
     {
         Ok(Lone {
             words: Vec::from_slice(alloc, words)?,
             quota,
             requests: Requests::new(alloc),
-            faulted: false,
+            faulted,
             in_doubt: Entries::new(),
         })
     }

@@ -21,6 +21,21 @@ pub fn wrong_lines() -> [Lines; 9] {
     ]
 }
 
+/// Lines of old files that are wrong, or stand where they may not.
+pub fn wrong_old_lines() -> [Lines; 9] {
+    [
+        ("old v 0:1\n", "line 5 wrong\n"),
+        ("old t\n", "line 5 wrong\n"),
+        ("old t 0:1  1:1\n", "line 5 wrong\n"),
+        ("old t 1:1 0:1\n", "line 5 wrong\n"),
+        ("old u 1:1\n", "line 5 wrong\n"),
+        ("old t 0:281474976710656\n", "line 5 wrong\n"),
+        ("old t 0:0:1\n", "line 5 wrong\n"),
+        ("old u 0:1\nold t 0:1\nold u 0:1\n", "line 7 wrong\n"),
+        ("restart\nold t 0:1\n", "line 6 wrong\n"),
+    ]
+}
+
 /// Lines of a worker that is not there, has no request or has one already.
 pub fn workers_not_enabled() -> [Lines; 9] {
     [

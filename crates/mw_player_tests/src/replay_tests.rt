@@ -3,10 +3,12 @@ ghost use Rattle.mw_schedule.specs.Playing.{IsSchedule};
 
 use crate::line_tests::{
     HEAD, lines_without_arrival, steps_not_enabled, stops_not_enabled, workers_not_enabled,
-    wrong_lines,
+    wrong_lines, wrong_old_lines,
 };
 use crate::mistake_tests::of_mistakes;
-use crate::schedule_tests::{CLAIM_LOST, SLOT_RECYCLED, of_files, of_late_workers, of_requests};
+use crate::schedule_tests::{
+    CLAIM_LOST, OLD_FILE, SLOT_RECYCLED, of_files, of_late_workers, of_requests,
+};
 use mw_look::Kind;
 use mw_player::{Halt, Player, replay, replay_args, replay_schedule};
 use mw_schedule::{Command, Schedule, StepKind, read_schedule};
@@ -127,6 +129,13 @@ fn schedules_of_files(rt: HostRuntime) -> Result<(), Fail> {
 }
 
 #[test]
+fn old_file_schedule(rt: HostRuntime) -> Result<(), Fail> {
+    let replies = "0 t FAULT\n0 t VAL 5\n0 t YES\n0 t VAL 1\n";
+    let mut input = OLD_FILE.as_bytes();
+    play(&rt, "old file", &mut input, false, (0, replies, ""))
+}
+
+#[test]
 fn schedules_of_late_workers(rt: HostRuntime) -> Result<(), Fail> {
     play_each(&rt, &of_late_workers())?;
     play_each(&rt, &of_mistakes())
@@ -186,6 +195,11 @@ fn end_each<R: Abort + AllocGlobal>(
 #[test]
 fn lines_that_are_wrong(rt: HostRuntime) -> Result<(), Fail> {
     end_each(&rt, 2, &wrong_lines())
+}
+
+#[test]
+fn old_lines_that_are_wrong(rt: HostRuntime) -> Result<(), Fail> {
+    end_each(&rt, 2, &wrong_old_lines())
 }
 
 #[test]

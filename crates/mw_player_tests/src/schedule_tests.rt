@@ -403,6 +403,25 @@ end 0
 end 1
 ";
 
+/// A file that no start has opened yet, an opening of it that fails, and one that goes well.
+pub const OLD_FILE: &str = "\
+pool 1
+workers 1
+tenant t 2 1
+old t 0:5
+come 0 t GET 0
+end 0
+restart t=-,-,,7
+restart t=-,-,00
+come 0 t GET 0
+end 0
+come 0 t CAS 0:5:6 1:0:1
+end 0
+restart t=-,-,
+come 0 t GET 1
+end 0
+";
+
 /// One worker uses one slot for two tenants, one after the other.
 pub const SLOT_RECYCLED: &str = "\
 pool 2

@@ -1,5 +1,5 @@
 -- Which schedules can be played.
-use Rattle.std.specs.Prelude.{ℕ, ◌≢◌, ◌≤◌, ◌<◌, All, IfSome, IsTrue, List, Option, sum_by}
+use Rattle.std.specs.Prelude.{ℕ, ◌≡◌, ◌≢◌, ◌≤◌, ◌<◌, All, IfSome, IsTrue, List, None, Option, sum_by}
 use Rattle.std.specs.List.{AllPairs}
 use Rattle.mw_words.specs.declared.limits.TheConstants.{MAX_QUOTA, MAX_WORDS, MAX_WORKERS}
 use Rattle.mw_words.specs.Change.{is_well_formed}
@@ -8,7 +8,7 @@ use Rattle.mw_world.specs.declared.config.Config.{Config}
 use Rattle.mw_world.specs.declared.config.Tenant.{Tenant}
 use Rattle.mw_world.specs.declared.events.Interrupted.{Interrupted}
 use Rattle.mw_world.specs.declared.events.Stop.{Stop}
-use Rattle.mw_world.specs.Definition.State.{IsConfig, tenant_at, tenants_of}
+use Rattle.mw_world.specs.Definition.State.{IsConfig, may_be_old, tenant_at, tenants_of}
 use Rattle.mw_schedule.specs.declared.schedule.Command.{Command}
 use Rattle.mw_schedule.specs.declared.schedule.Command.TheVariants.{Come, Step, File, Before, To, End, Restart}
 use Rattle.mw_schedule.specs.declared.schedule.Schedule.{Schedule}
@@ -18,24 +18,27 @@ use Rattle.mw_schedule.specs.declared.schedule.ScheduleLine.{ScheduleLine}
 abbrev pub IsFree : List ℕ → List Tenant → Type 0
 IsFree name tenants = All (λ tenant. tenant.name.items ≢ name) tenants
 
--- a tenant is within its limits, has a name that none of these has, and its quota is at most so many slots
+-- a tenant is within its limits, has a name that none of these has, and its quota is at most so many slots; its file is new
 pub record IsNext (earlier : List Tenant) (free : ℕ) (tenant : Tenant) : Type 0 where
   pub named : IsTrue (is_name tenant.name.items)
   pub new : IsFree tenant.name.items earlier
   pub words : (1 ≤ tenant.words) × (tenant.words ≤ MAX_WORDS)
   pub quota : (1 ≤ tenant.quota) × (tenant.quota ≤ MAX_QUOTA)
   pub slots : tenant.quota ≤ free
+  pub fresh : tenant.old ≡ None
 
 -- each tenant has a name, and no two have one
 pub record AreNamed (tenants : List Tenant) : Type 0 where
   pub named : All (λ tenant. IsTrue (is_name tenant.name.items)) tenants
   pub once : AllPairs (λ earlier later. earlier.name.items ≢ later.name.items) tenants
 
--- each tenant has a name of its own and is within its limits, and a pool of so many slots has all their quotas
+-- each tenant has a name of its own and is within its limits, and the change in its old file, if it has one, is well formed; and a pool of so many
+-- slots has all their quotas
 pub record AreTenants (pool : ℕ) (tenants : List Tenant) : Type 0 where
   pub names : AreNamed tenants
   pub words : All (λ tenant. (1 ≤ tenant.words) × (tenant.words ≤ MAX_WORDS)) tenants
   pub quotas : All (λ tenant. (1 ≤ tenant.quota) × (tenant.quota ≤ MAX_QUOTA)) tenants
+  pub old : All (λ tenant. IsTrue (may_be_old tenant.words tenant.old)) tenants
   pub slots : sum_by (λ tenant. tenant.quota) tenants ≤ pool
 
 -- the call that was cut off, if one was, is of a worker that some world has

@@ -6,6 +6,7 @@ ghost use Rattle.mw_world.specs.Definition.State.{IsConfig};
 ghost use Rattle.mw_schedule.specs.Playing.{AreNamed, AreTenants, IsNext};
 
 use crate::fields::number_within;
+use crate::olds::read_olds;
 use crate::rest::Lines;
 use arrayvec::ArrayVec;
 use mw_line::{behind, field};
@@ -15,8 +16,8 @@ use mw_words::{
 use mw_world::{Config, Tenant};
 
 /// What the world is made of, by the lines `pool P`, `workers N`, `seq S` if it is there, and
-/// `tenant NAME WORDS QUOTA` for each tenant, and the lines behind them. No tenant has the name of one
-/// before it, and the quotas together are at most P.
+/// `tenant NAME WORDS QUOTA` for each tenant, `old NAME A:V ..` for those that have an old file, and the
+/// lines behind them. No tenant has the name of one before it, and the quotas together are at most P.
 ///
 /// # Errors
 ///
@@ -38,10 +39,11 @@ pub fn read_config<'a>(lines: Lines<'a>) -> Result<(Config, Lines<'a>), Lines<'a
         Some(read) => read,
         None => (0, after_workers),
     };
-    let (tenants, after) = read_tenants(pool as u16, after_seq);
-    if tenants.is_empty() {
-        return Err(after);
+    let (new, after_tenants) = read_tenants(pool as u16, after_seq);
+    if new.is_empty() {
+        return Err(after_tenants);
     }
+    let (tenants, after) = read_olds(new, after_tenants, pool as u16);
     let config = Config {
         pool: pool as u16,
         workers: workers as u8,
@@ -102,6 +104,7 @@ fn read_tenant(earlier: &[Tenant], free: u16, text: &[u8]) -> Option<Tenant>
         name: read_name(name)?,
         words: number_within(1, u64::from(MAX_WORDS), words)? as u16,
         quota: number_within(1, u64::from(free.min(u16::from(MAX_QUOTA))), quota)? as u8,
+        old: None,
     })
 }
 

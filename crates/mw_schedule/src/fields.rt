@@ -1,5 +1,5 @@
-//! Numbers that are all of a text.
-ghost use Rattle.std.specs.Prelude.{◌≤◌, IfSome};
+//! Numbers that are all of a text, and items with spaces between them.
+ghost use Rattle.std.specs.Prelude.{◌≤◌, length, IfSome};
 ghost use Rattle.mw_line.specs.Reading.{Gives};
 ghost use Rattle.mw_schedule.specs.Fields as spec;
 
@@ -22,4 +22,15 @@ pub fn number_within(least: u64, most: u64, text: &[u8]) -> Option<u64>
     ensures { IfSome result (λ n. (least ≤ n) × (n ≤ most)) }
 {
     number(text).filter(|number| (least..=most).contains(number))
+}
+
+/// The bytes up to a space or the end, and those from there on.
+pub fn item_at(text: &[u8]) -> (&[u8], &[u8])
+    ensures { length result.1.now ≤ length text.now }
+{
+    let end = text
+        .iter()
+        .position(|byte| *byte == b' ')
+        .unwrap_or(text.len());
+    (&text[..end], &text[end..])
 }

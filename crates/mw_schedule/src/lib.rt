@@ -6,6 +6,7 @@ mod commands;
 mod config;
 mod fields;
 mod lines;
+mod olds;
 mod reading;
 mod rest;
 mod restarts;

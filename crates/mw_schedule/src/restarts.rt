@@ -1,11 +1,11 @@
 //! How each tenant's file is stopped and opened again, as a schedule tells it.
-ghost use Rattle.std.specs.Prelude.{◌≡◌, ◌==◌, ◌<◌, ◌≤◌, length, IfOk, IfSome};
+ghost use Rattle.std.specs.Prelude.{◌≡◌, ◌==◌, ◌<◌, length, IfOk, IfSome};
 ghost use Rattle.std.specs.List.{list_any};
 ghost use Rattle.mw_world.specs.Definition.State.{tenants_of};
 ghost use Rattle.mw_schedule.specs.Playing.{AreStops, IsOfWorker};
 
 use crate::commands::{tenant_of, worker_of};
-use crate::fields::number;
+use crate::fields::{item_at, number};
 use mw_line::{behind, field};
 use mw_world::{Config, Interrupted, Stop};
 use std::alloc::{AllocError, Global};
@@ -56,17 +56,6 @@ fn next_stop<'a>(
         Some(stop) => Ok(Some((stop, after))),
         None => Ok(None),
     }
-}
-
-// The bytes up to a space or the end, and those from there on.
-fn item_at(text: &[u8]) -> (&[u8], &[u8])
-    ensures { length result.1.now ≤ length text.now }
-{
-    let end = text
-        .iter()
-        .position(|byte| *byte == b' ')
-        .unwrap_or(text.len());
-    (&text[..end], &text[end..])
 }
 
 fn is_named(stops: &[Stop], tenant: u8) -> bool

@@ -1,18 +1,24 @@
 -- A world in memory at a start shows the world that has just started.
-use Rattle.std.specs.Prelude.{ℕ, zero, suc, ◌≡◌, ◌+◌, ◌<◌, ◌≤◌, Bool, true, false, not, List, [], ◌∷◌, ◌++◌, length, replicate, slice_get, IfSome, MatchOption, Some, None, Vec}
+use Rattle.std.specs.Prelude.{ℕ, zero, suc, ◌≡◌, ◌+◌, ◌<◌, ◌≤◌, Bool, true, false, not, List, [], ◌∷◌, ◌++◌, length, replicate, slice_get, is_none, nat_le, IfOk, IfSome, IsTrue, MatchOption, Result, Some, None, Vec}
 use Rattle.std.specs.declared.option.Option.{Option}
 use Rattle.std.specs.declared.alloc.Global.{Global}
 use Rattle.std.proofs.Common.{refl, sym, ap, subst, ◌∙◌, inl, inr, arith, get_or}
+use Rattle.std.proofs.lemmas.Bool.{and_parts}
 use Rattle.std.proofs.lemmas.List.{get_or_past, length_push}
 use Rattle.std.proofs.lemmas.List.Elements.{All-replicate}
 use Rattle.std.proofs.lemmas.Option.{get_or_from_slice_get, slice_get-get_or, slice_get_cases, slice_get_within}
-use Rattle.mw_words.specs.Change.{AreWords}
+use Rattle.arrayvec.specs.ArrayVec.{ArrayVec}
+use Rattle.mw_words.specs.declared.jobs.Entry.{Entry}
+use Rattle.mw_words.specs.Change.{AreWords, is_change, put}
 use Rattle.mw_words.specs.declared.limits.TheConstants.{MAX_VALUE}
 use Rattle.mw_world_file.specs.declared.kept.Book.{Book}
+use Rattle.mw_world_file.specs.declared.unopened.TheConstants.{OLD_ENTRIES}
+use Rattle.mw_world_file.specs.Books.{Shows as ShowsFile}
+use Rattle.mw_world_file.specs.Files.{File, broken, file_of}
 use Rattle.mw_world_file.specs.Giving.{IsGiven}
 use Rattle.mw_world.specs.declared.config.Config.{Config}
 use Rattle.mw_world.specs.Definition.History.{no_history}
-use Rattle.mw_world.specs.Definition.State.{Account, account_at, first_openings, first_cells, idle_seat, no_tenant, started, tenant_at, tenants_of}
+use Rattle.mw_world.specs.Definition.State.{Account, account_at, first_openings, first_cells, idle_seat, may_be_old, no_tenant, old_entries, started, tenant_at, tenants_of}
 use Rattle.mw_world_memory.specs.declared.accounts.Account.{Account as AccountInMemory}
 use Rattle.mw_world_memory.specs.declared.seats.Seat.{Seat}
 use Rattle.mw_simulator.specs.declared.world.World.{World}
@@ -103,6 +109,25 @@ module _ (config : Config) (accounts : List AccountInMemory) (made : ℕ → Acc
   pub have_words : ((tenant : ℕ) → (made tenant).is_up ≡ not (made tenant).file.has_failed) → HaveWords accounts (λ tenant. (made tenant).file.contents) (λ tenant. (made tenant).is_up)
   have_words up tenant shown is = (sym (shows tenant shown is).book.same_contents, up tenant ∙ ap not (shows tenant shown is).book.same_failed)
 
+-- a tenant's first file, by the change that stands open in it
+abbrev pub file_with : ℕ → Option (ArrayVec Entry) → File
+file_with words old = record (file_of (put (replicate words 0) (old_entries old))) { has_failed = not (is_none old) }
+
+-- the book of a new one shows it, and so does that of an old one
+pub shows_new : {E : Type 0} (words : ℕ) (old : Option (ArrayVec Entry)) (made : Result Book E) → old ≡ None → IfOk made (λ book. ShowsFile book (file_of (replicate words 0)))
+    → IfOk made (λ book. ShowsFile book (file_with words old))
+shows_new words old made is shows = subst (λ (one : Option (ArrayVec Entry)). IfOk made (λ book. ShowsFile book (file_with words one))) (sym is) shows
+
+pub shows_old : {E : Type 0} (words : ℕ) (old : Option (ArrayVec Entry)) (change : ArrayVec Entry) (made : Result Book E) → old ≡ Some change
+    → IfOk made (λ book. ShowsFile book (broken (file_of (put (replicate words 0) change.items)) [])) → IfOk made (λ book. ShowsFile book (file_with words old))
+shows_old words old change made is shows = subst (λ (one : Option (ArrayVec Entry)). IfOk made (λ book. ShowsFile book (file_with words one))) (sym is) shows
+
+-- the change in an old file is well formed
+pub old_parts : (words : ℕ) (old : Option (ArrayVec Entry)) (change : ArrayVec Entry) → old ≡ Some change → IsTrue (may_be_old words old)
+    → IsTrue (is_change words change.items) × IsTrue (nat_le (length change.items) OLD_ENTRIES)
+old_parts words old change is formed =
+    and_parts (is_change words change.items) (nat_le (length change.items) OLD_ENTRIES) (subst (λ (one : Option (ArrayVec Entry)). IsTrue (may_be_old words one)) is formed)
+
 -- the tenants of a new world
 abbrev pub first_accounts : Config → ℕ → Account
 first_accounts config tenant = account_at (first_openings config tenant)
@@ -115,6 +140,10 @@ fresh_shown config accounts are tenant shown is =
 
 pub zeros_are_words : (count : ℕ) → AreWords (replicate count 0)
 zeros_are_words count = All-replicate (λ v. v ≤ MAX_VALUE) count 0 (omega arith)
+
+pub not_twice : (b : Bool) → b ≡ not (not b)
+not_twice true = refl
+not_twice false = refl
 
 -- a world in memory at a start
 pub shows_start : (world : World) (made : ℕ → Account) → Tie world.cells (first_cells world.config (λ tenant. (made tenant).file.contents) (λ tenant. (made tenant).is_up))

@@ -7,8 +7,8 @@ use Rattle.std.proofs.lemmas.Bool.Decides.{nat_tests}
 use Rattle.std.proofs.lemmas.List.{get_or_append_left, get_or_past, length_push}
 use Rattle.std.proofs.lemmas.Option.{slice_get_cases, slice_get_within}
 use Rattle.mw_words.specs.Change.{AreWords}
-use Rattle.mw_record.specs.Damages.{file_words, words_of, places_of}
-use Rattle.mw_record.proofs.Sound.{are_words, words_iff}
+use Rattle.mw_record.specs.Damages.{file_words}
+use Rattle.mw_record.proofs.Sound.{file_are_words}
 use Rattle.mw_world.specs.declared.config.Config.{Config}
 use Rattle.mw_world.specs.declared.events.Stop.{Stop}
 use Rattle.mw_world.specs.Definition.Happenings.{Found}
@@ -86,7 +86,7 @@ opened_words words (Some number) are = are
 
 -- a file's words are values of a word
 found_words : (image words : List ℕ) → file_words image ≡ Some words → AreWords words
-found_words image words is = are_words (words_of image) (places_of image) words image ((words_iff words image).0 is)
+found_words image words is = file_are_words words image is
 
 -- This was found of a tenant's file, and the tenant is reopened so.
 pub record WasFound (config : Config) (state : State) (stops : List Stop) (olds news : List AccountInMemory) (tenant : ℕ) (found : Found) : Type 0 where

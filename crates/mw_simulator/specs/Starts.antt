@@ -1,10 +1,9 @@
 -- The workers and the tenants of a world in memory at a start.
-use Rattle.std.specs.Prelude.{ℕ, ◌≡◌, Bool, true, not, List, [], length, replicate, slice_get, Some}
-use Rattle.mw_world_file.specs.Files.{file_of}
+use Rattle.std.specs.Prelude.{ℕ, ◌≡◌, Bool, not, List, length, slice_get, Some}
 use Rattle.mw_world_file.specs.Giving.{IsGiven}
 use Rattle.mw_world.specs.declared.config.Config.{Config}
 use Rattle.mw_world.specs.declared.config.Tenant.{Tenant}
-use Rattle.mw_world.specs.Definition.State.{Account, idle_seat, tenant_at, tenants_of}
+use Rattle.mw_world.specs.Definition.State.{Account, account_at, first_opening_of, idle_seat, tenant_at, tenants_of}
 use Rattle.mw_world_memory.specs.declared.accounts.Account.{Account as AccountInMemory}
 use Rattle.mw_world_memory.specs.declared.seats.Seat.{Seat as SeatInMemory}
 use Rattle.mw_world_memory.specs.Openings.{Openings}
@@ -26,7 +25,7 @@ pub record AreIdle (workers : ℕ) (seats : List SeatInMemory) : Type 0 where
 
 -- a tenant of a new world
 abbrev pub fresh : Tenant → Account
-fresh tenant = record { file = file_of (replicate tenant.words 0); quota = tenant.quota; asked = 0; is_up = true; closed = []; lines = [] }
+fresh tenant = account_at (first_opening_of tenant)
 
 -- a tenant in memory is this one at first
 abbrev pub IsFresh : Tenant → AccountInMemory → Type 0

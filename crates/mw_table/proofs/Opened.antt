@@ -1,7 +1,9 @@
 -- Whether a tenant's file opened at the last start is told by its marks.
 use Rattle.std.specs.Prelude.{ℕ, ◌≡◌, ◌==◌, ◌&&◌, Bool, true, false, not, if◌then◌else◌, List, [], ◌∷◌, ◌++◌, length, Option, Some, None, is_none, is_some}
 use Rattle.std.specs.Option.{option_and_then}
-use Rattle.std.proofs.Common.{refl, sym, subst}
+use Rattle.std.proofs.Common.{refl, sym, subst, inl, inr}
+use Rattle.std.proofs.lemmas.Bool.{cases_eq}
+use Rattle.mw_world_file.proofs.KeptPlaces.{upd_here, upd_there}
 use Rattle.mw_words.specs.declared.replies.Reply.{Reply}
 use Rattle.mw_lone.specs.declared.marks.Mark.{Mark}
 use Rattle.mw_lone.specs.declared.marks.Mark.TheVariants.{Restart as MarkOfStart}
@@ -24,89 +26,91 @@ use Rattle.mw_world.specs.Definition.World.{asked, hand, handed, may_come, run, 
 use Rattle.mw_simulator.proofs.FromMemory.{done_is}
 use Rattle.mw_table.specs.Beginning.{up_after}
 
--- so is told of an account
-abbrev pub IsTold : Account → Type 0
-IsTold account = account.is_up ≡ up_after true account.closed
+-- so is told of an account, of which this was so at first
+abbrev pub IsTold : Bool → Account → Type 0
+IsTold first account = account.is_up ≡ up_after first account.closed
 
-abbrev pub AreTold : State → Type 0
-AreTold state = (tenant : ℕ) → IsTold (state.accounts tenant)
+abbrev pub AreTold : (ℕ → Bool) → State → Type 0
+AreTold firsts state = (tenant : ℕ) → IsTold (firsts tenant) (state.accounts tenant)
 
 up_last : (is_up : Bool) (marks : List Mark) (interrupted : Option ℕ) (found opened : Bool) → up_after is_up (marks ++ MarkOfStart interrupted found opened ∷ []) ≡ opened
 up_last is_up [] interrupted found opened = refl
 up_last is_up (MarkOfStart one two three ∷ marks) interrupted found opened = up_last three marks interrupted found opened
 up_last is_up (mark ∷ marks) interrupted found opened = up_last is_up marks interrupted found opened
 
-upd_told : (accounts : ℕ → Account) (at : ℕ) (account : Account) → ((tenant : ℕ) → IsTold (accounts tenant)) → IsTold account → (tenant : ℕ) → IsTold (upd accounts at account tenant)
-upd_told accounts at account all is tenant = by_test (tenant == at)
-  where
-    by_test : (test : Bool) → IsTold (if test then account else accounts tenant)
-    by_test true = is
-    by_test false = all tenant
-
 some_same : (one next : State) → Some one ≡ Some next → one ≡ next
 some_same one next is = cc
 
-if_told : (test : Bool) (one next : State) → AreTold one → (if test then Some one else None) ≡ Some next → AreTold next
-if_told true one next all is = let same : one ≡ next = cc in subst (λ (state : State). AreTold state) same all
-if_told false one next all is = let same : one ≡ next = cc in subst (λ (state : State). AreTold state) same all
+-- What was so at first, by tenant.
+module _ (firsts : ℕ → Bool) where
+  upd_told : (accounts : ℕ → Account) (at : ℕ) (account : Account) → ((tenant : ℕ) → IsTold (firsts tenant) (accounts tenant)) → IsTold (firsts at) account → (tenant : ℕ) → IsTold (firsts tenant) (upd accounts at account tenant)
+  upd_told accounts at account all is tenant = elim (cases_eq tenant at) [
+    | inl same ↦
+        subst (λ (one : Account). IsTold (firsts tenant) one) (sym (upd_here accounts at tenant account same)) (subst (λ k. IsTold (firsts k) account) (sym same) is)
+    | inr apart ↦ subst (λ (one : Account). IsTold (firsts tenant) one) (sym (upd_there accounts at tenant account apart)) (all tenant)
+  ]
 
-turned_told : (state : State) (worker : ℕ) (actor : Acting) → AreTold state → AreTold (turned state worker actor)
-turned_told state worker actor all =
-    subst (λ (one : State). AreTold one) (sym (done_is (asks actor) state.cells (λ (cells : Cells) (news : News). moved state worker actor (made_of state worker actor cells news))))
-    (upd_told state.accounts actor.tenant _ all (all actor.tenant))
+  if_told : (test : Bool) (one next : State) → AreTold firsts one → (if test then Some one else None) ≡ Some next → AreTold firsts next
+  if_told true one next all is = let same : one ≡ next = cc in subst (λ (state : State). AreTold firsts state) same all
+  if_told false one next all is = let same : one ≡ next = cc in subst (λ (state : State). AreTold firsts state) same all
 
-turn_told : (config : Config) (state next : State) (worker : ℕ) (found : Option Acting) → AreTold state → turn config state worker found ≡ Some next → AreTold next
-turn_told config state next worker None all is = absurd (cc)
-turn_told config state next worker (Some actor) all is =
-    if_told (not (is_some (replied actor)) && may_make config (asks actor)) (turned state worker actor) next (turned_told state worker actor all) is
+  turned_told : (state : State) (worker : ℕ) (actor : Acting) → AreTold firsts state → AreTold firsts (turned state worker actor)
+  turned_told state worker actor all =
+      subst (λ (one : State). AreTold firsts one) (sym (done_is (asks actor) state.cells (λ (cells : Cells) (news : News). moved state worker actor (made_of state worker actor cells news))))
+      (upd_told state.accounts actor.tenant _ all (all actor.tenant))
 
-moved_told : (state next : State) (worker : ℕ) (actor : Acting) (test : Bool) (made : Option Made) → AreTold state → (if test then moved_if state worker actor made else None) ≡ Some next → AreTold next
-moved_told state next worker actor false made all is = absurd (cc)
-moved_told state next worker actor true None all is = absurd (cc)
-moved_told state next worker actor true (Some made) all is =
-    subst (λ (one : State). AreTold one) (some_same (moved state worker actor made) next is) (upd_told state.accounts actor.tenant _ all (all actor.tenant))
+  turn_told : (config : Config) (state next : State) (worker : ℕ) (found : Option Acting) → AreTold firsts state → turn config state worker found ≡ Some next → AreTold firsts next
+  turn_told config state next worker None all is = absurd (cc)
+  turn_told config state next worker (Some actor) all is =
+      if_told (not (is_some (replied actor)) && may_make config (asks actor)) (turned state worker actor) next (turned_told state worker actor all) is
 
-called_told : (config : Config) (state next : State) (worker : ℕ) (actor : Acting) (outcome : Outcome) (found : Option Called) → AreTold state
-    → call_if config state worker actor found outcome ≡ Some next → AreTold next
-called_told config state next worker actor outcome None all is = absurd (cc)
-called_told config state next worker actor outcome (Some called) all is =
-    moved_told state next worker actor (has_slot config called.change.slot) (calling config state actor called outcome) all is
+  moved_told : (state next : State) (worker : ℕ) (actor : Acting) (test : Bool) (made : Option Made) → AreTold firsts state → (if test then moved_if state worker actor made else None) ≡ Some next → AreTold firsts next
+  moved_told state next worker actor false made all is = absurd (cc)
+  moved_told state next worker actor true None all is = absurd (cc)
+  moved_told state next worker actor true (Some made) all is =
+      subst (λ (one : State). AreTold firsts one) (some_same (moved state worker actor made) next is) (upd_told state.accounts actor.tenant _ all (all actor.tenant))
 
-call_told : (config : Config) (state next : State) (worker : ℕ) (outcome : Outcome) (found : Option Acting) → AreTold state → call config state worker found outcome ≡ Some next → AreTold next
-call_told config state next worker outcome None all is = absurd (cc)
-call_told config state next worker outcome (Some actor) all is = called_told config state next worker actor outcome (called_at actor.point) all is
+  called_told : (config : Config) (state next : State) (worker : ℕ) (actor : Acting) (outcome : Outcome) (found : Option Called) → AreTold firsts state
+      → call_if config state worker actor found outcome ≡ Some next → AreTold firsts next
+  called_told config state next worker actor outcome None all is = absurd (cc)
+  called_told config state next worker actor outcome (Some called) all is =
+      moved_told state next worker actor (has_slot config called.change.slot) (calling config state actor called outcome) all is
 
-handed_told : (state next : State) (worker tenant : ℕ) (reply : Option Reply) → AreTold state → handed state worker tenant reply ≡ Some next → AreTold next
-handed_told state next worker tenant None all is = absurd (cc)
-handed_told state next worker tenant (Some reply) all is =
-    subst (λ (one : State). AreTold one) (some_same (gave state worker tenant) next is) (upd_told state.accounts tenant _ all (all tenant))
+  call_told : (config : Config) (state next : State) (worker : ℕ) (outcome : Outcome) (found : Option Acting) → AreTold firsts state → call config state worker found outcome ≡ Some next → AreTold firsts next
+  call_told config state next worker outcome None all is = absurd (cc)
+  call_told config state next worker outcome (Some actor) all is = called_told config state next worker actor outcome (called_at actor.point) all is
 
-hand_told : (state next : State) (worker : ℕ) (found : Option Acting) → AreTold state → hand state worker found ≡ Some next → AreTold next
-hand_told state next worker None all is = absurd (cc)
-hand_told state next worker (Some actor) all is = handed_told state next worker actor.tenant (replied actor) all is
+  handed_told : (state next : State) (worker tenant : ℕ) (reply : Option Reply) → AreTold firsts state → handed state worker tenant reply ≡ Some next → AreTold firsts next
+  handed_told state next worker tenant None all is = absurd (cc)
+  handed_told state next worker tenant (Some reply) all is =
+      subst (λ (one : State). AreTold firsts one) (some_same (gave state worker tenant) next is) (upd_told state.accounts tenant _ all (all tenant))
 
-event_told : (config : Config) (state next : State) (event : Happening) → AreTold state → step config state event ≡ Some next → AreTold next
-event_told config state next (Come worker tenant job) all is =
-    if_told (may_come config state worker tenant job) (came config state worker tenant job) next (upd_told state.accounts tenant (asked (state.accounts tenant) job) all (all tenant)) is
-event_told config state next (Step worker) all is = turn_told config state next worker (state.seats worker).actor all is
-event_told config state next (File worker outcome) all is = call_told config state next worker outcome (state.seats worker).actor all is
-event_told config state next (Hand worker) all is = hand_told state next worker (state.seats worker).actor all is
-event_told config state next (Restart founds) all is =
-    if_told ((length founds == tenants_of config) && may_all_be_found config state founds (tenants_of config)) (restarted config state founds) next
-    (λ tenant.
-    let account = state.accounts tenant in
-    let found = found_of founds tenant in
-    let under = under_way config state found.interrupted in
-    sym (up_last true (account.closed ++ marks_in account.lines) (interrupted_request under) (takes account.file.contents (doubt_then account.file under) found.words) (is_none found.fails_at)))
-    is
+  hand_told : (state next : State) (worker : ℕ) (found : Option Acting) → AreTold firsts state → hand state worker found ≡ Some next → AreTold firsts next
+  hand_told state next worker None all is = absurd (cc)
+  hand_told state next worker (Some actor) all is = handed_told state next worker actor.tenant (replied actor) all is
 
-by_step : (config : Config) (next : State) (events : List Happening) → ((one : State) → AreTold one → run config one events ≡ Some next → AreTold next) → (after : Option State)
-    → ((one : State) → after ≡ Some one → AreTold one) → option_and_then (λ one. run config one events) after ≡ Some next → AreTold next
-by_step config next events rest None told is = absurd (cc)
-by_step config next events rest (Some one) told is = rest one (told one refl) is
+  event_told : (config : Config) (state next : State) (event : Happening) → AreTold firsts state → step config state event ≡ Some next → AreTold firsts next
+  event_told config state next (Come worker tenant job) all is =
+      if_told (may_come config state worker tenant job) (came config state worker tenant job) next (upd_told state.accounts tenant (asked (state.accounts tenant) job) all (all tenant)) is
+  event_told config state next (Step worker) all is = turn_told config state next worker (state.seats worker).actor all is
+  event_told config state next (File worker outcome) all is = call_told config state next worker outcome (state.seats worker).actor all is
+  event_told config state next (Hand worker) all is = hand_told state next worker (state.seats worker).actor all is
+  event_told config state next (Restart founds) all is =
+      if_told ((length founds == tenants_of config) && may_all_be_found config state founds (tenants_of config)) (restarted config state founds) next
+      (λ tenant.
+      let account = state.accounts tenant in
+      let found = found_of founds tenant in
+      let under = under_way config state found.interrupted in
+      sym (up_last (firsts tenant) (account.closed ++ marks_in account.lines) (interrupted_request under) (takes account.file.contents (doubt_then account.file under) found.words) (is_none found.fails_at)))
+      is
 
--- it is told after every run from a state of which it is told
-pub run_told : (config : Config) (events : List Happening) (state next : State) → AreTold state → run config state events ≡ Some next → AreTold next
-run_told config [] state next all is = subst (λ (one : State). AreTold one) (some_same state next is) all
-run_told config (event ∷ events) state next all is =
-    by_step config next events (λ one. run_told config events one next) (step config state event) (λ one e. event_told config state one event all e) is
+  by_step : (config : Config) (next : State) (events : List Happening) → ((one : State) → AreTold firsts one → run config one events ≡ Some next → AreTold firsts next) → (after : Option State)
+      → ((one : State) → after ≡ Some one → AreTold firsts one) → option_and_then (λ one. run config one events) after ≡ Some next → AreTold firsts next
+  by_step config next events rest None told is = absurd (cc)
+  by_step config next events rest (Some one) told is = rest one (told one refl) is
+
+  -- it is told after every run from a state of which it is told
+  pub run_told : (config : Config) (events : List Happening) (state next : State) → AreTold firsts state → run config state events ≡ Some next → AreTold firsts next
+  run_told config [] state next all is = subst (λ (one : State). AreTold firsts one) (some_same state next is) all
+  run_told config (event ∷ events) state next all is =
+      by_step config next events (λ one. run_told config events one next) (step config state event) (λ one e. event_told config state one event all e) is

@@ -1,5 +1,5 @@
 -- What a table begins with, and where it is made of a world in memory.
-use Rattle.std.specs.Prelude.{ℕ, ◌≡◌, Bool, true, List, [], ◌∷◌, map, length, replicate, slice_get}
+use Rattle.std.specs.Prelude.{ℕ, ◌≡◌, ◌+◌, Bool, List, [], ◌∷◌, slice_get}
 use Rattle.std.specs.Option.{option_map_or}
 use Rattle.mw_lone.specs.declared.marks.Mark.{Mark}
 use Rattle.mw_lone.specs.declared.marks.Mark.TheVariants.{Restart}
@@ -30,13 +30,22 @@ up_after is_up [] = is_up
 up_after is_up (Restart interrupted found opened ∷ marks) = up_after opened marks
 up_after is_up (mark ∷ marks) = up_after is_up marks
 
--- what the last start gave a tenant
-abbrev pub opening_of : Account → Opening
-opening_of account = record {
+-- what the last start gave a tenant to which the first of all gave this
+abbrev pub opening_of : Opening → Account → Opening
+opening_of first account = record {
   quota = account.quota;
-  words = (after_marks (first_moment (replicate (length account.book.contents.items) 0)) account.lines.closed.items).words;
-  is_up = up_after true account.lines.closed.items;
+  words = (after_marks (first_moment first.words) account.lines.closed.items).words;
+  is_up = up_after first.is_up account.lines.closed.items;
 }
+
+-- what it gave each of these tenants, the first of which has this number
+abbrev pub openings_from : Config → ℕ → List Account → List Opening
+openings_from config tenant [] = []
+openings_from config tenant (account ∷ accounts) = opening_of (first_openings config tenant) account ∷ openings_from config (tenant + 1) accounts
+
+-- what it gave each tenant
+abbrev pub openings_of : World → List Opening
+openings_of world = openings_from world.config 0 world.accounts.items
 
 -- a worker; past the last one, an idle one
 abbrev pub seat_in : World → ℕ → Seat
@@ -44,4 +53,4 @@ seat_in world worker = option_map_or seat_of (slice_get world.seats.items worker
 
 -- What a table of the world begins with. It gives no right to a file.
 abbrev pub basis_of_world : World → Basis
-basis_of_world world = record { config = world.config; openings = map opening_of world.accounts.items; seats = seat_in world; files = [] }
+basis_of_world world = record { config = world.config; openings = openings_of world; seats = seat_in world; files = [] }

@@ -52,11 +52,13 @@ fn two_tenants() -> Config
         name: ArrayVec::new(),
         words: 1,
         quota: 1,
+        old: None,
     });
     tenants.push(Tenant {
         name: ArrayVec::new(),
         words: 1,
         quota: 1,
+        old: None,
     });
     Config {
         pool: 2,

@@ -29,6 +29,7 @@ pub(crate) fn config(pool: u8, workers: u8, words: u16) -> Config
         name: ArrayVec::new(),
         words,
         quota: pool,
+        old: None,
     });
     Config {
         pool: u16::from(pool),

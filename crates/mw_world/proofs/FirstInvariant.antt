@@ -1,16 +1,24 @@
 -- What is to hold of every run holds where it begins, and a new world is one of those worlds.
-use Rattle.std.specs.Prelude.{◌+◌, if◌then◌else◌, List, [], ◌∷◌, length, replicate, slice_index_or, sum_by}
-use Rattle.std.proofs.Common.{◌≡◌, ℕ, zero, suc, refl, subst, sym, arith}
+use Rattle.std.specs.Prelude.{◌+◌, ◌&&◌, if◌then◌else◌, List, [], ◌∷◌, length, nat_le, replicate, slice_index_or, sum_by, IsTrue, Option, Some, None}
+use Rattle.std.specs.List.{list_all}
+use Rattle.std.proofs.Common.{◌≡◌, ◌∙◌, ℕ, zero, suc, refl, subst, sym, inl, inr, arith}
+use Rattle.std.proofs.lemmas.Bool.{and_parts, cases_lt}
 use Rattle.std.proofs.lemmas.Bool.Decides.{nat_tests}
-use Rattle.std.proofs.lemmas.List.{get_or-replicate, length-replicate}
+use Rattle.std.proofs.lemmas.List.{get_or-replicate, get_or_past, length-replicate}
 use Rattle.std.proofs.lemmas.List.Sums.{sum_by-cons}
-use Rattle.mw_words.specs.Change.{AreWords, word_at}
+use Rattle.arrayvec.specs.ArrayVec.{ArrayVec}
+use Rattle.mw_words.specs.declared.jobs.Entry.{Entry}
+use Rattle.mw_words.specs.declared.limits.TheConstants.{MAX_ENTRIES}
+use Rattle.mw_words.specs.Change.{AreWords, is_change, is_in_range, put, rises, word_at}
+use Rattle.mw_world_file.specs.declared.unopened.TheConstants.{OLD_ENTRIES}
+use Rattle.mw_lone.proofs.KeptRuns.{put_words}
+use Rattle.mw_lone.proofs.SoundStores.{length-put}
 use Rattle.mw_actor.specs.Acting.{Acting}
 use Rattle.mw_world.specs.declared.config.Config.{Config}
 use Rattle.mw_world.specs.declared.config.Tenant.{Tenant}
 use Rattle.mw_world.specs.Definition.Counting.{pins_held, frees_at, waits_for, over_workers, slots_taken_for}
 use Rattle.mw_world.specs.Claim.Invariant.{Invariant, RequestsAreTheirWorkers, ChangesClaimTheirSlots, SlotsTellTheirChanges, ReferencesArePinned, AttemptsAreTheirWorkers, WordsFollowTheirChanges, LateFinishersLose, HeldWordsAreOwed, FilesAreTold, ChangesHavePlaces, CountsAreRight}
-use Rattle.mw_world.specs.Definition.State.{IsConfig, IsStart, Opening, first_openings, idle_seat, no_tenant, quotas_together, tenant_at, world_at}
+use Rattle.mw_world.specs.Definition.State.{IsConfig, IsStart, Opening, first_openings, first_words_of, idle_seat, may_be_old, no_tenant, old_entries, quotas_together, tenant_at, world_at}
 
 module _ (config : Config) (openings : ℕ → Opening) where
   requests : RequestsAreTheirWorkers config (world_at config openings)
@@ -104,6 +112,22 @@ listed_together (tenant ∷ tenants) =
 zeros_fit : (many : ℕ) → AreWords (replicate many 0)
 zeros_fit many index none low = grind (arith, nat_tests, get_or-replicate {A = ℕ} many index 0 none, length-replicate {A = ℕ} many 0, low)
 
+-- the words of a first file are words, and as many as its tenant has
+first_long : (tenant : Tenant) → length (first_words_of tenant) ≡ tenant.words
+first_long tenant = length-put (replicate tenant.words 0) (old_entries tenant.old) ∙ length-replicate {A = ℕ} tenant.words 0
+
+-- each entry of a change is in range
+all_in_range : (words : ℕ) (entries : List Entry) → IsTrue (is_change words entries) → IsTrue (list_all (is_in_range words) entries)
+all_in_range words entries is =
+    (and_parts (nat_le 1 (length entries) && nat_le (length entries) MAX_ENTRIES) (list_all (is_in_range words) entries)
+    (and_parts (nat_le 1 (length entries) && nat_le (length entries) MAX_ENTRIES && list_all (is_in_range words) entries) (rises entries) is).0).1
+
+first_fit : (tenant : Tenant) → IsTrue (may_be_old tenant.words tenant.old) → AreWords (first_words_of tenant)
+first_fit tenant is = by_old tenant.old is where
+  by_old : (old : Option (ArrayVec Entry)) → IsTrue (may_be_old tenant.words old) → AreWords (put (replicate tenant.words 0) (old_entries old))
+  by_old None made = zeros_fit tenant.words
+  by_old (Some change) made = put_words tenant.words (replicate tenant.words 0) change.items (all_in_range tenant.words change.items (and_parts (is_change tenant.words change.items) (nat_le (length change.items) OLD_ENTRIES) made).0) (zeros_fit tenant.words)
+
 -- A new world is one of a start.
 pub new_worlds_start : (config : Config) → IsConfig config → IsStart config (first_openings config)
 new_worlds_start config is = record {
@@ -111,6 +135,11 @@ new_worlds_start config is = record {
     each = λ tenant low. is.quotas tenant no_tenant low;
     together = omega (arith, listed_together config.tenants.items, is.slots);
   };
-  long = λ tenant low. length-replicate (tenant_at config tenant).words 0;
-  words = λ tenant. zeros_fit (tenant_at config tenant).words;
-}
+  long = λ tenant low. first_long (tenant_at config tenant);
+  words = λ tenant. first_fit (tenant_at config tenant) (old_is tenant);
+} where
+  old_is : (tenant : ℕ) → IsTrue (may_be_old (tenant_at config tenant).words (tenant_at config tenant).old)
+  old_is tenant = elim (cases_lt tenant (length config.tenants.items)) [
+    | inl low ↦ is.old tenant no_tenant low
+    | inr past ↦ subst (λ (one : Tenant). IsTrue (may_be_old one.words one.old)) (sym (get_or_past config.tenants.items tenant no_tenant past)) refl
+  ]

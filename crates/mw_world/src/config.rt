@@ -1,7 +1,7 @@
 //! What a world is made of.
 
 use arrayvec::ArrayVec;
-use mw_words::{MAX_TENANTS, Name};
+use mw_words::{Entries, MAX_TENANTS, Name};
 
 /// A tenant of a world.
 #[derive(Debug, Default, Drop)]
@@ -10,12 +10,15 @@ pub struct Tenant {
     pub name: Name,
     /// How many words it has, 1 to `MAX_WORDS`.
     pub words: u16,
-    /// How many slots it may use at a time, 1 to `MAX_QUOTA`. A new file has as many places for changes.
+    /// How many slots it may use at a time, 1 to `MAX_QUOTA`. Its file is made with as many places for changes.
     pub quota: u8,
+    /// The change whose record stands open in its first file, if that is one that no start has opened yet: 1 to
+    /// `OLD_ENTRIES` entries, of which the expected values aren't looked at. `None`: the file is new and open.
+    pub old: Option<Entries>,
 }
 
-/// What a world is made of. In a new world each tenant has the quota that is told here; the sum of the quotas
-/// is at most `pool`.
+/// What a world is made of. In a new world each tenant has the quota that is told here, and the first file; the
+/// sum of the quotas is at most `pool`.
 #[derive(Debug, Drop)]
 pub struct Config {
     /// How many slots there are, 1 to `MAX_POOL`.

@@ -1,12 +1,11 @@
 -- What a crash in the midst of a call leaves of a tenant's file.
 use Rattle.std.proofs.Common.{◌≡◌, ℕ, true, false, List, length, Some, Result, Ok, Err, refl, sym, ap, subst, ◌∙◌, inl, inr}
 use Rattle.mw_words.specs.declared.jobs.Entry.{Entry}
-use Rattle.mw_words.specs.Change.{put}
 use Rattle.arrayvec.specs.ArrayVec.{ArrayVec}
 use Rattle.mw_disk.specs.Memory.{Memory, memory_facts}
 use Rattle.mw_disk.specs.Runs.{LeavesOnly}
 use Rattle.mw_disk.proofs.RunLaws.{leaves_wider}
-use Rattle.mw_record.specs.Records.{Pairs, put_pairs}
+use Rattle.mw_record.specs.Records.{Pairs}
 use Rattle.mw_record.specs.Layout.{pairs_of}
 use Rattle.mw_record.proofs.ReadAgain.{put-put_pairs}
 use Rattle.mw_look.specs.declared.steps.Call.{Call}
@@ -29,7 +28,7 @@ use Rattle.mw_world_file.specs.Devices.{disk_under}
 use Rattle.mw_world_file.specs.Files.{File, entries_in}
 use Rattle.mw_world_file.specs.Working.{failing}
 use Rattle.mw_world_file.proofs.SealedFiles.{writes_are}
-use Rattle.mw_world_file.proofs.WorkedFiles.{IsAt, keeps_open, told_there, unfailed_open}
+use Rattle.mw_world_file.proofs.WorkedFiles.{IsAt, keeps_open, told_there}
 
 -- a file of either words, by the entries of the change
 pub of_either : (places : ℕ) (words : List ℕ) (change : List Entry) (image : List ℕ) → IsEither places words (pairs_of change) image → IsFileOfEither words change image

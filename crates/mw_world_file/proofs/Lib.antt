@@ -3,6 +3,7 @@ pub mod CalledDisks
 pub mod CrashedFiles
 pub mod KeptPlaces
 pub mod NewFiles
+pub mod OldFiles
 pub mod OpenedFiles
 pub mod RestartedFiles
 pub mod SealedFiles

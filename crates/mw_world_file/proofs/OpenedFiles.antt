@@ -1,20 +1,19 @@
 -- The book of a file that was just opened.
 use Rattle.std.proofs.Common.{◌≡◌, ℕ, zero, suc, ◌+◌, ◌≤◌, ◌==◌, min, true, false, if◌then◌else◌, List, [], ◌∷◌, ◌++◌, length, take, replicate, get_or, slice_get, Some, None, is_none, IsTrue, refl, sym, ap, subst, ◌∙◌, arith}
 use Rattle.std.proofs.lemmas.List.{length-take}
-use Rattle.mw_words.specs.declared.limits.TheConstants.{MAX_WORDS, MAX_PLACES}
 use Rattle.mw_words.specs.declared.jobs.Entry.{Entry}
 use Rattle.mw_disk.specs.Memory.{Memory, memory_facts}
 use Rattle.mw_record.specs.declared.layout.TheConstants.{MAX_FILE}
-use Rattle.mw_record.specs.Damages.{damage_of, places_of, pairs_in}
-use Rattle.mw_record.specs.Layout.{size}
-use Rattle.mw_record.proofs.Longer.{places_of_first, damage_of_first, pairs_in_first}
+use Rattle.mw_record.specs.Damages.{damage_of, file_words, found_places, is_switched, pairs_in, places_of}
+use Rattle.mw_record.proofs.Longer.{is_switched_first, found_places_first, places_of_first, damage_of_first, pairs_in_first}
 use Rattle.mw_file.specs.declared.place_states.PlaceState.{PlaceState}
 use Rattle.mw_file.specs.declared.tenant_file.TenantFile.{TenantFile}
 use Rattle.mw_file.specs.File.{states_of}
-use Rattle.mw_file.specs.Opening.{IsOpened, entries_below, records_below, open_entries, open_records, repair_calls, read_calls, open_calls}
+use Rattle.mw_file.specs.Opening.{IsOpened, entries_below, records_below, open_entries, open_records, ready_calls, repair_calls, read_calls, open_calls}
+use Rattle.mw_file.specs.Migrating.{migration_calls}
 use Rattle.mw_file.specs.PlaceStates.{all_free}
 use Rattle.mw_file.proofs.Free.{stage_of-all_free}
-use Rattle.mw_file.specs.Keeps.{Keeps, IsFile}
+use Rattle.mw_file.specs.Keeps.{Keeps}
 use Rattle.mw_world_file.specs.declared.device.Device.TheVariants.{Open}
 use Rattle.mw_world_file.specs.declared.places.Place.{Place as KeptPlace}
 use Rattle.mw_world_file.specs.declared.places.Place.TheVariants.{Empty as KeptEmpty}
@@ -54,10 +53,6 @@ tells_opened file contents places doubt n slots keeps empty none = record {
   stands = subst (λ es. StandsFor (Open file) (length places) contents es) (sym none) keeps;
 }
 
--- no file has bytes past the ones that are looked at
-enough : size MAX_WORDS MAX_PLACES ≤ MAX_FILE
-enough = omega arith
-
 -- one element more
 pub take_next : {A : Type 0} (xs : List A) (k : ℕ) (x : A) → slice_get xs k ≡ Some x → take k xs ++ x ∷ [] ≡ take (k + 1) xs
 take_next {A = A} xs k x at = let next : suc k ≡ k + 1 = omega arith in by xs k at ∙ ap (λ n. take n xs) next where
@@ -68,42 +63,46 @@ take_next {A = A} xs k x at = let next : suc k ≡ k + 1 = omega arith in by xs 
 
 -- The device calls of an opening are those of the bytes that can belong to a file.
 module _ (bytes : List ℕ) (none : damage_of bytes ≡ None) where
-  same_entries : (n : ℕ) → n ≤ places_of bytes → entries_below (take MAX_FILE bytes) n ≡ entries_below bytes n
+  same_entries : (n : ℕ) → n ≤ found_places bytes → entries_below (take MAX_FILE bytes) n ≡ entries_below bytes n
   same_entries zero le = refl
   same_entries (suc n) le =
       ap (λ k. k + length (pairs_in (take MAX_FILE bytes) n)) (same_entries n (omega (arith, le)))
-      ∙ ap (λ ps. entries_below bytes n + length ps) (pairs_in_first bytes MAX_FILE enough none n (omega (arith, le)))
+      ∙ ap (λ ps. entries_below bytes n + length ps) (pairs_in_first bytes none n (omega (arith, le)))
 
-  same_records : (n : ℕ) → n ≤ places_of bytes → records_below (take MAX_FILE bytes) n ≡ records_below bytes n
+  same_records : (n : ℕ) → n ≤ found_places bytes → records_below (take MAX_FILE bytes) n ≡ records_below bytes n
   same_records zero le = refl
   same_records (suc n) le =
       ap (λ k. k + min 1 (length (pairs_in (take MAX_FILE bytes) n))) (same_records n (omega (arith, le)))
-      ∙ ap (λ ps. records_below bytes n + min 1 (length ps)) (pairs_in_first bytes MAX_FILE enough none n (omega (arith, le)))
+      ∙ ap (λ ps. records_below bytes n + min 1 (length ps)) (pairs_in_first bytes none n (omega (arith, le)))
 
   same_repair : repair_calls (take MAX_FILE bytes) ≡ repair_calls bytes
   same_repair =
-      let places : places_of (take MAX_FILE bytes) ≡ places_of bytes = places_of_first bytes MAX_FILE enough in
-      let entries = ap (λ n. entries_below (take MAX_FILE bytes) n) places ∙ same_entries (places_of bytes) (omega arith) in
-      let records = ap (λ n. records_below (take MAX_FILE bytes) n) places ∙ same_records (places_of bytes) (omega arith) in
+      let places : found_places (take MAX_FILE bytes) ≡ found_places bytes = found_places_first bytes none in
+      let entries = ap (λ n. entries_below (take MAX_FILE bytes) n) places ∙ same_entries (found_places bytes) (omega arith) in
+      let records = ap (λ n. records_below (take MAX_FILE bytes) n) places ∙ same_records (found_places bytes) (omega arith) in
       ap (λ r. if r == 0 then 0 else (open_entries (take MAX_FILE bytes) + 1) + (r + 1)) records
       ∙ ap (λ e. if open_records bytes == 0 then 0 else (e + 1) + (open_records bytes + 1)) entries
 
   same_reading : read_calls (take MAX_FILE bytes) ≡ read_calls bytes
   same_reading = let long = length-take MAX_FILE bytes in omega (arith, long)
 
+  same_ready : ready_calls (take MAX_FILE bytes) ≡ ready_calls bytes
+  same_ready =
+      ap (λ b. if b then repair_calls (take MAX_FILE bytes) else migration_calls) (is_switched_first bytes)
+      ∙ ap (λ n. if is_switched bytes then n else migration_calls) same_repair
+
   pub same_calls : open_calls (take MAX_FILE bytes) ≡ open_calls bytes
   same_calls =
-      ap (λ n. n + (if is_none (damage_of (take MAX_FILE bytes)) then repair_calls (take MAX_FILE bytes) else 0)) same_reading
-      ∙ ap (λ d. read_calls bytes + (if is_none d then repair_calls (take MAX_FILE bytes) else 0)) (damage_of_first bytes MAX_FILE enough)
-      ∙ ap (λ n. read_calls bytes + (if is_none (damage_of bytes) then n else 0)) same_repair
+      ap (λ n. n + (if is_none (damage_of (take MAX_FILE bytes)) then ready_calls (take MAX_FILE bytes) else 0)) same_reading
+      ∙ ap (λ d. read_calls bytes + (if is_none d then ready_calls (take MAX_FILE bytes) else 0)) (damage_of_first bytes)
+      ∙ ap (λ n. read_calls bytes + (if is_none (damage_of bytes) then n else 0)) same_ready
 
--- a file of these words, on a disk in memory, is opened with these words, and with as many places
-pub opened_words : (disk : Memory) (file : TenantFile Memory) (words : List ℕ) (places : ℕ) (contents : List ℕ) → IsOpened memory_facts disk file words
-    → IsFile places contents (memory_facts disk).reads → words ≡ contents
-opened_words disk file words places contents opened is =
-    let e : Some words ≡ Some contents = sym (opened.whole refl) ∙ is.words_are in cc
+-- a file of these words, on a disk in memory, is opened with these words, and with the places that its bytes tell of
+pub opened_words : (disk : Memory) (file : TenantFile Memory) (words contents : List ℕ) → IsOpened memory_facts disk file words → file_words (memory_facts disk).reads ≡ Some contents → words ≡ contents
+opened_words disk file words contents opened is = let e : Some words ≡ Some contents = sym (opened.whole refl) ∙ is in cc
 
-pub opened_places : (disk : Memory) (file : TenantFile Memory) (words : List ℕ) (places : ℕ) (contents : List ℕ) → IsOpened memory_facts disk file words
-    → IsFile places contents (memory_facts disk).reads → length (states_of file) ≡ places
-opened_places disk file words places contents opened is =
-    opened.places ∙ ap places_of (opened.seen refl) ∙ places_of_first (memory_facts disk).reads MAX_FILE enough ∙ is.places_are
+pub opened_places : (disk : Memory) (file : TenantFile Memory) (words : List ℕ) → IsOpened memory_facts disk file words → length (states_of file) ≡ places_of (memory_facts disk).reads
+opened_places disk file words opened =
+    let reads : List ℕ = (memory_facts disk).reads in
+    let none : damage_of reads ≡ None = sym (damage_of_first reads) ∙ sym (ap damage_of (opened.seen refl)) ∙ opened.undamaged in
+    opened.places ∙ ap places_of (opened.seen refl) ∙ places_of_first reads none

@@ -5,12 +5,12 @@ use Rattle.std.proofs.lemmas.Slice.Eq.{bytes_eq-Decides}
 use Rattle.mw_words.specs.declared.jobs.Entry.{Entry}
 use Rattle.mw_words.specs.Change.{put}
 use Rattle.mw_lone.proofs.SoundStores.{length-put}
-use Rattle.mw_file.specs.Keeps.{IsFile}
 use Rattle.mw_world_file.specs.declared.kept.Book.{Book}
 use Rattle.mw_world_file.specs.declared.cut.Cut.{Cut}
 use Rattle.mw_world_file.specs.declared.cut.Left.{Left}
 use Rattle.mw_world_file.specs.declared.faults.BookFault.{BookFault}
 use Rattle.mw_world_file.specs.declared.faults.BookFault.TheVariants.{NotEnabled, Memory as NoMemory}
+use Rattle.mw_world_file.specs.Devices.{IsRoomy}
 use Rattle.mw_world_file.specs.Files.{File}
 use Rattle.mw_world_file.specs.Restarts.{takes, may_find, opened_file}
 use Rattle.mw_world_file.specs.Books.{Shows, quota_of}
@@ -37,10 +37,10 @@ as_long false before doubt found may = by (bytes_eq found before) refl where
   by true same = same_length before found same
   by false differ = taken_long before doubt found (sym (ap (λ b. b || takes before doubt found) differ) ∙ may)
 
-pub restarted : (old : Book) (file : File) → Shows old file → (cut : Option Cut) (torn : List ℕ) (fails_at : Option ℕ) (left : Left) (new : Book) (took : Bool) → IsStopped old file cut torn left
-    → ((words : List ℕ) (places : ℕ) → IsFile places words left.image.items → IsReopened left.image.items places words fails_at new)
+pub restarted : (old : Book) (file : File) → Shows old file → (cut : Option Cut) (torn : List ℕ) (fails_at : Option ℕ) (left : Left) (new : Book) (took : Bool) (quota : ℕ) → quota ≡ quota_of old → IsStopped old file cut torn left
+    → ((words : List ℕ) → IsRoomy quota words left.image.items → IsReopened left.image.items quota words fails_at new)
     → took ≡ takes old.contents.items left.doubt.items new.contents.items → IsRestarted old file cut torn fails_at new took
-restarted old file shows cut torn fails_at left new took stopped reopens taken = record {
+restarted old file shows cut torn fails_at left new took quota as_many stopped reopens taken = record {
   image = left.image.items;
   words = stopped.words;
   left = stopped.is_left;
@@ -53,25 +53,26 @@ restarted old file shows cut torn fails_at left new took stopped reopens taken =
       ∙ ap (takes file.contents (doubt_left file (quota_of old) cut)) are;
 } where
   reopened : IsReopened left.image.items (quota_of old) stopped.words fails_at new
-  reopened = reopens stopped.words (quota_of old) (record { words_are = stopped.is_left.has; places_are = stopped.places })
+  reopened = subst (λ n. (words : List ℕ) → IsRoomy n words left.image.items → IsReopened left.image.items n words fails_at new) as_many reopens stopped.words (record { words_are = stopped.is_left.has; room = stopped.room })
 
   are : new.contents.items ≡ stopped.words
   are = sym reopened.shows.same_contents ∙ opened_words stopped.words fails_at
 
 -- a file that wasn't opened again
-pub not_restarted : (old : Book) (cut : Option Cut) (torn : List ℕ) (fails_at : Option ℕ) (left : Left) (fault : BookFault) (r : Result (Book × Bool) BookFault) → IsErrAnd r (λ e. e ≡ fault)
-    → ((file : File) → Shows old file → IsStopped old file cut torn left) → ((words : List ℕ) (places : ℕ) → IsFile places words left.image.items → ReopenEnds left.image.items places words fails_at (Err fault))
+pub not_restarted : (old : Book) (cut : Option Cut) (torn : List ℕ) (fails_at : Option ℕ) (left : Left) (fault : BookFault) (r : Result (Book × Bool) BookFault) (quota : ℕ) → quota ≡ quota_of old
+    → IsErrAnd r (λ e. e ≡ fault) → ((file : File) → Shows old file → IsStopped old file cut torn left)
+    → ((words : List ℕ) → IsRoomy quota words left.image.items → ReopenEnds left.image.items quota words fails_at (Err fault))
     → Restarts old cut torn fails_at r
-not_restarted old cut torn fails_at left fault (Ok started) is lefts ends = absurd is
-not_restarted old cut torn fails_at left fault (Err NoMemory) is lefts ends = tt
-not_restarted old cut torn fails_at left fault (Err NotEnabled) is lefts ends = λ file shows.
+not_restarted old cut torn fails_at left fault (Ok started) quota as_many is lefts ends = absurd is
+not_restarted old cut torn fails_at left fault (Err NoMemory) quota as_many is lefts ends = tt
+not_restarted old cut torn fails_at left fault (Err NotEnabled) quota as_many is lefts ends = λ file shows.
     let stopped = lefts file shows in
     inr (record {
       image = left.image.items;
       words = stopped.words;
       left = stopped.is_left;
       fails = subst (λ f. ReopenEnds left.image.items (quota_of old) stopped.words fails_at (Err f)) (sym is)
-          (ends stopped.words (quota_of old) (record { words_are = stopped.is_left.has; places_are = stopped.places }));
+          (subst (λ n. (words : List ℕ) → IsRoomy n words left.image.items → ReopenEnds left.image.items n words fails_at (Err fault)) as_many ends stopped.words (record { words_are = stopped.is_left.has; room = stopped.room }));
     })
 
 -- a file that wasn't stopped so

@@ -27,7 +27,7 @@ use Rattle.mw_world_file.specs.declared.kept.Book.{Book}
 use Rattle.mw_world_file.specs.declared.outcomes.Outcome.{Outcome}
 use Rattle.mw_world_file.specs.declared.outcomes.Outcome.TheVariants.{Good, Fail}
 use Rattle.mw_world_file.specs.Maps.{upd}
-use Rattle.mw_world_file.specs.Files.{File, Empty, Prepared, Sealed, is_empty, is_prepared, is_sealed, is_apart, entries_in, sealed, emptied}
+use Rattle.mw_world_file.specs.Files.{File, Empty, Prepared, Sealed, is_empty, is_prepared, is_sealed, is_apart, entries_at, entries_in, sealed, emptied}
 use Rattle.mw_world_file.specs.Calls.{suits, device_calls}
 use Rattle.mw_world_file.specs.Devices.{told, told_at, place_in, stage_told, states_on, is_clear, AreKept}
 use Rattle.mw_world_file.specs.Books.{Shows, HasParts, quota_of}
@@ -182,6 +182,20 @@ module _ (old : Book) (slot number : ℕ) (entries : ArrayVec Entry) (is : IsAt 
       done_turns old held device now new CancelCall slot others outcome number old.contents.items KeptEmpty (ends_well outcome may) parts refl is.within
       (λ file shows. stays old.contents.items (pairs_of old.doubt.items) (keeps_open old held device file shows)) cancel_suits
       (λ file shows. emptied_as old slot number (KeptPrepared entries) is file shows)
+
+-- a slot whose place has no prepared change
+pub unprepared : (old : Book) (slot : ℕ) (xs : List KeptPlace) → is_prepared (place_in xs (get_or old.place_of slot 0)) ≡ false → xs ≡ old.places.items → slot < MAX_POOL → (file : File) → Shows old file
+    → suits SealCall file (quota_of old) (file.place_of slot) ≡ false
+unprepared old slot xs isnt are within file shows =
+    let place : ℕ = file.place_of slot in
+    let apart = is_apart file (entries_at file place) (quota_of old) in
+    elim (cases_lt place (quota_of old)) [
+      | inl lt ↦ and_left (nat_lt place (quota_of old) && is_prepared (file.places place)) apart
+          (and_right (nat_lt place (quota_of old)) (is_prepared (file.places place))
+          (ap is_prepared (shows.same_places place lt ∙ ap (place_in old.places.items) (shows.same_place_of slot within) ∙ ap (λ l. place_in l (get_or old.place_of slot 0)) (sym are)) ∙ isnt))
+      | inr past ↦ and_left (nat_lt place (quota_of old) && is_prepared (file.places place)) apart
+          (and_left (nat_lt place (quota_of old)) (is_prepared (file.places place)) (le-ltb place (quota_of old) past))
+    ]
 
 -- a slot whose place has no sealed change
 pub unsettled : (old : Book) (slot : ℕ) (xs : List KeptPlace) → is_sealed (place_in xs (get_or old.place_of slot 0)) ≡ false → xs ≡ old.places.items → slot < MAX_POOL → (file : File) → Shows old file

@@ -1,6 +1,7 @@
 -- A file after a call, and the book that shows it.
-use Rattle.std.proofs.Common.{◌≡◌, ℕ, ◌+◌, ◌<◌, ◌≤◌, Bool, true, false, List, [], ◌∷◌, length, Option, Some, None, Result, Ok, Err, slice_get, slice_set, get_or, nat_lt, is_some, IsErrAnd, refl, sym, ap, subst, ◌∙◌, inl, inr, arith}
-use Rattle.std.proofs.lemmas.Bool.{cases_Bool, cond-true, cond-false, lt-ltb, le-ltb, ltb-true}
+use Rattle.std.proofs.Common.{◌≡◌, ℕ, ◌+◌, ◌<◌, ◌≤◌, Bool, true, false, List, [], ◌∷◌, length, Option, Some, None, Result, Ok, Err, slice_get, slice_set, get_or, nat_lt, min, is_some, IsErrAnd, refl, sym, ap, subst, ◌∙◌, inl, inr, arith}
+use Rattle.std.specs.List.{list_any}
+use Rattle.std.proofs.lemmas.Bool.{cases_Bool, cond-true, cond-false, ltb-true}
 use Rattle.std.proofs.lemmas.List.{length-set}
 use Rattle.std.proofs.lemmas.Option.{slice_get_read, slice_get_within}
 use Rattle.mw_words.specs.declared.limits.TheConstants.{MAX_POOL}
@@ -25,13 +26,13 @@ use Rattle.mw_world_file.specs.declared.outcomes.Outcome.{Outcome}
 use Rattle.mw_world_file.specs.declared.outcomes.Outcome.TheVariants.{Good, Fail}
 use Rattle.mw_world_file.specs.declared.faults.BookFault.{BookFault}
 use Rattle.mw_world_file.specs.declared.faults.BookFault.TheVariants.{NotEnabled, Memory as NoMemory}
-use Rattle.mw_world_file.specs.Files.{File, Prepared, is_empty, entries_in, entries_at, broken, prepared, empty_from}
+use Rattle.mw_world_file.specs.Files.{File, Prepared, is_empty, entries_in, entries_at, broken, prepared, empty_from, file_of}
 use Rattle.mw_world_file.specs.Calls.{place_for, suits, device_calls, filed, doubt_of}
 use Rattle.mw_world_file.specs.Maps.{upd}
 use Rattle.mw_world_file.specs.Devices.{told, told_at, place_in, stage_told, StandsFor, AreKept, states_on, words_on, has_failed_on, is_open}
 use Rattle.mw_world_file.specs.Books.{Tells, Shows, HasParts, quota_of}
 use Rattle.mw_world_file.specs.Working.{may_end, left_by, worked_at, worked, Turns, Works}
-use Rattle.mw_world_file.proofs.KeptPlaces.{lowest, Lowest, set_told, set_number, kept_on, found_within}
+use Rattle.mw_world_file.proofs.KeptPlaces.{lowest, Lowest, empty_among, set_told, set_number, kept_on}
 
 -- a call that was refused memory
 pub refused : (old : Book) (call : Call) (slot : ℕ) (entries : List Entry) (outcome : Outcome) (r : Result Book BookFault) → IsErrAnd r (λ e. e ≡ NoMemory) → Works old call slot entries outcome r
@@ -88,8 +89,8 @@ none_written (e ∷ doubt) none = absurd (cc)
 
 -- The facts of a book whose file is open.
 module _ (old : Book) (held : TenantFile Memory) (is : old.device ≡ Open held) where
-  pub counted : length (states_of held) ≡ length old.places.items
-  counted = sym (ap (λ d. length (states_on d)) is) ∙ old.count (ap (λ d. is_open d) is)
+  pub counted : length old.places.items ≤ length (states_of held)
+  counted = subst (λ d. length old.places.items ≤ length (states_on d)) is (old.count (ap (λ d. is_open d) is))
 
   pub kept_open : AreKept (states_of held) old.places.items
   kept_open = subst (λ d. AreKept (states_on d) old.places.items) is old.kept
@@ -214,73 +215,95 @@ module _ (old : Book) (held : TenantFile Memory) (is : old.device ≡ Open held)
     );
   }
 
+-- what the book's test of its places found
+pub found : (old : Book) (places : List KeptPlace) (test b : Bool) → places ≡ old.places.items → test ≡ list_any (λ place. is_empty (told place)) places → test ≡ b → list_any (λ place. is_empty (told place)) old.places.items ≡ b
+found old places test b are is same = ap (list_any (λ place. is_empty (told place))) (sym are) ∙ sym is ∙ same
+
 -- The facts of a change that is written down in the lowest free place.
 module _ (old : Book) (held : TenantFile Memory) (slot : ℕ) (entries : ArrayVec Entry) (is : old.device ≡ Open held) where
-  lowest_in : (file : File) → Shows old file → (found : Option ℕ) → free_place (states_of held) ≡ found → Lowest file 0 (quota_of old) found
-  lowest_in file shows found at =
-      subst (λ f. Lowest file 0 (quota_of old) f) at (lowest (states_of held) old.places.items file (counted old held is) (kept_open old held is) shows.same_places)
+  -- what the book's own places say
+  abbrev as_kept : File
+  as_kept = record (file_of []) { places = place_in old.places.items }
 
-  pub none_suits : is_some (free_place (states_of held)) ≡ false → (file : File) → Shows old file → nat_lt (empty_from file 0 (quota_of old)) (quota_of old) ≡ false
-  none_suits none file shows = by (free_place (states_of held)) refl where
-    by : (found : Option ℕ) → free_place (states_of held) ≡ found → nat_lt (empty_from file 0 (quota_of old)) (quota_of old) ≡ false
-    by None at =
-        let past : empty_from file 0 (quota_of old) ≡ 0 + quota_of old = lowest_in file shows None at in
-        le-ltb (empty_from file 0 (quota_of old)) (quota_of old) (omega (arith, past))
-    by (Some place) at = absurd (let e : true ≡ false = sym (ap is_some at) ∙ none in cc)
+  lowest_in : (file : File) → ((k : ℕ) → k < quota_of old → file.places k ≡ place_in old.places.items k) → (found : Option ℕ) → free_place (states_of held) ≡ found → Lowest file 0 (quota_of old) found
+  lowest_in file same found at =
+      subst (λ f. Lowest file 0 (quota_of old) f) at (lowest (states_of held) old.places.items file (counted old held is) (kept_open old held is) same)
 
-  pub none_empty : (outcome : Outcome) → is_some (free_place (states_of held)) ≡ false → (file : File) → Shows old file → worked PrepareCall file (quota_of old) slot entries.items outcome ≡ None
+  -- the book's test whether there is an empty place
+  suits_as : (b : Bool) → list_any (λ place. is_empty (told place)) old.places.items ≡ b → (file : File) → ((k : ℕ) → k < quota_of old → file.places k ≡ place_in old.places.items k)
+      → nat_lt (empty_from file 0 (quota_of old)) (quota_of old) ≡ b
+  suits_as b test file same = sym (empty_among old.places.items file same) ∙ test
+
+  pub none_suits : list_any (λ place. is_empty (told place)) old.places.items ≡ false → (file : File) → Shows old file → nat_lt (empty_from file 0 (quota_of old)) (quota_of old) ≡ false
+  none_suits none file shows = suits_as false none file shows.same_places
+
+  pub none_empty : (outcome : Outcome) → list_any (λ place. is_empty (told place)) old.places.items ≡ false → (file : File) → Shows old file
+      → worked PrepareCall file (quota_of old) slot entries.items outcome ≡ None
   none_empty outcome none file shows = unsuited PrepareCall file (quota_of old) slot (empty_from file 0 (quota_of old)) entries.items outcome (none_suits none file shows)
 
-  module _ (before : TenantFile Memory) (same : states_of before ≡ states_of held) where
-    pub place_within : (place : ℕ) → free_place (states_of before) ≡ Some place → place < length old.places.items
-    place_within place found =
-        let lt : place < length (states_of before) = found_within (states_of before) place found in
-        let e : length (states_of before) ≡ length (states_of held) = ap (λ ss. length ss) same in
-        let n = counted old held is in
-        omega (arith, lt, e, n)
+  -- it has an empty place
+  module _ (some : list_any (λ place. is_empty (told place)) old.places.items ≡ true) where
+    pub some_empty : (file : File) → Shows old file → nat_lt (empty_from file 0 (quota_of old)) (quota_of old) ≡ true
+    some_empty file shows = suits_as true some file shows.same_places
 
-    pub some_empty : is_some (free_place (states_of held)) ≡ true → (file : File) → Shows old file → nat_lt (empty_from file 0 (quota_of old)) (quota_of old) ≡ true
-    some_empty some file shows = by (free_place (states_of held)) refl where
-      by : (found : Option ℕ) → free_place (states_of held) ≡ found → nat_lt (empty_from file 0 (quota_of old)) (quota_of old) ≡ true
-      by None at = absurd (let e : false ≡ true = sym (ap is_some at) ∙ some in cc)
-      by (Some place) at =
-          let low : Lowest file 0 (quota_of old) (Some place) = lowest_in file shows (Some place) at in
-          let e = low.0 in let lt = low.1 in
-          lt-ltb (empty_from file 0 (quota_of old)) (quota_of old) (omega (arith, e, lt))
+    kept_within : empty_from as_kept 0 (quota_of old) < quota_of old
+    kept_within = ltb-true (empty_from as_kept 0 (quota_of old)) (quota_of old) (suits_as true some as_kept (λ k lt. refl))
 
-    -- the device failed as it was told
-    pub prepare_broken : (now : TenantFile Memory) (new : Book) (outcome : Outcome) (number : ℕ) (doubt : ArrayVec Entry) → outcome ≡ Fail number → doubt.items ≡ [] → may_end 2 outcome ≡ true
-        → old.has_failed ≡ false → is_some (free_place (states_of held)) ≡ true
-        → ((contents : List ℕ) (doubt : Pairs) → Keeps memory_facts held contents doubt → Keeps memory_facts now contents doubt)
-        → HasParts new (Open now) old.contents.items old.places.items old.place_of true doubt.items
-        → Turns old new (λ file. worked PrepareCall file (quota_of old) slot entries.items outcome)
-    prepare_broken now new outcome number doubt fails none may sound some stays parts =
-        broken_turns old held is now new PrepareCall slot entries.items outcome number doubt fails parts
-        (λ file shows. subst (λ es. Keeps memory_facts now old.contents.items (pairs_of es)) (sym none) (none_doubted old held is now sound stays file shows))
-        (some_empty some) (λ file shows. may) (λ file shows. sym none)
+    module _ (before : TenantFile Memory) (same : states_of before ≡ states_of held) where
+      -- the file finds one
+      pub is_found : is_some (free_place (states_of before)) ≡ true
+      is_found = ap (λ ss. is_some (free_place ss)) same ∙ by (free_place (states_of held)) refl where
+        by : (found : Option ℕ) → free_place (states_of held) ≡ found → is_some (free_place (states_of held)) ≡ true
+        by None at =
+            let past : empty_from as_kept 0 (quota_of old) ≡ 0 + quota_of old = lowest_in as_kept (λ k lt. refl) None at in
+            let lt = kept_within in
+            absurd (let e : ⊥ = omega (arith, past, lt) in e)
+        by (Some place) at = ap is_some at
 
-    -- all went well
-    pub prepare_done : (now : TenantFile Memory) (new : Book) (outcome : Outcome) (place : ℕ) → outcome ≡ Good → free_place (states_of before) ≡ Some place → slot < MAX_POOL → MAX_POOL ≤ length old.place_of
-        → ((contents : List ℕ) (doubt : Pairs) → Keeps memory_facts held contents doubt → Keeps memory_facts now contents doubt)
-        → HasParts new (Open now) old.contents.items (slice_set old.places.items place (KeptPrepared entries)) (slice_set old.place_of slot place) old.has_failed old.doubt.items
-        → Turns old new (λ file. worked PrepareCall file (quota_of old) slot entries.items outcome)
-    prepare_done now new outcome place well found within long stays parts = record {
-      places = ap (λ ps. length ps) parts.is_places ∙ length-set old.places.items place (KeptPrepared entries);
-      words = ap (λ ws. length ws) parts.is_contents;
-      shows = λ file shows.
-          let at : free_place (states_of held) ≡ Some place = sym (ap free_place same) ∙ found in
-          let low : Lowest file 0 (quota_of old) (Some place) = lowest_in file shows (Some place) at in (
-            prepared file slot place entries.items,
-            suited PrepareCall file (quota_of old) slot (empty_from file 0 (quota_of old)) entries.items outcome (some_empty (ap is_some at) file shows) (ap (may_end 2) well)
-                ∙ ap (λ o. Some (left_by PrepareCall file slot (empty_from file 0 (quota_of old)) entries.items o)) well ∙ ap (λ n. Some (prepared file slot n entries.items)) low.0,
-            shows_parts new (Open now) old.contents.items (slice_set old.places.items place (KeptPrepared entries)) (slice_set old.place_of slot place) old.has_failed old.doubt.items
-                (prepared file slot place entries.items) parts (record {
-                  same_contents = shows.same_contents;
-                  same_places = set_told file.places old.places.items place (KeptPrepared entries) (Prepared entries.items) refl (place_within place found) shows.same_places;
-                  same_place_of = set_number file.place_of old.place_of slot place MAX_POOL long within shows.same_place_of;
-                  same_failed = shows.same_failed;
-                  same_doubt = shows.same_doubt;
-                  stands = stays old.contents.items (pairs_of old.doubt.items) (keeps_open old held is file shows);
-                }),
-          );
-    }
+      -- and it is the book's lowest
+      pub place_within : (place : ℕ) → free_place (states_of before) ≡ Some place → place < length old.places.items
+      place_within place found =
+          let low : empty_from as_kept 0 (quota_of old) ≡ min place (0 + quota_of old) = lowest_in as_kept (λ k lt. refl) (Some place) (sym (ap free_place same) ∙ found) in
+          let lt = kept_within in
+          omega (arith, low, lt)
+
+      lowest_is : (place : ℕ) → free_place (states_of before) ≡ Some place → (file : File) → Shows old file → empty_from file 0 (quota_of old) ≡ place
+      lowest_is place found file shows =
+          let low : empty_from file 0 (quota_of old) ≡ min place (0 + quota_of old) = lowest_in file shows.same_places (Some place) (sym (ap free_place same) ∙ found) in
+          let lt = place_within place found in
+          omega (arith, low, lt)
+
+      -- the device failed as it was told
+      pub prepare_broken : (now : TenantFile Memory) (new : Book) (outcome : Outcome) (number : ℕ) (doubt : ArrayVec Entry) → outcome ≡ Fail number → doubt.items ≡ [] → may_end 2 outcome ≡ true
+          → old.has_failed ≡ false
+          → ((contents : List ℕ) (doubt : Pairs) → Keeps memory_facts held contents doubt → Keeps memory_facts now contents doubt)
+          → HasParts new (Open now) old.contents.items old.places.items old.place_of true doubt.items
+          → Turns old new (λ file. worked PrepareCall file (quota_of old) slot entries.items outcome)
+      prepare_broken now new outcome number doubt fails none may sound stays parts =
+          broken_turns old held is now new PrepareCall slot entries.items outcome number doubt fails parts
+          (λ file shows. subst (λ es. Keeps memory_facts now old.contents.items (pairs_of es)) (sym none) (none_doubted old held is now sound stays file shows))
+          some_empty (λ file shows. may) (λ file shows. sym none)
+
+      -- all went well
+      pub prepare_done : (now : TenantFile Memory) (new : Book) (outcome : Outcome) (place : ℕ) → outcome ≡ Good → free_place (states_of before) ≡ Some place → slot < MAX_POOL → MAX_POOL ≤ length old.place_of
+          → ((contents : List ℕ) (doubt : Pairs) → Keeps memory_facts held contents doubt → Keeps memory_facts now contents doubt)
+          → HasParts new (Open now) old.contents.items (slice_set old.places.items place (KeptPrepared entries)) (slice_set old.place_of slot place) old.has_failed old.doubt.items
+          → Turns old new (λ file. worked PrepareCall file (quota_of old) slot entries.items outcome)
+      prepare_done now new outcome place well found within long stays parts = record {
+        places = ap (λ ps. length ps) parts.is_places ∙ length-set old.places.items place (KeptPrepared entries);
+        words = ap (λ ws. length ws) parts.is_contents;
+        shows = λ file shows. (
+          prepared file slot place entries.items,
+          suited PrepareCall file (quota_of old) slot (empty_from file 0 (quota_of old)) entries.items outcome (some_empty file shows) (ap (may_end 2) well)
+              ∙ ap (λ o. Some (left_by PrepareCall file slot (empty_from file 0 (quota_of old)) entries.items o)) well ∙ ap (λ n. Some (prepared file slot n entries.items)) (lowest_is place found file shows),
+          shows_parts new (Open now) old.contents.items (slice_set old.places.items place (KeptPrepared entries)) (slice_set old.place_of slot place) old.has_failed old.doubt.items
+              (prepared file slot place entries.items) parts (record {
+                same_contents = shows.same_contents;
+                same_places = set_told file.places old.places.items place (KeptPrepared entries) (Prepared entries.items) refl (place_within place found) shows.same_places;
+                same_place_of = set_number file.place_of old.place_of slot place MAX_POOL long within shows.same_place_of;
+                same_failed = shows.same_failed;
+                same_doubt = shows.same_doubt;
+                stands = stays old.contents.items (pairs_of old.doubt.items) (keeps_open old held is file shows);
+              }),
+        );
+      }

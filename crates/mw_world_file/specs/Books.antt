@@ -22,7 +22,7 @@ pub record Tells (device : Device) (contents : List ℕ) (places : List KeptPlac
 abbrev pub Shows : Book → File → Type 0
 Shows book file = Tells book.device book.contents.items book.places.items book.place_of book.has_failed book.doubt.items file
 
--- how many places the book has
+-- the tenant's quota: how many places of the file the book uses, which are the first ones; the file may have more
 abbrev pub quota_of : Book → ℕ
 quota_of book = length book.places.items
 

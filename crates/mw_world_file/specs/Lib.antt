@@ -5,6 +5,7 @@ pub mod Devices
 pub mod Files
 pub mod Giving
 pub mod Maps
+pub mod OldFiles
 pub mod Openings
 pub mod Reopening
 pub mod Restarts

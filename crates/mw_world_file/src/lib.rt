@@ -19,9 +19,11 @@ mod outcomes;
 mod places;
 mod restarting;
 mod stopping;
+mod unopened;
 mod working;
 
 pub use cut::Cut;
 pub use faults::BookFault;
 pub use kept::Book;
 pub use outcomes::Outcome;
+pub use unopened::OLD_ENTRIES;

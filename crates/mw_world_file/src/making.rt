@@ -1,6 +1,7 @@
 //! The book of a new file.
 ghost use Rattle.std.specs.Prelude.{◌≡◌, ◌≤◌, length, replicate, IfOk};
-ghost use Rattle.mw_words.specs.declared.limits.TheConstants.{MAX_PLACES, MAX_WORDS};
+ghost use Rattle.mw_words.specs.declared.limits.TheConstants.{MAX_WORDS};
+ghost use Rattle.mw_record.specs.declared.layout.TheConstants.{FIRST_PLACES};
 ghost use Rattle.mw_record.specs.Layout.{new_file};
 
 use crate::kept::Book;
@@ -11,19 +12,20 @@ impl Book {
     ghost use Rattle.mw_world_file.specs.Books.{Shows, quota_of};
     ghost use Rattle.mw_world_file.specs.Files.{file_of};
 
-    /// The book of a new file, all words of which are 0: of so many words, 1 to `MAX_WORDS`, and so many
-    /// places, 1 to `MAX_PLACES`. The only error is want of memory.
+    /// The book of a new file, all words of which are 0: of so many words, 1 to `MAX_WORDS`, made with so
+    /// many places, 1 to `FIRST_PLACES`, and opened. As many places are used as it was made with. The only
+    /// error is want of memory.
     pub fn new(alloc: Global, words: u16, quota: u8) -> Result<Book, AllocError>
         requires some_word { 1 ≤ words }
         requires words_fit { words ≤ MAX_WORDS }
         requires some_place { 1 ≤ quota }
-        requires places_fit { quota ≤ MAX_PLACES }
+        requires places_fit { quota ≤ FIRST_PLACES }
         ensures shows { IfOk result (λ book. Shows book (file_of (replicate words 0))) }
         ensures places { IfOk result (λ book. quota_of book ≡ quota) }
         ensures words { IfOk result (λ book. length book.contents.items ≡ words) }
     {
         let bytes = new_bytes(alloc, words, u16::from(quota))?;
-        match Book::open(alloc, bytes, None) {
+        match Book::open(alloc, bytes, usize::from(quota), None) {
             Ok(book) => Ok(book),
             Err(_) => Err(AllocError),
         }
@@ -35,7 +37,7 @@ fn new_bytes(alloc: Global, words: u16, places: u16) -> Result<Vec<u8>, AllocErr
     requires some_word { 1 ≤ words }
     requires words_fit { words ≤ MAX_WORDS }
     requires some_place { 1 ≤ places }
-    requires places_fit { places ≤ MAX_PLACES }
+    requires places_fit { places ≤ FIRST_PLACES }
     ensures { IfOk result (λ bytes. bytes.items ≡ new_file words places) }
 {
     let mut bytes = header(words, places).to_vec(alloc)?;

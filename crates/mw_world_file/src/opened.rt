@@ -1,5 +1,5 @@
 //! The book of a file that was just opened.
-ghost use Rattle.std.specs.Prelude.{◌≡◌, [], false, length, replicate, IfOk, IsTrue};
+ghost use Rattle.std.specs.Prelude.{◌≡◌, ◌≤◌, [], false, length, replicate, IfOk, IsTrue};
 ghost use Rattle.mw_disk.specs.Memory.{memory_facts};
 ghost use Rattle.mw_file.specs.File.{disk_of, has_failed, states_of};
 ghost use Rattle.mw_file.specs.Keeps.{Keeps};
@@ -18,22 +18,24 @@ use mw_file::TenantFile;
 use mw_words::Entries;
 use std::alloc::{AllocError, Global};
 
-/// The book of a file that was just opened, with the words that it stands for. All its places are
-/// empty. The only error is want of memory.
+/// The book of a file that was just opened, with the words that it stands for. So many of its places are
+/// used, and all are empty. The only error is want of memory.
 pub(crate) fn open_book(
     alloc: Global,
     file: TenantFile<MemDisk>,
     contents: Vec<u64>,
+    quota: usize,
 ) -> Result<Book, AllocError>
     requires free { IsTrue (all_free (states_of file)) }
+    requires room { quota ≤ length (states_of file) }
     requires sound { has_failed file ≡ false }
     requires keeps { Keeps memory_facts file contents.items [] }
     requires ready { IsReady (disk_of file) }
     ensures shows { IfOk result (λ book. Shows book (file_of contents.items)) }
-    ensures places { IfOk result (λ book. quota_of book ≡ length (states_of file)) }
+    ensures places { IfOk result (λ book. quota_of book ≡ quota) }
     ensures device { IfOk result (λ book. book.device ≡ Open file) }
 {
-    let places = empty_places(alloc, usize::from(file.places()))?;
+    let places = empty_places(alloc, quota)?;
     Ok(Book {
         device: Device::Open(file),
         contents,

@@ -1,12 +1,12 @@
 //! The opening of a tenant's file.
-ghost use Rattle.std.specs.Prelude.{◌≡◌, ◌<◌, ◌^◌, ℕ, List, Some, None, [], length, replicate, true, false, IsTrue, IsSome, IsSomeAnd, IfOk, MatchResult};
+ghost use Rattle.std.specs.Prelude.{◌≡◌, ◌<◌, ◌^◌, ◌⊎◌, ℕ, List, Some, None, [], length, replicate, true, false, IsTrue, IsSome, IsSomeAnd, IfOk, MatchResult};
 ghost use Rattle.mw_disk.specs.Memory.{memory_facts};
 ghost use Rattle.mw_file.specs.File.{disk_of, states_of, has_failed};
-ghost use Rattle.mw_file.specs.Keeps.{IsFile, Keeps};
+ghost use Rattle.mw_file.specs.Keeps.{Keeps};
 ghost use Rattle.mw_file.specs.PlaceStates.{all_free};
 ghost use Rattle.mw_record.specs.Damages.{words_in};
 ghost use Rattle.mw_world_file.specs.Books.{HasParts, Shows, quota_of};
-ghost use Rattle.mw_world_file.specs.Devices.{IsReady};
+ghost use Rattle.mw_world_file.specs.Devices.{IsReady, IsRoomy};
 ghost use Rattle.mw_world_file.specs.Files.{file_of};
 ghost use Rattle.mw_world_file.specs.Stopping.{named};
 ghost use Rattle.mw_world_file.specs.declared.device.Device.TheVariants.{Open, Shut};
@@ -47,11 +47,13 @@ fn script_of(alloc: Global, fails_at: Option<u64>) -> Result<Vec<u64>, AllocErro
 impl Book {
     ghost use Rattle.mw_world_file.specs.Stopping.{ReopenEnds};
 
-    /// The book of a file that was opened, if no device call was to fail.
+    /// The book of a file that was opened, so many places of which are used, if it has so many and no device
+    /// call was to fail.
     fn opened(
         alloc: Global,
         file: TenantFile<MemDisk>,
         words: Vec<u64>,
+        quota: usize,
         fails_at: Option<u64>,
     ) -> Result<Book, BookFault>
         requires free { IsTrue (all_free (states_of file)) }
@@ -59,13 +61,16 @@ impl Book {
         requires keeps { Keeps memory_facts file words.items [] }
         requires ready { fails_at ≡ None → IsReady (disk_of file) }
         ensures { MatchResult result
-            (λ book. (fails_at ≡ None) × Shows book (file_of words.items) × (quota_of book ≡ length (states_of file)) × (book.device ≡ Open file))
-            (λ fault. fault ≡ BookFault.NotEnabled → IsSomeAnd fails_at (λ number. number < 2 ^ 64)) }
+            (λ book. (fails_at ≡ None) × Shows book (file_of words.items) × (quota_of book ≡ quota) × (book.device ≡ Open file))
+            (λ fault. fault ≡ BookFault.NotEnabled → (length (states_of file) < quota) ⊎ IsSomeAnd fails_at (λ number. number < 2 ^ 64)) }
     {
+        if usize::from(file.places()) < quota {
+            return Err(BookFault::NotEnabled);
+        }
         if fails_at.is_some() {
             return Err(BookFault::NotEnabled);
         }
-        Ok(open_book(alloc, file, words)?)
+        Ok(open_book(alloc, file, words, quota)?)
     }
 
     /// The book of a file whose opening failed, if a device call was to fail and none was refused memory.
@@ -73,7 +78,7 @@ impl Book {
         alloc: Global,
         disk: MemDisk,
         words: Vec<u64>,
-        quota: u16,
+        quota: usize,
         fails_at: Option<u64>,
     ) -> Result<Book, BookFault>
         ensures { MatchResult result
@@ -83,7 +88,7 @@ impl Book {
         if fails_at.is_none() || disk.refused() > 0 {
             return Err(BookFault::Memory);
         }
-        let Ok(places) = empty_places(alloc, usize::from(quota)) else {
+        let Ok(places) = empty_places(alloc, quota) else {
             return Err(BookFault::Memory);
         };
         Ok(Book {
@@ -96,7 +101,8 @@ impl Book {
         })
     }
 
-    /// The book of a file that is opened from these bytes.
+    /// The book of a file that is opened from these bytes, so many places of which are used. It has so many,
+    /// or more.
     ///
     /// # Errors
     ///
@@ -105,20 +111,20 @@ impl Book {
     pub(crate) fn open(
         alloc: Global,
         bytes: Vec<u8>,
+        quota: usize,
         fails_at: Option<u64>,
     ) -> Result<Book, BookFault>
-        ensures { (words : List ℕ) (places : ℕ) → IsFile places words bytes.items → ReopenEnds bytes.items places words fails_at result }
+        ensures { (words : List ℕ) → IsRoomy quota words bytes.items → ReopenEnds bytes.items quota words fails_at result }
     {
         let Ok(image) = decode(&bytes) else {
             return Err(BookFault::NotEnabled);
         };
         let found = words_of(alloc, &image)?;
-        let quota = image.places();
         let disk = MemDisk::new(alloc, bytes, script_of(alloc, fails_at)?)?;
         match TenantFile::open(alloc, disk) {
             Ok(opened) => {
                 let (file, words) = opened;
-                Book::opened(alloc, file, words, fails_at)
+                Book::opened(alloc, file, words, quota, fails_at)
             }
             Err(failed) => {
                 let (fault, disk) = failed;

@@ -1,5 +1,8 @@
-//! The places of a tenant's file.
+//! The places of a tenant's file, as a book keeps them.
 ghost use Rattle.std.specs.Prelude.{◌≡◌, IfOk};
+ghost use Rattle.std.specs.List.{list_any};
+ghost use Rattle.mw_world_file.specs.Devices.{told};
+ghost use Rattle.mw_world_file.specs.Files as file;
 
 use mw_words::{Entries, copy_of};
 use std::alloc::{AllocError, Global};
@@ -26,6 +29,22 @@ impl Place {
             Place::Sealed(entries) => Place::Sealed(copy_of(entries)),
         }
     }
+
+    fn is_empty(&self) -> bool
+        ensures { result ≡ file.is_empty (told self.now) }
+    {
+        match self {
+            Place::Empty => true,
+            Place::Prepared(_) | Place::Sealed(_) => false,
+        }
+    }
+}
+
+/// Whether one of these places is empty.
+pub(crate) fn has_empty(places: &[Place]) -> bool
+    ensures { result ≡ list_any (λ place. file.is_empty (told place)) places.now }
+{
+    places.iter().any(|place| place.is_empty())
 }
 
 /// The same places once more. The only error is want of memory.

@@ -49,7 +49,7 @@ impl Book {
     {
         let left = self.stop(alloc, cut, torn)?;
         let Left { image, doubt } = left;
-        let book = Book::open(alloc, image, fails_at)?;
+        let book = Book::open(alloc, image, self.places.len(), fails_at)?;
         let taken = is_taken(alloc, &self.contents, &doubt, &book.contents)?;
         Ok((book, taken))
     }

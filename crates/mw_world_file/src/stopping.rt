@@ -4,7 +4,7 @@ ghost use Rattle.mw_disk.specs.Memory.{memory_facts, with_stop};
 ghost use Rattle.mw_record.specs.Records.{Pairs};
 ghost use Rattle.mw_file.specs.File.{disk_of, words_of, states_of, has_failed};
 ghost use Rattle.mw_file.specs.Keeps.{Keeps};
-ghost use Rattle.mw_world_file.specs.Files.{is_sealed};
+ghost use Rattle.mw_world_file.specs.Files.{is_prepared, is_sealed};
 ghost use Rattle.mw_world_file.specs.Devices.{place_in};
 ghost use Rattle.mw_world_file.specs.Reopening.{until};
 
@@ -12,7 +12,7 @@ use crate::cut::{Cut, Left};
 use crate::device::Device;
 use crate::faults::BookFault;
 use crate::kept::Book;
-use crate::places::Place;
+use crate::places::{Place, has_empty};
 use crate::working::{device_calls, is_apart};
 use mw_disk::MemDisk;
 use mw_file::{Place as FilePlace, TenantFile};
@@ -37,6 +37,17 @@ fn copy_until(
     let mut copy = file.copy(alloc)?;
     copy.stop_next(calls);
     Ok(copy)
+}
+
+/// The change in a place, if it is prepared.
+fn prepared_in(places: &[Place], number: u16) -> Option<&Entries>
+    ensures { MatchOption result (is_prepared (place_in places.now number) ≡ false)
+        (λ entries. slice_get places.now number ≡ Some (Place.Prepared entries.now)) }
+{
+    match places.get(number as usize) {
+        Some(Place::Prepared(entries)) => Some(entries),
+        _ => None,
+    }
 }
 
 /// The change in a place, if it is sealed.
@@ -115,7 +126,7 @@ impl Book {
         let Device::Open(held) = &self.device else {
             unreachable!()
         };
-        if !held.has_place() {
+        if !has_empty(&self.places) {
             return Err(BookFault::NotEnabled);
         }
         if cut.made > device_calls(Call::Prepare, &[]) {
@@ -139,7 +150,7 @@ impl Book {
         ensures { Stops self.now (Some cut.now) torn.now result }
     {
         let place = self.place_of[cut.slot as usize];
-        let Some(Place::Prepared(entries)) = self.places.get(place as usize) else {
+        let Some(entries) = prepared_in(&self.places, place) else {
             return Err(BookFault::NotEnabled);
         };
         if !is_apart(&self.places, entries) {

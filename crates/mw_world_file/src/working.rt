@@ -1,5 +1,5 @@
 //! Calls on a tenant's file.
-ghost use Rattle.std.specs.Prelude.{◌≡◌, ◌<◌, ℕ, List, length, true, false, IfOk, IsTrue, slice_set};
+ghost use Rattle.std.specs.Prelude.{◌≡◌, ◌<◌, ◌≤◌, ℕ, List, length, true, false, IfOk, IsTrue, slice_set};
 ghost use Rattle.mw_words.specs.Change.{is_change};
 ghost use Rattle.mw_disk.specs.Memory.{memory_facts, with_fault};
 ghost use Rattle.mw_record.specs.Records.{Pairs};
@@ -17,7 +17,7 @@ use crate::device::Device;
 use crate::faults::BookFault;
 use crate::kept::Book;
 use crate::outcomes::Outcome;
-use crate::places::{Place, copies};
+use crate::places::{Place, copies, has_empty};
 use mw_disk::MemDisk;
 use mw_file::{Place as FilePlace, TenantFile};
 use mw_look::Call;
@@ -146,7 +146,7 @@ impl Book {
         let Device::Open(held) = &self.device else {
             unreachable!()
         };
-        if !held.has_place() {
+        if !has_empty(&self.places) {
             return Err(BookFault::NotEnabled);
         }
         if !may_end(device_calls(Call::Prepare, &[]), outcome) {
@@ -179,7 +179,7 @@ impl Book {
     ) -> Result<Book, AllocError>
         requires within { place < length self.now.places.items }
         requires sized { words_of file ≡ length self.now.contents.items }
-        requires count { length (states_of file) ≡ length self.now.places.items }
+        requires count { length self.now.places.items ≤ length (states_of file) }
         requires kept { AreKept (states_of file) (slice_set self.now.places.items place (Place.Prepared entries.now)) }
         requires failed { has_failed file ≡ self.now.has_failed }
         requires ready { self.now.has_failed ≡ false → IsReady (disk_of file) }
@@ -307,7 +307,7 @@ impl Book {
     ) -> Result<Book, AllocError>
         requires within { number < length self.now.places.items }
         requires sized { words_of file ≡ length self.now.contents.items }
-        requires count { length (states_of file) ≡ length self.now.places.items }
+        requires count { length self.now.places.items ≤ length (states_of file) }
         requires kept { AreKept (states_of file) (slice_set self.now.places.items number Place.Empty) }
         requires failed { has_failed file ≡ self.now.has_failed }
         requires ready { self.now.has_failed ≡ false → IsReady (disk_of file) }
@@ -329,7 +329,7 @@ impl Book {
     ) -> Result<Book, AllocError>
         requires within { number < length self.now.places.items }
         requires sized { words_of file ≡ length contents.items }
-        requires count { length (states_of file) ≡ length self.now.places.items }
+        requires count { length self.now.places.items ≤ length (states_of file) }
         requires kept { AreKept (states_of file) (slice_set self.now.places.items number place) }
         requires failed { has_failed file ≡ self.now.has_failed }
         requires ready { self.now.has_failed ≡ false → IsReady (disk_of file) }
@@ -356,7 +356,7 @@ impl Book {
         doubt: Entries,
     ) -> Result<Book, AllocError>
         requires sized { words_of file ≡ length self.now.contents.items }
-        requires count { length (states_of file) ≡ length self.now.places.items }
+        requires count { length self.now.places.items ≤ length (states_of file) }
         requires kept { AreKept (states_of file) self.now.places.items }
         requires failed { has_failed file ≡ true }
         ensures { IfOk result (λ book. HasParts book (Open file) self.now.contents.items self.now.places.items self.now.place_of true doubt.items) }

@@ -101,7 +101,7 @@ fn takes<R: Abort + AllocGlobal>(
     quota: u8,
     marks: &str,
 ) -> Result<(), Fail> {
-    let mut lone = Lone::new(rt.alloc(), words, quota)?;
+    let mut lone = Lone::new(rt.alloc(), words, quota, false)?;
     for line in marks.split('\n') {
         assert!(rt; takes_mark(&mut lone, line.as_bytes()), "{line}");
     }

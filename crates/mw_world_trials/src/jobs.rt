@@ -55,6 +55,7 @@ fn large_tenant(dice: &mut Dice) -> Tenant
         name: Name::new(),
         words: 1 + u16::from(dice.small(3)),
         quota: 2 + dice.small(2),
+        old: None,
     }
 }
 
@@ -66,6 +67,7 @@ fn small_tenant(dice: &mut Dice) -> Tenant
         name: Name::new(),
         words: 1 + u16::from(dice.small(3)),
         quota: 1 + dice.small(3),
+        old: None,
     }
 }
 

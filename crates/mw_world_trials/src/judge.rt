@@ -146,7 +146,7 @@ impl Alone {
     fn new(alloc: Global, words: u16, quota: u8) -> Result<Alone, TrialFault> {
         let zeros = zeros(alloc, words)?;
         Ok(Alone {
-            lone: Lone::new(alloc, &zeros, quota)?,
+            lone: Lone::new(alloc, &zeros, quota, false)?,
             asked: 0,
         })
     }

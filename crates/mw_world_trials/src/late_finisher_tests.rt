@@ -27,6 +27,7 @@ fn world_of_three() -> Config
         name: Name::new(),
         words: 2,
         quota: 3,
+        old: None,
     });
     Config {
         pool: 3,
@@ -180,7 +181,7 @@ fn plant_late(plan: &mut Plan) -> Result<(), TrialFault> {
 fn replies_of(alloc: Global, world: &World) -> Result<Vec<Reply>, TrialFault>
     requires { 0 < length world.now.config.tenants.items }
 {
-    let mut lone = Lone::new(alloc, &[0, 0], 3)?;
+    let mut lone = Lone::new(alloc, &[0, 0], 3, false)?;
     let mut replies = Vec::new(alloc);
     for mark in world.marks(0)? {
         if let Some(reply) = lone.mark(mark)? {

@@ -1,9 +1,9 @@
-//! Ten thousand trials.
+//! Three thousand trials.
 
 use crate::trial::play;
 
 /// How many trials there are.
-const TRIALS: u64 = 10_000;
+const TRIALS: u64 = 3_000;
 
 /// How many events a trial has.
 const EVENTS: u64 = 300;

@@ -1,12 +1,13 @@
 //! New worlds.
-ghost use Rattle.std.specs.Prelude.{◌≡◌, ℕ, ◌≤◌, [], All, Bool, IfOk, List};
+ghost use Rattle.std.specs.Prelude.{◌≡◌, ℕ, ◌≤◌, [], All, Bool, IfOk, IsTrue, List, length};
 ghost use Rattle.mw_world.specs.Definition.State as spec;
-ghost use Rattle.mw_world.specs.Definition.State.{IsConfig};
+ghost use Rattle.mw_world.specs.Definition.State.{IsConfig, may_be_old};
+ghost use Rattle.mw_world_file.specs.Books.{Shows as ShowsFile, quota_of};
 ghost use Rattle.mw_world_memory.specs.BitPlaces.{HasPlacesOf};
 ghost use Rattle.mw_simulator.specs.Holding.{Holds};
 ghost use Rattle.mw_simulator.specs.Running.{Stands};
 ghost use Rattle.mw_simulator.specs.Serving.{Serves};
-ghost use Rattle.mw_simulator.specs.Starts.{AreFresh, AreGiven, AreIdle, AreTenants, HaveWords, IsFresh};
+ghost use Rattle.mw_simulator.specs.Starts.{AreFresh, AreGiven, AreIdle, AreTenants, HaveWords, IsFresh, fresh};
 ghost use Rattle.mw_world_memory.specs.Ties.{Tie};
 
 use crate::world::World;
@@ -17,8 +18,9 @@ use mw_world_memory::{Account, Cells, Claims, Lines, Seat};
 use std::alloc::{AllocError, Global};
 
 impl World {
-    /// A new world of this configuration: no worker has a request, and each tenant's file has zeros, and
-    /// as many places as the tenant may use slots. The only error is want of memory.
+    /// A new world of this configuration: no worker has a request. Each tenant's file is made with as many
+    /// places as the tenant may use slots, has zeros and is open; or it is an old one, which no start has opened yet, in which the
+    /// record of the change that the configuration tells stands open. The only error is want of memory.
     pub fn new(alloc: Global, config: Config) -> Result<World, AllocError>
         requires { IsConfig config }
         ensures config { IfOk result (λ world. world.config ≡ config) }
@@ -44,6 +46,7 @@ impl World {
 fn fresh_accounts(alloc: Global, tenants: &[Tenant]) -> Result<Vec<Account>, AllocError>
     requires words { All (λ tenant. (1 ≤ tenant.words) × (tenant.words ≤ MAX_WORDS)) tenants.now }
     requires quotas { All (λ tenant. (1 ≤ tenant.quota) × (tenant.quota ≤ MAX_QUOTA)) tenants.now }
+    requires old { All (λ tenant. IsTrue (may_be_old tenant.words tenant.old)) tenants.now }
     ensures { IfOk result (λ accounts. AreFresh tenants.now accounts.items) }
 {
     let mut accounts = Vec::with_capacity(alloc, tenants.len())?;
@@ -57,15 +60,30 @@ fn fresh_accounts(alloc: Global, tenants: &[Tenant]) -> Result<Vec<Account>, All
 fn fresh_account(alloc: Global, tenant: &Tenant) -> Result<Account, AllocError>
     requires words { (1 ≤ tenant.now.words) × (tenant.now.words ≤ MAX_WORDS) }
     requires quota { (1 ≤ tenant.now.quota) × (tenant.now.quota ≤ MAX_QUOTA) }
+    requires old { IsTrue (may_be_old tenant.now.words tenant.now.old) }
     ensures { IfOk result (IsFresh tenant.now) }
 {
-    let book = Book::new(alloc, tenant.words, tenant.quota)?;
     Ok(Account {
-        book,
+        book: first_book(alloc, tenant)?,
         quota: tenant.quota,
         lines: Lines::new(alloc),
         asked: 0,
     })
+}
+
+/// The book of a tenant's first file.
+fn first_book(alloc: Global, tenant: &Tenant) -> Result<Book, AllocError>
+    requires words { (1 ≤ tenant.now.words) × (tenant.now.words ≤ MAX_WORDS) }
+    requires quota { (1 ≤ tenant.now.quota) × (tenant.now.quota ≤ MAX_QUOTA) }
+    requires old { IsTrue (may_be_old tenant.now.words tenant.now.old) }
+    ensures shows { IfOk result (λ book. ShowsFile book (fresh tenant.now).file) }
+    ensures places { IfOk result (λ book. quota_of book ≡ tenant.now.quota) }
+    ensures words { IfOk result (λ book. length book.contents.items ≡ tenant.now.words) }
+{
+    match &tenant.old {
+        None => Book::new(alloc, tenant.words, tenant.quota),
+        Some(change) => Book::unopened(alloc, tenant.words, tenant.quota, change),
+    }
 }
 
 /// Workers that have no requests.

@@ -22,7 +22,7 @@ use Rattle.mw_world.specs.Claim.Schedules.{Comes, Before, To, End, Fails, Stops,
 
 -- a tenant of so many words and such a quota
 abbrev pub tenant : ℕ → ℕ → Tenant
-tenant words quota = record { name = record { items = [] }; words = words; quota = quota }
+tenant words quota = record { name = record { items = [] }; words = words; quota = quota; old = None }
 
 abbrev pub config : ℕ → ℕ → List Tenant → Config
 config pool workers tenants = record { pool = pool; workers = workers; seq = 0; tenants = record { items = tenants } }

@@ -1,14 +1,17 @@
 -- The state of a world.
-use Rattle.std.specs.Prelude.{ℕ, zero, suc, ◌+◌, ◌≡◌, ◌≤◌, ◌<◌, All, sum_by, Bool, true, false, not, if◌then◌else◌, List, [], ◌++◌, length, replicate, slice_index_or, Option, None}
+use Rattle.std.specs.Prelude.{ℕ, zero, suc, ◌+◌, ◌≡◌, ◌≤◌, ◌<◌, All, sum_by, Bool, true, false, not, if◌then◌else◌, List, [], ◌++◌, length, replicate, slice_index_or, is_none, nat_le, ◌&&◌, IsTrue, Option, Some, None}
 use Rattle.std.specs.Option.{option_to_list}
+use Rattle.arrayvec.specs.ArrayVec.{ArrayVec}
 use Rattle.std.specs.List.{flat_map}
 use Rattle.mw_words.specs.declared.words.Word.TheVariants.{Plain}
 use Rattle.mw_words.specs.declared.statuses.Status.TheVariants.{Draft}
-use Rattle.mw_words.specs.Change.{AreWords, word_at}
+use Rattle.mw_words.specs.declared.jobs.Entry.{Entry}
+use Rattle.mw_words.specs.Change.{AreWords, is_change, put, word_at}
 use Rattle.mw_words.specs.declared.limits.TheConstants.{MAX_POOL, MAX_QUOTA, MAX_TENANTS, MAX_WORDS, MAX_WORKERS, WORN_NUMBER}
 use Rattle.mw_lone.specs.declared.marks.Mark.{Mark}
 use Rattle.mw_lone.specs.Store.{Store, new_store, store_after_start, run as run_of_store}
 use Rattle.mw_actor.specs.Acting.{Acting}
+use Rattle.mw_world_file.specs.declared.unopened.TheConstants.{OLD_ENTRIES}
 use Rattle.mw_world_file.specs.Files.{File, file_of}
 use Rattle.mw_world.specs.declared.config.Config.{Config}
 use Rattle.mw_world.specs.declared.config.Tenant.{Tenant}
@@ -50,7 +53,7 @@ pub record State : Type 0 where
 
 -- a tenant that isn't there has no words and no slots
 abbrev pub no_tenant : Tenant
-no_tenant = record { name = record { items = [] }; words = 0; quota = 0 }
+no_tenant = record { name = record { items = [] }; words = 0; quota = 0; old = None }
 
 abbrev pub tenant_at : Config → ℕ → Tenant
 tenant_at config tenant = slice_index_or config.tenants.items tenant no_tenant
@@ -67,8 +70,18 @@ marks_in lines = flat_map option_to_list lines
 abbrev pub marks_of : State → ℕ → List Mark
 marks_of state tenant = (state.accounts tenant).closed ++ marks_in (state.accounts tenant).lines
 
--- A world may be made of this: there is a tenant, a worker and a slot, each number is within its limits, and the pool has slots for
--- all quotas together.
+-- this may be the change whose record stands open in the first file of a tenant with so many words: it is well formed, and has no more entries
+-- than such a record may have
+abbrev pub is_old : ℕ → List Entry → Bool
+is_old words entries = is_change words entries && nat_le (length entries) OLD_ENTRIES
+
+-- the same of the change of a tenant that has one; where the file is new there is none
+abbrev pub may_be_old : ℕ → Option (ArrayVec Entry) → Bool
+may_be_old words None = true
+may_be_old words (Some change) = is_old words change.items
+
+-- A world may be made of this: there is a tenant, a worker and a slot, each number is within its limits, each change in an old file is
+-- well formed, and the pool has slots for all quotas together.
 pub record IsConfig (config : Config) : Type 0 where
   pub pool : (1 ≤ config.pool) × (config.pool ≤ MAX_POOL)
   pub workers : (1 ≤ config.workers) × (config.workers ≤ MAX_WORKERS)
@@ -76,6 +89,7 @@ pub record IsConfig (config : Config) : Type 0 where
   pub tenants : (1 ≤ tenants_of config) × (tenants_of config ≤ MAX_TENANTS)
   pub words : All (λ tenant. (1 ≤ tenant.words) × (tenant.words ≤ MAX_WORDS)) config.tenants.items
   pub quotas : All (λ tenant. (1 ≤ tenant.quota) × (tenant.quota ≤ MAX_QUOTA)) config.tenants.items
+  pub old : All (λ tenant. IsTrue (may_be_old tenant.words tenant.old)) config.tenants.items
   pub slots : sum_by (λ tenant. tenant.quota) config.tenants.items ≤ config.pool
 
 -- a worker that has no request, and whose next attempt is its first
@@ -157,9 +171,22 @@ world_at config openings = started config (λ tenant. account_at (openings tenan
 abbrev pub store_of : (ℕ → Opening) → State → ℕ → Option Store
 store_of openings state tenant = run_of_store (store_at (openings tenant)) (marks_of state tenant)
 
--- the first start of all: each tenant has the quota of the configuration, and its file has zeros, and opened
+-- the entries of the change in an old file; none where the file is new
+abbrev pub old_entries : Option (ArrayVec Entry) → List Entry
+old_entries None = []
+old_entries (Some change) = change.items
+
+-- the words of a tenant's first file: zeros, and over them the change whose record stands open in an old one
+abbrev pub first_words_of : Tenant → List ℕ
+first_words_of tenant = put (replicate tenant.words 0) (old_entries tenant.old)
+
+-- The first start of all: each tenant has the quota of the configuration, and the words of its first file. A new file opened; an old one didn't,
+-- until a later start opens it.
+abbrev pub first_opening_of : Tenant → Opening
+first_opening_of tenant = record { quota = tenant.quota; words = first_words_of tenant; is_up = is_none tenant.old }
+
 abbrev pub first_openings : Config → ℕ → Opening
-first_openings config tenant = record { quota = (tenant_at config tenant).quota; words = replicate (tenant_at config tenant).words 0; is_up = true }
+first_openings config tenant = first_opening_of (tenant_at config tenant)
 
 -- a new world
 abbrev pub new_world : Config → State

@@ -1,4 +1,4 @@
-use Rattle.std.proofs.Common.{List, ℕ, sym, subst, arith}
+use Rattle.std.proofs.Common.{List, ℕ, refl, sym, subst, arith}
 use Rattle.mw_schedule.specs.Playing.{IsFree}
 use Rattle.mw_schedule.proofs.Tenants.{none_named}
 use Rattle.mw_schedule.proofs.config.read_tenant.Goals as goal
@@ -13,4 +13,5 @@ returns c =
       words = (c.in_ok-number_within.ensures.0, omega arith);
       quota = (c.in_ok-number_within-2.ensures.0, omega arith);
       slots = omega arith;
+      fresh = refl;
     }

@@ -7,36 +7,38 @@ use Rattle.mw_words.specs.declared.jobs.Entry.{Entry}
 use Rattle.mw_world_file.specs.Files.{entries_in, entries_at}
 use Rattle.mw_look.specs.declared.steps.Call.TheVariants.{Seal}
 use Rattle.mw_world_file.specs.declared.places.Place.TheVariants.{Prepared as KeptPrepared}
-use Rattle.mw_world_file.proofs.WorkedFiles.{IsAt, is_at, told_there, unfailed_open}
-use Rattle.mw_world_file.proofs.SealedFiles.{all_clear, may_seal_it, seal_suits, writes_are}
+use Rattle.mw_world_file.proofs.WorkedFiles.{IsAt, is_there, told_there, unfailed_open}
+use Rattle.mw_world_file.proofs.SealedFiles.{all_clear, may_seal_it, seal_suits, unprepared, writes_are}
 use Rattle.mw_world_file.proofs.StoppedFiles.{not_suited, left_cut, left_of, sealed_left, sealed_whole, doubt_sealing, part_of_seal, whole_seal}
 use Rattle.mw_world_file.proofs.kept.Book.stop_sealing.Goals as goal
 
+pub returns-in_default : goal.returns-in_default
+returns-in_default c file shows =
+    not_suited c.args.self.now c.args.cut.now Seal c.requires.call c.requires.some file shows
+    (unprepared c.args.self.now c.args.cut.now.slot c.deref.result.now c.in_default.ensures c.deref.ensures.value (search rules) file shows)
+
 pub returns-then-not-is_apart : goal.returns-then-not-is_apart
 returns-then-not-is_apart c file shows =
-    let old = c.args.self.now in let es = c.in-Some-Prepared.entries in
+    let old = c.args.self.now in let es = c.in-Some.entries.now in
     let at : IsAt old c.args.cut.now.slot (get_or old.place_of c.args.cut.now.slot 0) (KeptPrepared es) =
-    is_at old c.args.cut.now.slot (KeptPrepared es) c.in-Some-Prepared.field-0.now c.deref.result.now c.in-Some-Prepared.field-0-is c.in-Some-Prepared.ensures.lookup.0 c.in-Some-Prepared.ensures.lookup.1
-    c.deref.ensures.value (search rules) in
+    is_there old c.args.cut.now.slot (KeptPrepared es) c.deref.result.now c.in-Some.ensures c.deref.ensures.value (search rules) in
     not_suited old c.args.cut.now Seal c.requires.call c.requires.some file shows
     (seal_suits old c.args.cut.now.slot (get_or old.place_of c.args.cut.now.slot 0) es at false
     (all_clear c.is_apart.result es.items c.deref-3.result.now old.places.items c.deref-2.result.now c.is_apart.ensures c.deref-3.ensures.0 c.deref-2.ensures.value ∙ c.if-not-is_apart.true) file shows)
 
 pub seal-sealed-requires : goal.seal-sealed-requires
 seal-sealed-requires c =
-    let old = c.args.self.now in let es = c.in-Some-Prepared.entries in
+    let old = c.args.self.now in let es = c.in-Some.entries.now in
     let at : IsAt old c.args.cut.now.slot (get_or old.place_of c.args.cut.now.slot 0) (KeptPrepared es) =
-    is_at old c.args.cut.now.slot (KeptPrepared es) c.in-Some-Prepared.field-0.now c.deref.result.now c.in-Some-Prepared.field-0-is c.in-Some-Prepared.ensures.lookup.0 c.in-Some-Prepared.ensures.lookup.1
-    c.deref.ensures.value (search rules) in
+    is_there old c.args.cut.now.slot (KeptPrepared es) c.deref.result.now c.in-Some.ensures c.deref.ensures.value (search rules) in
     let all = all_clear c.is_apart.result es.items c.deref-3.result.now old.places.items c.deref-2.result.now c.is_apart.ensures c.deref-3.ensures.0 c.deref-2.ensures.value ∙ c.if-not-is_apart.false in
     may_seal_it old c.args.cut.now.slot (get_or old.place_of c.args.cut.now.slot 0) es at c.in-Open.held c.in-Open.is c.in_ok-file.file c.in_ok-file.ensures.states all
 
 pub returns-then-cut-device_calls-2 : goal.returns-then-cut-device_calls-2
 returns-then-cut-device_calls-2 c file shows =
-    let old = c.args.self.now in let es = c.in-Some-Prepared.entries in
+    let old = c.args.self.now in let es = c.in-Some.entries.now in
     let at : IsAt old c.args.cut.now.slot (get_or old.place_of c.args.cut.now.slot 0) (KeptPrepared es) =
-    is_at old c.args.cut.now.slot (KeptPrepared es) c.in-Some-Prepared.field-0.now c.deref.result.now c.in-Some-Prepared.field-0-is c.in-Some-Prepared.ensures.lookup.0 c.in-Some-Prepared.ensures.lookup.1
-    c.deref.ensures.value (search rules) in
+    is_there old c.args.cut.now.slot (KeptPrepared es) c.deref.result.now c.in-Some.ensures c.deref.ensures.value (search rules) in
     let cut = c.args.cut.now in
     let all = all_clear c.is_apart.result es.items c.deref-3.result.now old.places.items c.deref-2.result.now c.is_apart.ensures c.deref-3.ensures.0 c.deref-2.ensures.value ∙ c.if-not-is_apart.false in
     let suits = seal_suits old cut.slot (get_or old.place_of cut.slot 0) es at true all file shows in
@@ -55,10 +57,9 @@ returns-then-cut-device_calls-2 c file shows =
 
 pub returns : goal.returns
 returns c file shows =
-    let old = c.args.self.now in let es = c.in-Some-Prepared.entries in
+    let old = c.args.self.now in let es = c.in-Some.entries.now in
     let at : IsAt old c.args.cut.now.slot (get_or old.place_of c.args.cut.now.slot 0) (KeptPrepared es) =
-    is_at old c.args.cut.now.slot (KeptPrepared es) c.in-Some-Prepared.field-0.now c.deref.result.now c.in-Some-Prepared.field-0-is c.in-Some-Prepared.ensures.lookup.0 c.in-Some-Prepared.ensures.lookup.1
-    c.deref.ensures.value (search rules) in
+    is_there old c.args.cut.now.slot (KeptPrepared es) c.deref.result.now c.in-Some.ensures c.deref.ensures.value (search rules) in
     let cut = c.args.cut.now in
     let all = all_clear c.is_apart.result es.items c.deref-3.result.now old.places.items c.deref-2.result.now c.is_apart.ensures c.deref-3.ensures.0 c.deref-2.ensures.value ∙ c.if-not-is_apart.false in
     let suits = seal_suits old cut.slot (get_or old.place_of cut.slot 0) es at true all file shows in
