@@ -14,6 +14,8 @@ use Rattle.mw_line.specs.declared.requests.Request.{Request}
 use Rattle.mw_line.specs.declared.replies.Say.{Say}
 use Rattle.mw_line.specs.declared.replies.Say.TheVariants as say
 use Rattle.mw_line.specs.Replies.{text_of}
+use Rattle.mw_report.specs.declared.figures.Figures.{Figures}
+use Rattle.mw_report.specs.Table.{report}
 use Rattle.mw_client.specs.Sending.{request_line}
 use Rattle.mw_client.specs.Reading.{IsReply}
 use Rattle.mw_client.specs.declared.meanings.Failure.{Failure}
@@ -98,3 +100,12 @@ pub record IsConfirmed (new_left new_taken : Option (List ℕ)) (entries : Array
   pub left_then : Option (List ℕ)
   pub taken_then : Option (List ℕ)
   pub yes : Exchanged left_then new_left taken_then new_taken (request.Job (job.Cas entries)) (say.Store reply.Yes)
+
+-- The report was asked for, and then just the text of these figures was read.
+pub record Reported (left new_left taken new_taken : Option (List ℕ)) (figures : Figures) : Type 0 where
+  pub sent : Appends taken new_taken (request_line request.Report)
+  pub heard : Consumes left new_left (report figures.tenants.items figures.pool_free)
+
+-- What was read before is this text; and if all went well, what was read by now is the new one.
+abbrev pub GoesOn : Bool → Option (List ℕ) → Option (List ℕ) → List ℕ → List ℕ → Type 0
+GoesOn went left new_left text new_text = (first : Option (List ℕ)) → Consumes first left text → went ≡ true → Consumes first new_left new_text

@@ -13,7 +13,7 @@ use mw_line::{MAX_REPLY, Request, Say};
 use std::io::{Read, Write};
 
 /// The byte that ends a line.
-const LINE_FEED: u8 = b'\n';
+pub(crate) const LINE_FEED: u8 = b'\n';
 
 /// Sends a request and reads its reply, of one line: any request but that for a report. Where nothing
 /// comes this waits, for as long as the reader does. The reader is asked for a byte at a time, so it
@@ -60,7 +60,8 @@ fn next_line<R: Read>(reader: &mut R) -> Option<ArrayVec<u8, MAX_REPLY>>
     None
 }
 
-fn next_byte<R: Read>(reader: &mut R) -> Option<u8>
+/// Reads the next byte. None where the reader ends or fails before.
+pub(crate) fn next_byte<R: Read>(reader: &mut R) -> Option<u8>
     ensures { IfSome result (λ byte. Consumes (R.remaining reader.old) (R.remaining reader.new) (byte ∷ [])) }
 {
     let mut one = [0; 1];

@@ -2,24 +2,29 @@
 //! means.
 //!
 //! [`Client`] is a session for one tenant, over any reader and writer; [`connect`] makes one by a socket. Below it, [`exchange`] sends one
-//! request and reads its reply. [`request_text`] is the line of a request, which the server's own reader
+//! request and reads its reply. [`Administrator`] is a session for the administrator, who may ask for the
+//! report; [`connect_administrator`] makes one by a socket. [`request_text`] is the line of a request, which the server's own reader
 //! reads as that request ([`what_is_sent_is_read`]). [`read_reply`] says which reply a line is, if it is
 //! one.
 #![tactic(auto)]
 
+mod administrator;
 mod client;
 mod conversation;
 mod laws;
 mod meanings;
 mod pauses;
 mod replies;
+mod report;
 mod requests;
 mod wire;
 
+pub use administrator::Administrator;
 pub use client::Client;
 pub use conversation::{exchange, next_reply};
 pub use laws::what_is_sent_is_read;
 pub use meanings::{Failure, Outcome, outcome_told, value_told};
 pub use replies::read_reply;
+pub use report::next_report;
 pub use requests::{LineText, MAX_SENT, request_text};
-pub use wire::{SocketClient, connect};
+pub use wire::{SocketAdministrator, SocketClient, connect, connect_administrator};

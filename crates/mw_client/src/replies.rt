@@ -56,7 +56,7 @@ fn plain(line: &[u8]) -> Option<Say>
 
 /// The number that is all of the text. One of more than 64 bits is `u64::MAX`.
 #[tactic(auto, unfolding(crate::specs::Reading::number_of))]
-fn number(text: &[u8]) -> Option<u64>
+pub(crate) fn number(text: &[u8]) -> Option<u64>
     ensures { result ≡ spec.number_of text.now }
 {
     match value_at(text) {

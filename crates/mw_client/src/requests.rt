@@ -1,5 +1,5 @@
 //! The line of a request.
-ghost use Rattle.std.specs.Prelude.{◌≡◌, ◌+◌, ◌≤◌, ◌<◌, ◌++◌, [], All, decimal, flat_map, length};
+ghost use Rattle.std.specs.Prelude.{◌≡◌, ◌+◌, ◌*◌, ◌≤◌, ◌<◌, ◌++◌, [], All, decimal, flat_map, length};
 ghost use Rattle.mw_line.specs.Grammar.{Get, spaced, spelling};
 ghost use Rattle.mw_line.specs.Limits.{command_of};
 ghost use Rattle.mw_client.specs.Sending.{HasValues, IsSendable, request_line};
@@ -7,10 +7,13 @@ ghost use Rattle.mw_client.specs.Sending.{HasValues, IsSendable, request_line};
 use arrayvec::ArrayVec;
 use itoa::Buffer;
 use mw_line::Request;
-use mw_words::{Entry, Job, MAX_LINE};
+use mw_words::{Entry, Job, MAX_ENTRIES, MAX_LINE};
 
 /// Room for the line of a request, with its line feed.
 pub const MAX_SENT: usize = MAX_LINE + 1;
+
+/// The bytes of the command of a change, which stand before its entries.
+const COMMAND: usize = 3;
 
 /// The most bytes of an entry with the space that stands before it.
 const MAX_ENTRY: usize = 38;
@@ -65,10 +68,10 @@ fn put_get(text: &mut LineText, addr: u16)
 
 fn put_entries(text: &mut LineText, entries: &[Entry])
     requires values { All HasValues entries.now }
-    requires few { length entries.now ≤ 8 }
-    requires room { length text.old.items ≤ 3 }
+    requires few { length entries.now ≤ MAX_ENTRIES }
+    requires room { length text.old.items ≤ COMMAND }
     ensures entries { text.new.items ≡ text.old.items ++ flat_map spaced entries.now }
-    ensures room { length text.new.items ≤ 307 }
+    ensures room { length text.new.items ≤ COMMAND + MAX_ENTRY * MAX_ENTRIES }
 {
     for entry in entries {
         put_entry(text, entry);

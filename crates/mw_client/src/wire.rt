@@ -1,4 +1,5 @@
 //! Connections over TCP, and by local sockets.
+use crate::administrator::Administrator;
 use crate::client::Client;
 use crate::meanings::Failure;
 use mw_words::Name;
@@ -30,6 +31,27 @@ pub fn connect<R: Net<Stream = TcpStream>>(
 ) -> Result<SocketClient, Failure> {
     match dial(rt, alloc, address, patience) {
         Ok((reader, writer)) => Client::begin(reader, writer, name),
+        Err(_) => Err(Failure::Lost),
+    }
+}
+
+/// An administrator's client by a socket.
+pub type SocketAdministrator = Administrator<BufReader<TcpStream>, TcpStream>;
+
+/// A client of the server at an address, as [`connect`] takes them, which speaks for the administrator. The server's
+/// option `--admin` names an address at which the administrator waits for nobody.
+///
+/// # Errors
+///
+/// As [`Administrator::begin`], and [`Failure::Lost`] too where nobody serves there, or memory was refused.
+pub fn connect_administrator<R: Net<Stream = TcpStream>>(
+    rt: &R,
+    alloc: Global,
+    address: &str,
+    patience: Duration,
+) -> Result<SocketAdministrator, Failure> {
+    match dial(rt, alloc, address, patience) {
+        Ok((reader, writer)) => Administrator::begin(reader, writer),
         Err(_) => Err(Failure::Lost),
     }
 }

@@ -1,6 +1,7 @@
 //! Clients of a server that is a text.
 use arrayvec::ArrayVec;
-use mw_client::{Client, Failure, Outcome, read_reply};
+use mw_client::{Administrator, Client, Failure, Outcome, read_reply};
+use mw_report::Figures;
 use mw_words::{Entries, Entry, Name};
 use std::alloc::Global;
 use std::time::{Clock, Duration};
@@ -107,4 +108,62 @@ fn value_at(seen: &Entries, place: usize) -> u64 {
         Some(entry) => entry.new,
         None => 0,
     }
+}
+
+/// What the server says to the administrator, and then as a report of two tenants, of which one is named as its last
+/// line begins.
+const REPORTED: &[u8] =
+    b"OK ADMIN\nfree                2  1  0 up\nu                4096 32  3 down\nfree 30\n";
+
+/// Whether these are the figures of that report.
+fn are_reported(figures: &Figures) -> bool {
+    match figures.tenants.as_slice() {
+        [first, second] => {
+            let names = first.name.as_slice() == b"free".as_slice()
+                && second.name.as_slice() == b"u".as_slice();
+            let words = first.words == 2 && second.words == 4096;
+            let slots = (first.quota, first.used, second.quota, second.used) == (1, 0, 32, 3);
+            names && words && slots && first.up && !second.up && figures.pool_free == 30
+        }
+        _ => false,
+    }
+}
+
+#[test]
+fn asks_for_the_report(rt: HostRuntime) {
+    let Ok(mut client) = Administrator::begin(REPORTED, Vec::new(rt.alloc())) else {
+        assert!(rt; false);
+        return;
+    };
+    let reported = match client.report() {
+        Ok(figures) => are_reported(&figures),
+        Err(_) => false,
+    };
+    assert!(rt; reported && client.connected);
+    assert!(rt; client.writer.as_slice() == b"ADMIN\nREPORT\n".as_slice());
+}
+
+/// Whether a client to whom this is said has no report, and may not ask any more.
+fn has_no_report(alloc: Global, said: &[u8]) -> bool {
+    match Administrator::begin(said, Vec::new(alloc)) {
+        Ok(mut client) => {
+            let lost = client.report() == Err(Failure::Lost);
+            lost && client.report() == Err(Failure::Closed)
+        }
+        Err(_) => false,
+    }
+}
+
+#[test]
+fn what_is_no_report(rt: HostRuntime) {
+    let texts =
+        b"OK ADMIN\nfree 030\n|OK ADMIN\nfree 257\n|OK ADMIN\nfree 30|OK ADMIN\nt 2 1 0 up\nfree 30\n|\
+OK ADMIN\nt                   2  1  0 off\nfree 30\n|OK ADMIN\nERR 10\n|OK ADMIN\nt                4097  1  0 up\nfree 30\n";
+    assert!(rt;
+        texts
+            .split(|byte| *byte == b'|')
+            .all(|said| has_no_report(rt.alloc(), said))
+    );
+    let refused = Administrator::begin(b"ERR 4\n".as_slice(), Vec::new(rt.alloc()));
+    assert!(rt; matches!(refused, Err(Failure::Refused(_))));
 }

@@ -56,7 +56,8 @@ TENANT t|
 TENANT t/CAS 0:0:281474976710655/GET 0/CAS 0:281474976710655:281474976710656/|OK 2/YES/VAL 281474976710655/ERR 9/
 GET 0/GET 5000/TENANT x/TENANT t/TENANT x/REPORT/GET 2/GET 01/GET 0\r/QUIT/GET 0/|\
 ERR 3/ERR 6/ERR 5/OK 2/ERR 4/ERR 10/ERR 6/ERR 2/ERR 2/BYE/
-TENANT t/CAS/CAS 0:0:1 /CAS 0:0:1 0:0:1 0:0:1 0:0:1 0:0:1 0:0:1 0:0:1 0:0:1 0:0:1/|OK 2/ERR 2/ERR 2/ERR 8/
+TENANT t/CAS/CAS 0:0:1 /CAS 0:0:1 0:0:1 0:0:1 0:0:1 0:0:1 0:0:1 0:0:1 0:0:1 0:0:1/|OK 2/ERR 2/ERR 2/ERR 7/
+TENANT t/CAS 0:0:1 0:0:1 0:0:1 0:0:1 0:0:1 0:0:1 0:0:1 0:0:1 0:0:1 0:0:1 0:0:1 0:0:1 0:0:1 0:0:1 0:0:1 0:0:1 0:0:1/|OK 2/ERR 8/
 ADMIN/GET 0/REPORT/ADMIN/|OK ADMIN/ERR 10/t                   2  1  0 up/free 256/ERR 4/
 TENANT t/CAS 0:0:1 1:0:2/CAS 1:0:3 2:0:1/GET 1/|OK 2/YES/ERR 6/VAL 2/
 REPORT/QUIT|ERR 3/";
@@ -111,10 +112,13 @@ fn two_sessions(rt: HostRuntime) {
     assert!(rt; asks(&rt, &mut shelf, b"TENANT t\nGET 1\n", b"OK 2\nVAL 2\n"));
 }
 
-/// A line of so many bytes, with these before and behind it.
-fn with_long_line(front: &[u8], count: usize, behind: &[u8]) -> ArrayVec<u8, 512> {
+/// More bytes than a line may have.
+const ENDLESS: usize = 700;
+
+/// A line of so many bytes, at most [`ENDLESS`], with these before and behind it.
+fn with_long_line(front: &[u8], count: usize, behind: &[u8]) -> ArrayVec<u8, 1024> {
     let mut text = ArrayVec::new();
-    let line = [b'A'; 400];
+    let line = [b'A'; ENDLESS];
     // Where there is no room, the test sees that something is missing.
     let _ = text.try_extend_from_slice(front);
     let _ = text.try_extend_from_slice(line.get(..count).unwrap_or(b""));
@@ -135,11 +139,15 @@ fn long_line_is_told(
 
 #[test]
 fn long_lines(rt: HostRuntime) {
-    let bound = b"TENANT t\n";
     assert!(rt; long_line_is_told(&rt, b"", MAX_LINE, b"\nQUIT\n", b"ERR 2\nBYE\n"));
     assert!(rt; long_line_is_told(&rt, b"", MAX_LINE + 1, b"\n", b"ERR 1\n"));
-    assert!(rt; long_line_is_told(&rt, bound, 400, b"", b"OK 2\nERR 1\n"));
-    assert!(rt; long_line_is_told(&rt, bound, 400, b"\nGET 0\n", b"OK 2\nERR 1\n"));
+}
+
+#[test]
+fn endless_line(rt: HostRuntime) {
+    let bound = b"TENANT t\n";
+    assert!(rt; long_line_is_told(&rt, bound, ENDLESS, b"", b"OK 2\nERR 1\n"));
+    assert!(rt; long_line_is_told(&rt, bound, ENDLESS, b"\nGET 0\n", b"OK 2\nERR 1\n"));
 }
 
 /// What the peers of the sweeps say, and what they are told.

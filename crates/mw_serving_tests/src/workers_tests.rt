@@ -4,6 +4,7 @@ use crate::test_clients::Caller;
 use crate::test_crowd::{Crowd, Heard, Script};
 use crate::test_serving::{Shop, serve, serves_right};
 use mw_session::Ended;
+use mw_words::MAX_LINE;
 use mw_workers::ServeEnd;
 use std::alloc::{AllocError, Global};
 use std::net::{Net, TcpListener, TcpStream};
@@ -62,7 +63,7 @@ fn scripts() -> [Script; 9] {
             b"OK 32\nYES\nVAL 2\nERR 4\n",
             Ended::PeerEnd,
         ),
-        hears_all(&[b'x'; 400], b"ERR 1\n", Ended::TooLong),
+        hears_all(&[b'x'; MAX_LINE + 1], b"ERR 1\n", Ended::TooLong),
         hears_all(
             b"TENANT t\nGET 5\nQUIT\n",
             b"OK 32\nVAL 0\nBYE\n",
@@ -266,7 +267,7 @@ fn is_endless<R: Net<Listener = TcpListener, Stream = TcpStream>>(
     port: u16,
 ) -> io::Result<bool> {
     let mut endless = Caller::new(rt, port)?;
-    Ok(endless.asks_at_last(&[b'x'; 400], b"ERR 1\n"))
+    Ok(endless.asks_at_last(&[b'x'; MAX_LINE + 1], b"ERR 1\n"))
 }
 
 /// Many clients with a word of their own, at once.
