@@ -27,6 +27,9 @@ pub(crate) enum Device {
     Sound,
     /// The call of this number fails, counted from 1 behind the opening.
     Fails(u64),
+    /// It stops after so many calls behind the opening. Afterwards the power goes, and these bytes are found in rising
+    /// order of offset where bytes were written and not synced; where they are at their end, what a read gave.
+    Stops(u64, &'static [u8]),
     /// There is none.
     Missing,
 }
@@ -107,7 +110,7 @@ fn is_so_of<'l, J: EngineBrand + Send + Sync, R: Threads + Wait + Sync>(
         None => false,
     };
     match engine.into_disks(alloc) {
-        Ok(disks) => is_done && have_words(alloc, disks, case.words),
+        Ok(disks) => is_done && have_words(alloc, disks, case),
         Err(_) => false,
     }
 }

@@ -2,28 +2,25 @@
 use crate::cases::{Case, Device, lines_of};
 use crate::latch::{Latch, LatchedDisk};
 use mw_config::TenantLine;
-use mw_disk::{Disk, MemDisk};
+use mw_disk::MemDisk;
 use mw_file::TenantFile;
-use mw_record::{header, size};
-use mw_words::{MAX_PLACES, MAX_WORDS};
+use mw_record::{FIRST_PLACES, header, size};
+use mw_words::MAX_WORDS;
 use std::alloc::Global;
 
-/// How many calls the opening of a new file makes.
-const OPENING: u64 = 3;
+/// How many calls are made until a new file is open: a sync, then its length, a read, and five that give it its second layout.
+const OPENING: u64 = 8;
 
-/// The numbers of the calls that fail. None where the device is missing or memory is refused.
-fn failing_calls(alloc: Global, device: Device) -> Option<Vec<u64>> {
-    match device {
-        Device::Sound => Some(Vec::new(alloc)),
-        Device::Fails(number) => vec![in alloc; number.saturating_add(OPENING); 1].ok(),
-        Device::Missing => None,
-    }
+/// A disk of these bytes whose call of this number behind the opening fails. None where memory is refused.
+fn failing_disk(alloc: Global, bytes: Vec<u8>, number: u64) -> Option<MemDisk> {
+    let failing = vec![in alloc; number.saturating_add(OPENING); 1].ok()?;
+    MemDisk::new(alloc, bytes, failing).ok()
 }
 
 /// A new file for a tenant's line, all words 0 and with as many places as the quota. None where memory is refused, or no
 /// file is of that size.
 fn new_file(alloc: Global, words: u16, places: u16) -> Option<Vec<u8>> {
-    if !(1..=MAX_WORDS).contains(&words) || !(1..=MAX_PLACES).contains(&places) {
+    if !(1..=MAX_WORDS).contains(&words) || !(1..=FIRST_PLACES).contains(&places) {
         return None;
     }
     let mut bytes = header(words, places).to_vec(alloc).ok()?;
@@ -33,9 +30,15 @@ fn new_file(alloc: Global, words: u16, places: u16) -> Option<Vec<u8>> {
 
 /// A disk with a new file for a tenant's line. None where the device is missing, or there is no such file.
 fn new_disk(alloc: Global, line: &TenantLine, device: Device) -> Option<MemDisk> {
-    let failing = failing_calls(alloc, device)?;
     let bytes = new_file(alloc, line.words, u16::from(line.quota))?;
-    MemDisk::new(alloc, bytes, failing).ok()
+    match device {
+        Device::Sound => MemDisk::new(alloc, bytes, Vec::new(alloc)).ok(),
+        Device::Fails(number) => failing_disk(alloc, bytes, number),
+        Device::Stops(calls, _) => {
+            MemDisk::stop_after(alloc, bytes, calls.saturating_add(OPENING)).ok()
+        }
+        Device::Missing => None,
+    }
 }
 
 /// The same, with a latch before its calls.
@@ -63,18 +66,19 @@ pub(crate) fn new_disks<'l>(
     Some(disks)
 }
 
-/// Whether the files on these disks have these first words, once they are opened anew. Of a disk that is missing none are
-/// wanted.
+/// Whether the files on these disks have the first words that the case tells, once they are opened anew. Of a disk that is
+/// missing none are wanted.
 pub(crate) fn have_words(
     alloc: Global,
     disks: Vec<Option<LatchedDisk<'_>>>,
-    wanted: &[&[u64]],
+    case: &Case<'_>,
 ) -> bool {
-    if disks.len() != wanted.len() {
+    if disks.len() != case.words.len() {
         return false;
     }
-    for (disk, words) in disks.into_iter().zip(wanted) {
-        if !has_words(alloc, disk, words) {
+    let told = case.devices.iter().zip(case.words);
+    for (disk, (device, words)) in disks.into_iter().zip(told) {
+        if !has_words(alloc, disk, *device, words) {
             return false;
         }
     }
@@ -82,15 +86,29 @@ pub(crate) fn have_words(
 }
 
 /// Whether the file on a disk has these first words.
-fn has_words(alloc: Global, disk: Option<LatchedDisk<'_>>, wanted: &[u64]) -> bool {
+fn has_words(alloc: Global, disk: Option<LatchedDisk<'_>>, device: Device, wanted: &[u64]) -> bool {
     match disk {
-        Some(disk) => opens_with(alloc, disk, wanted),
+        Some(disk) => match left_of(alloc, disk.disk, device) {
+            Some(disk) => opens_with(alloc, disk, wanted),
+            None => false,
+        },
         None => wanted.is_empty(),
     }
 }
 
+/// The disk as it is found afterwards. None where memory is refused.
+fn left_of(alloc: Global, disk: MemDisk, device: Device) -> Option<MemDisk> {
+    match device {
+        Device::Stops(_, torn) => {
+            let left = disk.crash(torn).ok()?;
+            MemDisk::new(alloc, left, Vec::new(alloc)).ok()
+        }
+        _ => Some(disk),
+    }
+}
+
 /// Whether the file on a disk opens, with these first words.
-fn opens_with<D: Disk + Drop>(alloc: Global, disk: D, wanted: &[u64]) -> bool {
+fn opens_with(alloc: Global, disk: MemDisk, wanted: &[u64]) -> bool {
     match TenantFile::open(alloc, disk) {
         Ok(opened) => opened.1.as_slice().starts_with(wanted),
         Err(_) => false,

@@ -16,6 +16,8 @@ pub(crate) enum Place {
     Nowhere,
     /// Worker 0 is at a point of its request.
     At(Point),
+    /// Any worker is.
+    Anyone(Point),
     /// Somebody is about to write to a disk.
     Write,
     /// Somebody is about to sync a disk.
@@ -106,7 +108,7 @@ fn comes_true(flag: &AtomicBool) -> bool {
     false
 }
 
-/// Has worker 0 come to a latch at each point of its requests.
+/// Has workers come to a latch at each point of their requests.
 #[derive(Drop)]
 pub(crate) struct ByLatch<'l> {
     pub(crate) latch: &'l Latch,
@@ -114,6 +116,7 @@ pub(crate) struct ByLatch<'l> {
 
 impl Hold for ByLatch<'_> {
     fn at(&self, worker: u8, point: Point) {
+        self.latch.meet(Place::Anyone(point));
         if worker == 0 {
             self.latch.meet(Place::At(point));
         }

@@ -17,6 +17,8 @@ mod races;
 #[cfg(test)]
 mod session_tests;
 #[cfg(test)]
+mod socket_tests;
+#[cfg(test)]
 mod starts;
 #[cfg(test)]
 mod talks;

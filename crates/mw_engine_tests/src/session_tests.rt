@@ -5,6 +5,13 @@ use std::alloc::Global;
 use std::sync::Wait;
 use std::thread::Threads;
 
+/// A change of sixteen words, twice.
+const SIXTEEN_ENTRIES: &[u8] = b"\
+TENANT t
+CAS 0:0:1 1:0:1 2:0:1 3:0:1 4:0:1 5:0:1 6:0:1 7:0:1 8:0:1 9:0:1 10:0:1 11:0:1 12:0:1 13:0:1 14:0:1 15:0:1
+CAS 0:0:1 1:0:1 2:0:1 3:0:1 4:0:1 5:0:1 6:0:1 7:0:1 8:0:1 9:0:1 10:0:1 11:0:1 12:0:1 13:0:1 14:0:1 15:0:1
+";
+
 #[test]
 fn largest_value(rt: HostRuntime) {
     let case = Case {
@@ -31,6 +38,21 @@ fn last_entry_differs(rt: HostRuntime) {
             told: b"OK 8\nNO 7 0\nVAL 0\n",
         }]),
         words: &[&[0, 0, 0, 0, 0, 0, 0, 0]],
+    };
+    assert!(rt; is_so(&rt, rt.alloc(), &case));
+}
+
+#[test]
+fn sixteen_entries(rt: HostRuntime) {
+    let case = Case {
+        tenants: b"t 16 1 t.mw\n",
+        pool: 1,
+        devices: &[Device::Sound],
+        play: Play::Talks(&[Talk {
+            says: SIXTEEN_ENTRIES,
+            told: b"OK 16\nYES\nNO 0 1\n",
+        }]),
+        words: &[&[1; 16]],
     };
     assert!(rt; is_so(&rt, rt.alloc(), &case));
 }
@@ -112,12 +134,12 @@ fn endless_serve(rt: HostRuntime) {
     assert!(rt; is_so(&rt, rt.alloc(), &case));
 }
 
-/// Whether `t` is told this and has these words in its file afterwards, where the call of this number on its device fails
-/// in its change of two words, and its neighbour is served all the same.
+/// Whether `t`, on this device, is told this at a change of two words and a read, and has these words in its file
+/// afterwards, and its neighbour is served all the same.
 fn goes_on<R: Threads + Wait + Sync>(
     rt: &R,
     alloc: Global,
-    number: u64,
+    device: Device,
     told: &'static [u8],
     left: &'static [u64],
 ) -> bool {
@@ -131,7 +153,7 @@ fn goes_on<R: Threads + Wait + Sync>(
             told: b"OK 1\nYES\nVAL 1\n",
         },
     ];
-    let devices = [Device::Fails(number), Device::Sound];
+    let devices = [device, Device::Sound];
     let words: [&[u64]; 2] = [left, &[1]];
     let case = Case {
         tenants: b"t 2 1 t.mw\nu 1 1 u.mw\n",
@@ -143,6 +165,10 @@ fn goes_on<R: Threads + Wait + Sync>(
     is_so(rt, alloc, &case)
 }
 
+const BEFORE: &[u64] = &[0, 0];
+
+const CHANGED: &[u64] = &[1, 2];
+
 /// Each of the nine calls of a change of two words fails in turn. From the fifth on it is told YES, since it is sealed;
 /// and from the fourth on it is found when the file is opened anew.
 #[test]
@@ -153,8 +179,34 @@ fn each_device_call_fails(rt: HostRuntime) {
         } else {
             b"OK 2\nYES\nFAULT\n"
         };
-        let left: &'static [u64] = if number <= 3 { &[0, 0] } else { &[1, 2] };
-        let is_so = goes_on(&rt, rt.alloc(), number, told, left);
+        let left = if number <= 3 { BEFORE } else { CHANGED };
+        let is_so = goes_on(&rt, rt.alloc(), Device::Fails(number), told, left);
         assert!(rt; is_so, "call {number}");
+    }
+}
+
+/// More bytes than are ever not synced.
+const ZEROS: &[u8] = &[0; 256];
+
+/// What `t` is told whose device stops after so many calls.
+fn told_before_stop(calls: u64) -> &'static [u8] {
+    match calls {
+        ..=3 => b"OK 2\nFAULT\nFAULT\n",
+        4..=8 => b"OK 2\nYES\nFAULT\n",
+        _ => b"OK 2\nYES\nVAL 1\n",
+    }
+}
+
+/// The device stops behind each of these calls in turn, and the power goes. Where only the commit byte is not synced, it
+/// may be found or not.
+#[test]
+fn stop_sweep(rt: HostRuntime) {
+    for calls in 0..=9u64 {
+        let told = told_before_stop(calls);
+        let kept = if calls <= 2 { BEFORE } else { CHANGED };
+        let zeroed = if calls <= 3 { BEFORE } else { CHANGED };
+        let is_so = goes_on(&rt, rt.alloc(), Device::Stops(calls, b""), told, kept)
+            && goes_on(&rt, rt.alloc(), Device::Stops(calls, ZEROS), told, zeroed);
+        assert!(rt; is_so, "behind {calls} calls");
     }
 }

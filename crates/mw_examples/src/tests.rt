@@ -83,9 +83,9 @@ write tenants t 2 1 DIR/t.mw;
 write script TENANT t;CAS 0:0:281474976710655;GET 0;CAS 0:281474976710655:281474976710656;
 serve
 gives 0 OK 2;YES;VAL 281474976710655;ERR 9;|
-write script TENANT t;CAS;CAS 0:0:1 ;CAS 0:0:1 0:0:1 0:0:1 0:0:1 0:0:1 0:0:1 0:0:1 0:0:1 0:0:1;
+write script TENANT t;CAS;CAS 0:0:1 ;CAS 0:0:1 0:0:1 0:0:1 0:0:1 0:0:1 0:0:1 0:0:1 0:0:1 0:0:1;CAS 0:0:1 0:0:1 0:0:1 0:0:1 0:0:1 0:0:1 0:0:1 0:0:1 0:0:1 0:0:1 0:0:1 0:0:1 0:0:1 0:0:1 0:0:1 0:0:1 0:0:1;
 serve
-gives 0 OK 2;ERR 2;ERR 2;ERR 8;|
+gives 0 OK 2;ERR 2;ERR 2;ERR 7;ERR 8;|
 mwinit DIR/u.mw 8 1
 write tenants t 8 1 DIR/u.mw;
 write script TENANT t;CAS 0:0:1 1:0:1 2:0:1 3:0:1 4:0:1 5:0:1 6:0:1 7:5:1;GET 0;
@@ -94,6 +94,11 @@ gives 0 OK 8;NO 7 0;VAL 0;|
 write script TENANT t;CAS 0:0:1 1:0:1 2:0:1 3:0:1 4:0:1 5:0:1 6:0:1 7:0:1;GET 7;
 serve
 gives 0 OK 8;YES;VAL 1;|
+mwinit DIR/s.mw 16 1
+write tenants t 16 1 DIR/s.mw;
+write script TENANT t;CAS 0:0:1 1:0:1 2:0:1 3:0:1 4:0:1 5:0:1 6:0:1 7:0:1 8:0:1 9:0:1 10:0:1 11:0:1 12:0:1 13:0:1 14:0:1 15:0:1;CAS 0:0:1 1:0:1 2:0:1 3:0:1 4:0:1 5:0:1 6:0:1 7:0:1 8:0:1 9:0:1 10:0:1 11:0:1 12:0:1 13:0:1 14:0:1 15:0:1;
+serve
+gives 0 OK 16;YES;NO 0 1;|
 mwinit DIR/v.mw 4 1
 write tenants t 4 1 DIR/v.mw;
 write script TENANT t;CAS 3:0:1 3:1:2;CAS 3:0:1 2:0:1;CAS 0:9:1 1:9:1;
@@ -132,7 +137,7 @@ gives 0 OK ADMIN;ERR 10;t                   2  1  0 up;free 256;ERR 4;|",
 
 #[test]
 fn long_line(rt: HostRuntime) -> Result<(), Fail> {
-    for (bytes, told) in [(320, "ERR 2;OK 2;"), (321, "ERR 1;")] {
+    for (bytes, told) in [(640, "ERR 2;OK 2;"), (641, "ERR 1;")] {
         let line = "A".repeat(rt.alloc(), bytes)?;
         let story = format!(in rt.alloc();
             "\
@@ -247,7 +252,7 @@ write script TENANT t;GET 0;GET 2;CAS 0:0:1;
 write tenants t 2 1 DIR/no.mw;
 serve
 gives 0 OK 2;FAULT;ERR 6;FAULT;|tenant t: disk;
-write tenants t 2 2 DIR/u.mw;
+write tenants t 2 3 DIR/u.mw;
 serve
 gives 0 OK 2;FAULT;ERR 6;FAULT;|tenant t: misfit;",
     )

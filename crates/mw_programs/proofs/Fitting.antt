@@ -5,8 +5,7 @@ use Rattle.std.proofs.lemmas.Option.{none-some, same_Some, slice_get-get_or}
 use Rattle.std.proofs.lemmas.List.{length-take}
 use Rattle.mw_words.specs.Change.{AreWords}
 use Rattle.mw_disk.specs.Facts.{Facts, IsAtRest}
-use Rattle.mw_record.specs.Damages.{places_of, words_of as words_in_head}
-use Rattle.mw_record.proofs.Sound.{are_words, has_words}
+use Rattle.mw_record.proofs.Sound.{undamaged_words}
 use Rattle.mw_config.specs.declared.lines.TenantLine.{TenantLine}
 use Rattle.mw_file.specs.declared.tenant_file.TenantFile.{TenantFile}
 use Rattle.mw_file.specs.File.{states_of}
@@ -21,7 +20,7 @@ of_ok (Err e) well holds = absurd (cc)
 -- The words of a file without damage are values of words.
 pub opened_words : {D : Type 0} (facts : D → Facts) (disk : D) (file : TenantFile D) (words : List ℕ) → IsOpened facts disk file words → AreWords words
 opened_words facts disk file words opened =
-    subst AreWords (sym opened.read) (are_words (words_in_head opened.image) (places_of opened.image) _ opened.image (has_words opened.image opened.undamaged))
+    subst AreWords (sym opened.read) (undamaged_words opened.image opened.undamaged)
 
 -- A file that was opened of a disk at rest, and has the words and the places for which its tenant's line asks, fits that line.
 pub is_fresh : {D : Type 0} (facts : D → Facts) (line : TenantLine) (disk : D) (file : TenantFile D) (words : Vec ℕ Global) → IsOpened facts disk file words.items

@@ -1,12 +1,13 @@
 //! `mwinit`: makes a tenant's file.
 ghost use Rattle.std.specs.Prelude.{◌≤◌, IfSome};
-ghost use Rattle.mw_words.specs.declared.limits.TheConstants.{MAX_WORDS, MAX_PLACES};
+ghost use Rattle.mw_words.specs.declared.limits.TheConstants.{MAX_WORDS};
+ghost use Rattle.mw_record.specs.declared.layout.TheConstants.{FIRST_PLACES};
 
 use clap::error::ErrorKind;
 use clap::{Arg, ArgMatches, Command, value_parser};
 use mw_config::VERSION;
-use mw_record::{header, size};
-use mw_words::{MAX_PLACES, MAX_WORDS};
+use mw_record::{FIRST_PLACES, header, size};
+use mw_words::MAX_WORDS;
 use std::alloc::{AllocError, Global};
 use std::fs::{File, OpenOptions};
 use std::io::{self, Read, Write};
@@ -38,11 +39,11 @@ struct NewFile<'a> {
     ghost some_word: { 1 ≤ words },
     ghost words_fit: { words ≤ MAX_WORDS },
     ghost some_place: { 1 ≤ places },
-    ghost places_fit: { places ≤ MAX_PLACES },
+    ghost places_fit: { places ≤ FIRST_PLACES },
 }
 
 /// Makes the file that the command line `args`, the program's own name first, asks for:
-/// `mwinit PATH WORDS PLACES`, with 1 to [`MAX_WORDS`] words, all 0, and 1 to [`MAX_PLACES`] record
+/// `mwinit PATH WORDS PLACES`, with 1 to [`MAX_WORDS`] words, all 0, and 1 to [`FIRST_PLACES`] record
 /// places. The file and its folder are synced before `made SIZE` is written to `out`; until it returns the
 /// file is locked.
 ///
@@ -117,7 +118,7 @@ fn read_args<'a>(alloc: Global, args: &'a [String]) -> Result<NewFile<'a>, InitF
 fn new_file_of<'a>(matches: &ArgMatches<'a>) -> Option<NewFile<'a>> {
     let path = matches.get_str("PATH")?;
     let words = number_of(matches, "WORDS", MAX_WORDS)?;
-    let places = number_of(matches, "PLACES", MAX_PLACES)?;
+    let places = number_of(matches, "PLACES", FIRST_PLACES)?;
     Some(NewFile {
         path,
         words,
@@ -143,7 +144,7 @@ fn command<'a>(alloc: Global) -> Result<Command<'a>, AllocError> {
     command.arg(size_of(
         alloc,
         "PLACES",
-        MAX_PLACES,
+        FIRST_PLACES,
         "how many changes it can hold at a time",
     ))
 }

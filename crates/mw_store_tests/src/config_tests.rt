@@ -113,6 +113,28 @@ fn the_first_refusal_is_the_answer(rt: HostRuntime) {
     same(&rt, &count(b"t 1 1 a\nu 1 32 b\n", 33), &Ok(2));
 }
 
+/// What is read of two lines of eleven bytes each that are cut to so many.
+fn cut_to(length: usize) -> Result<usize, Refusal> {
+    count(
+        b"t 2 1 t.mw\nu 4 1 u.mw\n".get(..length).unwrap_or(b"?"),
+        256,
+    )
+}
+
+#[test]
+fn cut_tenants(rt: HostRuntime) {
+    for length in 0..=22 {
+        let wanted = match length {
+            0 => Err(Refusal::None),
+            ..=10 => Err(Refusal::Form(1)),
+            11 => Ok(1),
+            ..=21 => Err(Refusal::Form(2)),
+            _ => Ok(2),
+        };
+        same(&rt, &cut_to(length), &wanted);
+    }
+}
+
 /// Sixteen lines and this one.
 fn seventeen(line: &[u8]) -> Result<usize, Refusal> {
     let mut text = [b' '; 256];

@@ -102,7 +102,7 @@ fn starts() -> [Told; 15] {
 
 /// A store of the words 10 and 20, and a quota of 1.
 fn new_store<R: Abort + AllocGlobal>(rt: &R) -> Lone {
-    Lone::new(rt.alloc(), &[10, 20], 1).expect(rt, MEMORY)
+    Lone::new(rt.alloc(), &[10, 20], 1, false).expect(rt, MEMORY)
 }
 
 /// Each of these marks can happen, and the store hands out the reply beside it.

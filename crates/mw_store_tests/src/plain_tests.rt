@@ -186,10 +186,15 @@ fn tasks_in_order(rt: HostRuntime) {
     same(&rt, &replies.as_slice(), &wanted.as_slice());
 }
 
+/// How many device calls the opening of a new file makes: its length, a read, and five that give it its
+/// second layout.
+const OPENING_CALLS: u64 = 7;
+
 /// A new disk that fails at so many calls from the opening.
 fn failing_disk<R: Abort + AllocGlobal>(rt: &R, calls: u8) -> MemDisk {
     let mut disk = new_disk(rt);
-    disk.fail_next(u64::from(calls) + 3).expect(rt, MEMORY);
+    disk.fail_next(OPENING_CALLS + u64::from(calls) + 1)
+        .expect(rt, MEMORY);
     disk
 }
 

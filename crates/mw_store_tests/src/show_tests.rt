@@ -1,7 +1,7 @@
 //! What is shown of a tenant's file.
 
 use crate::same::{MEMORY, same_text};
-use mw_record::{header, size};
+use mw_record::{header, header2, size, size2};
 use mw_show::{show, show_args, show_file};
 use std::fs::File;
 use std::process::Abort;
@@ -16,15 +16,25 @@ fn new_file<R: Abort + AllocGlobal>(rt: &R) -> Vec<u8> {
     bytes
 }
 
+/// The bytes of a file whose first layout is that of a new file, and whose second one, from byte 320, has 2
+/// words, from byte 352, and 4 record places, from bytes 368, 632, 896 and 1160; it ends at byte 1424.
+fn switched_file<R: Abort + AllocGlobal>(rt: &R) -> Vec<u8> {
+    let mut bytes = changed_file(rt, &new_file(rt), "15=165 16=64 17=1");
+    let end = bytes.len() + size2(2, 4) as usize;
+    bytes.extend_from_slice(&header2(2, 4)).expect(rt, MEMORY);
+    bytes.resize(end, 0).expect(rt, MEMORY);
+    bytes
+}
+
 /// The place and the value of a byte that a text tells: `AT=VALUE`.
 fn read_change(change: &str) -> Option<(usize, u8)> {
     let (at, value) = change.split_once('=')?;
     Some((at.parse().ok()?, value.parse().ok()?))
 }
 
-/// A new file with bytes that were changed as a text tells: `AT=VALUE`, with spaces between.
-fn changed_file<R: Abort + AllocGlobal>(rt: &R, changes: &str) -> Vec<u8> {
-    let mut bytes = new_file(rt);
+/// A file with bytes that were changed as a text tells: `AT=VALUE`, with spaces between.
+fn changed_file<R: Abort + AllocGlobal>(rt: &R, file: &[u8], changes: &str) -> Vec<u8> {
+    let mut bytes = Vec::from_slice(rt.alloc(), file).expect(rt, MEMORY);
     for change in changes.split_whitespace() {
         let (at, value) = read_change(change).expect(rt, "a change");
         if let Some(byte) = bytes.get_mut(at) {
@@ -39,17 +49,16 @@ fn text_of<R: Abort + AllocGlobal>(rt: &R, bytes: Vec<u8>) -> String {
     String::from_utf8(bytes).expect(rt, "a text")
 }
 
-/// What is shown of such a file.
-fn shown<R: Abort + AllocGlobal>(rt: &R, changes: &str, all_words: bool) -> String {
-    let bytes = changed_file(rt, changes);
+/// What is shown of a file.
+fn shown<R: Abort + AllocGlobal>(rt: &R, bytes: &[u8], all_words: bool) -> String {
     let mut out = Vec::new(rt.alloc());
-    show(rt.alloc(), &bytes, all_words, &mut out).expect(rt, "what is shown");
+    show(rt.alloc(), bytes, all_words, &mut out).expect(rt, "what is shown");
     text_of(rt, out)
 }
 
-/// Files, and what is shown of each, with ` / ` for a line feed. The first is a new one: 77 is what its first byte
-/// is.
-const FILES: &str = "\
+/// How a new file is changed, and what is shown of it then, with ` / ` for a line feed. The first line changes
+/// nothing: 77 is what the first byte is.
+const NEW_FILES: &str = "\
 0=77 > words 2 / places 2
 40=7 > words 2 / places 2 / word 1 7
 184=165 185=2 200=3 208=1 216=5 > words 2 / places 2 / open 1 0 3 / open 1 1 5 / word 0 3 / word 1 5
@@ -59,7 +68,7 @@ const FILES: &str = "\
 9=16 8=1 > damage 2 byte 8
 8=0 12=0 > damage 2 byte 8
 12=33 > damage 2 byte 12
-15=165 > damage 2 byte 15
+15=165 > damage 7 byte 16
 8=3 > damage 6 byte 320
 46=1 > damage 3 byte 40
 48=165 49=1 184=165 185=1 192=1 206=1 > damage 3 byte 184
@@ -68,25 +77,68 @@ const FILES: &str = "\
 48=165 49=1 56=2 184=165 > damage 4 byte 48
 48=165 49=1 184=165 185=1 > damage 5 byte 184";
 
+/// The same of a file that has its second layout. Its first one is not looked at behind the offset, nor its sizes.
+const SWITCHED_FILES: &str = "\
+0=77 > second layout at 320 / words 2 / places 4
+360=7 > second layout at 320 / words 2 / places 4 / word 1 7
+632=165 633=2 648=3 656=1 664=5 > second layout at 320 / words 2 / places 4 / open 1 0 3 / open 1 1 5 / word 0 3 / word 1 5
+366=1 1160=165 1161=1 1168=1 1176=7 > second layout at 320 / words 2 / places 4 / open 3 1 7 / word 1 7
+8=0 12=0 24=1 40=7 48=165 335=165 336=1 > second layout at 320 / words 2 / places 4
+15=164 40=7 > words 2 / places 2 / word 1 7
+0=78 > damage 1 byte 0
+16=0 17=0 > damage 7 byte 16
+16=31 17=0 > damage 7 byte 16
+16=33 17=145 > damage 7 byte 16
+23=1 > damage 7 byte 16
+16=32 17=0 > damage 7 byte 32
+16=112 17=5 > damage 7 byte 1392
+320=78 > damage 7 byte 320
+326=49 > damage 7 byte 320
+329=16 328=1 > damage 2 byte 328
+328=0 332=0 > damage 2 byte 328
+332=0 > damage 2 byte 332
+332=65 > damage 2 byte 332
+16=32 17=145 > damage 6 byte 1424
+16=113 17=5 > damage 6 byte 1424
+328=3 > damage 6 byte 1424
+332=64 > damage 6 byte 1424
+366=1 > damage 3 byte 360
+368=165 369=1 632=165 633=1 640=1 654=1 > damage 3 byte 632
+632=165 > damage 4 byte 632
+632=165 633=17 > damage 4 byte 632
+368=165 369=1 376=2 632=165 > damage 4 byte 368
+368=165 369=1 1160=165 1161=1 > damage 5 byte 1160";
+
 /// What is shown of a file is this text, with ` / ` for a line feed.
-fn shows<R: Abort + AllocGlobal>(rt: &R, changes: &str, text: &str) {
-    let found = shown(rt, changes, false);
+fn shows<R: Abort + AllocGlobal>(rt: &R, bytes: &[u8], text: &str) {
+    let found = shown(rt, bytes, false);
     let lines = found.replace(rt.alloc(), "\n", " / ").expect(rt, MEMORY);
     same_text(rt, lines.as_str().strip_suffix(" / ").unwrap_or("?"), text);
 }
 
+/// Of a file that is changed as each line tells, the text behind it is shown.
+fn are_shown<R: Abort + AllocGlobal>(rt: &R, file: &[u8], lines: &str) {
+    for line in lines.lines() {
+        let (changes, text) = line.split_once(" > ").expect(rt, "a file");
+        shows(rt, &changed_file(rt, file, changes), text);
+    }
+}
+
 #[test]
 fn files_and_damages_are_shown(rt: HostRuntime) {
-    for line in FILES.lines() {
-        let (changes, text) = line.split_once(" > ").expect(&rt, "a file");
-        shows(&rt, changes, text);
-    }
+    are_shown(&rt, &new_file(&rt), NEW_FILES);
+}
+
+#[test]
+fn second_layouts_are_shown(rt: HostRuntime) {
+    are_shown(&rt, &switched_file(&rt), SWITCHED_FILES);
 }
 
 #[test]
 fn all_words_are_shown(rt: HostRuntime) {
     let wanted = "words 2\nplaces 2\nword 0 0\nword 1 7\n";
-    same_text(&rt, shown(&rt, "40=7", true).as_str(), wanted);
+    let bytes = changed_file(&rt, &new_file(&rt), "40=7");
+    same_text(&rt, shown(&rt, &bytes, true).as_str(), wanted);
 }
 
 /// What a program gave: its exit status, and what it wrote to its two outputs.
@@ -138,7 +190,7 @@ fn path_of(rt: &HostRuntime, name: &str) -> Result<String, Fail> {
 
 /// At this path stands a file with these bytes.
 fn write_file<R: Abort + AllocGlobal + Files<File = File>>(rt: &R, path: &str, changes: &str) {
-    let bytes = changed_file(rt, changes);
+    let bytes = changed_file(rt, &new_file(rt), changes);
     fs::write(rt, path, bytes.as_slice()).expect(rt, "a file");
 }
 

@@ -68,9 +68,9 @@ gives 0 OK ADMIN;|
 write tenants t 2 1 DIR/no.mw;
 serve --verbose
 gives 0 OK ADMIN;|tenant t: disk;DIR/no.mw: No such file or directory (os error 2);
-write tenants t 2 2 DIR/t.mw;
+write tenants t 2 3 DIR/t.mw;
 serve --verbose
-gives 0 OK ADMIN;|tenant t: misfit;DIR/t.mw: 2 words, 1 places;
+gives 0 OK ADMIN;|tenant t: misfit;DIR/t.mw: 2 words, 2 places;
 write tenants u 2 1 DIR/t.mw;t 2 1 DIR/./t.mw;
 serve --verbose
 gives 0 OK ADMIN;|tenant t: in use;DIR/./t.mw;
@@ -123,9 +123,10 @@ fn sockets_that_have_no_place(rt: HostRuntime) -> Result<(), Fail> {
         "\
 mwinit DIR/t.mw 2 1
 write tenants t 2 1 DIR/t.mw;
-mwserve --tenants DIR/tenants --listen unix:DIR/t.mw
+mwinit DIR/s 2 1
+mwserve --tenants DIR/tenants --listen unix:DIR/s
 gives 1 |mwserve: cannot listen;
-new t.mw
+new s
 mwserve --tenants DIR/tenants --listen unix:
 gives 1 |mwserve: cannot listen;
 mwserve --tenants DIR/tenants --listen unix:DIR/no/s

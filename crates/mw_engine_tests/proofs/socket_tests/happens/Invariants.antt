@@ -1,0 +1,5 @@
+use Rattle.mw_engine.specs.Starting.{identity_of}
+use Rattle.mw_engine_tests.proofs.socket_tests.happens.Given as goal
+
+abbrev pub ghosts-happens_to : goal.ghosts-happens_to
+ghosts-happens_to g a = record { identity = identity_of a.parts }
