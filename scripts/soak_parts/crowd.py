@@ -15,7 +15,7 @@ from typing import Deque, List, Sequence, Tuple
 from .history import Answer, Entry, Reply, Request
 from .server import HOST, PATIENCE, Server, Tenant, Wrong
 
-MOST_ENTRIES = 8
+MOST_ENTRIES = 16
 MOST_UNDER_WAY = 3
 """How many lines a client sends before it reads a reply."""
 SHARE_OF_READS = 0.3

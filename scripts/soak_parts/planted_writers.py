@@ -5,12 +5,13 @@ import random
 from typing import List, NamedTuple, Sequence, Tuple
 
 from .history import Answer, Entry, Reply, Request
-from .layout import SET, body, home_at, new_file, place_at, read_file
+from .layout import SECOND, SET, body, home_at, opened_file, read_file, second_at
 from .power import moments_of
 from .recording import Call, FileLog, Kind, images_of
 from .server import Tenant
 
 TENANT = Tenant("t", 3, 1, 1)
+AT = second_at(TENANT.words, TENANT.places)
 CHANGES = 6
 RECORD, RECORD_SYNC, COMMIT, COMMIT_SYNC, HOMES, HOMES_SYNC, CLEAR, CLEAR_SYNC, ANSWER = range(9)
 RIGHT = (RECORD, RECORD_SYNC, COMMIT, COMMIT_SYNC, HOMES, HOMES_SYNC, CLEAR, CLEAR_SYNC, ANSWER)
@@ -46,11 +47,11 @@ WRITERS = (
 
 def writes_of(step: int, entries: Sequence[Entry]) -> List[Tuple[int, bytes]]:
     """What a step writes, and where; of a sync nothing."""
-    place = place_at(TENANT.words, 0)
+    place = AT + SECOND.place_at(TENANT.words, 0)
     if step == RECORD:
         return [(place + 1, body([(entry.address, entry.new) for entry in entries]))]
     if step == HOMES:
-        return [(home_at(entry.address), entry.new.to_bytes(8, "little")) for entry in entries]
+        return [(AT + home_at(entry.address), entry.new.to_bytes(8, "little")) for entry in entries]
     return {COMMIT: [(place, bytes([SET]))], CLEAR: [(place, b"\0")]}.get(step, [])
 
 
@@ -86,7 +87,7 @@ def recorded(writer: Writer, dice: random.Random) -> Tuple[FileLog, List[Request
 def tried(writer: Writer, dice: random.Random) -> Tuple[int, int]:
     """How many images there are of such a program, and how many of them are refused."""
     log, requests = recorded(writer, dice)
-    durable = new_file(TENANT.words, TENANT.places)
+    durable = opened_file(TENANT.words, TENANT.places)
     count = refused = 0
     for moment in moments_of(TENANT, durable, log, requests):
         for one in map(moment.image, images_of(moment.disk, dice)):
