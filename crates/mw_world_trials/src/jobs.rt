@@ -1,5 +1,5 @@
 //! Random jobs, stops and worlds.
-ghost use Rattle.std.specs.Prelude.{◌≤◌};
+ghost use Rattle.std.specs.Prelude.{◌≡◌, ◌≤◌, None};
 ghost use Rattle.mw_world.specs.Definition.State.{IsConfig};
 
 use crate::dice::Dice;
@@ -50,6 +50,7 @@ pub fn large_world(dice: &mut Dice) -> Config
 fn large_tenant(dice: &mut Dice) -> Tenant
     ensures words { (1 ≤ result.words) × (result.words ≤ 3) }
     ensures quota { (1 ≤ result.quota) × (result.quota ≤ 3) }
+    ensures new { result.old ≡ None }
 {
     Tenant {
         name: Name::new(),
@@ -62,6 +63,7 @@ fn large_tenant(dice: &mut Dice) -> Tenant
 fn small_tenant(dice: &mut Dice) -> Tenant
     ensures words { (1 ≤ result.words) × (result.words ≤ 3) }
     ensures quota { (1 ≤ result.quota) × (result.quota ≤ 3) }
+    ensures new { result.old ≡ None }
 {
     Tenant {
         name: Name::new(),
