@@ -49,13 +49,12 @@ replies-extend s t (m ∷ marks) mark h =
     let said = option_to_list (outgoing s m) in
     ap (λ xs. said ++ xs) (replies_on (step s m) t marks mark h (λ u e. replies-extend u t marks mark e)) ∙ sym (append_assoc said _ _)
 
--- what every store keeps that came from such words and such a quota
-pub record IsKept (first : List ℕ) (quota : ℕ) (s : Store) : Type 0 where
+-- what every store keeps that came from such words
+pub record IsKept (first : List ℕ) (s : Store) : Type 0 where
   pub are_words : AreWords first → AreWords s.words
   pub as_many : length s.words ≡ length first
   pub sound : IsSound s.words s.requests s.in_doubt
-  pub same_quota : s.quota ≡ quota
-  pub within : s.used ≤ quota
+  pub within : s.used ≤ s.quota
 
 and_last : (a b : Bool) → a && b ≡ true → b ≡ true
 and_last true b h = h
@@ -68,149 +67,144 @@ put_words count words (e ∷ es) h a =
     let rest : list_all (is_in_range count) es ≡ true = grind arith in
     put_words count (set words e.addr e.new) es rest (All-set (λ v. v ≤ MAX_VALUE) words e.addr e.new (new_fits count e fits) a)
 
-kept_if : (first : List ℕ) (quota : ℕ) (b : Bool) (s t : Store) → (if b then Some s else None) ≡ Some t → (b ≡ true → IsKept first quota s) → IsKept first quota t
-kept_if first quota true s t e h = subst (IsKept first quota) (same_Some s t e) (h refl)
-kept_if first quota false s t e h = absurd (none-some t e)
+kept_if : (first : List ℕ) (b : Bool) (s t : Store) → (if b then Some s else None) ≡ Some t → (b ≡ true → IsKept first s) → IsKept first t
+kept_if first true s t e h = subst (IsKept first) (same_Some s t e) (h refl)
+kept_if first false s t e h = absurd (none-some t e)
 
 -- a request changes, and not its job
-kept_request : (first : List ℕ) (quota : ℕ) (s : Store) (n : ℕ) (r after : RequestState) → request s n ≡ Some r → after.job ≡ r.job → IsKept first quota s → IsKept first quota (with_request s n after)
-kept_request first quota s n r after at job k =
+kept_request : (first : List ℕ) (s : Store) (n : ℕ) (r after : RequestState) → request s n ≡ Some r → after.job ≡ r.job → IsKept first s → IsKept first (with_request s n after)
+kept_request first s n r after at job k =
     let fine = subst (λ j. IsTrue (is_well_formed (length s.words) j)) (sym job) (k.sound.jobs n r at) in
-    record { are_words = k.are_words; as_many = k.as_many; sound = sound-insert s.words s.requests s.in_doubt n after fine k.sound; same_quota = k.same_quota; within = k.within }
+    record { are_words = k.are_words; as_many = k.as_many; sound = sound-insert s.words s.requests s.in_doubt n after fine k.sound; within = k.within }
 
 -- another number of slots is used
-kept_used : (first : List ℕ) (quota : ℕ) (s : Store) (used : ℕ) → used ≤ quota → IsKept first quota s → IsKept first quota (record s { used = used })
-kept_used first quota s used h k = record { are_words = k.are_words; as_many = k.as_many; sound = k.sound; same_quota = k.same_quota; within = h }
+kept_used : (first : List ℕ) (s : Store) (used : ℕ) → used ≤ s.quota → IsKept first s → IsKept first (record s { used = used })
+kept_used first s used h k = record { are_words = k.are_words; as_many = k.as_many; sound = k.sound; within = h }
 
 -- entries are put over the words
-kept_put : (first : List ℕ) (quota : ℕ) (s : Store) (es : List Entry) → IsTrue (list_all (is_in_range (length s.words)) es) → IsKept first quota s → IsKept first quota (record s { words = put s.words es })
-kept_put first quota s es h k = record {
+kept_put : (first : List ℕ) (s : Store) (es : List Entry) → IsTrue (list_all (is_in_range (length s.words)) es) → IsKept first s → IsKept first (record s { words = put s.words es })
+kept_put first s es h k = record {
   are_words = λ a. put_words (length s.words) s.words es h (k.are_words a);
   as_many = length-put s.words es ∙ k.as_many;
   sound = sound-words s.words (put s.words es) s.requests s.in_doubt (length-put s.words es) k.sound;
-  same_quota = k.same_quota;
   within = k.within;
 }
 
 -- a request that is asked has a change whose entries are of words that are there
-kept_fits : (first : List ℕ) (quota : ℕ) (s : Store) (n : ℕ) (r : RequestState) → request s n ≡ Some r → IsKept first quota s → IsTrue (list_all (is_in_range (length s.words)) (entries_of r.job))
-kept_fits first quota s n r at k = entries-fit (length s.words) r.job (k.sound.jobs n r at)
+kept_fits : (first : List ℕ) (s : Store) (n : ℕ) (r : RequestState) → request s n ≡ Some r → IsKept first s → IsTrue (list_all (is_in_range (length s.words)) (entries_of r.job))
+kept_fits first s n r at k = entries-fit (length s.words) r.job (k.sound.jobs n r at)
 
-kept_ask : (first : List ℕ) (quota : ℕ) (s t : Store) (n : ℕ) (job : Job) → ask s n job ≡ Some t → IsKept first quota s → IsKept first quota t
-kept_ask first quota s t n job e k =
-    kept_if first quota _ _ t e (λ b. record {
+kept_ask : (first : List ℕ) (s t : Store) (n : ℕ) (job : Job) → ask s n job ≡ Some t → IsKept first s → IsKept first t
+kept_ask first s t n job e k =
+    kept_if first _ _ t e (λ b. record {
       are_words = k.are_words;
       as_many = k.as_many;
       sound = sound-insert s.words s.requests s.in_doubt n (asked job) (and_last _ _ b) k.sound;
-      same_quota = k.same_quota;
       within = k.within;
     })
 
-kept_admit : (first : List ℕ) (quota : ℕ) (s t : Store) (n : ℕ) (r : RequestState) → request s n ≡ Some r → admit s n r ≡ Some t → IsKept first quota s → IsKept first quota t
-kept_admit first quota s t n r at e k =
-    kept_if first quota _ _ t e (λ b.
+kept_admit : (first : List ℕ) (s t : Store) (n : ℕ) (r : RequestState) → request s n ≡ Some r → admit s n r ≡ Some t → IsKept first s → IsKept first t
+kept_admit first s t n r at e k =
+    kept_if first _ _ t e (λ b.
     let room : nat_lt s.used s.quota ≡ true = and_last (is_waiting r && not s.faulted) (nat_lt s.used s.quota) b in
-    let same = k.same_quota in
-    kept_used first quota _ (s.used + 1) (grind (arith, nat_tests)) (kept_request first quota s n r (record r { admitted = true }) at refl k))
+    kept_used first _ (s.used + 1) (grind (arith, nat_tests)) (kept_request first s n r (record r { admitted = true }) at refl k))
 
 -- a mark that gives a request its reply
-kept_placed : (first : List ℕ) (quota : ℕ) (b : Bool) (s t : Store) (n : ℕ) (r : RequestState) (reply : Reply) → request s n ≡ Some r → (if b then Some (with_reply s n r reply) else None) ≡ Some t → IsKept first quota s → IsKept first quota t
-kept_placed first quota b s t n r reply at e k = kept_if first quota b _ t e (λ _. kept_request first quota s n r (record r { placed = Some reply }) at refl k)
+kept_placed : (first : List ℕ) (b : Bool) (s t : Store) (n : ℕ) (r : RequestState) (reply : Reply) → request s n ≡ Some r → (if b then Some (with_reply s n r reply) else None) ≡ Some t → IsKept first s → IsKept first t
+kept_placed first b s t n r reply at e k = kept_if first b _ t e (λ _. kept_request first s n r (record r { placed = Some reply }) at refl k)
 
-kept_look : (first : List ℕ) (quota : ℕ) (s t : Store) (n : ℕ) (r : RequestState) (job : Job) → request s n ≡ Some r → look_at s n r job ≡ Some t → IsKept first quota s → IsKept first quota t
-kept_look first quota s t n r (Get addr) at e k = kept_placed first quota _ s t n r _ at e k
-kept_look first quota s t n r (Cas entries) at e k = absurd (none-some t e)
+kept_look : (first : List ℕ) (s t : Store) (n : ℕ) (r : RequestState) (job : Job) → request s n ≡ Some r → look_at s n r job ≡ Some t → IsKept first s → IsKept first t
+kept_look first s t n r (Get addr) at e k = kept_placed first _ s t n r _ at e k
+kept_look first s t n r (Cas entries) at e k = absurd (none-some t e)
 
-kept_miss : (first : List ℕ) (quota : ℕ) (s t : Store) (n : ℕ) (r : RequestState) (o : Option Entry) → request s n ≡ Some r → miss_at s n r o ≡ Some t → IsKept first quota s → IsKept first quota t
-kept_miss first quota s t n r None at e k = absurd (none-some t e)
-kept_miss first quota s t n r (Some entry) at e k = kept_placed first quota _ s t n r _ at e k
+kept_miss : (first : List ℕ) (s t : Store) (n : ℕ) (r : RequestState) (o : Option Entry) → request s n ≡ Some r → miss_at s n r o ≡ Some t → IsKept first s → IsKept first t
+kept_miss first s t n r None at e k = absurd (none-some t e)
+kept_miss first s t n r (Some entry) at e k = kept_placed first _ s t n r _ at e k
 
-kept_seal : (first : List ℕ) (quota : ℕ) (s t : Store) (n : ℕ) (r : RequestState) → request s n ≡ Some r → seal s n r ≡ Some t → IsKept first quota s → IsKept first quota t
-kept_seal first quota s t n r at e k =
-    kept_if first quota _ _ t e (λ _. kept_put first quota _ (entries_of r.job) (kept_fits first quota s n r at k) (kept_request first quota s n r (record r { placed = Some Yes }) at refl k))
+kept_seal : (first : List ℕ) (s t : Store) (n : ℕ) (r : RequestState) → request s n ≡ Some r → seal s n r ≡ Some t → IsKept first s → IsKept first t
+kept_seal first s t n r at e k =
+    kept_if first _ _ t e (λ _. kept_put first _ (entries_of r.job) (kept_fits first s n r at k) (kept_request first s n r (record r { placed = Some Yes }) at refl k))
 
-kept_fail_seal : (first : List ℕ) (quota : ℕ) (s t : Store) (n : ℕ) (r : RequestState) → request s n ≡ Some r → fail_seal s n r ≡ Some t → IsKept first quota s → IsKept first quota t
-kept_fail_seal first quota s t n r at e k =
-    kept_if first quota _ _ t e (λ _.
-    let after = kept_request first quota s n r (record r { placed = Some Fault }) at refl k in
+kept_fail_seal : (first : List ℕ) (s t : Store) (n : ℕ) (r : RequestState) → request s n ≡ Some r → fail_seal s n r ≡ Some t → IsKept first s → IsKept first t
+kept_fail_seal first s t n r at e k =
+    kept_if first _ _ t e (λ _.
+    let after = kept_request first s n r (record r { placed = Some Fault }) at refl k in
     record {
       are_words = after.are_words;
       as_many = after.as_many;
-      sound = record { jobs = after.sound.jobs; doubts = kept_fits first quota s n r at k };
-      same_quota = after.same_quota;
+      sound = record { jobs = after.sound.jobs; doubts = kept_fits first s n r at k };
       within = after.within;
     })
 
-kept_retire : (first : List ℕ) (quota : ℕ) (s t : Store) (n : ℕ) (r : RequestState) → request s n ≡ Some r → retire s n r ≡ Some t → IsKept first quota s → IsKept first quota t
-kept_retire first quota s t n r at e k =
-    kept_if first quota _ _ t e (λ _. let within = k.within in kept_used first quota _ (s.used - 1) (omega arith) (kept_request first quota s n r (record r { retired = true }) at refl k))
+kept_retire : (first : List ℕ) (s t : Store) (n : ℕ) (r : RequestState) → request s n ≡ Some r → retire s n r ≡ Some t → IsKept first s → IsKept first t
+kept_retire first s t n r at e k =
+    kept_if first _ _ t e (λ _. let within = k.within in kept_used first _ (s.used - 1) (omega arith) (kept_request first s n r (record r { retired = true }) at refl k))
 
-kept_hand_out : (first : List ℕ) (quota : ℕ) (s t : Store) (n : ℕ) (r : RequestState) → request s n ≡ Some r → hand_out s n r ≡ Some t → IsKept first quota s → IsKept first quota t
-kept_hand_out first quota s t n r at e k = kept_if first quota _ _ t e (λ _. kept_request first quota s n r (record r { handed = true }) at refl k)
+kept_hand_out : (first : List ℕ) (s t : Store) (n : ℕ) (r : RequestState) → request s n ≡ Some r → hand_out s n r ≡ Some t → IsKept first s → IsKept first t
+kept_hand_out first s t n r at e k = kept_if first _ _ t e (λ _. kept_request first s n r (record r { handed = true }) at refl k)
 
-kept_started : (first : List ℕ) (quota : ℕ) (s : Store) (opened : Bool) → IsKept first quota s → IsKept first quota (store_after_start s s.words opened)
-kept_started first quota s opened k = record {
+kept_started : (first : List ℕ) (s : Store) (opened : Bool) (quota : ℕ) → IsKept first s → IsKept first (store_after_start s s.words opened quota)
+kept_started first s opened quota k = record {
   are_words = k.are_words;
   as_many = k.as_many;
   sound = sound-new_store s.words [] refl;
-  same_quota = k.same_quota;
   within = omega arith;
 }
 
-in_doubt_of : (first : List ℕ) (quota : ℕ) (s : Store) (n : ℕ) → IsKept first quota s → (o : Option RequestState) → request s n ≡ o → IsTrue (list_all (is_in_range (length s.words)) (option_map_or (λ r. entries_of r.job) o []))
-in_doubt_of first quota s n k None at = refl
-in_doubt_of first quota s n k (Some r) at = kept_fits first quota s n r at k
+in_doubt_of : (first : List ℕ) (s : Store) (n : ℕ) → IsKept first s → (o : Option RequestState) → request s n ≡ o → IsTrue (list_all (is_in_range (length s.words)) (option_map_or (λ r. entries_of r.job) o []))
+in_doubt_of first s n k None at = refl
+in_doubt_of first s n k (Some r) at = kept_fits first s n r at k
 
 -- the change in doubt is of words that are there
-doubt_fits : (first : List ℕ) (quota : ℕ) (s : Store) (interrupted : Option ℕ) → IsKept first quota s → IsTrue (list_all (is_in_range (length s.words)) (entries_in_doubt s interrupted))
-doubt_fits first quota s None k = k.sound.doubts
-doubt_fits first quota s (Some n) k = in_doubt_of first quota s n k (request s n) refl
+doubt_fits : (first : List ℕ) (s : Store) (interrupted : Option ℕ) → IsKept first s → IsTrue (list_all (is_in_range (length s.words)) (entries_in_doubt s interrupted))
+doubt_fits first s None k = k.sound.doubts
+doubt_fits first s (Some n) k = in_doubt_of first s n k (request s n) refl
 
-taken : (first : List ℕ) (quota : ℕ) (s : Store) (take opened : Bool) (es : List Entry) → IsTrue (list_all (is_in_range (length s.words)) es) → IsKept first quota s → IsKept first quota (store_after_start s (if take then put s.words es else s.words) opened)
-taken first quota s true opened es h k = kept_started first quota (record s { words = put s.words es }) opened (kept_put first quota s es h k)
-taken first quota s false opened es h k = kept_started first quota s opened k
+taken : (first : List ℕ) (s : Store) (take opened : Bool) (quota : ℕ) (es : List Entry) → IsTrue (list_all (is_in_range (length s.words)) es) → IsKept first s → IsKept first (store_after_start s (if take then put s.words es else s.words) opened quota)
+taken first s true opened quota es h k = kept_started first (record s { words = put s.words es }) opened quota (kept_put first s es h k)
+taken first s false opened quota es h k = kept_started first s opened quota k
 
-kept_restart : (first : List ℕ) (quota : ℕ) (s t : Store) (interrupted : Option ℕ) (take opened : Bool) → restart s interrupted take opened ≡ Some t → IsKept first quota s → IsKept first quota t
-kept_restart first quota s t interrupted take opened e k =
-    kept_if first quota _ _ t e (λ _. taken first quota s take opened (entries_in_doubt s interrupted) (doubt_fits first quota s interrupted k) k)
+kept_restart : (first : List ℕ) (s t : Store) (interrupted : Option ℕ) (take opened : Bool) (quota : ℕ) → restart s interrupted take opened quota ≡ Some t → IsKept first s → IsKept first t
+kept_restart first s t interrupted take opened quota e k =
+    kept_if first _ _ t e (λ _. taken first s take opened quota (entries_in_doubt s interrupted) (doubt_fits first s interrupted k) k)
 
-kept_fail_file : (first : List ℕ) (quota : ℕ) (s t : Store) (b : Bool) → (if b then None else Some (record s { faulted = true })) ≡ Some t → IsKept first quota s → IsKept first quota t
-kept_fail_file first quota s t true e k = absurd (none-some t e)
-kept_fail_file first quota s t false e k = subst (IsKept first quota) (same_Some _ t e) (record { are_words = k.are_words; as_many = k.as_many; sound = k.sound; same_quota = k.same_quota; within = k.within })
+kept_fail_file : (first : List ℕ) (s t : Store) (b : Bool) → (if b then None else Some (record s { faulted = true })) ≡ Some t → IsKept first s → IsKept first t
+kept_fail_file first s t true e k = absurd (none-some t e)
+kept_fail_file first s t false e k = subst (IsKept first) (same_Some _ t e) (record { are_words = k.are_words; as_many = k.as_many; sound = k.sound; within = k.within })
 
-of_request : (first : List ℕ) (quota : ℕ) (s t : Store) (n : ℕ) (f : RequestState → Option Store) → option_and_then f (request s n) ≡ Some t → ((r : RequestState) → request s n ≡ Some r → f r ≡ Some t → IsKept first quota t) → IsKept first quota t
-of_request first quota s t n f e h = option_and_then_some f (request s n) t e h
+of_request : (first : List ℕ) (s t : Store) (n : ℕ) (f : RequestState → Option Store) → option_and_then f (request s n) ≡ Some t → ((r : RequestState) → request s n ≡ Some r → f r ≡ Some t → IsKept first t) → IsKept first t
+of_request first s t n f e h = option_and_then_some f (request s n) t e h
 
 -- each mark keeps it
-pub kept-step : (first : List ℕ) (quota : ℕ) (s t : Store) (mark : Mark) → step s mark ≡ Some t → IsKept first quota s → IsKept first quota t
-kept-step first quota s t (Ask n job) e k = kept_ask first quota s t n job e k
-kept-step first quota s t (Admit n) e k = of_request first quota s t n (admit s n) e (λ r at f. kept_admit first quota s t n r at f k)
-kept-step first quota s t (Busy n) e k = of_request first quota s t n (refuse_busy s n) e (λ r at f. kept_placed first quota _ s t n r _ at f k)
-kept-step first quota s t (Look n) e k = of_request first quota s t n (λ r. look_at s n r r.job) e (λ r at f. kept_look first quota s t n r r.job at f k)
-kept-step first quota s t (Miss n i) e k = of_request first quota s t n (λ r. miss_at s n r (slice_get (entries_of r.job) i)) e (λ r at f. kept_miss first quota s t n r (slice_get (entries_of r.job) i) at f k)
-kept-step first quota s t (Seal n) e k = of_request first quota s t n (seal s n) e (λ r at f. kept_seal first quota s t n r at f k)
-kept-step first quota s t (SealFail n) e k = of_request first quota s t n (fail_seal s n) e (λ r at f. kept_fail_seal first quota s t n r at f k)
-kept-step first quota s t FileFail e k = kept_fail_file first quota s t s.faulted e k
-kept-step first quota s t (GiveUp n) e k = of_request first quota s t n (give_up s n) e (λ r at f. kept_placed first quota _ s t n r _ at f k)
-kept-step first quota s t (Retire n) e k = of_request first quota s t n (retire s n) e (λ r at f. kept_retire first quota s t n r at f k)
-kept-step first quota s t (HandOut n) e k = of_request first quota s t n (hand_out s n) e (λ r at f. kept_hand_out first quota s t n r at f k)
-kept-step first quota s t (Restart interrupted take opened) e k = kept_restart first quota s t interrupted take opened e k
+pub kept-step : (first : List ℕ) (s t : Store) (mark : Mark) → step s mark ≡ Some t → IsKept first s → IsKept first t
+kept-step first s t (Ask n job) e k = kept_ask first s t n job e k
+kept-step first s t (Admit n) e k = of_request first s t n (admit s n) e (λ r at f. kept_admit first s t n r at f k)
+kept-step first s t (Busy n) e k = of_request first s t n (refuse_busy s n) e (λ r at f. kept_placed first _ s t n r _ at f k)
+kept-step first s t (Look n) e k = of_request first s t n (λ r. look_at s n r r.job) e (λ r at f. kept_look first s t n r r.job at f k)
+kept-step first s t (Miss n i) e k = of_request first s t n (λ r. miss_at s n r (slice_get (entries_of r.job) i)) e (λ r at f. kept_miss first s t n r (slice_get (entries_of r.job) i) at f k)
+kept-step first s t (Seal n) e k = of_request first s t n (seal s n) e (λ r at f. kept_seal first s t n r at f k)
+kept-step first s t (SealFail n) e k = of_request first s t n (fail_seal s n) e (λ r at f. kept_fail_seal first s t n r at f k)
+kept-step first s t FileFail e k = kept_fail_file first s t s.faulted e k
+kept-step first s t (GiveUp n) e k = of_request first s t n (give_up s n) e (λ r at f. kept_placed first _ s t n r _ at f k)
+kept-step first s t (Retire n) e k = of_request first s t n (retire s n) e (λ r at f. kept_retire first s t n r at f k)
+kept-step first s t (HandOut n) e k = of_request first s t n (hand_out s n) e (λ r at f. kept_hand_out first s t n r at f k)
+kept-step first s t (Restart interrupted take opened quota) e k = kept_restart first s t interrupted take opened quota e k
 
 -- and so does each list of marks
-pub kept-run : (first : List ℕ) (quota : ℕ) (s t : Store) (marks : List Mark) → run s marks ≡ Some t → IsKept first quota s → IsKept first quota t
-kept-run first quota s t [] e k = subst (IsKept first quota) (same_Some s t e) k
-kept-run first quota s t (mark ∷ marks) e k =
-    option_and_then_some (λ u. run u marks) (step s mark) t e (λ u at f. kept-run first quota u t marks f (kept-step first quota s u mark at k))
+pub kept-run : (first : List ℕ) (s t : Store) (marks : List Mark) → run s marks ≡ Some t → IsKept first s → IsKept first t
+kept-run first s t [] e k = subst (IsKept first) (same_Some s t e) k
+kept-run first s t (mark ∷ marks) e k =
+    option_and_then_some (λ u. run u marks) (step s mark) t e (λ u at f. kept-run first u t marks f (kept-step first s u mark at k))
 
-kept_fresh : (words : List ℕ) (quota : ℕ) (faulted : Bool) → IsKept words quota (first_store words quota faulted)
-kept_fresh words quota faulted = record { are_words = λ a. a; as_many = refl; sound = sound-new_store words [] refl; same_quota = refl; within = omega arith }
+kept_fresh : (words : List ℕ) (quota : ℕ) (faulted : Bool) → IsKept words (first_store words quota faulted)
+kept_fresh words quota faulted = record { are_words = λ a. a; as_many = refl; sound = sound-new_store words [] refl; within = omega arith }
 
 pub words-stay-words : WordsStayWords
 words-stay-words words quota faulted marks t a e =
-    let k = kept-run words quota (first_store words quota faulted) t marks e (kept_fresh words quota faulted) in
+    let k = kept-run words (first_store words quota faulted) t marks e (kept_fresh words quota faulted) in
     (k.are_words a, k.as_many)
 
 pub used-stays-within : UsedStaysWithin
 used-stays-within words quota faulted marks t e =
-    let k = kept-run words quota (first_store words quota faulted) t marks e (kept_fresh words quota faulted) in
-    (k.same_quota, k.within)
+    let k = kept-run words (first_store words quota faulted) t marks e (kept_fresh words quota faulted) in
+    k.within

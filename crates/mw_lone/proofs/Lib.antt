@@ -1,4 +1,5 @@
 pub mod KeptRuns
 pub mod Numbered
+pub mod Quotas
 pub mod SoundStores
 pub mod Steps

@@ -1,9 +1,10 @@
 -- What holds of every run of the store alone.
-use Rattle.std.specs.Prelude.{ℕ, ◌≡◌, ◌≤◌, Bool, List, [], ◌∷◌, ◌++◌, length, Some}
+use Rattle.std.specs.Prelude.{ℕ, ◌≡◌, ◌≤◌, Bool, true, List, [], ◌∷◌, ◌++◌, length, Some}
 use Rattle.std.specs.Option.{option_and_then, option_to_list}
 use Rattle.mw_words.specs.Change.{AreWords}
 use Rattle.mw_lone.specs.declared.marks.Mark.{Mark}
-use Rattle.mw_lone.specs.Store.{Store, first_store, step, run, outgoing, replies_from}
+use Rattle.mw_lone.specs.declared.marks.Mark.TheVariants.{Ask, Admit, Busy, Look, Miss, Seal, SealFail, FileFail, GiveUp, Retire, Reply as HandOut, Restart}
+use Rattle.mw_lone.specs.Store.{Store, first_store, is_quota, step, run, outgoing, replies_from}
 
 -- the store after a list of marks and one more is the one after that mark
 abbrev pub RunExtends : Type 0
@@ -17,6 +18,31 @@ RepliesExtend = (s t : Store) (marks : List Mark) (mark : Mark) → run s marks 
 abbrev pub WordsStayWords : Type 0
 WordsStayWords = (words : List ℕ) (quota : ℕ) (faulted : Bool) (marks : List Mark) (t : Store) → AreWords words → run (first_store words quota faulted) marks ≡ Some t → AreWords t.words × (length t.words ≡ length words)
 
--- However a store came to be, it uses no more slots than its quota, which is the one of the first.
+-- However a store came to be, it uses no more slots than its quota.
 abbrev pub UsedStaysWithin : Type 0
-UsedStaysWithin = (words : List ℕ) (quota : ℕ) (faulted : Bool) (marks : List Mark) (t : Store) → run (first_store words quota faulted) marks ≡ Some t → (t.quota ≡ quota) × (t.used ≤ quota)
+UsedStaysWithin = (words : List ℕ) (quota : ℕ) (faulted : Bool) (marks : List Mark) (t : Store) → run (first_store words quota faulted) marks ≡ Some t → t.used ≤ t.quota
+
+-- the quota after a mark: a start tells it, and no other mark touches it
+abbrev pub quota_by : ℕ → Mark → ℕ
+quota_by quota (Restart interrupted take opened told) = told
+quota_by quota (Ask n job) = quota
+quota_by quota (Admit n) = quota
+quota_by quota (Busy n) = quota
+quota_by quota (Look n) = quota
+quota_by quota (Miss n i) = quota
+quota_by quota (Seal n) = quota
+quota_by quota (SealFail n) = quota
+quota_by quota FileFail = quota
+quota_by quota (GiveUp n) = quota
+quota_by quota (Retire n) = quota
+quota_by quota (HandOut n) = quota
+
+-- the quota after a list of marks: the one that the last start among them tells, else the first one
+abbrev pub quota_after : ℕ → List Mark → ℕ
+quota_after quota [] = quota
+quota_after quota (mark ∷ marks) = quota_after (quota_by quota mark) marks
+
+-- However a store came to be, its quota is the one that its last start told, else the first one; and it is one that a tenant may have, if the first is.
+abbrev pub QuotasAreOfStarts : Type 0
+QuotasAreOfStarts = (words : List ℕ) (quota : ℕ) (faulted : Bool) (marks : List Mark) (t : Store) → run (first_store words quota faulted) marks ≡ Some t
+    → (t.quota ≡ quota_after quota marks) × (is_quota quota ≡ true → is_quota t.quota ≡ true)

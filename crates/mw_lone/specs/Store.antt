@@ -1,5 +1,5 @@
 -- The store alone: one tenant's words and requests, which mark is legal when, and what it does.
-use Rattle.std.specs.Prelude.{ℕ, ◌+◌, ◌-◌, ◌==◌, ◌&&◌, ◌||◌, not, Bool, true, false, List, [], ◌∷◌, ◌++◌, length, nat_lt, is_some, is_none, Option, Some, None, IsSome, slice_get, if◌then◌else◌}
+use Rattle.std.specs.Prelude.{ℕ, ◌+◌, ◌-◌, ◌==◌, ◌&&◌, ◌||◌, not, Bool, true, false, List, [], ◌∷◌, ◌++◌, length, nat_le, nat_lt, is_some, is_none, Option, Some, None, IsSome, slice_get, if◌then◌else◌}
 use Rattle.std.specs.Option.{option_and_then, option_map, option_map_or, option_to_list, unwrap_or}
 use Rattle.std.specs.Ordering.{nat_cmp}
 use Rattle.std.specs.FinMap as map
@@ -9,6 +9,7 @@ use Rattle.mw_words.specs.declared.jobs.Job.TheVariants.{Get, Cas}
 use Rattle.mw_words.specs.declared.replies.Reply.{Reply}
 use Rattle.mw_words.specs.declared.replies.Reply.TheVariants.{Val, Yes, No, Busy as SaysBusy, Fault}
 use Rattle.mw_words.specs.Change.{word_at, fits, put, is_well_formed}
+use Rattle.mw_words.specs.declared.limits.TheConstants.{MAX_QUOTA}
 use Rattle.mw_lone.specs.declared.marks.Mark.{Mark}
 use Rattle.mw_lone.specs.declared.marks.Mark.TheVariants.{Ask, Admit, Busy, Look, Miss, Seal, SealFail, FileFail, GiveUp, Retire, Reply as HandOut, Restart}
 
@@ -166,21 +167,26 @@ abbrev pub entries_in_doubt : Store → Option ℕ → List Entry
 entries_in_doubt s None = s.in_doubt
 entries_in_doubt s (Some n) = option_map_or (λ r. entries_of r.job) (request s n) []
 
--- The store after a start, with these words. Of the requests nothing is left but that their numbers go on.
-abbrev pub store_after_start : Store → List ℕ → Bool → Store
-store_after_start s words opened = record s {
+-- a quota that a tenant may have, as far as its store alone can tell
+abbrev pub is_quota : ℕ → Bool
+is_quota quota = nat_le 1 quota && nat_le quota MAX_QUOTA
+
+-- The store after a start, with these words and this quota. Of the requests nothing is left but that their numbers go on.
+abbrev pub store_after_start : Store → List ℕ → Bool → ℕ → Store
+store_after_start s words opened quota = record s {
   words = words;
+  quota = quota;
   used = 0;
   requests = map.empty;
   faulted = not opened;
   in_doubt = [];
 }
 
--- All stops and starts again: the change in doubt is found, all of it, or nothing of it is.
-abbrev pub restart : Store → Option ℕ → Bool → Bool → Option Store
-restart s interrupted take opened =
-    if may_be_interrupted s interrupted && (not take || has_in_doubt s interrupted)
-    then Some (store_after_start s (if take then put s.words (entries_in_doubt s interrupted) else s.words) opened)
+-- All stops and starts again, with a quota: the change in doubt is found, all of it, or nothing of it is.
+abbrev pub restart : Store → Option ℕ → Bool → Bool → ℕ → Option Store
+restart s interrupted take opened quota =
+    if may_be_interrupted s interrupted && (not take || has_in_doubt s interrupted) && is_quota quota
+    then Some (store_after_start s (if take then put s.words (entries_in_doubt s interrupted) else s.words) opened quota)
     else None
 
 -- a request that has just come
@@ -207,7 +213,7 @@ step s FileFail = if s.faulted then None else Some (record s { faulted = true })
 step s (GiveUp n) = option_and_then (give_up s n) (request s n)
 step s (Retire n) = option_and_then (retire s n) (request s n)
 step s (HandOut n) = option_and_then (hand_out s n) (request s n)
-step s (Restart interrupted take opened) = restart s interrupted take opened
+step s (Restart interrupted take opened quota) = restart s interrupted take opened quota
 
 -- the reply that a request still has to give
 abbrev pub due_reply : RequestState → Option Reply
@@ -226,7 +232,7 @@ outgoing s (SealFail n) = None
 outgoing s FileFail = None
 outgoing s (GiveUp n) = None
 outgoing s (Retire n) = None
-outgoing s (Restart interrupted take opened) = None
+outgoing s (Restart interrupted take opened quota) = None
 
 -- the store after a list of marks; None: one of them is illegal where it stands
 abbrev pub run : Store → List Mark → Option Store

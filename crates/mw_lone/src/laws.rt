@@ -1,5 +1,5 @@
 //! What holds of every run of the store alone: facts for proofs to cite. The functions do nothing.
-ghost use Rattle.mw_lone.specs.Laws.{RunExtends, RepliesExtend, WordsStayWords, UsedStaysWithin};
+ghost use Rattle.mw_lone.specs.Laws.{RunExtends, RepliesExtend, WordsStayWords, UsedStaysWithin, QuotasAreOfStarts};
 
 /// One more mark at the end of a list: the store is the one after it, and the replies are those of
 /// the list and then what it hands out.
@@ -13,7 +13,13 @@ pub fn words_stay_words()
     ensures { WordsStayWords }
 {}
 
-/// However a store came to be, it uses no more slots than its quota, which is the one of the first.
+/// However a store came to be, it uses no more slots than its quota.
 pub fn used_stays_within()
     ensures { UsedStaysWithin }
+{}
+
+/// However a store came to be, its quota is the one that its last start told, else the first one: no other
+/// mark touches it. It is one that a tenant may have, if the first is.
+pub fn quotas_are_of_starts()
+    ensures { QuotasAreOfStarts }
 {}

@@ -8,6 +8,6 @@ mod marks;
 mod store;
 mod words;
 
-pub use laws::{runs_extend, used_stays_within, words_stay_words};
+pub use laws::{quotas_are_of_starts, runs_extend, used_stays_within, words_stay_words};
 pub use marks::Mark;
 pub use store::{Lone, LoneFault};

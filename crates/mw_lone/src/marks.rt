@@ -2,8 +2,9 @@
 
 use mw_words::Job;
 
-/// What happens to a store, with nothing of its neighbours: which request has come how far, and what
-/// the tenant's own file did. A mark holds no value that a word holds, no slot and no worker.
+/// What happens to a store, with nothing of its neighbours: which request has come how far, what the
+/// tenant's own file did, and which quota a start gave. A mark holds no value that a word holds, no slot
+/// and no worker.
 ///
 /// `n` is a request's number within its tenant. Numbers are given in the order of the asking, from 0,
 /// and go on when all stops and starts again.
@@ -41,5 +42,8 @@ pub enum Mark {
         take: bool,
         /// Whether the file opened.
         opened: bool,
+        /// How many slots the tenant may use at a time from then on, 1 to `MAX_QUOTA`. No other mark
+        /// touches that.
+        quota: u8,
     },
 }

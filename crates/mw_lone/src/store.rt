@@ -9,7 +9,7 @@ ghost use Rattle.mw_lone.specs.Lone.{Takes, reply_of, is_refused, is_ask};
 use crate::asked::Requests;
 use crate::marks::Mark;
 use crate::words::{put, word_at};
-use mw_words::{Entries, Job, Reply, copy_of};
+use mw_words::{Entries, Job, MAX_QUOTA, Reply, copy_of};
 use std::alloc::{AllocError, Global};
 use std::marker::Model;
 
@@ -97,7 +97,8 @@ impl Lone {
                 interrupted,
                 take,
                 opened,
-            } => self.restart(interrupted, take, opened),
+                quota,
+            } => self.restart(interrupted, take, opened, quota),
         }
     }
 
@@ -269,15 +270,19 @@ impl Lone {
         Ok(Some(reply))
     }
 
-    /// All stops and starts again.
+    /// All stops and starts again, with this quota.
     fn restart(
         &mut self,
         interrupted: Option<u64>,
         take: bool,
         opened: bool,
+        quota: u8,
     ) -> Result<Option<Reply>, LoneFault>
-        ensures { Takes self.old (Mark.Restart interrupted take opened) result self.new }
+        ensures { Takes self.old (Mark.Restart interrupted take opened quota) result self.new }
     {
+        if quota == 0 || quota > MAX_QUOTA {
+            return Err(LoneFault::Illegal);
+        }
         let Some(doubt) = self.entries_in_doubt(interrupted) else {
             return Err(LoneFault::Illegal);
         };
@@ -288,6 +293,7 @@ impl Lone {
             put(&mut self.words, &doubt);
         }
         self.requests.restart();
+        self.quota = quota;
         self.faulted = !opened;
         self.in_doubt = Entries::new();
         Ok(None)

@@ -20,7 +20,7 @@ pub const MAX_WORDS: u16 = 4096;
 pub const MAX_POOL: u16 = 256;
 
 /// The greatest quota: how many slots a tenant may use at a time.
-pub const MAX_QUOTA: u8 = 32;
+pub const MAX_QUOTA: u8 = 64;
 
 /// The most record places of a tenant's file.
 pub const MAX_PLACES: u16 = 64;
