@@ -1,6 +1,7 @@
 pub mod ApartPlaces
 pub mod CalledDisks
 pub mod CrashedFiles
+pub mod EnoughPlaces
 pub mod KeptPlaces
 pub mod NewFiles
 pub mod OldFiles

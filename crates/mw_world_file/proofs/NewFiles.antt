@@ -1,19 +1,27 @@
 -- A new file, and what it is opened with.
-use Rattle.std.proofs.Common.{◌≡◌, ℕ, ◌*◌, List, replicate, ◌≤◌, arith}
+use Rattle.std.proofs.Common.{◌≡◌, ℕ, ◌≤◌, ◌*◌, min, replicate, subst, arith}
+use Rattle.std.proofs.lemmas.Bool.Decides.{nat_tests}
+use Rattle.mw_words.specs.declared.limits.TheConstants.{MAX_WORDS}
 use Rattle.mw_record.specs.declared.layout.Layout.TheVariants.{First}
-use Rattle.mw_record.specs.declared.layout.TheConstants.{PLACES_GROW}
-use Rattle.mw_record.specs.Damages.{places_of}
+use Rattle.mw_record.specs.declared.layout.TheConstants.{FIRST_PLACES, PLACES_GROW}
 use Rattle.mw_record.specs.Layout.{new_file}
 use Rattle.mw_record.specs.Stands.{MayHave}
 use Rattle.mw_record.proofs.ClosedPlaces.{new_file_has, new_file_first}
 use Rattle.mw_record.proofs.Sound.{first_file}
-use Rattle.mw_world_file.specs.Devices.{IsRoomy}
+use Rattle.mw_file.specs.Keeps.{IsFile}
+use Rattle.mw_world_file.specs.FirstPlaces.{first_places}
 
--- A new file is one of zeros, and has room for as many changes as it was made with, and more once it is open.
-pub new_is_file : (words places : ℕ) → MayHave First words places → IsRoomy places (replicate words 0) (new_file words places)
+-- A new file is one of zeros, and has as many places for each that it was made with as a file's places grow when it is opened.
+new_is_file : (words places : ℕ) → MayHave First words places → IsFile (PLACES_GROW * places) (replicate words 0) (new_file words places)
 new_is_file words places may =
-    let zeros : List ℕ = replicate words 0 in
-    let image : List ℕ = new_file words places in
-    let file = first_file words places zeros image (new_file_first words places) (new_file_has words places may) in
-    let grown : places_of image ≡ PLACES_GROW * places = file.2 in
-    record { words_are = file.0; room = omega (arith, grown) }
+    let file = first_file words places (replicate words 0) (new_file words places) (new_file_first words places) (new_file_has words places may) in
+    record { words_are = file.0; places_are = file.2 }
+
+-- as many as a tenant's first file has, where it was made with the quota, or with as many as a first layout may have
+pub grown : (quota made : ℕ) → made ≡ min quota FIRST_PLACES → PLACES_GROW * made ≡ first_places quota
+grown quota made as_many = grind (arith, nat_tests, as_many)
+
+pub first_is_file : (words quota made : ℕ) → 1 ≤ words → words ≤ MAX_WORDS → 1 ≤ quota → made ≡ min quota FIRST_PLACES → IsFile (first_places quota) (replicate words 0) (new_file words made)
+first_is_file words quota made some_word words_fit some_place as_many =
+    subst (λ (n : ℕ). IsFile n (replicate words 0) (new_file words made)) (grown quota made as_many)
+    (new_is_file words made (record { some_word = some_word; words_fit = words_fit; some_place = omega (arith, some_place, as_many); places_fit = omega (arith, as_many) }))

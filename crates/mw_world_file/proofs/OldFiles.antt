@@ -1,23 +1,24 @@
 -- An old file, and the words that its bytes stand for.
-use Rattle.std.proofs.Common.{◌≡◌, ℕ, zero, suc, ◌+◌, ◌-◌, ◌*◌, ◌&&◌, ◌<◌, ◌≤◌, true, false, nat_le, Option, None, Some, Result, Ok, Err, IfOk, Vec, List, [], ◌∷◌, ◌++◌, length, take, replicate, get_or, refl, sym, ap, ◌∙◌, subst, inl, inr, arith, append_assoc}
+use Rattle.std.proofs.Common.{◌≡◌, ℕ, zero, suc, ◌+◌, ◌-◌, ◌*◌, ◌&&◌, ◌<◌, ◌≤◌, true, false, nat_le, None, Some, Result, Ok, Err, IfOk, Vec, List, [], ◌∷◌, ◌++◌, length, replicate, get_or, refl, sym, ap, ◌∙◌, subst, inl, inr, arith, append_assoc}
 use Rattle.std.specs.declared.alloc.Global.{Global}
 use Rattle.std.specs.List.{flat_map}
 use Rattle.std.proofs.lemmas.Bool.{and_from, and_parts, cases_lt, le-leb}
 use Rattle.std.proofs.lemmas.List.{get_or_append_left, get_or-append_right, get_or-take, length-append, length-map, length-replicate, length-take-le}
-use Rattle.mw_words.specs.declared.limits.TheConstants.{MAX_ENTRIES, MAX_VALUE}
+use Rattle.mw_words.specs.declared.limits.TheConstants.{MAX_ENTRIES}
 use Rattle.mw_words.specs.declared.jobs.Entry.{Entry}
 use Rattle.mw_words.specs.Change.{is_change, put}
 use Rattle.mw_record.specs.declared.layout.Layout.TheVariants.{First}
 use Rattle.mw_record.specs.declared.layout.TheConstants.{BODY_SIZE, COMMITTED, ENTRY_SIZE, FIRST_ENTRIES, HEAD_SIZE, PLACES_GROW, WORD_SIZE}
 use Rattle.mw_record.specs.Layout.{body, entry_bytes, header, home_at, number_bytes, pairs_of, place_at, place_size}
-use Rattle.mw_record.specs.Records.{Pairs, all_over, home, is_record, put_pairs, record_at, rises_below}
+use Rattle.mw_record.specs.Records.{Pairs, all_over, home, is_record, record_at, rises_below}
 use Rattle.mw_record.specs.Stands.{HasWords, MayHave, Stands}
-use Rattle.mw_record.specs.Damages.{is_switched, places_of}
+use Rattle.mw_record.specs.Damages.{is_switched}
 use Rattle.mw_record.proofs.Changes.{Opens, stands_more}
 use Rattle.mw_record.proofs.ReadAgain.{body_again, head_of_header, length-header, length_of_change, numbers_of_change, put-put_pairs, record_of_change, values_of_change}
 use Rattle.mw_record.proofs.Reading.{number_zero, record_open, record_shut}
 use Rattle.mw_record.proofs.Sound.{first_file}
 use Rattle.mw_record.proofs.Writes.{length-body, length-entries}
+use Rattle.mw_file.specs.Keeps.{IsFile}
 use Rattle.mw_disk.specs.Facts.{IsAtRest}
 use Rattle.mw_disk.specs.Memory.{Memory, memory_facts}
 use Rattle.mw_world_file.specs.declared.device.Device.TheVariants.{Shut}
@@ -25,7 +26,7 @@ use Rattle.mw_world_file.specs.declared.places.Place.{Place as KeptPlace}
 use Rattle.mw_world_file.specs.declared.places.Place.TheVariants.{Empty as KeptEmpty}
 use Rattle.mw_world_file.specs.declared.unopened.TheConstants.{OLD_BODY, OLD_ENTRIES}
 use Rattle.mw_world_file.specs.Books.{Tells}
-use Rattle.mw_world_file.specs.Devices.{IsRoomy, place_in}
+use Rattle.mw_world_file.specs.Devices.{place_in}
 use Rattle.mw_world_file.specs.Files.{broken, file_of}
 use Rattle.mw_world_file.specs.OldFiles.{old_body, old_file}
 use Rattle.mw_world_file.proofs.OpenedFiles.{none_there, zero_there}
@@ -174,31 +175,23 @@ module _ (words places : ℕ) (change : List Entry) (few : length change ≤ OLD
   old_file_first = refl
 
   -- it is a file of its change, put over zeros
-  pub old_is_file : IsRoomy places (put (replicate words 0) change) image
-  old_is_file =
-      let file = first_file words places (put (replicate words 0) change) image old_file_first old_file_has in
-      let grown : places_of image ≡ PLACES_GROW * places = file.2 in
-      record { words_are = file.0; room = omega (arith, grown) }
+  pub old_is_file : IsFile (PLACES_GROW * places) (put (replicate words 0) change) image
+  old_is_file = let file = first_file words places (put (replicate words 0) change) image old_file_first old_file_has in record { words_are = file.0; places_are = file.2 }
 
 -- so it is, where it was made
 pub made_old : {E : Type 0} (words places : ℕ) (change : List Entry) (made : Result (Vec ℕ Global) E) → length change ≤ OLD_ENTRIES → MayHave First words places → is_change words change ≡ true
-    → IfOk made (λ bytes. bytes.items ≡ old_file words places change) → IfOk made (λ bytes. IsRoomy places (put (replicate words 0) change) bytes.items)
-made_old words places change (Ok bytes) few may formed same = subst (λ (image : List ℕ). IsRoomy places (put (replicate words 0) change) image) (sym same) (old_is_file words places change few may formed)
+    → IfOk made (λ bytes. bytes.items ≡ old_file words places change) → IfOk made (λ bytes. IsFile (PLACES_GROW * places) (put (replicate words 0) change) bytes.items)
+made_old words places change (Ok bytes) few may formed same = subst (λ (image : List ℕ). IsFile (PLACES_GROW * places) (put (replicate words 0) change) image) (sym same) (old_is_file words places change few may formed)
 made_old words places change (Err fault) few may formed same = tt
 
 -- the parts of its book tell of an old file, whose disk leaves nothing but its bytes
-pub tells_unopened : (disk : Memory) (contents words : List ℕ) (places : List KeptPlace) (doubt : List Entry) (bytes : List ℕ) (n slots : ℕ) → contents ≡ words → places ≡ replicate n KeptEmpty → doubt ≡ []
-    → (memory_facts disk).reads ≡ bytes → IsAtRest (memory_facts disk) → IsRoomy n words bytes → Tells (Shut disk) contents places (replicate slots 0) true doubt (broken (file_of words) [])
-tells_unopened disk contents words places doubt bytes n slots are empty none reads rest is = record {
+pub tells_unopened : (disk : Memory) (contents words : List ℕ) (places : List KeptPlace) (count : ℕ) (doubt : List Entry) (bytes : List ℕ) (n slots : ℕ) → contents ≡ words → places ≡ replicate n KeptEmpty → doubt ≡ []
+    → (memory_facts disk).reads ≡ bytes → IsAtRest (memory_facts disk) → IsFile count words bytes → Tells (Shut disk) contents places count (replicate slots 0) true doubt (broken (file_of words) [])
+tells_unopened disk contents words places count doubt bytes n slots are empty none reads rest is = record {
   same_contents = sym are;
   same_places = λ place lt. sym (ap (λ ps. place_in ps place) empty ∙ none_there n place);
   same_place_of = λ slot lt. sym (zero_there slots slot);
   same_failed = refl;
   same_doubt = sym none;
-  stands = (
-    none,
-    λ image may.
-        subst (λ k. IsRoomy k contents image) (sym (ap (λ ps. length ps) empty ∙ length-replicate n KeptEmpty))
-        (subst (λ ws. IsRoomy n ws image) (sym are) (subst (λ bs. IsRoomy n words bs) (sym (rest image may ∙ reads)) is)),
-  );
+  stands = (none, λ image may. subst (λ ws. IsFile count ws image) (sym are) (subst (λ bs. IsFile count words bs) (sym (rest image may ∙ reads)) is));
 }

@@ -42,15 +42,15 @@ free_kept states places n free empty = record {
   there place = ap (λ ps. place_in ps place) empty ∙ none_there n place
 
 -- the parts of its book tell of a file at rest
-pub tells_opened : (file : TenantFile Memory) (contents : List ℕ) (places : List KeptPlace) (doubt : List Entry) (n slots : ℕ) → Keeps memory_facts file contents []
-    → places ≡ replicate n KeptEmpty → doubt ≡ [] → Tells (Open file) contents places (replicate slots 0) false doubt (file_of contents)
-tells_opened file contents places doubt n slots keeps empty none = record {
+pub tells_opened : (file : TenantFile Memory) (contents : List ℕ) (places : List KeptPlace) (count : ℕ) (doubt : List Entry) (n slots : ℕ) → Keeps memory_facts file contents []
+    → places ≡ replicate n KeptEmpty → doubt ≡ [] → Tells (Open file) contents places count (replicate slots 0) false doubt (file_of contents)
+tells_opened file contents places count doubt n slots keeps empty none = record {
   same_contents = refl;
   same_places = λ place lt. sym (ap (λ ps. place_in ps place) empty ∙ none_there n place);
   same_place_of = λ slot lt. sym (zero_there slots slot);
   same_failed = refl;
   same_doubt = sym none;
-  stands = subst (λ es. StandsFor (Open file) (length places) contents es) (sym none) keeps;
+  stands = subst (λ es. StandsFor (Open file) count contents es) (sym none) keeps;
 }
 
 -- one element more

@@ -1,19 +1,19 @@
 -- The book of a file after a start.
-use Rattle.std.proofs.Common.{◌≡◌, ℕ, ◌∙◌, ◌||◌, Bool, true, false, List, [], ◌∷◌, length, Option, Some, None, Result, Ok, Err, IsErrAnd, refl, sym, ap, subst, inl, inr}
+use Rattle.std.proofs.Common.{◌≡◌, ◌≤◌, ℕ, ◌∙◌, ◌||◌, Bool, true, false, List, [], ◌∷◌, length, Option, Some, None, Result, Ok, Err, IsErrAnd, refl, sym, ap, subst, inl, inr, arith}
 use Rattle.std.specs.Str.{bytes_eq}
 use Rattle.std.proofs.lemmas.Slice.Eq.{bytes_eq-Decides}
 use Rattle.mw_words.specs.declared.jobs.Entry.{Entry}
 use Rattle.mw_words.specs.Change.{put}
+use Rattle.mw_record.specs.Damages.{file_words, places_of}
 use Rattle.mw_lone.proofs.SoundStores.{length-put}
 use Rattle.mw_world_file.specs.declared.kept.Book.{Book}
 use Rattle.mw_world_file.specs.declared.cut.Cut.{Cut}
 use Rattle.mw_world_file.specs.declared.cut.Left.{Left}
 use Rattle.mw_world_file.specs.declared.faults.BookFault.{BookFault}
 use Rattle.mw_world_file.specs.declared.faults.BookFault.TheVariants.{NotEnabled, Memory as NoMemory}
-use Rattle.mw_world_file.specs.Devices.{IsRoomy}
 use Rattle.mw_world_file.specs.Files.{File}
 use Rattle.mw_world_file.specs.Restarts.{takes, may_find, opened_file}
-use Rattle.mw_world_file.specs.Books.{Shows, quota_of}
+use Rattle.mw_world_file.specs.Books.{Shows, quota_of, places_of_file}
 use Rattle.mw_world_file.specs.Reopening.{doubt_left, is_sealed_left, IsRestarted, Restarts}
 use Rattle.mw_world_file.specs.Stopping.{IsStopped, Stops, IsReopened, ReopenEnds}
 
@@ -37,46 +37,60 @@ as_long false before doubt found may = by (bytes_eq found before) refl where
   by true same = same_length before found same
   by false differ = taken_long before doubt found (sym (ap (λ b. b || takes before doubt found) differ) ∙ may)
 
-pub restarted : (old : Book) (file : File) → Shows old file → (cut : Option Cut) (torn : List ℕ) (fails_at : Option ℕ) (left : Left) (new : Book) (took : Bool) (quota : ℕ) → quota ≡ quota_of old → IsStopped old file cut torn left
-    → ((words : List ℕ) → IsRoomy quota words left.image.items → IsReopened left.image.items quota words fails_at new)
-    → took ≡ takes old.contents.items left.doubt.items new.contents.items → IsRestarted old file cut torn fails_at new took
-restarted old file shows cut torn fails_at left new took quota as_many stopped reopens taken = record {
+-- bytes that are left can be opened with a quota for which the book's file has places
+room_left : (old : Book) (file : File) (cut : Option Cut) (torn : List ℕ) (left : Left) (quota : ℕ) → IsStopped old file cut torn left → quota ≤ places_of_file old → quota ≤ places_of left.image.items
+room_left old file cut torn left quota stopped room = let has = stopped.room in omega (arith, has, room)
+
+-- how an opening of these bytes ends, where a book uses so many places of the file
+abbrev Reopens : List ℕ → ℕ → Option ℕ → Result Book BookFault → Type 0
+Reopens image quota fails_at r = (words : List ℕ) → file_words image ≡ Some words → quota ≤ places_of image → ReopenEnds image quota words fails_at r
+
+-- the number of places is the quota, as the opening is given it
+reopened_with : (image : List ℕ) (used quota : ℕ) (fails_at : Option ℕ) (r : Result Book BookFault) → used ≡ quota → Reopens image used fails_at r → Reopens image quota fails_at r
+reopened_with image used quota fails_at r same ends = subst (λ n. Reopens image n fails_at r) same ends
+
+pub restarted : (old : Book) (file : File) → Shows old file → (cut : Option Cut) (torn : List ℕ) (fails_at : Option ℕ) (quota : ℕ) (left : Left) (new : Book) (took : Bool) (used : ℕ) → used ≡ quota
+    → quota ≤ places_of_file old → IsStopped old file cut torn left
+    → ((words : List ℕ) → file_words left.image.items ≡ Some words → used ≤ places_of left.image.items → IsReopened left.image.items used words fails_at new)
+    → took ≡ takes old.contents.items left.doubt.items new.contents.items → IsRestarted old file cut torn fails_at quota new took
+restarted old file shows cut torn fails_at quota left new took used same room stopped reopens taken = record {
   image = left.image.items;
   words = stopped.words;
   left = stopped.is_left;
   fails = reopened.fails;
   count = reopened.count;
+  has = reopened.has ∙ stopped.room;
   long = ap length are ∙ as_long (is_sealed_left file (quota_of old) cut) file.contents (doubt_left file (quota_of old) cut) stopped.words stopped.is_left.found ∙ ap length shows.same_contents;
   shows = reopened.shows;
   came = reopened.came;
   taken = taken ∙ ap (λ ws. takes ws left.doubt.items new.contents.items) (sym shows.same_contents) ∙ ap (λ doubt. takes file.contents doubt new.contents.items) stopped.in_doubt
       ∙ ap (takes file.contents (doubt_left file (quota_of old) cut)) are;
 } where
-  reopened : IsReopened left.image.items (quota_of old) stopped.words fails_at new
-  reopened = subst (λ n. (words : List ℕ) → IsRoomy n words left.image.items → IsReopened left.image.items n words fails_at new) as_many reopens stopped.words (record { words_are = stopped.is_left.has; room = stopped.room })
+  reopened : IsReopened left.image.items quota stopped.words fails_at new
+  reopened = reopened_with left.image.items used quota fails_at (Ok new) same reopens stopped.words stopped.is_left.has (room_left old file cut torn left quota stopped room)
 
   are : new.contents.items ≡ stopped.words
   are = sym reopened.shows.same_contents ∙ opened_words stopped.words fails_at
 
 -- a file that wasn't opened again
-pub not_restarted : (old : Book) (cut : Option Cut) (torn : List ℕ) (fails_at : Option ℕ) (left : Left) (fault : BookFault) (r : Result (Book × Bool) BookFault) (quota : ℕ) → quota ≡ quota_of old
-    → IsErrAnd r (λ e. e ≡ fault) → ((file : File) → Shows old file → IsStopped old file cut torn left)
-    → ((words : List ℕ) → IsRoomy quota words left.image.items → ReopenEnds left.image.items quota words fails_at (Err fault))
-    → Restarts old cut torn fails_at r
-not_restarted old cut torn fails_at left fault (Ok started) quota as_many is lefts ends = absurd is
-not_restarted old cut torn fails_at left fault (Err NoMemory) quota as_many is lefts ends = tt
-not_restarted old cut torn fails_at left fault (Err NotEnabled) quota as_many is lefts ends = λ file shows.
+pub not_restarted : (old : Book) (cut : Option Cut) (torn : List ℕ) (fails_at : Option ℕ) (quota : ℕ) (left : Left) (fault : BookFault) (r : Result (Book × Bool) BookFault) (used : ℕ) → used ≡ quota
+    → quota ≤ places_of_file old → IsErrAnd r (λ e. e ≡ fault) → ((file : File) → Shows old file → IsStopped old file cut torn left)
+    → ((words : List ℕ) → file_words left.image.items ≡ Some words → used ≤ places_of left.image.items → ReopenEnds left.image.items used words fails_at (Err fault))
+    → Restarts old cut torn fails_at quota r
+not_restarted old cut torn fails_at quota left fault (Ok started) used same room is lefts ends = absurd is
+not_restarted old cut torn fails_at quota left fault (Err NoMemory) used same room is lefts ends = tt
+not_restarted old cut torn fails_at quota left fault (Err NotEnabled) used same room is lefts ends = λ file shows.
     let stopped = lefts file shows in
     inr (record {
       image = left.image.items;
       words = stopped.words;
       left = stopped.is_left;
-      fails = subst (λ f. ReopenEnds left.image.items (quota_of old) stopped.words fails_at (Err f)) (sym is)
-          (subst (λ n. (words : List ℕ) → IsRoomy n words left.image.items → ReopenEnds left.image.items n words fails_at (Err fault)) as_many ends stopped.words (record { words_are = stopped.is_left.has; room = stopped.room }));
+      fails = subst (λ f. ReopenEnds left.image.items quota stopped.words fails_at (Err f)) (sym is)
+          (reopened_with left.image.items used quota fails_at (Err fault) same ends stopped.words stopped.is_left.has (room_left old file cut torn left quota stopped room));
     })
 
 -- a file that wasn't stopped so
-pub not_stopped : (old : Book) (cut : Option Cut) (torn : List ℕ) (fails_at : Option ℕ) (fault : BookFault) (r : Result (Book × Bool) BookFault) → IsErrAnd r (λ e. e ≡ fault) → Stops old cut torn (Err fault) → Restarts old cut torn fails_at r
-not_stopped old cut torn fails_at fault (Ok started) is ends = absurd is
-not_stopped old cut torn fails_at fault (Err NoMemory) is ends = tt
-not_stopped old cut torn fails_at fault (Err NotEnabled) is ends = λ file shows. inl (subst (λ f. Stops old cut torn (Err f)) (sym is) ends file shows)
+pub not_stopped : (old : Book) (cut : Option Cut) (torn : List ℕ) (fails_at : Option ℕ) (quota : ℕ) (fault : BookFault) (r : Result (Book × Bool) BookFault) → IsErrAnd r (λ e. e ≡ fault) → Stops old cut torn (Err fault) → Restarts old cut torn fails_at quota r
+not_stopped old cut torn fails_at quota fault (Ok started) is ends = absurd is
+not_stopped old cut torn fails_at quota fault (Err NoMemory) is ends = tt
+not_stopped old cut torn fails_at quota fault (Err NotEnabled) is ends = λ file shows. inl (subst (λ f. Stops old cut torn (Err f)) (sym is) ends file shows)

@@ -135,19 +135,19 @@ module _ (old : Book) (slot number : ℕ) (entries : ArrayVec Entry) (is : IsAt 
       safe_as = subst (λ w. ChangeIsSealed memory_facts before now w r) writes_are safe
 
       pub seal_broken : (number_failed : ℕ) (copy : ArrayVec Entry) → copy ≡ entries → outcome ≡ Fail number_failed → may_end 2 outcome ≡ true → is_ok r ≡ false → has_failed before ≡ false → (calls : ℕ) → Ends memory_facts calls before now r
-          → HasParts new (Open now) old.contents.items old.places.items old.place_of true copy.items → Turns old new (λ file. worked SealCall file (quota_of old) slot others outcome)
+          → HasParts new (Open now) old.contents.items old.places.items old.file_places old.place_of true copy.items → Turns old new (λ file. worked SealCall file (quota_of old) slot others outcome)
       seal_broken number_failed copy copied_as fails may bad unfailed calls ends parts =
           broken_turns old held device now new SealCall slot others outcome number_failed entries fails
-          (subst (λ es. HasParts new (Open now) old.contents.items old.places.items old.place_of true es.items) copied_as parts)
+          (subst (λ es. HasParts new (Open now) old.contents.items old.places.items old.file_places old.place_of true es.items) copied_as parts)
           (λ file shows. sealed_badly before now (pairs_of entries.items) calls r bad unfailed ends safe_as old.contents.items (pairs_of old.doubt.items) (copied old.contents.items (pairs_of old.doubt.items) (keeps_open old held device file shows)))
           (seal_suits true all) (λ file shows. may) (λ file shows. ap entries_in (told_there old slot number (KeptPrepared entries) is file shows))
 
       pub seal_done : (words : List ℕ) (copy : ArrayVec Entry) → words ≡ put old.contents.items entries.items → copy ≡ entries → outcome ≡ Good → is_err r ≡ false
-          → HasParts new (Open now) words (slice_set old.places.items number (KeptSealed copy)) old.place_of old.has_failed old.doubt.items
+          → HasParts new (Open now) words (slice_set old.places.items number (KeptSealed copy)) old.file_places old.place_of old.has_failed old.doubt.items
           → Turns old new (λ file. worked SealCall file (quota_of old) slot others outcome)
       seal_done words copy are copied_as well fine parts =
           done_turns old held device now new SealCall slot others outcome number words (KeptSealed entries) well
-          (subst (λ es. HasParts new (Open now) words (slice_set old.places.items number (KeptSealed es)) old.place_of old.has_failed old.doubt.items) copied_as parts)
+          (subst (λ es. HasParts new (Open now) words (slice_set old.places.items number (KeptSealed es)) old.file_places old.place_of old.has_failed old.doubt.items) copied_as parts)
           (ap (λ ws. length ws) are ∙ length-put old.contents.items entries.items) is.within keeps (seal_suits true all) after where
             keeps : (file : File) → Shows old file → Keeps memory_facts now words (pairs_of old.doubt.items)
             keeps file shows =
@@ -176,7 +176,7 @@ module _ (old : Book) (slot number : ℕ) (entries : ArrayVec Entry) (is : IsAt 
 
   pub cancel_done : (held : TenantFile Memory) (device : old.device ≡ Open held) (now : TenantFile Memory) (new : Book) (others : List Entry) (outcome : Outcome) → may_end 0 outcome ≡ true
       → ((contents : List ℕ) (doubt : Pairs) → Keeps memory_facts held contents doubt → Keeps memory_facts now contents doubt)
-      → HasParts new (Open now) old.contents.items (slice_set old.places.items number KeptEmpty) old.place_of old.has_failed old.doubt.items
+      → HasParts new (Open now) old.contents.items (slice_set old.places.items number KeptEmpty) old.file_places old.place_of old.has_failed old.doubt.items
       → Turns old new (λ file. worked CancelCall file (quota_of old) slot others outcome)
   cancel_done held device now new others outcome may stays parts =
       done_turns old held device now new CancelCall slot others outcome number old.contents.items KeptEmpty (ends_well outcome may) parts refl is.within
@@ -229,14 +229,14 @@ module _ (old : Book) (slot number : ℕ) (entries : ArrayVec Entry) (is : IsAt 
   module _ (held : TenantFile Memory) (device : old.device ≡ Open held) (now : TenantFile Memory) (new : Book) (others : List Entry) (outcome : Outcome) (sound : old.has_failed ≡ false)
       (stays : (contents : List ℕ) (doubt : Pairs) → Keeps memory_facts held contents doubt → Keeps memory_facts now contents doubt) where
     pub settle_broken : (number_failed : ℕ) (doubt : ArrayVec Entry) → doubt.items ≡ [] → outcome ≡ Fail number_failed → may_end (device_calls SettleCall entries.items) outcome ≡ true
-        → HasParts new (Open now) old.contents.items old.places.items old.place_of true doubt.items → Turns old new (λ file. worked SettleCall file (quota_of old) slot others outcome)
+        → HasParts new (Open now) old.contents.items old.places.items old.file_places old.place_of true doubt.items → Turns old new (λ file. worked SettleCall file (quota_of old) slot others outcome)
     settle_broken number_failed doubt none fails may parts =
         broken_turns old held device now new SettleCall slot others outcome number_failed doubt fails parts
         (λ file shows. subst (λ es. Keeps memory_facts now old.contents.items (pairs_of es)) (sym none) (none_doubted old held device now sound stays file shows))
         settle_suits (λ file shows. ap (λ q. may_end (device_calls SettleCall (entries_in q)) outcome) (told_there old slot number (KeptSealed entries) is file shows) ∙ may)
         (λ file shows. sym none)
 
-    pub settle_done : outcome ≡ Good → HasParts new (Open now) old.contents.items (slice_set old.places.items number KeptEmpty) old.place_of old.has_failed old.doubt.items
+    pub settle_done : outcome ≡ Good → HasParts new (Open now) old.contents.items (slice_set old.places.items number KeptEmpty) old.file_places old.place_of old.has_failed old.doubt.items
         → Turns old new (λ file. worked SettleCall file (quota_of old) slot others outcome)
     settle_done well parts =
         done_turns old held device now new SettleCall slot others outcome number old.contents.items KeptEmpty well parts refl is.within

@@ -1,5 +1,5 @@
 -- The opening of a tenant's file one device call of which is told to fail.
-use Rattle.std.proofs.Common.{◌≡◌, ℕ, zero, suc, ◌+◌, ◌<◌, ◌≤◌, ◌==◌, ◌&&◌, ◌||◌, ◌^◌, nat_le, nat_lt, min, Bool, true, false, if◌then◌else◌, List, [], ◌∷◌, length, take, replicate, Option, Some, None, is_none, Result, Ok, Err, IsSome, IsSomeAnd, MatchResult, ◌⊎◌, refl, sym, ap, subst, ◌∙◌, inl, inr, arith}
+use Rattle.std.proofs.Common.{◌≡◌, ℕ, zero, suc, ◌+◌, ◌<◌, ◌≤◌, ◌==◌, ◌&&◌, ◌||◌, ◌^◌, nat_le, nat_lt, min, Bool, true, false, if◌then◌else◌, List, [], ◌∷◌, length, take, replicate, Option, Some, None, is_none, Result, Ok, Err, IsSome, IsSomeAnd, MatchResult, refl, sym, ap, subst, ◌∙◌, inl, inr, arith}
 use Rattle.std.proofs.lemmas.Bool.{cases_lt, cond-true, cond-false, and_from, and_right, and_parts, eq-eqb, eqb-true, lt-ltb, le-leb, lt-leb}
 use Rattle.mw_disk.specs.Facts.{MayLeave, IsAtRest, most_counted}
 use Rattle.mw_disk.specs.Memory.{Memory, memory_facts, scripted}
@@ -9,6 +9,7 @@ use Rattle.mw_record.specs.declared.layout.TheConstants.{MAX_FILE}
 use Rattle.mw_record.specs.Damages.{damage_of, places_of, words_in, file_words}
 use Rattle.mw_file.specs.declared.tenant_file.TenantFile.{TenantFile}
 use Rattle.mw_file.specs.File.{disk_of, states_of}
+use Rattle.mw_file.specs.Keeps.{IsFile}
 use Rattle.mw_file.specs.declared.opening.OpenFault.{OpenFault}
 use Rattle.mw_file.specs.declared.opening.OpenFault.TheVariants.{Disk}
 use Rattle.mw_file.specs.Opening.{IsOpened, DiskFailed, Fails, SameFile, open_calls}
@@ -17,9 +18,9 @@ use Rattle.mw_world_file.specs.declared.kept.Book.{Book}
 use Rattle.mw_world_file.specs.declared.places.Place.TheVariants.{Empty as KeptEmpty}
 use Rattle.mw_world_file.specs.declared.faults.BookFault.{BookFault}
 use Rattle.mw_world_file.specs.declared.faults.BookFault.TheVariants.{NotEnabled, Memory as NoMemory}
-use Rattle.mw_world_file.specs.Books.{Shows, HasParts, quota_of}
+use Rattle.mw_world_file.specs.Books.{Shows, HasParts, quota_of, places_of_file}
 use Rattle.mw_world_file.specs.Calls.{is_made}
-use Rattle.mw_world_file.specs.Devices.{disk_under, IsRoomy}
+use Rattle.mw_world_file.specs.Devices.{disk_under}
 use Rattle.mw_world_file.specs.Files.{broken, file_of}
 use Rattle.mw_world_file.specs.Openings.{CameOfBytes, OpeningRan}
 use Rattle.mw_world_file.specs.Restarts.{may_fail, opened_file}
@@ -41,6 +42,13 @@ words_found bytes words has =
     let e : Some (words_in bytes) ≡ Some words = sym (ap (λ d. if is_none d then Some (words_in bytes) else None) (undamaged bytes words has)) ∙ has in
     cc
 
+-- a file that was opened has as many places as its bytes tell of, so that a quota fits that fits these
+pub room_opened : (disk : Memory) (bytes : List ℕ) (file : TenantFile Memory) (contents : List ℕ) (quota count : ℕ) → (memory_facts disk).reads ≡ bytes → IsOpened memory_facts disk file contents → count ≡ places_of bytes
+    → quota ≤ count → quota ≤ length (states_of file)
+room_opened disk bytes file contents quota count reads opened counted room =
+    let has : length (states_of file) ≡ places_of bytes = opened_places disk file contents opened ∙ ap places_of reads in
+    omega (arith, has, counted, room)
+
 -- the call that a script names fails, and no other does
 named_fails : (number k : ℕ) → number ≡ k + 1 → k < most_counted → scripted (number ∷ []) k ≡ Some false
 named_fails number k is fits =
@@ -54,15 +62,15 @@ fails_named number k true is doomed = by (number == k + 1) refl (and_parts (numb
   by false same is = absurd (let e : false ≡ true = sym (ap (λ b. b || false) same) ∙ is in cc)
 fails_named number k false is doomed = absurd (doomed (cond-false ((number == k + 1 || false) && nat_lt k most_counted) (Some false) (Some true) is))
 
--- A new disk, of bytes that are a file with so many places or more, on which the named call is to fail.
+-- A new disk, of bytes that are a file of these words, on which the named call is to fail.
 module _ (disk : Memory) (bytes words : List ℕ) (quota : ℕ) (fails_at : Option ℕ) (reads : (memory_facts disk).reads ≡ bytes) (rest : IsAtRest (memory_facts disk)) (begins : (memory_facts disk).moment ≡ 0)
-    (is : IsRoomy quota words bytes)
+    (is : file_words bytes ≡ Some words)
     (plan : (k : ℕ) → (memory_facts disk).plan k ≡ scripted (named fails_at) k) where
   plan_named : (number k : ℕ) → fails_at ≡ Some number → (memory_facts disk).plan k ≡ scripted (number ∷ []) k
   plan_named number k at = plan k ∙ ap (λ f. scripted (named f) k) at
 
   calls_as : (image : List ℕ) → image ≡ take MAX_FILE (memory_facts disk).reads → open_calls image ≡ open_calls bytes
-  calls_as image same = ap open_calls (same ∙ ap (take MAX_FILE) reads) ∙ same_calls bytes (undamaged bytes words is.words_are)
+  calls_as image same = ap open_calls (same ∙ ap (take MAX_FILE) reads) ∙ same_calls bytes (undamaged bytes words is)
 
   -- an opening that went well made no call with that number
   well_made : (number : ℕ) → fails_at ≡ Some number → number < 2 ^ 64 → (file : TenantFile Memory) (contents : List ℕ) → IsOpened memory_facts disk file contents → is_made (open_calls bytes) number ≡ false
@@ -74,12 +82,9 @@ module _ (disk : Memory) (bytes words : List ℕ) (quota : ℕ) (fails_at : Opti
         absurd (opened.made.none_doomed m (omega (arith, same, within)) (plan_named (suc m) m at ∙ named_fails (suc m) m (omega arith) (omega (arith, fits))))
   ]
 
-  -- it has the places that are used
-  enough_places : (file : TenantFile Memory) (contents : List ℕ) → IsOpened memory_facts disk file contents → quota ≤ length (states_of file)
-  enough_places file contents opened =
-      let has : length (states_of file) ≡ places_of bytes = opened_places disk file contents opened ∙ ap places_of reads in
-      let room = is.room in
-      omega (arith, has, room)
+  -- it has the places that its bytes tell of
+  places_told : (file : TenantFile Memory) (contents : List ℕ) → IsOpened memory_facts disk file contents → length (states_of file) ≡ places_of bytes
+  places_told file contents opened = opened_places disk file contents opened ∙ ap places_of reads
 
   not_failed : (file : TenantFile Memory) (contents : List ℕ) → IsOpened memory_facts disk file contents → IsSomeAnd fails_at (λ number. number < 2 ^ 64) → may_fail (open_calls bytes) fails_at ≡ false
   not_failed file contents opened some = by fails_at refl some where
@@ -106,18 +111,15 @@ module _ (disk : Memory) (bytes words : List ℕ) (quota : ℕ) (fails_at : Opti
       and_from (nat_le 1 number) (nat_le number (open_calls bytes)) (le-leb 1 number (omega (arith, is_next))) (le-leb number (open_calls bytes) (omega (arith, is_next, fewer, within, same)))
 
   -- whatever a crash leaves then is still a file of the words, with its places
-  left_file : (after : Memory) → DiskFailed memory_facts disk after → (image : List ℕ) → MayLeave (memory_facts after) image → IsRoomy quota words image
+  left_file : (after : Memory) → DiskFailed memory_facts disk after → (image : List ℕ) → MayLeave (memory_facts after) image → IsFile (places_of bytes) words image
   left_file after failed image may =
       let as_before = leaves_now (memory_facts disk) (memory_facts after) (failed.unchanged refl rest).left image may in
-      record {
-        words_are = as_before.words ∙ ap file_words reads ∙ is.words_are;
-        room = let same : places_of image ≡ places_of bytes = as_before.places ∙ ap places_of reads in let room = is.room in omega (arith, same, room);
-      }
+      record { words_are = as_before.words ∙ ap file_words reads ∙ is; places_are = as_before.places ∙ ap places_of reads }
 
   -- at any moment since the opening began a crash left a file of the words
   same_words : (after : Memory) → LeavesOnly (memory_facts disk) (memory_facts after) (SameFile (memory_facts disk).reads)
       → LeavesOnly (memory_facts disk) (memory_facts after) (λ image. file_words image ≡ Some words)
-  same_words after left = leaves_wider (memory_facts disk) (memory_facts after) (λ image as_before. as_before.words ∙ ap file_words reads ∙ is.words_are) left
+  same_words after left = leaves_wider (memory_facts disk) (memory_facts after) (λ image as_before. as_before.words ∙ ap file_words reads ∙ is) left
 
   came_well : (file : TenantFile Memory) (contents : List ℕ) → IsOpened memory_facts disk file contents → fails_at ≡ None → CameOfBytes bytes words fails_at (disk_of file)
   came_well file contents opened none = record {
@@ -161,9 +163,9 @@ module _ (disk : Memory) (bytes words : List ℕ) (quota : ℕ) (fails_at : Opti
         moments = same_words after (failed.unchanged refl rest).left;
       }
 
-  pub failed_so : (after : Memory) → DiskFailed memory_facts disk after → disk.refused ≡ 0 → (new : Book) (found : List ℕ) (slots : ℕ) → found ≡ words → IsSome fails_at → after.refused ≡ 0
-      → HasParts new (Shut after) found (replicate quota KeptEmpty) (replicate slots 0) true [] → IsReopened bytes quota words fails_at new
-  failed_so after failed none_before new found slots are some none parts = by fails_at refl some where
+  pub failed_so : (after : Memory) → DiskFailed memory_facts disk after → disk.refused ≡ 0 → (new : Book) (found : List ℕ) (count slots : ℕ) → found ≡ words → count ≡ places_of bytes
+      → IsSome fails_at → after.refused ≡ 0 → HasParts new (Shut after) found (replicate quota KeptEmpty) count (replicate slots 0) true [] → IsReopened bytes quota words fails_at new
+  failed_so after failed none_before new found count slots are counted some none parts = by fails_at refl some where
     length_empty : (n : ℕ) → length (replicate n KeptEmpty) ≡ n
     length_empty zero = refl
     length_empty (suc n) = ap suc (length_empty n)
@@ -173,42 +175,42 @@ module _ (disk : Memory) (bytes words : List ℕ) (quota : ℕ) (fails_at : Opti
     by (Some number) at some_so = record {
       fails = ap (may_fail (open_calls bytes)) at ∙ badly_made number at after failed none_before none;
       count = ap (λ ps. length ps) parts.is_places ∙ length_empty quota;
+      has = parts.is_file_places ∙ counted;
       shows = subst (λ f. Shows new (opened_file words f)) (sym at)
-          (shows_parts new (Shut after) found (replicate quota KeptEmpty) (replicate slots 0) true [] (broken (file_of words) []) parts (record {
+          (shows_parts new (Shut after) found (replicate quota KeptEmpty) count (replicate slots 0) true [] (broken (file_of words) []) parts (record {
             same_contents = sym are;
             same_places = λ place lt. sym (none_there quota place);
             same_place_of = λ slot lt. sym (zero_there slots slot);
             same_failed = refl;
             same_doubt = refl;
-            stands = (refl, λ image may. subst (λ n. IsRoomy n found image) (sym (length_empty quota)) (subst (λ ws. IsRoomy quota ws image) (sym are) (left_file after failed image may)));
+            stands = (refl, λ image may. subst (λ n. IsFile n found image) (sym counted) (subst (λ ws. IsFile (places_of bytes) ws image) (sym are) (left_file after failed image may)));
           }));
       came = subst (λ d. CameOfBytes bytes words fails_at (disk_under d)) (sym parts.is_device) (came_badly number at after failed none_before none);
     }
 
   -- how an opening ends that went well, and one that failed
   pub opened_ends : (file : TenantFile Memory) (contents : List ℕ) → IsOpened memory_facts disk file contents → (r : Result Book BookFault)
-      → MatchResult r (λ book. (fails_at ≡ None) × Shows book (file_of contents) × (quota_of book ≡ quota) × (book.device ≡ Open file))
-      (λ fault. fault ≡ NotEnabled → (length (states_of file) < quota) ⊎ IsSomeAnd fails_at (λ number. number < 2 ^ 64))
+      → MatchResult r (λ book. (fails_at ≡ None) × Shows book (file_of contents) × (quota_of book ≡ quota) × (places_of_file book ≡ length (states_of file)) × (book.device ≡ Open file))
+      (λ fault. fault ≡ NotEnabled → IsSomeAnd fails_at (λ number. number < 2 ^ 64))
       → ReopenEnds bytes quota words fails_at r
   opened_ends file contents opened (Ok new) ends =
-      let is_read : file_words (memory_facts disk).reads ≡ Some words = ap file_words reads ∙ is.words_are in
+      let is_read : file_words (memory_facts disk).reads ≡ Some words = ap file_words reads ∙ is in
       record {
         fails = ap (may_fail (open_calls bytes)) ends.0;
         count = ends.2;
+        has = ends.3 ∙ places_told file contents opened;
         shows = subst (λ f. Shows new (opened_file words f)) (sym ends.0) (subst (λ ws. Shows new (file_of ws)) (opened_words disk file contents words opened is_read) ends.1);
-        came = subst (λ d. CameOfBytes bytes words fails_at (disk_under d)) (sym ends.3) (came_well file contents opened ends.0);
+        came = subst (λ d. CameOfBytes bytes words fails_at (disk_under d)) (sym ends.4) (came_well file contents opened ends.0);
       }
-  opened_ends file contents opened (Err NotEnabled) ends = elim (ends refl) [
-    | inl fewer ↦ absurd (let enough = enough_places file contents opened in let e : ⊥ = omega (arith, fewer, enough) in e)
-    | inr some ↦ not_failed file contents opened some
-  ]
+  opened_ends file contents opened (Err NotEnabled) ends = not_failed file contents opened (ends refl)
   opened_ends file contents opened (Err NoMemory) ends = tt
 
-  pub shut_ends : (after : Memory) (fault : OpenFault) → fault ≡ Disk → Fails memory_facts disk fault after → disk.refused ≡ 0 → (found : List ℕ) (slots : ℕ) → found ≡ words
+  pub shut_ends : (after : Memory) (fault : OpenFault) → fault ≡ Disk → Fails memory_facts disk fault after → disk.refused ≡ 0 → (found : List ℕ) (count slots : ℕ) → found ≡ words
+      → count ≡ places_of bytes
       → (r : Result Book BookFault)
-      → MatchResult r (λ book. IsSome fails_at × (after.refused ≡ 0) × HasParts book (Shut after) found (replicate quota KeptEmpty) (replicate slots 0) true []) (λ fault. fault ≡ NoMemory)
+      → MatchResult r (λ book. IsSome fails_at × (after.refused ≡ 0) × HasParts book (Shut after) found (replicate quota KeptEmpty) count (replicate slots 0) true []) (λ fault. fault ≡ NoMemory)
       → ReopenEnds bytes quota words fails_at r
-  shut_ends after fault at failed none_before found slots are (Ok new) ends =
-      failed_so after (subst (λ f. Fails memory_facts disk f after) at failed) none_before new found slots are ends.0 ends.1 ends.2
-  shut_ends after fault at failed none_before found slots are (Err NotEnabled) ends = absurd (let e : NotEnabled ≡ NoMemory = ends in cc)
-  shut_ends after fault at failed none_before found slots are (Err NoMemory) ends = tt
+  shut_ends after fault at failed none_before found count slots are counted (Ok new) ends =
+      failed_so after (subst (λ f. Fails memory_facts disk f after) at failed) none_before new found count slots are counted ends.0 ends.1 ends.2
+  shut_ends after fault at failed none_before found count slots are counted (Err NotEnabled) ends = absurd (let e : NotEnabled ≡ NoMemory = ends in cc)
+  shut_ends after fault at failed none_before found count slots are counted (Err NoMemory) ends = tt

@@ -35,8 +35,9 @@ sound_after words old new turn sound turned = ∥∥₁_map sound step
         record { shows = own_file new after.0 after.2; long = turned.words ∙ one.long }
 
 -- after a start
-pub sound_again : (words : ℕ) (old : Book) (cut : Option Cut) (torn : List ℕ) (fails_at : Option ℕ) (started : Book × Bool) → HasSound words old → Restarts old cut torn fails_at (Ok started) → HasSound words started.0
-sound_again words old cut torn fails_at started sound restarts = ∥∥₁_map sound step
+pub sound_again : (words : ℕ) (old : Book) (cut : Option Cut) (torn : List ℕ) (fails_at : Option ℕ) (quota : ℕ) (started : Book × Bool) → HasSound words old
+    → Restarts old cut torn fails_at quota (Ok started) → HasSound words started.0
+sound_again words old cut torn fails_at quota started sound restarts = ∥∥₁_map sound step
   where
     step : IsSound words old → IsSound words started.0
     step one =

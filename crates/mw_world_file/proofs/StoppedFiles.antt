@@ -28,11 +28,11 @@ use Rattle.mw_world_file.specs.declared.cut.Left.{Left}
 use Rattle.mw_world_file.specs.Files.{File, entries_at}
 use Rattle.mw_world_file.specs.Calls.{place_for, suits, fails_on, device_calls}
 use Rattle.mw_world_file.specs.Restarts.{takes, may_find, doubt_if, is_whole_seal}
-use Rattle.mw_world_file.specs.Devices.{disk_under, IsReady, IsRoomy, StandsFor}
-use Rattle.mw_world_file.specs.Books.{Shows, quota_of}
+use Rattle.mw_world_file.specs.Devices.{disk_under, IsReady, StandsFor}
+use Rattle.mw_world_file.specs.Books.{Shows, quota_of, places_of_file}
 use Rattle.mw_world_file.specs.Reopening.{IsLeftOf, IsTornImage, RanJust, until, calls_at, cut_place, cut_calls, made_of, may_be_made, doubt_left, is_sealed_left}
 use Rattle.mw_world_file.specs.Stopping.{IsStopped}
-use Rattle.mw_world_file.proofs.WorkedFiles.{counted, keeps_open, none_doubted, unfailed_open}
+use Rattle.mw_world_file.proofs.WorkedFiles.{places_open, keeps_open, none_doubted, unfailed_open}
 
 same_words : (xs ys : List ℕ) → xs ≡ ys → bytes_eq xs ys ≡ true
 same_words xs ys same = (bytes_eq-Decides xs ys).1 same
@@ -49,25 +49,21 @@ found_changed false before (e ∷ doubt) words same = or_right (bytes_eq words b
 -- bytes that are a file of words that may be found, where the change in doubt was sealed to the end or not
 pub record Finds (places : ℕ) (sealed : Bool) (before : List ℕ) (doubt : List Entry) (image : List ℕ) : Type 0 where
   pub words : List ℕ
-  pub stands : IsRoomy places words image
+  pub stands : IsFile places words image
   pub found : may_find sealed before doubt words ≡ true
 
--- a file with more places than are used
-roomy : (places has : ℕ) (words image : List ℕ) → places ≤ has → IsFile has words image → IsRoomy places words image
-roomy places has words image fewer is = record { words_are = is.words_are; room = let e = is.places_are in omega (arith, fewer, e) }
-
-finds_either : (places has : ℕ) (before : List ℕ) (doubt : List Entry) (image : List ℕ) → places ≤ has → IsEither has before (pairs_of doubt) image → Finds places false before doubt image
-finds_either places has before doubt image fewer (inl is) = record { words = before; stands = roomy places has before image fewer is; found = found_before before doubt before refl }
-finds_either places has before doubt image fewer (inr is) = record {
+finds_either : (places : ℕ) (before : List ℕ) (doubt : List Entry) (image : List ℕ) → IsEither places before (pairs_of doubt) image → Finds places false before doubt image
+finds_either places before doubt image (inl is) = record { words = before; stands = is; found = found_before before doubt before refl }
+finds_either places before doubt image (inr is) = record {
   words = put before doubt;
-  stands = subst (λ ws. IsRoomy places ws image) (sym (put-put_pairs doubt before)) (roomy places has (put_pairs (pairs_of doubt) before) image fewer is);
+  stands = subst (λ ws. IsFile places ws image) (sym (put-put_pairs doubt before)) is;
   found = found_changed false before doubt (put before doubt) refl;
 }
 
--- a file of these words, or of these with a change put over them, has the places that are used
-either_places : (places has : ℕ) (before : List ℕ) (change : Pairs) (image : List ℕ) → places ≤ has → IsEither has before change image → places ≤ places_of image
-either_places places has before change image fewer (inl is) = let e = is.places_are in omega (arith, fewer, e)
-either_places places has before change image fewer (inr is) = let e = is.places_are in omega (arith, fewer, e)
+-- a file of these words, or of these with a change put over them, has its places either way
+either_places : (places : ℕ) (before : List ℕ) (change : Pairs) (image : List ℕ) → IsEither places before change image → places_of image ≡ places
+either_places places before change image (inl is) = is.places_are
+either_places places before change image (inr is) = is.places_are
 
 -- where nothing is in doubt it has these words
 either_words : (places : ℕ) (words image : List ℕ) → IsEither places words [] image → file_words image ≡ Some words
@@ -75,16 +71,16 @@ either_words places words image (inl is) = is.words_are
 either_words places words image (inr is) = is.words_are
 
 -- a book in which no device call was under way
-finds_device : (device : Device) (places : ℕ) (before : List ℕ) (doubt : List Entry) (image : List ℕ) → ((open_file : TenantFile Memory) → device ≡ Open open_file → places ≤ length (states_of open_file))
+finds_device : (device : Device) (places : ℕ) (before : List ℕ) (doubt : List Entry) (image : List ℕ) → ((open_file : TenantFile Memory) → device ≡ Open open_file → length (states_of open_file) ≡ places)
     → StandsFor device places before doubt → MayLeave (memory_facts (disk_under device)) image → Finds places false before doubt image
 finds_device (Open file) places before doubt image count stands may =
-    finds_either places (length (states_of file)) before doubt image (count file refl) (stands.left image may)
+    finds_either places before doubt image (subst (λ n. IsEither n before (pairs_of doubt) image) (count file refl) (stands.left image may))
 finds_device (Shut disk) places before doubt image count stands may = record { words = before; stands = stands.1 image may; found = found_before before doubt before refl }
 
 finds_whole : (old : Book) (file : File) → Shows old file → (image : List ℕ) → MayLeave (memory_facts (disk_under old.device)) image
-    → Finds (quota_of old) false old.contents.items old.doubt.items image
+    → Finds (places_of_file old) false old.contents.items old.doubt.items image
 finds_whole old file shows image may =
-    finds_device old.device (quota_of old) old.contents.items old.doubt.items image (λ held is. counted old held is) shows.stands may
+    finds_device old.device (places_of_file old) old.contents.items old.doubt.items image (λ held is. places_open old held is) shows.stands may
 
 -- what is left of a disk of which no device call was made
 untouched : (disk : Memory) (made : ℕ) (torn image : List ℕ) → made ≡ 0 → IsTornImage disk torn image → IsLeftOf disk made torn image
@@ -98,7 +94,7 @@ untouched disk made torn image none is = record {
 
 -- what is left, where the change in doubt is known
 is_left : (old : Book) (file : File) → Shows old file → (cut : Option Cut) (torn : List ℕ) (left : Left) (sealed : Bool) → may_be_made file (quota_of old) cut ≡ true → left.doubt.items ≡ doubt_left file (quota_of old) cut
-    → is_sealed_left file (quota_of old) cut ≡ sealed → Finds (quota_of old) sealed old.contents.items left.doubt.items left.image.items
+    → is_sealed_left file (quota_of old) cut ≡ sealed → Finds (places_of_file old) sealed old.contents.items left.doubt.items left.image.items
     → IsLeftOf (disk_under old.device) (made_of cut) torn left.image.items → IsStopped old file cut torn left
 is_left old file shows cut torn left sealed made doubt is_sealed finds of_disk = record {
   words = finds.words;
@@ -110,7 +106,7 @@ is_left old file shows cut torn left sealed made doubt is_sealed finds of_disk =
         ∙ ap (λ es. may_find sealed old.contents.items es finds.words) (sym doubt) ∙ finds.found;
     left = of_disk;
   };
-  room = finds.stands.room;
+  room = finds.stands.places_are;
   in_doubt = doubt;
 }
 
@@ -131,7 +127,7 @@ pub left_whole : (old : Book) (torn : List ℕ) (left : Left) → left.doubt ≡
     → IsStopped old file None torn left
 left_whole old torn left same is file shows =
     is_left old file shows None torn left false refl (ap (λ d. d.items) same ∙ sym shows.same_doubt) refl
-    (subst (λ d. Finds (quota_of old) false old.contents.items d left.image.items) (sym (ap (λ d. d.items) same)) (finds_whole old file shows left.image.items is.may))
+    (subst (λ d. Finds (places_of_file old) false old.contents.items d left.image.items) (sym (ap (λ d. d.items) same)) (finds_whole old file shows left.image.items is.may))
     (untouched (disk_under old.device) 0 torn left.image.items refl is)
 
 pub left_before : (old : Book) (cut : Cut) (torn : List ℕ) (left : Left) → cut.made ≡ 0 → left.doubt ≡ old.doubt → IsTornImage (disk_under old.device) torn left.image.items → (file : File)
@@ -140,7 +136,7 @@ left_before old cut torn left none same is file shows =
     is_left old file shows (Some cut) torn left false (le-leb cut.made (cut_calls file (quota_of old) cut) (omega (arith, none)))
     (ap (λ d. d.items) same ∙ sym shows.same_doubt ∙ sym (doubt_stays cut.call file.doubt cut.made (entries_at file (cut_place file (quota_of old) cut)) none))
     (none_sealed cut.call cut.made (cut_calls file (quota_of old) cut) none)
-    (subst (λ d. Finds (quota_of old) false old.contents.items d left.image.items) (sym (ap (λ d. d.items) same)) (finds_whole old file shows left.image.items is.may))
+    (subst (λ d. Finds (places_of_file old) false old.contents.items d left.image.items) (sym (ap (λ d. d.items) same)) (finds_whole old file shows left.image.items is.may))
     (untouched (disk_under old.device) cut.made torn left.image.items none is)
 
 -- A call was under way, with some device call made.
@@ -176,7 +172,7 @@ module _ (old : Book) (cut : Cut) (call : Call) (is : cut.call ≡ call) (some :
 
     -- what is left, by the change in doubt and whether it was sealed to the end
     pub left_cut : (torn : List ℕ) (left : Left) (sealed : Bool) → cut.made ≤ device_calls call (entries_at file place) → left.doubt.items ≡ doubt_if call file.doubt cut.made (entries_at file place)
-        → is_whole_seal call cut.made (device_calls call (entries_at file place)) ≡ sealed → Finds (quota_of old) sealed old.contents.items left.doubt.items left.image.items
+        → is_whole_seal call cut.made (device_calls call (entries_at file place)) ≡ sealed → Finds (places_of_file old) sealed old.contents.items left.doubt.items left.image.items
         → IsLeftOf (disk_under old.device) cut.made torn left.image.items → IsStopped old file (Some cut) torn left
     left_cut torn left sealed few doubt whole finds of_disk =
         let e = as_many_calls in
@@ -258,40 +254,41 @@ left_of old held before now made calls torn image r device sound some few stops 
 -- The file on the disk that stopped.
 module _ (old : Book) (held : TenantFile Memory) (device : old.device ≡ Open held) (before now : TenantFile Memory) (same : states_of before ≡ states_of held)
     (copied : (contents : List ℕ) (doubt : Pairs) → Keeps memory_facts held contents doubt → Keeps memory_facts before contents doubt) (image : List ℕ) (may : MayLeave (memory_facts (disk_of now)) image) where
-  places_before : quota_of old ≤ length (states_of before)
-  places_before = subst (λ ss. quota_of old ≤ length ss) (sym same) (counted old held device)
+  places_before : length (states_of before) ≡ places_of_file old
+  places_before = ap (λ ss. length ss) same ∙ places_open old held device
 
   left_either : (change : Pairs) → LeavesOnly (memory_facts (disk_of before)) (memory_facts (disk_of now)) (IsEither (length (states_of before)) old.contents.items change)
-      → IsEither (length (states_of before)) old.contents.items change image
-  left_either change moments = leaves_now (memory_facts (disk_of before)) (memory_facts (disk_of now)) moments image may
+      → IsEither (places_of_file old) old.contents.items change image
+  left_either change moments =
+      subst (λ n. IsEither n old.contents.items change image) places_before (leaves_now (memory_facts (disk_of before)) (memory_facts (disk_of now)) moments image may)
 
   -- a call that leaves the words
-  pub stays_left : ContentsStay memory_facts before now → (doubt : List Entry) → doubt ≡ old.doubt.items → (file : File) → Shows old file → Finds (quota_of old) false old.contents.items doubt image
+  pub stays_left : ContentsStay memory_facts before now → (doubt : List Entry) → doubt ≡ old.doubt.items → (file : File) → Shows old file → Finds (places_of_file old) false old.contents.items doubt image
   stays_left safe doubt same_doubt file shows =
-      subst (λ es. Finds (quota_of old) false old.contents.items es image) (sym same_doubt)
-      (finds_either (quota_of old) (length (states_of before)) old.contents.items old.doubt.items image places_before
+      subst (λ es. Finds (places_of_file old) false old.contents.items es image) (sym same_doubt)
+      (finds_either (places_of_file old) old.contents.items old.doubt.items image
       (left_either (pairs_of old.doubt.items) (safe refl old.contents.items (pairs_of old.doubt.items) (copied old.contents.items (pairs_of old.doubt.items) (keeps_open old held device file shows))).moments))
 
   module _ (sound : old.has_failed ≡ false) (entries : List Entry) (w : Pairs) (writes : w ≡ pairs_of entries) where
     -- a seal, by its answer: what it leaves at any moment of it
     sealing : (r : Result (Unit {0}) FileFault) → ChangeIsSealed memory_facts before now w r → has_failed before ≡ false → Ends memory_facts 2 before now r
-        → (file : File) → Shows old file → IsEither (length (states_of before)) old.contents.items (pairs_of entries) image
+        → (file : File) → Shows old file → IsEither (places_of_file old) old.contents.items (pairs_of entries) image
     sealing (Ok x) safe unfailed ends file shows =
-        subst (λ ps. IsEither (length (states_of before)) old.contents.items ps image) writes
+        subst (λ ps. IsEither (places_of_file old) old.contents.items ps image) writes
         (left_either w (safe refl old.contents.items [] (none_doubted old held device before sound copied file shows)).moments)
     sealing (Err Disk) safe unfailed ends file shows =
-        subst (λ ps. IsEither (length (states_of before)) old.contents.items ps image) writes
+        subst (λ ps. IsEither (places_of_file old) old.contents.items ps image) writes
         (left_either w (safe refl old.contents.items [] (none_doubted old held device before sound copied file shows)).moments)
     sealing (Err Failed) safe unfailed ends file shows = absurd (let e : true ≡ false = sym ends.before ∙ unfailed in cc)
 
     -- a seal, however it ended
     pub sealed_left : (r : Result (Unit {0}) FileFault) → ChangeIsSealed memory_facts before now w r → has_failed before ≡ false → Ends memory_facts 2 before now r
-        → (file : File) → Shows old file → Finds (quota_of old) false old.contents.items entries image
-    sealed_left r safe unfailed ends file shows = finds_either (quota_of old) (length (states_of before)) old.contents.items entries image places_before (sealing r safe unfailed ends file shows)
+        → (file : File) → Shows old file → Finds (places_of_file old) false old.contents.items entries image
+    sealed_left r safe unfailed ends file shows = finds_either (places_of_file old) old.contents.items entries image (sealing r safe unfailed ends file shows)
 
     -- one that answered Ok
     pub sealed_whole : (r : Result (Unit {0}) FileFault) → is_err r ≡ false → ChangeIsSealed memory_facts before now w r → has_failed before ≡ false → Ends memory_facts 2 before now r
-        → (file : File) → Shows old file → Finds (quota_of old) true old.contents.items entries image
+        → (file : File) → Shows old file → Finds (places_of_file old) true old.contents.items entries image
     sealed_whole (Ok y) well safe unfailed ends file shows =
         let after : Keeps memory_facts now (put_pairs w old.contents.items) [] = (safe refl old.contents.items [] (none_doubted old held device before sound copied file shows)).after in
         record {
@@ -299,7 +296,7 @@ module _ (old : Book) (held : TenantFile Memory) (device : old.device ≡ Open h
           stands = record {
             words_are = either_words (length (states_of now)) (put_pairs w old.contents.items) image (after.left image may)
                 ∙ ap (λ ps. Some (put_pairs ps old.contents.items)) writes ∙ sym (ap Some (put-put_pairs entries old.contents.items));
-            room = either_places (quota_of old) (length (states_of before)) old.contents.items (pairs_of entries) image places_before (sealing (Ok y) safe unfailed ends file shows);
+            places_are = either_places (places_of_file old) old.contents.items (pairs_of entries) image (sealing (Ok y) safe unfailed ends file shows);
           };
           found = found_changed true old.contents.items entries (put old.contents.items entries) refl;
         }

@@ -30,7 +30,7 @@ use Rattle.mw_world_file.specs.Files.{File, Prepared, is_empty, entries_in, entr
 use Rattle.mw_world_file.specs.Calls.{place_for, suits, device_calls, filed, doubt_of}
 use Rattle.mw_world_file.specs.Maps.{upd}
 use Rattle.mw_world_file.specs.Devices.{told, told_at, place_in, stage_told, StandsFor, AreKept, states_on, words_on, has_failed_on, is_open}
-use Rattle.mw_world_file.specs.Books.{Tells, Shows, HasParts, quota_of}
+use Rattle.mw_world_file.specs.Books.{Tells, Shows, HasParts, quota_of, places_of_file}
 use Rattle.mw_world_file.specs.Working.{may_end, left_by, worked_at, worked, Turns, Works}
 use Rattle.mw_world_file.proofs.KeptPlaces.{lowest, Lowest, empty_among, set_told, set_number, kept_on}
 
@@ -63,18 +63,18 @@ suited call file places slot place entries outcome is may =
     cond-true (suits call file places place) _ None is ∙ cond-true (may_end (device_calls call (entries_at file place)) outcome) (Some (left_by call file slot place entries outcome)) None may
 
 -- what is told by the parts of a book is shown by it
-pub shows_parts : (book : Book) (device : Device) (contents : List ℕ) (places : List KeptPlace) (place_of : List ℕ) (failed : Bool) (doubt : List Entry) (file : File)
-    → HasParts book device contents places place_of failed doubt → Tells device contents places place_of failed doubt file → Shows book file
-shows_parts book device contents places place_of failed doubt file parts tells = record {
+pub shows_parts : (book : Book) (device : Device) (contents : List ℕ) (places : List KeptPlace) (count : ℕ) (place_of : List ℕ) (failed : Bool) (doubt : List Entry) (file : File)
+    → HasParts book device contents places count place_of failed doubt → Tells device contents places count place_of failed doubt file → Shows book file
+shows_parts book device contents places count place_of failed doubt file parts tells = record {
   same_contents = tells.same_contents ∙ sym parts.is_contents;
   same_places = λ k lt. tells.same_places k (subst (λ ps. k < length ps) parts.is_places lt) ∙ ap (λ ps. place_in ps k) (sym parts.is_places);
   same_place_of = λ slot lt. tells.same_place_of slot lt ∙ ap (λ numbers. get_or numbers slot 0) (sym parts.is_place_of);
   same_failed = tells.same_failed ∙ sym parts.is_failed;
   same_doubt = tells.same_doubt ∙ sym parts.is_doubt;
-  stands = subst (λ d. StandsFor d (length book.places.items) book.contents.items book.doubt.items) (sym parts.is_device)
-      (subst (λ ps. StandsFor device (length ps) book.contents.items book.doubt.items) (sym parts.is_places)
-      (subst (λ ws. StandsFor device (length places) ws book.doubt.items) (sym parts.is_contents)
-      (subst (λ es. StandsFor device (length places) contents es) (sym parts.is_doubt) tells.stands)));
+  stands = subst (λ d. StandsFor d book.file_places book.contents.items book.doubt.items) (sym parts.is_device)
+      (subst (λ n. StandsFor device n book.contents.items book.doubt.items) (sym parts.is_file_places)
+      (subst (λ ws. StandsFor device count ws book.doubt.items) (sym parts.is_contents)
+      (subst (λ es. StandsFor device count contents es) (sym parts.is_doubt) tells.stands)));
 }
 
 -- what an open file stands for
@@ -89,14 +89,17 @@ none_written (e ∷ doubt) none = absurd (cc)
 
 -- The facts of a book whose file is open.
 module _ (old : Book) (held : TenantFile Memory) (is : old.device ≡ Open held) where
-  pub counted : length old.places.items ≤ length (states_of held)
-  counted = subst (λ d. length old.places.items ≤ length (states_on d)) is (old.count (ap (λ d. is_open d) is))
+  pub places_open : length (states_of held) ≡ places_of_file old
+  places_open = sym (ap (λ d. length (states_on d)) is) ∙ old.has (ap (λ d. is_open d) is)
+
+  counted : length old.places.items ≤ length (states_of held)
+  counted = let has = places_open in let count = old.count in omega (arith, has, count)
 
   pub kept_open : AreKept (states_of held) old.places.items
   kept_open = subst (λ d. AreKept (states_on d) old.places.items) is old.kept
 
   pub keeps_open : (file : File) → Shows old file → Keeps memory_facts held old.contents.items (pairs_of old.doubt.items)
-  keeps_open file shows = stands_open old.device held (length old.places.items) old.contents.items old.doubt.items is shows.stands
+  keeps_open file shows = stands_open old.device held old.file_places old.contents.items old.doubt.items is shows.stands
 
   -- it has as many words as the book
   pub sized_open : words_of held ≡ length old.contents.items
@@ -115,7 +118,7 @@ module _ (old : Book) (held : TenantFile Memory) (is : old.device ≡ Open held)
 
   -- a device call of a call failed
   pub broken_turns : (now : TenantFile Memory) (new : Book) (call : Call) (slot : ℕ) (entries : List Entry) (outcome : Outcome) (number : ℕ) (doubt : ArrayVec Entry) → outcome ≡ Fail number
-      → HasParts new (Open now) old.contents.items old.places.items old.place_of true doubt.items
+      → HasParts new (Open now) old.contents.items old.places.items old.file_places old.place_of true doubt.items
       → ((file : File) → Shows old file → Keeps memory_facts now old.contents.items (pairs_of doubt.items))
       → ((file : File) → Shows old file → suits call file (quota_of old) (place_for call file (quota_of old) slot) ≡ true)
       → ((file : File) → Shows old file → may_end (device_calls call (entries_at file (place_for call file (quota_of old) slot))) outcome ≡ true)
@@ -123,12 +126,13 @@ module _ (old : Book) (held : TenantFile Memory) (is : old.device ≡ Open held)
       → Turns old new (λ file. worked call file (quota_of old) slot entries outcome)
   broken_turns now new call slot entries outcome number doubt fails parts keeps suit may in_doubt = record {
     places = ap (λ ps. length ps) parts.is_places;
+    has = parts.is_file_places;
     words = ap (λ ws. length ws) parts.is_contents;
     shows = λ file shows. (
       broken file doubt.items,
       suited call file (quota_of old) slot (place_for call file (quota_of old) slot) entries outcome (suit file shows) (may file shows)
           ∙ ap (λ o. Some (left_by call file slot (place_for call file (quota_of old) slot) entries o)) fails ∙ ap (λ es. Some (broken file es)) (in_doubt file shows),
-      shows_parts new (Open now) old.contents.items old.places.items old.place_of true doubt.items (broken file doubt.items) parts (record {
+      shows_parts new (Open now) old.contents.items old.places.items old.file_places old.place_of true doubt.items (broken file doubt.items) parts (record {
         same_contents = shows.same_contents;
         same_places = shows.same_places;
         same_place_of = shows.same_place_of;
@@ -190,7 +194,7 @@ module _ (old : Book) (slot number : ℕ) (p : KeptPlace) (is : IsAt old slot nu
 -- a call on a place that has a change went well
 module _ (old : Book) (held : TenantFile Memory) (is : old.device ≡ Open held) where
   pub done_turns : (now : TenantFile Memory) (new : Book) (call : Call) (slot : ℕ) (entries : List Entry) (outcome : Outcome) (number : ℕ) (words : List ℕ) (p : KeptPlace) → outcome ≡ Good
-      → HasParts new (Open now) words (slice_set old.places.items number p) old.place_of old.has_failed old.doubt.items
+      → HasParts new (Open now) words (slice_set old.places.items number p) old.file_places old.place_of old.has_failed old.doubt.items
       → length words ≡ length old.contents.items → number < length old.places.items
       → ((file : File) → Shows old file → Keeps memory_facts now words (pairs_of old.doubt.items))
       → ((file : File) → Shows old file → suits call file (quota_of old) (place_for call file (quota_of old) slot) ≡ true)
@@ -198,13 +202,14 @@ module _ (old : Book) (held : TenantFile Memory) (is : old.device ≡ Open held)
       → Turns old new (λ file. worked call file (quota_of old) slot entries outcome)
   done_turns now new call slot entries outcome number words p well parts count within keeps suit after = record {
     places = ap (λ ps. length ps) parts.is_places ∙ length-set old.places.items number p;
+    has = parts.is_file_places;
     words = ap (λ ws. length ws) parts.is_contents ∙ count;
     shows = λ file shows. (
       record file { contents = words; places = upd file.places number (told p) },
       suited call file (quota_of old) slot (place_for call file (quota_of old) slot) entries outcome (suit file shows)
           (ap (may_end (device_calls call (entries_at file (place_for call file (quota_of old) slot)))) well)
           ∙ ap (λ o. Some (left_by call file slot (place_for call file (quota_of old) slot) entries o)) well ∙ ap Some (after file shows),
-      shows_parts new (Open now) words (slice_set old.places.items number p) old.place_of old.has_failed old.doubt.items (record file { contents = words; places = upd file.places number (told p) }) parts (record {
+      shows_parts new (Open now) words (slice_set old.places.items number p) old.file_places old.place_of old.has_failed old.doubt.items (record file { contents = words; places = upd file.places number (told p) }) parts (record {
         same_contents = refl;
         same_places = set_told file.places old.places.items number p (told p) refl within shows.same_places;
         same_place_of = shows.same_place_of;
@@ -277,7 +282,7 @@ module _ (old : Book) (held : TenantFile Memory) (slot : ℕ) (entries : ArrayVe
       pub prepare_broken : (now : TenantFile Memory) (new : Book) (outcome : Outcome) (number : ℕ) (doubt : ArrayVec Entry) → outcome ≡ Fail number → doubt.items ≡ [] → may_end 2 outcome ≡ true
           → old.has_failed ≡ false
           → ((contents : List ℕ) (doubt : Pairs) → Keeps memory_facts held contents doubt → Keeps memory_facts now contents doubt)
-          → HasParts new (Open now) old.contents.items old.places.items old.place_of true doubt.items
+          → HasParts new (Open now) old.contents.items old.places.items old.file_places old.place_of true doubt.items
           → Turns old new (λ file. worked PrepareCall file (quota_of old) slot entries.items outcome)
       prepare_broken now new outcome number doubt fails none may sound stays parts =
           broken_turns old held is now new PrepareCall slot entries.items outcome number doubt fails parts
@@ -287,16 +292,17 @@ module _ (old : Book) (held : TenantFile Memory) (slot : ℕ) (entries : ArrayVe
       -- all went well
       pub prepare_done : (now : TenantFile Memory) (new : Book) (outcome : Outcome) (place : ℕ) → outcome ≡ Good → free_place (states_of before) ≡ Some place → slot < MAX_POOL → MAX_POOL ≤ length old.place_of
           → ((contents : List ℕ) (doubt : Pairs) → Keeps memory_facts held contents doubt → Keeps memory_facts now contents doubt)
-          → HasParts new (Open now) old.contents.items (slice_set old.places.items place (KeptPrepared entries)) (slice_set old.place_of slot place) old.has_failed old.doubt.items
+          → HasParts new (Open now) old.contents.items (slice_set old.places.items place (KeptPrepared entries)) old.file_places (slice_set old.place_of slot place) old.has_failed old.doubt.items
           → Turns old new (λ file. worked PrepareCall file (quota_of old) slot entries.items outcome)
       prepare_done now new outcome place well found within long stays parts = record {
         places = ap (λ ps. length ps) parts.is_places ∙ length-set old.places.items place (KeptPrepared entries);
+        has = parts.is_file_places;
         words = ap (λ ws. length ws) parts.is_contents;
         shows = λ file shows. (
           prepared file slot place entries.items,
           suited PrepareCall file (quota_of old) slot (empty_from file 0 (quota_of old)) entries.items outcome (some_empty file shows) (ap (may_end 2) well)
               ∙ ap (λ o. Some (left_by PrepareCall file slot (empty_from file 0 (quota_of old)) entries.items o)) well ∙ ap (λ n. Some (prepared file slot n entries.items)) (lowest_is place found file shows),
-          shows_parts new (Open now) old.contents.items (slice_set old.places.items place (KeptPrepared entries)) (slice_set old.place_of slot place) old.has_failed old.doubt.items
+          shows_parts new (Open now) old.contents.items (slice_set old.places.items place (KeptPrepared entries)) old.file_places (slice_set old.place_of slot place) old.has_failed old.doubt.items
               (prepared file slot place entries.items) parts (record {
                 same_contents = shows.same_contents;
                 same_places = set_told file.places old.places.items place (KeptPrepared entries) (Prepared entries.items) refl (place_within place found) shows.same_places;

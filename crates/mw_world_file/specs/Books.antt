@@ -8,29 +8,34 @@ use Rattle.mw_world_file.specs.declared.kept.Book.{Book}
 use Rattle.mw_world_file.specs.Devices.{place_in, StandsFor}
 use Rattle.mw_world_file.specs.Files.{File}
 
--- These parts of a book tell of this file: each says what the file says, and the file in memory stands for its words, with its change
--- in doubt.
-pub record Tells (device : Device) (contents : List ℕ) (places : List KeptPlace) (place_of : List ℕ) (failed : Bool) (doubt : List Entry) (file : File) : Type 0 where
+-- These parts of a book tell of this file: each says what the file says, and the file in memory stands for its words, with so many places
+-- and with its change in doubt.
+pub record Tells (device : Device) (contents : List ℕ) (places : List KeptPlace) (file_places : ℕ) (place_of : List ℕ) (failed : Bool) (doubt : List Entry) (file : File) : Type 0 where
   pub same_contents : file.contents ≡ contents
   pub same_places : (place : ℕ) → place < length places → file.places place ≡ place_in places place
   pub same_place_of : (slot : ℕ) → slot < MAX_POOL → file.place_of slot ≡ slice_index place_of slot
   pub same_failed : file.has_failed ≡ failed
   pub same_doubt : file.doubt ≡ doubt
-  pub stands : StandsFor device (length places) contents doubt
+  pub stands : StandsFor device file_places contents doubt
 
 -- the book shows this file
 abbrev pub Shows : Book → File → Type 0
-Shows book file = Tells book.device book.contents.items book.places.items book.place_of book.has_failed book.doubt.items file
+Shows book file = Tells book.device book.contents.items book.places.items book.file_places book.place_of book.has_failed book.doubt.items file
 
 -- the tenant's quota: how many places of the file the book uses, which are the first ones; the file may have more
 abbrev pub quota_of : Book → ℕ
 quota_of book = length book.places.items
 
+-- how many places for changes the file has, in its second layout; one that no start has opened yet, as many as it gets then
+abbrev pub places_of_file : Book → ℕ
+places_of_file book = book.file_places
+
 -- These are the parts of a book.
-pub record HasParts (book : Book) (device : Device) (contents : List ℕ) (places : List KeptPlace) (place_of : List ℕ) (failed : Bool) (doubt : List Entry) : Type 0 where
+pub record HasParts (book : Book) (device : Device) (contents : List ℕ) (places : List KeptPlace) (count : ℕ) (place_of : List ℕ) (failed : Bool) (doubt : List Entry) : Type 0 where
   pub is_device : book.device ≡ device
   pub is_contents : book.contents.items ≡ contents
   pub is_places : book.places.items ≡ places
+  pub is_file_places : book.file_places ≡ count
   pub is_place_of : book.place_of ≡ place_of
   pub is_failed : book.has_failed ≡ failed
   pub is_doubt : book.doubt.items ≡ doubt

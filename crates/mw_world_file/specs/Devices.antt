@@ -1,15 +1,14 @@
 -- A tenant's file on a disk in memory, open or shut, and its places as a book keeps them.
-use Rattle.std.specs.Prelude.{◌≡◌, ◌≤◌, ℕ, Bool, true, false, not, List, [], Option, Some, None, slice_get}
+use Rattle.std.specs.Prelude.{◌≡◌, ℕ, Bool, true, false, not, List, [], Option, Some, None, slice_get}
 use Rattle.mw_disk.specs.Facts.{MayLeave}
 use Rattle.mw_disk.specs.Memory.{Memory, memory_facts}
 use Rattle.mw_words.specs.declared.jobs.Entry.{Entry}
-use Rattle.mw_record.specs.Damages.{file_words, places_of}
 use Rattle.mw_record.specs.Layout.{pairs_of}
 use Rattle.mw_file.specs.declared.place_states.PlaceState.{PlaceState}
 use Rattle.mw_file.specs.declared.place_states.Stage.{Stage}
 use Rattle.mw_file.specs.declared.place_states.Stage.TheVariants.{Free as FreeStage, Prepared as PreparedStage, Sealed as SealedStage}
 use Rattle.mw_file.specs.File.{disk_of, words_of, states_of, has_failed}
-use Rattle.mw_file.specs.Keeps.{Keeps}
+use Rattle.mw_file.specs.Keeps.{IsFile, Keeps}
 use Rattle.mw_file.specs.PlaceStates.{stage_of, writes_of_place}
 use Rattle.mw_world_file.specs.declared.device.Device.{Device}
 use Rattle.mw_world_file.specs.declared.device.Device.TheVariants.{Open, Shut}
@@ -78,13 +77,8 @@ pub record AreKept (states : List PlaceState) (places : List KeptPlace) : Type 0
   pub stages : (place : ℕ) → stage_of states place ≡ stage_told (place_in places place)
   pub writes : (place : ℕ) → is_empty (place_in places place) ≡ false → writes_of_place states place ≡ pairs_of (entries_in (place_in places place))
 
--- These bytes are a file of these words, which has so many places, or more.
-pub record IsRoomy (places : ℕ) (contents image : List ℕ) : Type 0 where
-  pub words_are : file_words image ≡ Some contents
-  pub room : places ≤ places_of image
-
 -- The file stands for these words, with this change in doubt. Of one that isn't open, whatever a crash leaves is a file of the words, with
--- so many places or more.
+-- so many places.
 abbrev pub StandsFor : Device → ℕ → List ℕ → List Entry → Type 0
 StandsFor (Open file) places contents doubt = Keeps memory_facts file contents (pairs_of doubt)
-StandsFor (Shut disk) places contents doubt = (doubt ≡ []) × ((image : List ℕ) → MayLeave (memory_facts disk) image → IsRoomy places contents image)
+StandsFor (Shut disk) places contents doubt = (doubt ≡ []) × ((image : List ℕ) → MayLeave (memory_facts disk) image → IsFile places contents image)

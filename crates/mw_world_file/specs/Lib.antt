@@ -3,6 +3,7 @@ pub mod Calls
 pub mod Crashes
 pub mod Devices
 pub mod Files
+pub mod FirstPlaces
 pub mod Giving
 pub mod Maps
 pub mod OldFiles

@@ -19,7 +19,7 @@ use Rattle.mw_world_file.specs.Files.{File, entries_at}
 use Rattle.mw_world_file.specs.Openings.{CameOfBytes}
 use Rattle.mw_world_file.specs.Calls.{place_for, suits, fails_on, device_calls}
 use Rattle.mw_world_file.specs.Restarts.{takes, may_find, may_fail, opened_file, doubt_if, is_whole_seal}
-use Rattle.mw_world_file.specs.Books.{Shows, quota_of}
+use Rattle.mw_world_file.specs.Books.{Shows, quota_of, places_of_file}
 
 -- how many device calls a call makes about a place: none where the place doesn't suit it, or the file has failed
 abbrev pub calls_at : Call → File → ℕ → ℕ → ℕ
@@ -86,14 +86,16 @@ pub record IsLeft (old : Book) (file : File) (cut : Option Cut) (torn words imag
   pub found : may_find (is_sealed_left file (quota_of old) cut) file.contents (doubt_left file (quota_of old) cut) words ≡ true
   pub left : IsLeftOf (disk_under old.device) (made_of cut) torn image
 
--- The file after a start: bytes that may be found were found and opened, one of the opening's device calls may fail so, the new book is that
--- of the file after it, on the disk that the opening made of these bytes, and it is told whether the change in doubt was found.
-pub record IsRestarted (old : Book) (file : File) (cut : Option Cut) (torn : List ℕ) (fails_at : Option ℕ) (new : Book) (took : Bool) : Type 0 where
+-- The file after a start with this quota: bytes that may be found were found and opened, one of the opening's device calls may fail so, the
+-- new book is that of the file after it, with as many places as before, on the disk that the opening made of these bytes, and it is told
+-- whether the change in doubt was found.
+pub record IsRestarted (old : Book) (file : File) (cut : Option Cut) (torn : List ℕ) (fails_at : Option ℕ) (quota : ℕ) (new : Book) (took : Bool) : Type 0 where
   pub image : List ℕ
   pub words : List ℕ
   pub left : IsLeft old file cut torn words image
   pub fails : may_fail (open_calls image) fails_at ≡ true
-  pub count : quota_of new ≡ quota_of old
+  pub count : quota_of new ≡ quota
+  pub has : places_of_file new ≡ places_of_file old
   pub long : length new.contents.items ≡ length old.contents.items
   pub shows : Shows new (opened_file words fails_at)
   pub came : CameOfBytes image words fails_at (disk_under new.device)
@@ -108,7 +110,7 @@ pub record CannotStart (old : Book) (file : File) (cut : Option Cut) (torn : Lis
 
 -- How a start ends, for every file that the book shows. It can't be where the call that was under way makes fewer device calls, or where the
 -- opening can't fail so.
-abbrev pub Restarts : Book → Option Cut → List ℕ → Option ℕ → Result (Book × Bool) BookFault → Type 0
-Restarts old cut torn fails_at (Ok started) = (file : File) → Shows old file → IsRestarted old file cut torn fails_at started.0 started.1
-Restarts old cut torn fails_at (Err NotEnabled) = (file : File) → Shows old file → (may_be_made file (quota_of old) cut ≡ false) ⊎ CannotStart old file cut torn fails_at
-Restarts old cut torn fails_at (Err Memory) = Unit {0}
+abbrev pub Restarts : Book → Option Cut → List ℕ → Option ℕ → ℕ → Result (Book × Bool) BookFault → Type 0
+Restarts old cut torn fails_at quota (Ok started) = (file : File) → Shows old file → IsRestarted old file cut torn fails_at quota started.0 started.1
+Restarts old cut torn fails_at quota (Err NotEnabled) = (file : File) → Shows old file → (may_be_made file (quota_of old) cut ≡ false) ⊎ CannotStart old file cut torn fails_at
+Restarts old cut torn fails_at quota (Err Memory) = Unit {0}

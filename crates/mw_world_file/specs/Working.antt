@@ -12,7 +12,7 @@ use Rattle.mw_world_file.specs.declared.kept.Book.{Book}
 use Rattle.mw_world_file.specs.Files.{File, entries_in, entries_at, broken}
 use Rattle.mw_world_file.specs.Calls.{place_for, suits, device_calls, is_made, filed, doubt_of}
 use Rattle.mw_world_file.specs.Devices.{place_in, disk_under}
-use Rattle.mw_world_file.specs.Books.{Shows, quota_of}
+use Rattle.mw_world_file.specs.Books.{Shows, quota_of, places_of_file}
 
 -- a call of so many device calls may end so: one that fails is one of them
 abbrev pub may_end : ℕ → Outcome → Bool
@@ -36,9 +36,10 @@ worked_at call file places slot place entries outcome =
 abbrev pub worked : Call → File → ℕ → ℕ → List Entry → Outcome → Option File
 worked call file places slot entries outcome = worked_at call file places slot (place_for call file places slot) entries outcome
 
--- The book of a file after something is that of the file after it, with as many places and words.
+-- The book of a file after something is that of the file after it, with as many words and places, of which as many are used.
 pub record Turns (old new : Book) (turn : File → Option File) : Type 0 where
   pub places : quota_of new ≡ quota_of old
+  pub has : places_of_file new ≡ places_of_file old
   pub words : length new.contents.items ≡ length old.contents.items
   pub shows : (file : File) → Shows old file → (after : File) × (turn file ≡ Some after) × Shows new after
 

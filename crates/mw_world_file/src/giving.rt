@@ -1,5 +1,6 @@
 //! What a book tells, and what its file gives the shared words at a start.
 ghost use Rattle.std.specs.Prelude.{◌≡◌, length, IfOk};
+ghost use Rattle.mw_world_file.specs.Books.{places_of_file};
 ghost use Rattle.mw_world_file.specs.Giving.{IsGiven};
 
 use crate::kept::Book;
@@ -11,6 +12,14 @@ impl Book {
         ensures { result ≡ length self.now.contents.items }
     {
         self.contents.len()
+    }
+
+    /// How many places for changes the file has, in its second layout. One that no start has opened yet has
+    /// as many once a start opens it.
+    pub fn file_places(&self) -> u16
+        ensures { result ≡ places_of_file self.now }
+    {
+        self.file_places
     }
 
     /// Whether a device call has failed since the file was opened, or its opening has. It isn't touched

@@ -26,4 +26,4 @@ pub use cut::Cut;
 pub use faults::BookFault;
 pub use kept::Book;
 pub use outcomes::Outcome;
-pub use unopened::OLD_ENTRIES;
+pub use unopened::{OLD_ENTRIES, OLD_PLACES};

@@ -4,7 +4,7 @@ ghost use Rattle.mw_disk.specs.Memory.{memory_facts};
 ghost use Rattle.mw_file.specs.File.{disk_of, has_failed, states_of};
 ghost use Rattle.mw_file.specs.Keeps.{Keeps};
 ghost use Rattle.mw_file.specs.PlaceStates.{all_free};
-ghost use Rattle.mw_world_file.specs.Books.{Shows, quota_of};
+ghost use Rattle.mw_world_file.specs.Books.{Shows, quota_of, places_of_file};
 ghost use Rattle.mw_world_file.specs.Devices.{IsReady};
 ghost use Rattle.mw_world_file.specs.Files.{file_of};
 ghost use Rattle.mw_world_file.specs.declared.device.Device.TheVariants.{Open};
@@ -33,13 +33,16 @@ pub(crate) fn open_book(
     requires ready { IsReady (disk_of file) }
     ensures shows { IfOk result (λ book. Shows book (file_of contents.items)) }
     ensures places { IfOk result (λ book. quota_of book ≡ quota) }
+    ensures has { IfOk result (λ book. places_of_file book ≡ length (states_of file)) }
     ensures device { IfOk result (λ book. book.device ≡ Open file) }
 {
     let places = empty_places(alloc, quota)?;
+    let file_places = file.places();
     Ok(Book {
         device: Device::Open(file),
         contents,
         places,
+        file_places,
         place_of: [0; SLOTS],
         has_failed: false,
         doubt: Entries::new(),

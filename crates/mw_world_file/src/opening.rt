@@ -1,12 +1,12 @@
 //! The opening of a tenant's file.
-ghost use Rattle.std.specs.Prelude.{◌≡◌, ◌<◌, ◌^◌, ◌⊎◌, ℕ, List, Some, None, [], length, replicate, true, false, IsTrue, IsSome, IsSomeAnd, IfOk, MatchResult};
+ghost use Rattle.std.specs.Prelude.{◌≡◌, ◌<◌, ◌≤◌, ◌^◌, ℕ, List, Some, None, [], length, replicate, true, false, IsTrue, IsSome, IsSomeAnd, IfOk, MatchResult};
 ghost use Rattle.mw_disk.specs.Memory.{memory_facts};
 ghost use Rattle.mw_file.specs.File.{disk_of, states_of, has_failed};
 ghost use Rattle.mw_file.specs.Keeps.{Keeps};
 ghost use Rattle.mw_file.specs.PlaceStates.{all_free};
-ghost use Rattle.mw_record.specs.Damages.{words_in};
-ghost use Rattle.mw_world_file.specs.Books.{HasParts, Shows, quota_of};
-ghost use Rattle.mw_world_file.specs.Devices.{IsReady, IsRoomy};
+ghost use Rattle.mw_record.specs.Damages.{words_in, file_words, places_of};
+ghost use Rattle.mw_world_file.specs.Books.{HasParts, Shows, quota_of, places_of_file};
+ghost use Rattle.mw_world_file.specs.Devices.{IsReady};
 ghost use Rattle.mw_world_file.specs.Files.{file_of};
 ghost use Rattle.mw_world_file.specs.Stopping.{named};
 ghost use Rattle.mw_world_file.specs.declared.device.Device.TheVariants.{Open, Shut};
@@ -18,7 +18,7 @@ use crate::opened::{empty_places, open_book};
 use crate::places::Place;
 use mw_disk::MemDisk;
 use mw_file::{OpenFault, TenantFile};
-use mw_record::{Image, decode};
+use mw_record::{Image, Layout, PLACES_GROW, decode};
 use mw_words::Entries;
 use std::alloc::{AllocError, Global};
 
@@ -31,6 +31,16 @@ fn words_of(alloc: Global, image: &Image<'_>) -> Result<Vec<u64>, AllocError>
         words.push(image.word(addr))?;
     }
     Ok(words)
+}
+
+/// How many places for changes a file without damage has once it is open.
+fn places_once_open(image: &Image<'_>) -> u16
+    ensures { result ≡ places_of image.now }
+{
+    match image.layout() {
+        Layout::First => PLACES_GROW * image.places(),
+        Layout::Second => image.places(),
+    }
 }
 
 /// A script that names this call.
@@ -47,8 +57,7 @@ fn script_of(alloc: Global, fails_at: Option<u64>) -> Result<Vec<u64>, AllocErro
 impl Book {
     ghost use Rattle.mw_world_file.specs.Stopping.{ReopenEnds};
 
-    /// The book of a file that was opened, so many places of which are used, if it has so many and no device
-    /// call was to fail.
+    /// The book of a file that was opened, so many places of which are used, if no device call was to fail.
     fn opened(
         alloc: Global,
         file: TenantFile<MemDisk>,
@@ -57,32 +66,34 @@ impl Book {
         fails_at: Option<u64>,
     ) -> Result<Book, BookFault>
         requires free { IsTrue (all_free (states_of file)) }
+        requires room { quota ≤ length (states_of file) }
         requires sound { has_failed file ≡ false }
         requires keeps { Keeps memory_facts file words.items [] }
         requires ready { fails_at ≡ None → IsReady (disk_of file) }
         ensures { MatchResult result
-            (λ book. (fails_at ≡ None) × Shows book (file_of words.items) × (quota_of book ≡ quota) × (book.device ≡ Open file))
-            (λ fault. fault ≡ BookFault.NotEnabled → (length (states_of file) < quota) ⊎ IsSomeAnd fails_at (λ number. number < 2 ^ 64)) }
+            (λ book. (fails_at ≡ None) × Shows book (file_of words.items) × (quota_of book ≡ quota) × (places_of_file book ≡ length (states_of file))
+            × (book.device ≡ Open file))
+            (λ fault. fault ≡ BookFault.NotEnabled → IsSomeAnd fails_at (λ number. number < 2 ^ 64)) }
     {
-        if usize::from(file.places()) < quota {
-            return Err(BookFault::NotEnabled);
-        }
         if fails_at.is_some() {
             return Err(BookFault::NotEnabled);
         }
         Ok(open_book(alloc, file, words, quota)?)
     }
 
-    /// The book of a file whose opening failed, if a device call was to fail and none was refused memory.
+    /// The book of a file with so many places whose opening failed, if a device call was to fail and none was
+    /// refused memory.
     fn shut(
         alloc: Global,
         disk: MemDisk,
         words: Vec<u64>,
+        file_places: u16,
         quota: usize,
         fails_at: Option<u64>,
     ) -> Result<Book, BookFault>
+        requires { quota ≤ file_places }
         ensures { MatchResult result
-            (λ book. IsSome fails_at × (disk.refused ≡ 0) × HasParts book (Shut disk) words.items (replicate quota Place.Empty) (replicate SLOTS 0) true [])
+            (λ book. IsSome fails_at × (disk.refused ≡ 0) × HasParts book (Shut disk) words.items (replicate quota Place.Empty) file_places (replicate SLOTS 0) true [])
             (λ fault. fault ≡ BookFault.Memory) }
     {
         if fails_at.is_none() || disk.refused() > 0 {
@@ -95,6 +106,7 @@ impl Book {
             device: Device::Shut(disk),
             contents: words,
             places,
+            file_places,
             place_of: [0; SLOTS],
             has_failed: true,
             doubt: Entries::new(),
@@ -114,11 +126,15 @@ impl Book {
         quota: usize,
         fails_at: Option<u64>,
     ) -> Result<Book, BookFault>
-        ensures { (words : List ℕ) → IsRoomy quota words bytes.items → ReopenEnds bytes.items quota words fails_at result }
+        ensures { (words : List ℕ) → file_words bytes.items ≡ Some words → quota ≤ places_of bytes.items → ReopenEnds bytes.items quota words fails_at result }
     {
         let Ok(image) = decode(&bytes) else {
             return Err(BookFault::NotEnabled);
         };
+        let file_places = places_once_open(&image);
+        if usize::from(file_places) < quota {
+            return Err(BookFault::NotEnabled);
+        }
         let found = words_of(alloc, &image)?;
         let disk = MemDisk::new(alloc, bytes, script_of(alloc, fails_at)?)?;
         match TenantFile::open(alloc, disk) {
@@ -129,7 +145,7 @@ impl Book {
             Err(failed) => {
                 let (fault, disk) = failed;
                 match fault {
-                    OpenFault::Disk => Book::shut(alloc, disk, found, quota, fails_at),
+                    OpenFault::Disk => Book::shut(alloc, disk, found, file_places, quota, fails_at),
                     OpenFault::Damage(_) => Err(BookFault::NotEnabled),
                     OpenFault::Memory => Err(BookFault::Memory),
                 }

@@ -1,5 +1,5 @@
 //! A tenant's file once all has stopped and started again.
-ghost use Rattle.std.specs.Prelude.{◌≡◌, length, IfOk};
+ghost use Rattle.std.specs.Prelude.{◌≡◌, ◌≤◌, length, IfOk};
 ghost use Rattle.mw_world_file.specs.Restarts.{takes};
 
 use crate::changes::with_change;
@@ -26,12 +26,13 @@ fn is_taken(
 }
 
 impl Book {
+    ghost use Rattle.mw_world_file.specs.Books.{places_of_file};
     ghost use Rattle.mw_world_file.specs.Reopening.{Restarts, PreparesChange};
 
     /// A new book, of the file once all has stopped and started again, with this call under way when it
-    /// stopped, with these bytes where bytes were written and not synced, and with a device call of the
-    /// opening that fails. Whether the change that was in doubt is in the file is told too. This book
-    /// stays as it is.
+    /// stopped, with these bytes where bytes were written and not synced, with a device call of the opening
+    /// that fails, and with this quota from then on, which is no more than the file has places. Whether the
+    /// change that was in doubt is in the file is told too. This book stays as it is.
     ///
     /// # Errors
     ///
@@ -43,13 +44,15 @@ impl Book {
         cut: Option<Cut>,
         torn: &[u8],
         fails_at: Option<u64>,
+        quota: u8,
     ) -> Result<(Book, bool), BookFault>
-        requires { PreparesChange (length self.now.contents.items) cut }
-        ensures { Restarts self.now cut torn.now fails_at result }
+        requires formed { PreparesChange (length self.now.contents.items) cut }
+        requires room { quota ≤ places_of_file self.now }
+        ensures { Restarts self.now cut torn.now fails_at quota result }
     {
         let left = self.stop(alloc, cut, torn)?;
         let Left { image, doubt } = left;
-        let book = Book::open(alloc, image, self.places.len(), fails_at)?;
+        let book = Book::open(alloc, image, usize::from(quota), fails_at)?;
         let taken = is_taken(alloc, &self.contents, &doubt, &book.contents)?;
         Ok((book, taken))
     }

@@ -8,7 +8,7 @@ ghost use Rattle.mw_file.specs.Keeps.{Keeps};
 ghost use Rattle.mw_world_file.specs.declared.device.Device.TheVariants.{Open};
 ghost use Rattle.mw_world_file.specs.Devices.{told, is_clear, AreKept, IsReady};
 ghost use Rattle.std.specs.List.{list_all};
-ghost use Rattle.mw_world_file.specs.Books.{HasParts};
+ghost use Rattle.mw_world_file.specs.Books.{HasParts, places_of_file};
 ghost use Rattle.mw_world_file.specs.Working as spec;
 ghost use Rattle.mw_world_file.specs.Calls as counts;
 
@@ -179,12 +179,12 @@ impl Book {
     ) -> Result<Book, AllocError>
         requires within { place < length self.now.places.items }
         requires sized { words_of file ≡ length self.now.contents.items }
-        requires count { length self.now.places.items ≤ length (states_of file) }
+        requires has { length (states_of file) ≡ places_of_file self.now }
         requires kept { AreKept (states_of file) (slice_set self.now.places.items place (Place.Prepared entries.now)) }
         requires failed { has_failed file ≡ self.now.has_failed }
         requires ready { self.now.has_failed ≡ false → IsReady (disk_of file) }
         ensures { IfOk result (λ book. HasParts book (Open file) self.now.contents.items
-            (slice_set self.now.places.items place (Place.Prepared entries.now)) (slice_set self.now.place_of slot place)
+            (slice_set self.now.places.items place (Place.Prepared entries.now)) self.now.file_places (slice_set self.now.place_of slot place)
             self.now.has_failed self.now.doubt.items) }
     {
         let contents = self.contents.to_vec(alloc)?;
@@ -196,6 +196,7 @@ impl Book {
             device: Device::Open(file),
             contents,
             places,
+            file_places: self.file_places,
             place_of,
             has_failed: self.has_failed,
             doubt: copy_of(&self.doubt),
@@ -307,12 +308,12 @@ impl Book {
     ) -> Result<Book, AllocError>
         requires within { number < length self.now.places.items }
         requires sized { words_of file ≡ length self.now.contents.items }
-        requires count { length self.now.places.items ≤ length (states_of file) }
+        requires has { length (states_of file) ≡ places_of_file self.now }
         requires kept { AreKept (states_of file) (slice_set self.now.places.items number Place.Empty) }
         requires failed { has_failed file ≡ self.now.has_failed }
         requires ready { self.now.has_failed ≡ false → IsReady (disk_of file) }
         ensures { IfOk result (λ book. HasParts book (Open file) self.now.contents.items (slice_set self.now.places.items number Place.Empty)
-            self.now.place_of self.now.has_failed self.now.doubt.items) }
+            self.now.file_places self.now.place_of self.now.has_failed self.now.doubt.items) }
     {
         let contents = self.contents.to_vec(alloc)?;
         self.with_place(alloc, file, contents, number, Place::Empty)
@@ -329,12 +330,12 @@ impl Book {
     ) -> Result<Book, AllocError>
         requires within { number < length self.now.places.items }
         requires sized { words_of file ≡ length contents.items }
-        requires count { length self.now.places.items ≤ length (states_of file) }
+        requires has { length (states_of file) ≡ places_of_file self.now }
         requires kept { AreKept (states_of file) (slice_set self.now.places.items number place) }
         requires failed { has_failed file ≡ self.now.has_failed }
         requires ready { self.now.has_failed ≡ false → IsReady (disk_of file) }
         ensures { IfOk result (λ book. HasParts book (Open file) contents.items (slice_set self.now.places.items number place)
-            self.now.place_of self.now.has_failed self.now.doubt.items) }
+            self.now.file_places self.now.place_of self.now.has_failed self.now.doubt.items) }
     {
         let mut places = copies(alloc, &self.places)?;
         places[number as usize] = place;
@@ -342,6 +343,7 @@ impl Book {
             device: Device::Open(file),
             contents,
             places,
+            file_places: self.file_places,
             place_of: self.place_of,
             has_failed: self.has_failed,
             doubt: copy_of(&self.doubt),
@@ -356,15 +358,17 @@ impl Book {
         doubt: Entries,
     ) -> Result<Book, AllocError>
         requires sized { words_of file ≡ length self.now.contents.items }
-        requires count { length self.now.places.items ≤ length (states_of file) }
+        requires has { length (states_of file) ≡ places_of_file self.now }
         requires kept { AreKept (states_of file) self.now.places.items }
         requires failed { has_failed file ≡ true }
-        ensures { IfOk result (λ book. HasParts book (Open file) self.now.contents.items self.now.places.items self.now.place_of true doubt.items) }
+        ensures { IfOk result (λ book. HasParts book (Open file) self.now.contents.items self.now.places.items self.now.file_places self.now.place_of true
+            doubt.items) }
     {
         Ok(Book {
             device: Device::Open(file),
             contents: self.contents.to_vec(alloc)?,
             places: copies(alloc, &self.places)?,
+            file_places: self.file_places,
             place_of: self.place_of,
             has_failed: true,
             doubt,

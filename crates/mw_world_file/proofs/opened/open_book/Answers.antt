@@ -6,4 +6,4 @@ pub invariant_of-result-clause-kept : goal.invariant_of-result-clause-kept
 invariant_of-result-clause-kept c = free_kept _ _ _ c.requires.free c.in_ok-places.ensures
 
 pub returns-clause-shows : goal.returns-clause-shows
-returns-clause-shows c = tells_opened c.args.file c.args.contents.items c.in_ok-places.places.items c.new.result.items _ MAX_POOL c.requires.keeps c.in_ok-places.ensures c.new.ensures
+returns-clause-shows c = tells_opened c.args.file c.args.contents.items c.in_ok-places.places.items _ c.new.result.items _ MAX_POOL c.requires.keeps c.in_ok-places.ensures c.new.ensures

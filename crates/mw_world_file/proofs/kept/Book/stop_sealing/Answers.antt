@@ -1,4 +1,4 @@
-use Rattle.mw_world_file.specs.Books.{quota_of}
+use Rattle.mw_world_file.specs.Books.{quota_of, places_of_file}
 use Rattle.mw_world_file.specs.Calls.{place_for}
 use Rattle.mw_world_file.proofs.StoppedFiles.{Finds}
 use Rattle.std.proofs.Common.{◌∙◌, List, true, false, sym, ap, subst, arith, rules, get_or}
@@ -47,7 +47,7 @@ returns-then-cut-device_calls-2 c file shows =
     left_cut old cut Seal c.requires.call c.requires.some file shows (shows.same_failed ∙ c.requires.sound) suits c.args.torn.now (record { image = c.in_ok-crash.field-0; doubt = c.copy_of.result }) false
     (omega (arith, c.if-cut-device_calls.false, c.device_calls.ensures)) (copied ∙ sym there ∙ sym (doubt_sealing file.doubt (entries_at file (place_for Seal file (quota_of old) cut.slot)) cut.made c.requires.some))
     (part_of_seal cut.made 2 (omega (arith, c.if-cut-device_calls-2.true, c.device_calls-2.ensures)))
-    (subst (λ (doubt : List Entry). Finds (quota_of old) false old.contents.items doubt c.in_ok-crash.field-0.items) (sym copied)
+    (subst (λ (doubt : List Entry). Finds (places_of_file old) false old.contents.items doubt c.in_ok-crash.field-0.items) (sym copied)
     (sealed_left old c.in-Open.held c.in-Open.is c.in_ok-file.file c.seal-sealed.new.self c.in_ok-file.ensures.states c.in_ok-file.ensures.keeps c.in_ok-crash.field-0.items c.in_ok-crash.ensures.image
     c.requires.sound es.items _ (writes_are old cut.slot (get_or old.place_of cut.slot 0) es at c.in-Open.held c.in-Open.is c.in_ok-file.file c.in_ok-file.ensures.states) c.seal-sealed.result c.seal-sealed.ensures.safe
     (c.in_ok-file.ensures.failed ∙ unfailed_open old c.in-Open.held c.in-Open.is c.requires.sound) c.seal-sealed.ensures.ends file shows))
@@ -68,7 +68,7 @@ returns c file shows =
     left_cut old cut Seal c.requires.call c.requires.some file shows (shows.same_failed ∙ c.requires.sound) suits c.args.torn.now (record { image = c.in_ok-crash-2.field-0; doubt = c.copy_of-2.result }) true
     (omega (arith, c.if-cut-device_calls.false, c.device_calls.ensures)) (copied ∙ sym there ∙ sym (doubt_sealing file.doubt (entries_at file (place_for Seal file (quota_of old) cut.slot)) cut.made c.requires.some))
     (whole_seal cut.made 2 c.requires.some (omega (arith, c.if-cut-device_calls.false, c.device_calls.ensures, c.if-cut-device_calls-2.false, c.device_calls-2.ensures)))
-    (subst (λ (doubt : List Entry). Finds (quota_of old) true old.contents.items doubt c.in_ok-crash-2.field-0.items) (sym copied)
+    (subst (λ (doubt : List Entry). Finds (places_of_file old) true old.contents.items doubt c.in_ok-crash-2.field-0.items) (sym copied)
     (sealed_whole old c.in-Open.held c.in-Open.is c.in_ok-file.file c.seal-sealed.new.self c.in_ok-file.ensures.states c.in_ok-file.ensures.keeps c.in_ok-crash-2.field-0.items c.in_ok-crash-2.ensures.image
     c.requires.sound es.items _ (writes_are old cut.slot (get_or old.place_of cut.slot 0) es at c.in-Open.held c.in-Open.is c.in_ok-file.file c.in_ok-file.ensures.states) c.seal-sealed.result (sym c.is_err.ensures.value ∙ c.if-is_err.false) c.seal-sealed.ensures.safe
     (c.in_ok-file.ensures.failed ∙ unfailed_open old c.in-Open.held c.in-Open.is c.requires.sound) c.seal-sealed.ensures.ends file shows))

@@ -1,0 +1,9 @@
+-- A tenant's first file has as many places as the tenant's quota, or more.
+use Rattle.std.specs.Prelude.{ℕ, ◌≤◌}
+use Rattle.std.proofs.Common.{arith}
+use Rattle.std.proofs.lemmas.Bool.Decides.{nat_tests}
+use Rattle.mw_words.specs.declared.limits.TheConstants.{MAX_QUOTA}
+use Rattle.mw_world_file.specs.FirstPlaces.{first_places}
+
+pub places_enough : (quota : ℕ) → quota ≤ MAX_QUOTA → quota ≤ first_places quota
+places_enough quota most = grind (arith, nat_tests, most)
