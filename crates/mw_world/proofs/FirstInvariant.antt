@@ -10,7 +10,8 @@ use Rattle.arrayvec.specs.ArrayVec.{ArrayVec}
 use Rattle.mw_words.specs.declared.jobs.Entry.{Entry}
 use Rattle.mw_words.specs.declared.limits.TheConstants.{MAX_ENTRIES}
 use Rattle.mw_words.specs.Change.{AreWords, is_change, is_in_range, put, rises, word_at}
-use Rattle.mw_world_file.specs.declared.unopened.TheConstants.{OLD_ENTRIES}
+use Rattle.mw_world_file.specs.declared.unopened.TheConstants.{OLD_ENTRIES, OLD_PLACES}
+use Rattle.mw_world_file.proofs.EnoughPlaces.{places_enough}
 use Rattle.mw_lone.proofs.KeptRuns.{put_words}
 use Rattle.mw_lone.proofs.SoundStores.{length-put}
 use Rattle.mw_actor.specs.Acting.{Acting}
@@ -122,24 +123,27 @@ all_in_range words entries is =
     (and_parts (nat_le 1 (length entries) && nat_le (length entries) MAX_ENTRIES) (list_all (is_in_range words) entries)
     (and_parts (nat_le 1 (length entries) && nat_le (length entries) MAX_ENTRIES && list_all (is_in_range words) entries) (rises entries) is).0).1
 
-first_fit : (tenant : Tenant) → IsTrue (may_be_old tenant.words tenant.old) → AreWords (first_words_of tenant)
+first_fit : (tenant : Tenant) → IsTrue (may_be_old tenant.words tenant.quota tenant.old) → AreWords (first_words_of tenant)
 first_fit tenant is = by_old tenant.old is where
-  by_old : (old : Option (ArrayVec Entry)) → IsTrue (may_be_old tenant.words old) → AreWords (put (replicate tenant.words 0) (old_entries old))
+  by_old : (old : Option (ArrayVec Entry)) → IsTrue (may_be_old tenant.words tenant.quota old) → AreWords (put (replicate tenant.words 0) (old_entries old))
   by_old None made = zeros_fit tenant.words
-  by_old (Some change) made = put_words tenant.words (replicate tenant.words 0) change.items (all_in_range tenant.words change.items (and_parts (is_change tenant.words change.items) (nat_le (length change.items) OLD_ENTRIES) made).0) (zeros_fit tenant.words)
+  by_old (Some change) made =
+      let formed = (and_parts (is_change tenant.words change.items && nat_le (length change.items) OLD_ENTRIES) (nat_le tenant.quota OLD_PLACES) made).0 in
+      put_words tenant.words (replicate tenant.words 0) change.items (all_in_range tenant.words change.items (and_parts (is_change tenant.words change.items) (nat_le (length change.items) OLD_ENTRIES) formed).0) (zeros_fit tenant.words)
 
 -- A new world is one of a start.
 pub new_worlds_start : (config : Config) → IsConfig config → IsStart config (first_openings config)
 new_worlds_start config is = record {
   quotas = record {
     each = λ tenant low. is.quotas tenant no_tenant low;
+    room = λ tenant low. places_enough (tenant_at config tenant).quota (is.quotas tenant no_tenant low).1;
     together = omega (arith, listed_together config.tenants.items, is.slots);
   };
   long = λ tenant low. first_long (tenant_at config tenant);
   words = λ tenant. first_fit (tenant_at config tenant) (old_is tenant);
 } where
-  old_is : (tenant : ℕ) → IsTrue (may_be_old (tenant_at config tenant).words (tenant_at config tenant).old)
+  old_is : (tenant : ℕ) → IsTrue (may_be_old (tenant_at config tenant).words (tenant_at config tenant).quota (tenant_at config tenant).old)
   old_is tenant = elim (cases_lt tenant (length config.tenants.items)) [
     | inl low ↦ is.old tenant no_tenant low
-    | inr past ↦ subst (λ (one : Tenant). IsTrue (may_be_old one.words one.old)) (sym (get_or_past config.tenants.items tenant no_tenant past)) refl
+    | inr past ↦ subst (λ (one : Tenant). IsTrue (may_be_old one.words one.quota one.old)) (sym (get_or_past config.tenants.items tenant no_tenant past)) refl
   ]

@@ -8,6 +8,6 @@ use Rattle.mw_world.specs.Definition.State.{marks_of, store_at}
 pub equal_marks : EveryRunServesAlone → EqualMarksHaveEqualReplies
 equal_marks serves config other openings starts events others state there tenant its is is_other low low_other same marks =
     (serves config openings events state tenant is low).replies
-    ∙ ap (λ opening. replies_from (store_at opening) (marks_of state tenant)) same
+    ∙ ap (λ first. replies_from first (marks_of state tenant)) same
     ∙ ap (λ one. replies_from (store_at (starts its)) one) marks
     ∙ sym (serves other starts others there its is_other low_other).replies

@@ -12,7 +12,7 @@ pub struct Interrupted {
     pub made: u64,
 }
 
-/// How a tenant's file was stopped and opened again.
+/// How a tenant's file was stopped and opened again, and with which quota.
 #[derive(Drop)]
 pub struct Stop {
     /// The tenant.
@@ -25,6 +25,9 @@ pub struct Stop {
     pub torn: Vec<u8>,
     /// The device call of the opening that fails, counted from 1.
     pub fails_at: Option<u64>,
+    /// How many slots the tenant may use at a time from then on: 1 to `MAX_QUOTA`, and no more than its file
+    /// has places once it is open. `None`: as many as before.
+    pub quota: Option<u8>,
 }
 
 /// What happens to a world. An event that can't happen where the world is, is refused.
@@ -40,6 +43,7 @@ pub enum Event {
     /// A worker hands out the reply to its request, and has none afterwards.
     Hand(u8),
     /// All stops and starts again. A tenant that isn't named had no call under way and no torn bytes,
-    /// and its file opens. No tenant is named twice.
+    /// its file opens, and its quota stays. No tenant is named twice, and the quotas of all together are at
+    /// most the pool.
     Restart(Vec<Stop>),
 }

@@ -22,5 +22,5 @@ pub use laws::{
     new_worlds_start, places_are_apart, runs_come_out, runs_extend, starts_keep_the_invariant,
     what_serving_alone_gives,
 };
-pub use mw_world_file::OLD_ENTRIES;
+pub use mw_world_file::{OLD_ENTRIES, OLD_PLACES};
 pub use notes::{Note, Phase};

@@ -9,7 +9,7 @@ use Rattle.mw_words.specs.declared.replies.Reply.TheVariants.{Worn, Yes, No, Val
 use Rattle.mw_words.specs.declared.words.Word.{Word}
 use Rattle.mw_words.specs.declared.words.Word.TheVariants.{Plain, Planted, Held}
 use Rattle.mw_lone.specs.declared.marks.Mark.{Mark}
-use Rattle.mw_lone.specs.declared.marks.Mark.TheVariants.{Ask, Admit, Look, Miss, Seal, SealFail, FileFail, GiveUp, Retire, Reply as HandOut, Restart as IsRestart}
+use Rattle.mw_lone.specs.declared.marks.Mark.TheVariants.{Ask, Admit, Look, Miss, Seal, SealFail, FileFail, GiveUp, Retire, Busy as FoundBusy, Reply as HandOut, Restart as IsRestart}
 use Rattle.mw_world_file.specs.declared.outcomes.Outcome.TheVariants.{Fail}
 use Rattle.mw_world.specs.declared.config.Config.{Config}
 use Rattle.mw_world.specs.declared.config.Tenant.{Tenant}
@@ -76,11 +76,15 @@ abbrev pub two_tenants : Config
 two_tenants = config 2 1 (tenant 1 1 ∷ tenant 1 1 ∷ [])
 
 abbrev pub found : Option Interrupted → List ℕ → ℕ → Option ℕ → Found
-found interrupted words calls fails_at = record { interrupted = interrupted; words = words; opening_calls = calls; fails_at = fails_at }
+found interrupted words calls fails_at = record { interrupted = interrupted; words = words; opening_calls = calls; fails_at = fails_at; quota = None }
 
 -- a file with all places shut, which no call was on
 abbrev pub shut : List ℕ → Found
 shut words = found None words 2 None
+
+-- the same, and the start gives this quota
+abbrev pub given : ℕ → List ℕ → Found
+given quota words = record (shut words) { quota = Some quota }
 
 abbrev pub under_way : ℕ → ℕ → Option Interrupted
 under_way worker made = Some (record { worker = worker; made = made })
@@ -128,6 +132,33 @@ used_up = played two_of_one
     ∷ Comes 1 0 (cas (entry 1 0 1 ∷ [])) ∷ End 1 ∷ End 2 ∷ [])
     (new_world two_of_one)
 
+-- A start gives a tenant a slot more.
+abbrev pub three_slots : Config
+three_slots = config 3 2 (tenant 2 1 ∷ [])
+
+abbrev pub quota_at_start : Found → Option Played
+quota_at_start left = played three_slots
+    (Comes 0 0 (cas (entry 0 0 1 ∷ [])) ∷ To 0 Plants ∷ Comes 1 0 (cas (entry 1 0 1 ∷ [])) ∷ End 1 ∷ Stops (left ∷ [])
+    ∷ Comes 0 0 (cas (entry 0 0 1 ∷ [])) ∷ To 0 Plants ∷ Comes 1 0 (cas (entry 1 0 1 ∷ [])) ∷ End 1 ∷ End 0 ∷ [])
+    (new_world three_slots)
+
+-- A start takes a slot from a tenant.
+abbrev pub two_for_one : Config
+two_for_one = config 2 2 (tenant 2 2 ∷ [])
+
+abbrev pub quota_lowered : Option Played
+quota_lowered = played two_for_one
+    (Stops (given 1 (0 ∷ 0 ∷ []) ∷ []) ∷ Comes 0 0 (cas (entry 0 0 1 ∷ [])) ∷ To 0 Plants ∷ Comes 1 0 (cas (entry 1 0 1 ∷ [])) ∷ End 1 ∷ End 0 ∷ [])
+    (new_world two_for_one)
+
+-- A start gives a quota, though its opening fails; the next one tells none.
+abbrev pub quota_of_failed_start : Option Played
+quota_of_failed_start = played three_slots (Stops (record (given 2 (0 ∷ 0 ∷ [])) { fails_at = Some 1 } ∷ []) ∷ Stops (shut (0 ∷ 0 ∷ []) ∷ []) ∷ []) (new_world three_slots)
+
+-- A tenant whose first file is an old one.
+abbrev pub old_tenant : Config
+old_tenant = config 2 1 (record (tenant 1 1) { old = Some (record { items = entry 0 0 5 ∷ [] }) } ∷ [])
+
 -- A worker was to pin a slot that was freed and used by a neighbour since.
 abbrev pub stale_reference : Option Played
 stale_reference = played (config 2 2 (tenant 1 1 ∷ tenant 1 1 ∷ []))
@@ -147,13 +178,22 @@ value tenant address run = option_map (λ p. logical p.state.cells tenant addres
 abbrev pub IsRefused : Config → Option Played → Happening → Type 0
 IsRefused config run event = option_map (λ p. is_none (step config p.state event)) run ≡ Some true
 
+-- an event can happen at the end of a run
+abbrev pub IsTaken : Config → Option Played → Happening → Type 0
+IsTaken config run event = option_map (λ p. is_none (step config p.state event)) run ≡ Some false
+
+-- a run of no event
+abbrev pub at_first : Config → Option Played
+at_first config = Some (record { state = new_world config; events = [] })
+
 -- a worker's next step is to seal its change
 abbrev pub before_seal : Option Played
 before_seal = played smallest (Comes 0 0 (cas (entry 0 0 7 ∷ [])) ∷ Before 0 SealsFile ∷ []) (new_world smallest)
 
 -- Events that can't happen there: a request for a worker that has one; a step, and a device call too many, of the call on the file;
 -- a reply that doesn't stand; a stop after more device calls than there are, or of no worker's call; an opening that makes fewer; words that nobody wrote, or
--- that were not being sealed; words without a change that was sealed to the end; a start without a tenant.
+-- that were not being sealed; words without a change that was sealed to the end; a start without a tenant; a quota of no slot, one above the places of the
+-- file, one above the pool, and one that is above the pool together with a neighbour's.
 pub record AreRefused : Type 0 where
   pub busy_worker : IsRefused smallest before_seal (Come 0 0 (Get 0))
   pub step_of_a_call : IsRefused smallest before_seal (Step 0)
@@ -168,9 +208,20 @@ pub record AreRefused : Type 0 where
   pub no_device_call : IsRefused smallest before_seal (File 0 (Fail 0))
   pub no_opening_call : IsRefused smallest before_seal (Restart (found None (0 ∷ []) 2 (Some 0) ∷ []))
   pub forgotten_tenant : IsRefused smallest before_seal (Restart [])
+  pub no_quota : IsRefused smallest before_seal (Restart (given 0 (0 ∷ []) ∷ []))
+  pub above_places : IsRefused three_slots (at_first three_slots) (Restart (given 3 (0 ∷ 0 ∷ []) ∷ []))
+  pub above_pool : IsRefused smallest before_seal (Restart (given 2 (0 ∷ []) ∷ []))
+  pub above_pool_together : IsRefused two_tenants (at_first two_tenants) (Restart (given 2 (0 ∷ []) ∷ shut (0 ∷ []) ∷ []))
   pub no_such_word : IsRefused smallest one_change (Come 0 0 (Get 1))
   pub no_such_tenant : IsRefused smallest one_change (Come 0 1 (Get 0))
   pub no_such_worker : IsRefused smallest one_change (Come 1 0 (Get 0))
+
+-- Starts that can be there: with the quota as it is; with twice the quota of the first start, of an old file too; and with the greatest quota.
+pub record AreTaken : Type 0 where
+  pub same_quota : IsTaken smallest before_seal (Restart (given 1 (0 ∷ []) ∷ []))
+  pub twice : IsTaken three_slots (at_first three_slots) (Restart (given 2 (0 ∷ 0 ∷ []) ∷ []))
+  pub twice_of_old : IsTaken old_tenant (at_first old_tenant) (Restart (record (found None (5 ∷ []) 7 None) { quota = Some 2 } ∷ []))
+  pub greatest : IsTaken (config 64 1 (tenant 1 32 ∷ [])) (at_first (config 64 1 (tenant 1 32 ∷ []))) (Restart (given 64 (0 ∷ []) ∷ []))
 
 -- the marks of a tenant at the end of a run
 abbrev pub marks : ℕ → Option Played → Option (List Mark)
@@ -178,6 +229,7 @@ marks tenant run = option_map (λ p. marks_of p.state tenant) run
 
 pub record ComeOut : Type 0 where
   pub refused : AreRefused
+  pub taken : AreTaken
   pub half_way_words : (word 0 0 half_way ≡ Some (Held 0 0)) × (word 0 1 half_way ≡ Some (Planted 0 1))
   pub half_way_values : (value 0 0 half_way ≡ Some 0) × (value 0 1 half_way ≡ Some 0)
   pub one_change_word : word 0 0 one_change ≡ Some (Plain 7)
@@ -193,7 +245,7 @@ pub record ComeOut : Type 0 where
   pub failed_seal_found : handed two_tenants 0 (failed_seal (found None (1 ∷ []) 6 None)) ≡ Some ((0, Fault) ∷ (1, Fault) ∷ (2, Val 1) ∷ [])
   pub failed_seal_gone : handed two_tenants 0 (failed_seal (shut (0 ∷ []))) ≡ Some ((0, Fault) ∷ (1, Fault) ∷ (2, Val 0) ∷ [])
   pub failed_seal_marks : marks 0 (failed_seal (found None (1 ∷ []) 6 None)) ≡ Some (Ask 0 (cas (entry 0 0 1 ∷ [])) ∷ Admit 0 ∷ SealFail 0 ∷ HandOut 0 ∷ Ask 1 (Get 0) ∷ GiveUp 1 ∷ HandOut 1
-      ∷ IsRestart None true true ∷ Ask 2 (Get 0) ∷ Look 2 ∷ HandOut 2 ∷ [])
+      ∷ IsRestart None true true 1 ∷ Ask 2 (Get 0) ∷ Look 2 ∷ HandOut 2 ∷ [])
   pub failed_seal_neighbour : handed two_tenants 1 (failed_seal (shut (0 ∷ []))) ≡ Some ((0, Yes) ∷ (1, Val 1) ∷ [])
   pub failed_prepare_replies : handed smallest 0 (failed_at PreparesFile) ≡ Some ((0, Fault) ∷ (1, Fault) ∷ [])
   pub failed_prepare_marks : marks 0 (failed_at PreparesFile) ≡ Some (Ask 0 (cas (entry 0 0 7 ∷ [])) ∷ Admit 0 ∷ FileFail ∷ GiveUp 0 ∷ HandOut 0
@@ -204,10 +256,17 @@ pub record ComeOut : Type 0 where
   pub worn_replies : handed nearly_worn 0 worn ≡ Some ((0, Yes) ∷ (1, Worn) ∷ (2, Val 1) ∷ [])
   pub torn_gate_open : handed two_words 0 (torn_gate (found (under_way 0 1) (1 ∷ 2 ∷ []) 7 None)) ≡ Some ((1, Val 1) ∷ (2, Val 2) ∷ [])
   pub torn_gate_shut : handed two_words 0 (torn_gate (found (under_way 0 1) (0 ∷ 0 ∷ []) 2 None)) ≡ Some ((1, Val 0) ∷ (2, Val 0) ∷ [])
-  pub torn_gate_marks : marks 0 (torn_gate (found (under_way 0 1) (0 ∷ 0 ∷ []) 2 None)) ≡ Some (Ask 0 (cas (entry 0 0 1 ∷ entry 1 0 2 ∷ [])) ∷ Admit 0 ∷ IsRestart (Some 0) false true
+  pub torn_gate_marks : marks 0 (torn_gate (found (under_way 0 1) (0 ∷ 0 ∷ []) 2 None)) ≡ Some (Ask 0 (cas (entry 0 0 1 ∷ entry 1 0 2 ∷ [])) ∷ Admit 0 ∷ IsRestart (Some 0) false true 1
       ∷ Ask 1 (Get 0) ∷ Look 1 ∷ HandOut 1 ∷ Ask 2 (Get 1) ∷ Look 2 ∷ HandOut 2 ∷ [])
   pub failed_opening_replies : handed two_words 0 failed_opening ≡ Some ((1, Fault) ∷ (2, Val 1) ∷ (3, Val 2) ∷ [])
   pub used_up_replies : handed two_of_one 0 used_up ≡ Some ((1, Busy) ∷ (0, Yes) ∷ (2, Yes) ∷ [])
   pub used_up_neighbour : handed two_of_one 1 used_up ≡ Some ((0, Yes) ∷ [])
   pub stale_reference_replies : handed (config 2 2 (tenant 1 1 ∷ tenant 1 1 ∷ [])) 0 stale_reference ≡ Some ((0, Yes) ∷ (1, Val 1) ∷ [])
   pub stale_reference_neighbour : handed (config 2 2 (tenant 1 1 ∷ tenant 1 1 ∷ [])) 1 stale_reference ≡ Some ((0, Yes) ∷ (1, Yes) ∷ [])
+  pub quota_at_start_replies : handed three_slots 0 (quota_at_start (given 2 (0 ∷ 0 ∷ []))) ≡ Some ((1, Busy) ∷ (3, Yes) ∷ (2, Yes) ∷ [])
+  pub quota_at_start_marks : marks 0 (quota_at_start (given 2 (0 ∷ 0 ∷ []))) ≡ Some (Ask 0 (cas (entry 0 0 1 ∷ [])) ∷ Admit 0 ∷ Ask 1 (cas (entry 1 0 1 ∷ [])) ∷ FoundBusy 1 ∷ HandOut 1
+      ∷ IsRestart None false true 2 ∷ Ask 2 (cas (entry 0 0 1 ∷ [])) ∷ Admit 2 ∷ Ask 3 (cas (entry 1 0 1 ∷ [])) ∷ Admit 3 ∷ Seal 3 ∷ Retire 3 ∷ HandOut 3
+      ∷ Seal 2 ∷ Retire 2 ∷ HandOut 2 ∷ [])
+  pub quota_lowered_replies : handed two_for_one 0 quota_lowered ≡ Some ((1, Busy) ∷ (0, Yes) ∷ [])
+  pub quota_of_failed_start_marks : marks 0 quota_of_failed_start ≡ Some (IsRestart None false false 2 ∷ IsRestart None false true 2 ∷ [])
+  pub same_quota_replies : handed three_slots 0 (quota_at_start (shut (0 ∷ 0 ∷ []))) ≡ Some ((1, Busy) ∷ (3, Busy) ∷ (2, Yes) ∷ [])

@@ -63,6 +63,8 @@ pub record IsServedAlone (config : Config) (openings : ℕ → Opening) (events 
   pub shown : (state.accounts tenant).is_up ≡ true → ShowsStore state tenant (tenant_at config tenant).words store
   -- its file has the store's words, and a crash leaves in doubt what the store says
   pub left : LeavesStore config state tenant store
+  -- it may use as many slots at a time as the store
+  pub quota : (state.accounts tenant).quota ≡ store.quota
 
 -- There is a slot that isn't taken.
 pub record FreeSlot (config : Config) (state : State) : Type 0 where
@@ -71,7 +73,7 @@ pub record FreeSlot (config : Config) (state : State) : Type 0 where
   pub free : (state.cells.gates slot).taken ≡ false
 
 -- A call on a file to which a request has come can be made, in so far as that doesn't rest with the device: its slot is there; and where the
--- call starts and the file hasn't failed, the file's places and the change's entries are as the call needs them.
+-- call starts and the file hasn't failed, the places that may be used and the change's entries are as the call needs them.
 pub record CanBeMade (config : Config) (state : State) (actor : Acting) (called : Called) (file : File) (places : ℕ) : Type 0 where
   pub slot : has_slot config called.change.slot ≡ true
   pub call : starts_from called.call (state.cells.statuses called.change.slot) ≡ true → fails_on called.call file ≡ false
@@ -82,9 +84,10 @@ pub record CanBeFound (config : Config) (state : State) (tenant : ℕ) (interrup
   pub words : List ℕ
   pub found : may_find (is_sealed_then (under_way config state interrupted)) file.contents (doubt_then file (under_way config state interrupted)) words ≡ true
 
--- `step` tests more than which event comes when: whether the place of a step is there, whether a call can be made, whether words may be found.
--- Where this holds none of these tests is false where a request asks for the event. Of a start it says only that some words pass the test, as they do
--- in any world; that those of each image that a crash may leave pass it is for whoever knows the disks to say.
+-- `step` tests more than which event comes when: whether the place of a step is there, whether a call can be made, whether words may be found, whether
+-- quotas fit. Where this holds none of the first two is false where a request asks for the event. Of a start it says only that some words pass the test, as
+-- they do in any world; that those of each image that a crash may leave pass it is for whoever knows the disks to say. (That a start which gives no quota
+-- passes the test of quotas is a law by itself.)
 pub record IsEnabled (config : Config) (state : State) : Type 0 where
   -- a request without a reply that has come to no call on its file asks for a step at a place that is there
   pub steps : (worker : ℕ) (actor : Acting) → (state.seats worker).actor ≡ Some actor → replied actor ≡ None → called_at actor.point ≡ None
@@ -115,12 +118,12 @@ abbrev pub EveryRunServesAlone : Type 0
 EveryRunServesAlone = (config : Config) (openings : ℕ → Opening) (events : List Happening) (state : State) (tenant : ℕ) → IsRun config openings events state
     → tenant < tenants_of config → IsServedAlone config openings events state tenant
 
--- Runs of two worlds, which may have nothing else in common, hand out the same replies to two tenants that began alike, with the same words and the same
--- quota and their files open or not alike, and that have the same marks.
+-- Runs of two worlds, which may have nothing else in common, hand out the same replies to two tenants whose stores began alike, with the same words and the
+-- same quota and their files open or not alike, and that have the same marks.
 abbrev pub EqualMarksHaveEqualReplies : Type 0
 EqualMarksHaveEqualReplies = (config other : Config) (openings starts : ℕ → Opening) (events others : List Happening) (state there : State) (tenant its : ℕ)
     → IsRun config openings events state → IsRun other starts others there → tenant < tenants_of config → its < tenants_of other
-    → openings tenant ≡ starts its → marks_of state tenant ≡ marks_of there its
+    → store_at (openings tenant) ≡ store_at (starts its) → marks_of state tenant ≡ marks_of there its
     → replies_to config tenant (world_at config openings) events ≡ replies_to other its (world_at other starts) others
 
 -- Numbers are used up in long runs alone: while a run has fewer events than there are numbers from the first one on, there are numbers left.

@@ -20,7 +20,7 @@ use Rattle.mw_world.specs.Definition.Counting.{pins_held, frees_at, waits_for, o
 use Rattle.mw_world.specs.Definition.History.{History, Resting, Stands, Idle, Armed, has, new, standing_at, arm_at}
 use Rattle.mw_world.specs.Definition.Logical.{logical}
 use Rattle.mw_world.specs.Claim.Owing.{IsEntryAt, IsOwed, IsOwner, IsCleaner}
-use Rattle.mw_world.specs.Definition.State.{State, Account, QuotasFit, quotas_of, tenant_at, tenants_of}
+use Rattle.mw_world.specs.Definition.State.{State, Account, QuotasFit, places_of, quotas_of, tenant_at, tenants_of}
 
 -- Requests.
 
@@ -292,7 +292,7 @@ pub record CountsAreRight (config : Config) (state : State) : Type 0 where
   pub doors : (tenant : ℕ) → tenant < tenants_of config → (state.cells.doors tenant).used
       ≡ slots_taken_for state tenant config.pool + over_workers (waits_for tenant) state.seats config.workers
   pub quotas : (tenant : ℕ) → tenant < tenants_of config → (state.cells.doors tenant).used ≤ (state.accounts tenant).quota
-  pub limits : QuotasFit config (quotas_of state)
+  pub limits : QuotasFit config (quotas_of state) (places_of state)
 
 -- All of this, by its subject. References, attempts, late finishers, owed words and the sealed changes of a file are what no step of a
 -- late worker may harm; the rest is what they stand on.

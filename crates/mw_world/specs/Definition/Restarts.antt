@@ -1,6 +1,6 @@
--- All stops and starts again: which calls may have been under way, what may be found of each file, and the world after it.
+-- All stops and starts again: which calls may have been under way, what may be found of each file, which quotas may be given, and the world after it.
 use Rattle.std.specs.Prelude.{ℕ, zero, suc, ◌==◌, ◌&&◌, Bool, true, false, if◌then◌else◌, List, [], ◌∷◌, ◌++◌, nat_le, is_none, length, slice_index_or, Option, Some, None}
-use Rattle.std.specs.Option.{option_map}
+use Rattle.std.specs.Option.{option_map, unwrap_or}
 use Rattle.mw_words.specs.declared.jobs.Entry.{Entry}
 use Rattle.mw_lone.specs.declared.marks.Mark.TheVariants.{Restart as IsRestart}
 use Rattle.mw_look.specs.declared.steps.Call.{Call}
@@ -11,7 +11,7 @@ use Rattle.mw_world.specs.declared.config.Config.{Config}
 use Rattle.mw_world.specs.declared.events.Interrupted.{Interrupted}
 use Rattle.mw_world.specs.Definition.Extent.{has_slot}
 use Rattle.mw_world.specs.Definition.Happenings.{Found}
-use Rattle.mw_world.specs.Definition.State.{State, Account, tenants_of, marks_in, started}
+use Rattle.mw_world.specs.Definition.State.{State, Account, may_be_quotas, places_of, tenants_of, marks_in, started}
 use Rattle.mw_world.specs.Definition.Calls.{Called, called_at, calls_made, can_be_made, place_for}
 -- what may be found of the file alone
 pub use Rattle.mw_world_file.specs.Restarts.{doubt_if, is_whole_seal, takes, may_find, may_fail, opened_file}
@@ -91,7 +91,7 @@ may_be_found config state tenant found =
 
 -- nothing was found; past the last tenant
 abbrev pub nothing_found : Found
-nothing_found = record { interrupted = None; words = []; opening_calls = 0; fails_at = None }
+nothing_found = record { interrupted = None; words = []; opening_calls = 0; fails_at = None; quota = None }
 
 abbrev pub found_of : List Found → ℕ → Found
 found_of founds tenant = slice_index_or founds tenant nothing_found
@@ -101,26 +101,37 @@ abbrev pub may_all_be_found : Config → State → List Found → ℕ → Bool
 may_all_be_found config state founds zero = true
 may_all_be_found config state founds (suc tenant) = may_all_be_found config state founds tenant && may_be_found config state tenant (found_of founds tenant)
 
+-- a tenant's quota from a start on: the one that is given, else the one before
+abbrev pub quota_then : Account → Found → ℕ
+quota_then account found = unwrap_or found.quota account.quota
+
+-- the tenants' quotas from a start on
+abbrev pub quotas_then : State → List Found → ℕ → ℕ
+quotas_then state founds tenant = quota_then (state.accounts tenant) (found_of founds tenant)
+
 -- a tenant's account after a start at which this was found of its file, with this call under way
 abbrev pub reopened : Account → Found → Option UnderWay → Account
 reopened account found call = record {
   file = opened_file found.words found.fails_at;
-  quota = account.quota;
+  quota = quota_then account found;
+  places = account.places;
   asked = account.asked;
   is_up = is_none found.fails_at;
   closed = account.closed ++ marks_in account.lines
-      ++ IsRestart (interrupted_request call) (takes account.file.contents (doubt_then account.file call) found.words) (is_none found.fails_at) ∷ [];
+      ++ IsRestart (interrupted_request call) (takes account.file.contents (doubt_then account.file call) found.words) (is_none found.fails_at)
+      (quota_then account found) ∷ [];
   lines = [];
 }
 
--- the world after a start, by what was found of each tenant's file
+-- the world after a start, by what was found of each tenant's file and which quotas were given
 abbrev pub restarted : Config → State → List Found → State
 restarted config state founds =
     started config (λ tenant. reopened (state.accounts tenant) (found_of founds tenant) (under_way config state (found_of founds tenant).interrupted))
 
--- All stops and starts again.
+-- All stops and starts again. The tenants' quotas from then on, those that stay as they are too, are each 1 to MAX_QUOTA and no more than the file's
+-- places, and together no more than the pool.
 abbrev pub restart : Config → State → List Found → Option State
 restart config state founds =
-    if (length founds == tenants_of config) && may_all_be_found config state founds (tenants_of config)
+    if (length founds == tenants_of config) && may_all_be_found config state founds (tenants_of config) && may_be_quotas config (quotas_then state founds) (places_of state)
     then Some (restarted config state founds)
     else None

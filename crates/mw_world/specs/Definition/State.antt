@@ -9,10 +9,11 @@ use Rattle.mw_words.specs.declared.jobs.Entry.{Entry}
 use Rattle.mw_words.specs.Change.{AreWords, is_change, put, word_at}
 use Rattle.mw_words.specs.declared.limits.TheConstants.{MAX_POOL, MAX_QUOTA, MAX_TENANTS, MAX_WORDS, MAX_WORKERS, WORN_NUMBER}
 use Rattle.mw_lone.specs.declared.marks.Mark.{Mark}
-use Rattle.mw_lone.specs.Store.{Store, new_store, store_after_start, run as run_of_store}
+use Rattle.mw_lone.specs.Store.{Store, is_quota, new_store, store_after_start, run as run_of_store}
 use Rattle.mw_actor.specs.Acting.{Acting}
-use Rattle.mw_world_file.specs.declared.unopened.TheConstants.{OLD_ENTRIES}
+use Rattle.mw_world_file.specs.declared.unopened.TheConstants.{OLD_ENTRIES, OLD_PLACES}
 use Rattle.mw_world_file.specs.Files.{File, file_of}
+use Rattle.mw_world_file.specs.FirstPlaces.{first_places}
 use Rattle.mw_world.specs.declared.config.Config.{Config}
 use Rattle.mw_world.specs.declared.config.Tenant.{Tenant}
 use Rattle.mw_world.specs.Definition.Cells.{Cells}
@@ -33,9 +34,10 @@ pub record Seat : Type 0 where
 -- A tenant, but for its shared words.
 pub record Account : Type 0 where
   pub file : File
-  -- how many slots it may use at a time, as the start gave it with which the run began; its file has at least as many places for changes, and only so
-  -- many are ever used
+  -- how many slots it may use at a time, since the last start; and how many places for changes its file has, or has once a start has opened it, if none
+  -- has. As many of these are used as the quota says.
   pub quota : ℕ
+  pub places : ℕ
   -- the number of its next request; numbers go on when all stops and starts again
   pub asked : ℕ
   -- Of its history: its file opened at the last start; the marks up to and with that start; and those since, some of which are
@@ -75,13 +77,13 @@ marks_of state tenant = (state.accounts tenant).closed ++ marks_in (state.accoun
 abbrev pub is_old : ℕ → List Entry → Bool
 is_old words entries = is_change words entries && nat_le (length entries) OLD_ENTRIES
 
--- the same of the change of a tenant that has one; where the file is new there is none
-abbrev pub may_be_old : ℕ → Option (ArrayVec Entry) → Bool
-may_be_old words None = true
-may_be_old words (Some change) = is_old words change.items
+-- the same of the change of a tenant that has one, and such a file may have as many places as its quota; where the file is new there is none
+abbrev pub may_be_old : ℕ → ℕ → Option (ArrayVec Entry) → Bool
+may_be_old words quota None = true
+may_be_old words quota (Some change) = is_old words change.items && nat_le quota OLD_PLACES
 
--- A world may be made of this: there is a tenant, a worker and a slot, each number is within its limits, each change in an old file is
--- well formed, and the pool has slots for all quotas together.
+-- A world may be made of this: there is a tenant, a worker and a slot, each number is within its limits, each old file's change is well
+-- formed and its tenant's quota one for which such a file has places, and the pool has slots for all quotas together.
 pub record IsConfig (config : Config) : Type 0 where
   pub pool : (1 ≤ config.pool) × (config.pool ≤ MAX_POOL)
   pub workers : (1 ≤ config.workers) × (config.workers ≤ MAX_WORKERS)
@@ -89,7 +91,7 @@ pub record IsConfig (config : Config) : Type 0 where
   pub tenants : (1 ≤ tenants_of config) × (tenants_of config ≤ MAX_TENANTS)
   pub words : All (λ tenant. (1 ≤ tenant.words) × (tenant.words ≤ MAX_WORDS)) config.tenants.items
   pub quotas : All (λ tenant. (1 ≤ tenant.quota) × (tenant.quota ≤ MAX_QUOTA)) config.tenants.items
-  pub old : All (λ tenant. IsTrue (may_be_old tenant.words tenant.old)) config.tenants.items
+  pub old : All (λ tenant. IsTrue (may_be_old tenant.words tenant.quota tenant.old)) config.tenants.items
   pub slots : sum_by (λ tenant. tenant.quota) config.tenants.items ≤ config.pool
 
 -- a worker that has no request, and whose next attempt is its first
@@ -120,10 +122,11 @@ started config accounts = record {
   history = no_history;
 }
 
--- What a start gave a tenant: its quota; the words of its file; and whether the file opened. Where it didn't, any words, as many as the tenant has:
--- nobody was told them, and a later start may find them.
+-- What a start gave a tenant: its quota; the places of its file; the words of the file; and whether the file opened. Where it didn't, any places, at least
+-- as many as the quota, and any words, as many as the tenant has: nobody was told them, and a later start may find them.
 pub record Opening : Type 0 where
   pub quota : ℕ
+  pub places : ℕ
   pub words : List ℕ
   pub is_up : Bool
 
@@ -132,6 +135,7 @@ abbrev pub account_at : Opening → Account
 account_at opening = record {
   file = record (file_of opening.words) { has_failed = not opening.is_up };
   quota = opening.quota;
+  places = opening.places;
   asked = 0;
   is_up = opening.is_up;
   closed = [];
@@ -140,26 +144,39 @@ account_at opening = record {
 
 -- the store alone that begins so
 abbrev pub store_at : Opening → Store
-store_at opening = store_after_start (new_store opening.words opening.quota) opening.words opening.is_up
+store_at opening = store_after_start (new_store opening.words opening.quota) opening.words opening.is_up opening.quota
 
 -- the quotas of so many tenants together
 abbrev pub quotas_together : (ℕ → ℕ) → ℕ → ℕ
 quotas_together quotas zero = 0
 quotas_together quotas (suc tenant) = quotas_together quotas tenant + quotas tenant
 
--- Each quota is within its limits, and the pool has slots for all of them together.
-pub record QuotasFit (config : Config) (quotas : ℕ → ℕ) : Type 0 where
+-- Each quota is 1 to MAX_QUOTA, each tenant's file has at least as many places, and the pool has slots for all quotas together.
+pub record QuotasFit (config : Config) (quotas places : ℕ → ℕ) : Type 0 where
   pub each : (tenant : ℕ) → tenant < tenants_of config → (1 ≤ quotas tenant) × (quotas tenant ≤ MAX_QUOTA)
+  pub room : (tenant : ℕ) → tenant < tenants_of config → quotas tenant ≤ places tenant
   pub together : quotas_together quotas (tenants_of config) ≤ config.pool
 
--- the tenants' quotas now
+-- a test of the first so many tenants: each quota is 1 to MAX_QUOTA, and the tenant's file has at least as many places
+abbrev pub each_fits : (ℕ → ℕ) → (ℕ → ℕ) → ℕ → Bool
+each_fits quotas places zero = true
+each_fits quotas places (suc tenant) = each_fits quotas places tenant && is_quota (quotas tenant) && nat_le (quotas tenant) (places tenant)
+
+-- a test of all tenants, that is true just where their quotas fit
+abbrev pub may_be_quotas : Config → (ℕ → ℕ) → (ℕ → ℕ) → Bool
+may_be_quotas config quotas places = each_fits quotas places (tenants_of config) && nat_le (quotas_together quotas (tenants_of config)) config.pool
+
+-- the tenants' quotas now, and how many places their files have
 abbrev pub quotas_of : State → ℕ → ℕ
 quotas_of state tenant = (state.accounts tenant).quota
+
+abbrev pub places_of : State → ℕ → ℕ
+places_of state tenant = (state.accounts tenant).places
 
 -- A start of a server of this configuration may give this: quotas that fit, and to each tenant as many words as it has, each of which is at most
 -- the greatest value.
 pub record IsStart (config : Config) (openings : ℕ → Opening) : Type 0 where
-  pub quotas : QuotasFit config (λ tenant. (openings tenant).quota)
+  pub quotas : QuotasFit config (λ tenant. (openings tenant).quota) (λ tenant. (openings tenant).places)
   pub long : (tenant : ℕ) → tenant < tenants_of config → length (openings tenant).words ≡ (tenant_at config tenant).words
   pub words : (tenant : ℕ) → AreWords (openings tenant).words
 
@@ -180,10 +197,10 @@ old_entries (Some change) = change.items
 abbrev pub first_words_of : Tenant → List ℕ
 first_words_of tenant = put (replicate tenant.words 0) (old_entries tenant.old)
 
--- The first start of all: each tenant has the quota of the configuration, and the words of its first file. A new file opened; an old one didn't,
--- until a later start opens it.
+-- The first start of all: each tenant has the quota of the configuration, and its first file with the places and the words of that. A new file opened;
+-- an old one didn't, until a later start opens it.
 abbrev pub first_opening_of : Tenant → Opening
-first_opening_of tenant = record { quota = tenant.quota; words = first_words_of tenant; is_up = is_none tenant.old }
+first_opening_of tenant = record { quota = tenant.quota; places = first_places tenant.quota; words = first_words_of tenant; is_up = is_none tenant.old }
 
 abbrev pub first_openings : Config → ℕ → Opening
 first_openings config tenant = first_opening_of (tenant_at config tenant)

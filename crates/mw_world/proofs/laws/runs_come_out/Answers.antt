@@ -3,7 +3,8 @@ use Rattle.mw_world.proofs.laws.runs_come_out.Goals as goal
 
 pub returns : goal.returns
 returns c = record {
-  refused = record { busy_worker = refl; step_of_a_call = refl; third_device_call = refl; no_reply = refl; too_many_made = refl; idle_worker = refl; short_opening = refl; other_words = refl; unsealed_words = refl; lost_seal = refl; no_device_call = refl; no_opening_call = refl; forgotten_tenant = refl; no_such_word = refl; no_such_tenant = refl; no_such_worker = refl };
+  refused = record { busy_worker = refl; step_of_a_call = refl; third_device_call = refl; no_reply = refl; too_many_made = refl; idle_worker = refl; short_opening = refl; other_words = refl; unsealed_words = refl; lost_seal = refl; no_device_call = refl; no_opening_call = refl; forgotten_tenant = refl; no_quota = refl; above_places = refl; above_pool = refl; above_pool_together = refl; no_such_word = refl; no_such_tenant = refl; no_such_worker = refl };
+  taken = record { same_quota = refl; twice = refl; twice_of_old = refl; greatest = refl };
   half_way_words = (refl, refl);
   half_way_values = (refl, refl);
   one_change_word = refl;
@@ -30,4 +31,9 @@ returns c = record {
   used_up_neighbour = refl;
   stale_reference_replies = refl;
   stale_reference_neighbour = refl;
+  quota_at_start_replies = refl;
+  quota_at_start_marks = refl;
+  quota_lowered_replies = refl;
+  quota_of_failed_start_marks = refl;
+  same_quota_replies = refl;
 }
