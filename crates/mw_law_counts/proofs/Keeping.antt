@@ -21,7 +21,7 @@ step_keeps config state (Come worker tenant job) next stand rest e = come_keeps 
 step_keeps config state (Step worker) next stand rest e = turn_keeps config state worker stand rest (state.seats worker).actor next refl e
 step_keeps config state (File worker outcome) next stand rest e = call_keeps config state worker stand (state.seats worker).actor outcome next refl e
 step_keeps config state (Hand worker) next stand rest e = hand_keeps config state worker (state.seats worker).actor next stand refl e
-step_keeps config state (Restart founds) next stand rest e = restart_keeps config state founds next stand e
+step_keeps config state (Restart founds) next stand rest e = restart_keeps config state founds next e
 
 none_some : {A : Type 0} (x : A) → None ≡ Some x → ⊥
 none_some x e = cc

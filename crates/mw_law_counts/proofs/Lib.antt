@@ -10,6 +10,7 @@ pub mod ReadBalance
 pub mod ReadSteps
 pub mod Room
 pub mod Shifts
+pub mod Startable
 pub mod Starting
 pub mod Sums
 pub mod Turning

@@ -42,7 +42,7 @@ use Rattle.mw_law_counts.specs.Ready.{IsReady}
 use Rattle.mw_law_counts.specs.Standing.{CountsStand}
 use Rattle.mw_law_counts.proofs.Effects.{quiet as moves_nothing}
 use Rattle.mw_law_counts.proofs.Points.{PointHolds, IsQuiet, IsQuietRead, quiet_goes}
-use Rattle.mw_law_counts.proofs.Shifts.{Shifts, Counts, of_point, of_request, same_quota, shifted}
+use Rattle.mw_law_counts.proofs.Shifts.{Shifts, Counts, of_point, of_request, same_share, shifted}
 
 -- the step touches no gate and no door
 abbrev IsAsidePlace : At → Type 0
@@ -219,7 +219,7 @@ goes_on config state worker actor made held frees waits stand low is on shift =
     (λ other same. subst (λ a. IsOfWorker config worker a) (same_some next other same) (still_its config worker actor made.news number (stand.seats worker actor is)))
     (λ other same. subst (λ a. IsReady a a.point) (same_some next other same) held_next.ready)
     (λ other same. subst (λ (a : Acting). a.quota ≡ (state.accounts a.tenant).quota) (same_some next other same) (stand.quotas worker actor is))
-    (same_quota state.accounts actor.tenant (accounted (state.accounts actor.tenant) (state.seats worker) made state) refl)
+    (same_share state.accounts actor.tenant (accounted (state.accounts actor.tenant) (state.seats worker) made state) (refl, refl))
     shift
 
 -- A quiet step keeps the counts, whatever else it made.

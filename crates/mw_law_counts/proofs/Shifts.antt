@@ -8,7 +8,7 @@ use Rattle.mw_world.specs.declared.config.Config.{Config}
 use Rattle.mw_world.specs.Definition.Counting.{pins_held, frees_at, waits_for, waits_at, counted, over_workers, slots_taken_for}
 use Rattle.mw_world.specs.Claim.Invariant.{IsPinnedAs, IsOfWorker}
 use Rattle.mw_world_file.specs.Maps.{upd}
-use Rattle.mw_world.specs.Definition.State.{Account, State, Seat, QuotasFit, quotas_of, quotas_together, tenants_of}
+use Rattle.mw_world.specs.Definition.State.{Account, State, Seat, QuotasFit, places_of, quotas_of, quotas_together, tenants_of}
 use Rattle.mw_law_counts.specs.Ready.{IsReady}
 use Rattle.mw_law_counts.specs.Sides.{left_pin, idle}
 use Rattle.mw_law_counts.specs.Standing.{CountsStand}
@@ -169,10 +169,12 @@ over_later counts state later worker seat was is n low seats old new =
     let same : over_workers counts later.seats n ≡ over_workers counts (upd state.seats worker seat) n = ap (λ s. over_workers counts s n) seats in
     omega (arith, sums, same, old, new)
 
--- a tenant with the same quota
-pub same_quota : (accounts : ℕ → Account) (own : ℕ) (account : Account) → account.quota ≡ (accounts own).quota → (tenant : ℕ)
-    → (upd accounts own account tenant).quota ≡ (accounts tenant).quota
-same_quota accounts own account same tenant = grind (arith, nat_tests, same)
+-- a tenant has the same quota, and its file as many places
+abbrev pub SameShare : Account → Account → Type 0
+SameShare one other = (one.quota ≡ other.quota) × (one.places ≡ other.places)
+
+pub same_share : (accounts : ℕ → Account) (own : ℕ) (account : Account) → SameShare account (accounts own) → (tenant : ℕ) → SameShare (upd accounts own account tenant) (accounts tenant)
+same_share accounts own account same tenant = (grind (arith, nat_tests, same.0), grind (arith, nat_tests, same.1))
 
 -- what was so of the others' requests is so
 still_so : (P : ℕ → Acting → Type 0) (state later : State) (worker : ℕ) (seat : Seat) → later.seats ≡ upd state.seats worker seat
@@ -190,10 +192,12 @@ still_so P state later worker seat seats were here other actor is = elim (cases_
     set_else : (k : ℕ) → k ≢ worker → upd state.seats worker seat k ≡ state.seats k
     set_else k apart = grind (arith, nat_tests, apart)
 
--- quotas that are the same fit too
-quotas_fit_still : (config : Config) (old new : ℕ → ℕ) → ((tenant : ℕ) → new tenant ≡ old tenant) → QuotasFit config old → QuotasFit config new
-quotas_fit_still config old new same fit = record {
+-- quotas that are the same fit too, where files have as many places
+quotas_fit_still : (config : Config) (old new places still : ℕ → ℕ) → ((tenant : ℕ) → new tenant ≡ old tenant) → ((tenant : ℕ) → still tenant ≡ places tenant)
+    → QuotasFit config old places → QuotasFit config new still
+quotas_fit_still config old new places still same as_many fit = record {
   each = λ tenant low. (omega (arith, same tenant, (fit.each tenant low).0), omega (arith, same tenant, (fit.each tenant low).1));
+  room = λ tenant low. omega (arith, same tenant, as_many tenant, fit.room tenant low);
   together = omega (arith, same_together (tenants_of config), fit.together);
 }
   where
@@ -201,12 +205,12 @@ quotas_fit_still config old new same fit = record {
     same_together zero = refl
     same_together (suc n) = omega (arith, same n, same_together n)
 
--- The counts stand where one worker goes on and both sides of each count change by the same; quotas stay.
+-- The counts stand where one worker goes on and both sides of each count change by the same; quotas and places stay.
 pub shifted : (config : Config) (state later : State) (worker own : ℕ) (seat : Seat) (had freed held frees : ℕ → ℕ) (waited waits : ℕ)
     → CountsStand config state → worker < config.workers → later.seats ≡ upd state.seats worker seat
     → Counts own had freed waited (state.seats worker).actor → Counts own held frees waits seat.actor
     → ((actor : Acting) → seat.actor ≡ Some actor → IsOfWorker config worker actor) → ((actor : Acting) → seat.actor ≡ Some actor → IsReady actor actor.point)
-    → ((actor : Acting) → seat.actor ≡ Some actor → actor.quota ≡ (state.accounts actor.tenant).quota) → ((tenant : ℕ) → (later.accounts tenant).quota ≡ (state.accounts tenant).quota)
+    → ((actor : Acting) → seat.actor ≡ Some actor → actor.quota ≡ (state.accounts actor.tenant).quota) → ((tenant : ℕ) → SameShare (later.accounts tenant) (state.accounts tenant))
     → Shifts config state later own had freed held frees waited waits → CountsStand config later
 shifted config state later worker own seat had freed held frees waited waits stand low seats old new its ready quota kept on = record {
   counts = record {
@@ -219,13 +223,13 @@ shifted config state later worker own seat had freed held frees waited waits sta
       on.doors tenant there,
       over_later (waits_for tenant) state later worker seat (of_tenant own waited tenant) (of_tenant own waits tenant) config.workers low seats (old.waits_are tenant) (new.waits_are tenant),
     );
-    quotas = λ tenant there. omega (arith, on.quotas tenant there, kept tenant);
-    limits = quotas_fit_still config (quotas_of state) (quotas_of later) kept stand.counts.limits;
+    quotas = λ tenant there. omega (arith, on.quotas tenant there, (kept tenant).0);
+    limits = quotas_fit_still config (quotas_of state) (quotas_of later) (places_of state) (places_of later) (λ tenant. (kept tenant).0) (λ tenant. (kept tenant).1) stand.counts.limits;
   };
   unpinned = on.unpinned;
   tenants = on.taken_for;
   quotas = still_so (λ other actor. actor.quota ≡ (later.accounts actor.tenant).quota) state later worker seat seats
-      (λ other actor is. stand.quotas other actor is ∙ sym (kept actor.tenant)) (λ actor is. quota actor is ∙ sym (kept actor.tenant));
+      (λ other actor is. stand.quotas other actor is ∙ sym (kept actor.tenant).0) (λ actor is. quota actor is ∙ sym (kept actor.tenant).0);
   seats = still_so (IsOfWorker config) state later worker seat seats stand.seats its;
   ready = still_so (λ other actor. IsReady actor actor.point) state later worker seat seats stand.ready ready;
 }

@@ -16,7 +16,7 @@ use Rattle.mw_world.specs.declared.config.Config.{Config}
 use Rattle.mw_world.specs.Definition.Counting.{pins_held, frees_at, waits_for, over_workers, slots_taken_for}
 use Rattle.mw_world.specs.Definition.Happenings.{Found}
 use Rattle.mw_world.specs.Claim.Invariant.{IsOfWorker}
-use Rattle.mw_world.specs.Definition.Restarts.{restart, restarted, reopened, found_of, under_way, may_all_be_found}
+use Rattle.mw_world.specs.Definition.Restarts.{restart, restarted, reopened, found_of, under_way}
 use Rattle.mw_world.specs.Definition.Requests.{came, gave}
 use Rattle.mw_words.specs.Change.{is_well_formed}
 use Rattle.mw_world.specs.Definition.State.{State, Account, QuotasFit, started, idle_seat, tenant_at, tenants_of}
@@ -25,7 +25,8 @@ use Rattle.mw_law_counts.specs.Ready.{IsReady}
 use Rattle.mw_law_counts.specs.Standing.{CountsStand}
 use Rattle.mw_law_counts.proofs.Effects.{quiet}
 use Rattle.mw_law_counts.proofs.Points.{PointHolds}
-use Rattle.mw_law_counts.proofs.Shifts.{Counts, of_point, of_idle, same_quota, shifted}
+use Rattle.mw_law_counts.proofs.Shifts.{Counts, of_point, of_idle, same_share, shifted}
+use Rattle.mw_law_counts.proofs.Startable.{may_start, start_tells}
 
 none_some : {A : Type 0} (x : A) → None ≡ Some x → ⊥
 none_some x e = cc
@@ -46,7 +47,7 @@ false_true : false ≡ true → ⊥
 false_true e = cc
 
 -- The counts stand at every start.
-pub start_stands : (config : Config) (accounts : ℕ → Account) → QuotasFit config (λ tenant. (accounts tenant).quota) → CountsStand config (started config accounts)
+pub start_stands : (config : Config) (accounts : ℕ → Account) → QuotasFit config (λ tenant. (accounts tenant).quota) (λ tenant. (accounts tenant).places) → CountsStand config (started config accounts)
 start_stands config accounts fit = record {
   counts = record {
     pins = λ slot. grind (arith, nat_tests, none_idle (λ actor. pins_held slot actor.point) config.workers);
@@ -106,7 +107,7 @@ came_stands config state worker tenant job stand low known formed idle =
     (λ actor is. subst (λ a. IsOfWorker config worker a) (same_some request actor is) (record { there = low; same_worker = refl; tenant = known; pool = refl; job = formed }))
     (λ actor is. subst (λ a. IsReady a a.point) (same_some request actor is) begins_with.ready)
     (λ actor is. subst (λ (a : Acting). a.quota ≡ (state.accounts a.tenant).quota) (same_some request actor is) refl)
-    (same_quota state.accounts tenant (asked (state.accounts tenant) job) refl)
+    (same_share state.accounts tenant (asked (state.accounts tenant) job) (refl, refl))
     (quiet config state (came config state worker tenant job) stand tenant (λ slot. 0) (λ slot. 0) 0 (λ slot. refl) (λ other. refl) (λ slot seq. refl) (λ slot seq. refl))
 
 -- A request that comes keeps the counts.
@@ -141,7 +142,7 @@ gave_stands config state worker actor reply stand low is said =
     (λ other e. absurd (none_some other e))
     (λ other e. absurd (none_some other e))
     (λ other e. absurd (none_some other e))
-    (same_quota state.accounts actor.tenant _ refl)
+    (same_share state.accounts actor.tenant _ (refl, refl))
     (quiet config state (gave state worker actor.tenant) stand actor.tenant (λ slot. 0) (λ slot. 0) 0 (λ slot. refl) (λ other. refl) (λ slot seq. refl) (λ slot seq. refl))
 
 handed_keeps : (config : Config) (state : State) (worker : ℕ) (actor : Acting) (reply : Option Reply) (next : State) → CountsStand config state → worker < config.workers → (state.seats worker).actor ≡ Some actor
@@ -156,8 +157,8 @@ pub hand_keeps : (config : Config) (state : State) (worker : ℕ) (request : Opt
 hand_keeps config state worker None next stand is e = absurd (none_some next e)
 hand_keeps config state worker (Some actor) next stand is e = handed_keeps config state worker actor (replied actor) next stand (stand.seats worker actor is).there is refl e
 
--- All stops and starts again: the counts stand.
-pub restart_keeps : (config : Config) (state : State) (founds : List Found) (next : State) → CountsStand config state → restart config state founds ≡ Some next → CountsStand config next
-restart_keeps config state founds next stand e =
-    guarded (CountsStand config) ((length founds == tenants_of config) && may_all_be_found config state founds (tenants_of config)) (restarted config state founds) next
-    (λ may. start_stands config (λ tenant. reopened (state.accounts tenant) (found_of founds tenant) (under_way config state (found_of founds tenant).interrupted)) stand.counts.limits) e
+-- All stops and starts again: the counts stand, since the quotas that the start gives fit.
+pub restart_keeps : (config : Config) (state : State) (founds : List Found) (next : State) → restart config state founds ≡ Some next → CountsStand config next
+restart_keeps config state founds next e =
+    guarded (CountsStand config) (may_start config state founds) (restarted config state founds) next
+    (λ may. start_stands config (λ tenant. reopened (state.accounts tenant) (found_of founds tenant) (under_way config state (found_of founds tenant).interrupted)) (start_tells config state founds may).quotas) e

@@ -11,8 +11,8 @@ use Rattle.mw_actor.specs.Acting.{Acting}
 use Rattle.mw_actor.specs.Program.{replied}
 use Rattle.mw_world.specs.Definition.Cells.{read}
 use Rattle.mw_world_file.specs.Maps.{upd}
-use Rattle.mw_world.specs.Definition.Restarts.{restarted, found_of, may_all_be_found, reopened, under_way, opened_file}
-use Rattle.mw_world.specs.Definition.State.{State, Seat, tenants_of}
+use Rattle.mw_world.specs.Definition.Restarts.{restarted, found_of, may_all_be_found, quotas_then, reopened, under_way, opened_file}
+use Rattle.mw_world.specs.Definition.State.{State, Seat, may_be_quotas, places_of, tenants_of}
 use Rattle.mw_world.specs.Definition.Requests.{came, gave}
 use Rattle.mw_world.specs.Definition.World.{may_come, handed, hand}
 use Rattle.mw_law_moves.specs.Memory.{Memory}
@@ -82,6 +82,6 @@ opened_words words (Some number) address low = low
 pub restarts_have : RestartsHaveMemory
 restarts_have config state next founds is low came =
     subst (λ (one : State). Memory config one)
-    (if_some ((length founds == tenants_of config) && may_all_be_found config state founds (tenants_of config)) (restarted config state founds) next came)
+    (if_some ((length founds == tenants_of config) && may_all_be_found config state founds (tenants_of config) && may_be_quotas config (quotas_then state founds) (places_of state)) (restarted config state founds) next came)
     (starts_have_memory config (λ tenant. reopened (state.accounts tenant) (found_of founds tenant) (under_way config state (found_of founds tenant).interrupted)) is
     (λ tenant address. opened_words (found_of founds tenant).words (found_of founds tenant).fails_at address (low tenant address)))

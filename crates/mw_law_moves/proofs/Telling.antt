@@ -29,8 +29,8 @@ use Rattle.mw_world.specs.Definition.Happenings.{Found, Come, Step as StepEvent,
 use Rattle.mw_world.specs.Definition.History.{History, Resting, Idle, Standing, Arm, standing_at, arm_at}
 use Rattle.mw_world_file.specs.Maps.{upd}
 use Rattle.mw_world.specs.Definition.Noting.{noted}
-use Rattle.mw_world.specs.Definition.Restarts.{restarted, may_all_be_found}
-use Rattle.mw_world.specs.Definition.State.{State, Seat, tenant_at, tenants_of}
+use Rattle.mw_world.specs.Definition.Restarts.{restarted, may_all_be_found, quotas_then}
+use Rattle.mw_world.specs.Definition.State.{State, Seat, may_be_quotas, places_of, tenant_at, tenants_of}
 use Rattle.mw_world.specs.Definition.Requests.{came, gave}
 use Rattle.mw_world.specs.Definition.Turns.{turn, turned, may_make, moved, moved_to, made_of, next_attempt, Made}
 use Rattle.mw_world.specs.Definition.World.{may_come, handed, hand}
@@ -200,4 +200,4 @@ events_tell_points config state next (StepEvent worker) points is = turn_tells c
 events_tell_points config state next (File worker outcome) points is = call_tells config state next worker (state.seats worker).actor outcome points is
 events_tell_points config state next (Hand worker) points is = hand_tells state next worker (state.seats worker).actor refl points is
 events_tell_points config state next (Restart founds) points is =
-    subst PointsAreTold (if_some ((length founds == tenants_of config) && may_all_be_found config state founds (tenants_of config)) (restarted config state founds) next is) (restarted_tells config state founds)
+    subst PointsAreTold (if_some ((length founds == tenants_of config) && may_all_be_found config state founds (tenants_of config) && may_be_quotas config (quotas_then state founds) (places_of state)) (restarted config state founds) next is) (restarted_tells config state founds)

@@ -22,7 +22,7 @@ use Rattle.mw_world.specs.declared.config.Config.{Config}
 use Rattle.mw_world.specs.declared.config.Tenant.{Tenant}
 use Rattle.mw_world.specs.Definition.Counting.{pins_held, pin_of}
 use Rattle.mw_world.specs.Definition.Happenings.{Come, Hand, Restart}
-use Rattle.mw_world.specs.Definition.Restarts.{restart, restarted, may_all_be_found}
+use Rattle.mw_world.specs.Definition.Restarts.{restart, restarted}
 use Rattle.mw_world.specs.Definition.State.{State, Seat, Account, IsConfig, account_at, started, no_tenant, tenant_at, tenants_of}
 use Rattle.mw_world.specs.Definition.Requests.{came, gave}
 use Rattle.mw_world.specs.Definition.World.{come, hand, handed, may_come}
@@ -32,6 +32,7 @@ use Rattle.mw_law_moves.proofs.Starting.{starts_have_memory}
 use Rattle.mw_law_moves.proofs.Stepping.{comes_leave, hands_leave, restarts_have}
 use Rattle.mw_law_moves.proofs.Telling.{events_tell_points}
 use Rattle.mw_law_counts.proofs.Keeping.{openings_stand, step_keeps}
+use Rattle.mw_law_counts.proofs.Startable.{may_start}
 use Rattle.mw_law_runs.proofs.Knowledge.Deeds.Keeping.{upd_here, upd_else}
 use Rattle.mw_law_runs.specs.Owed.{WordsAreOwed, IsOwnerOf, IsCleanerOf}
 use Rattle.mw_law_runs.specs.Laws.{ComesKeepSound, HandsKeepSound, RestartsKeepSound, StartsAreSound}
@@ -268,7 +269,7 @@ nobody config accounts worker actor is = absurd (none_is_some actor is)
 
 pub restarts_keep_sound : RestartsKeepSound
 restarts_keep_sound config state next founds is_config fits sound is =
-    guarded (λ (one : State). restart config state founds ≡ Some one → IsSound config one) ((length founds == tenants_of config) && may_all_be_found config state founds (tenants_of config))
+    guarded (λ (one : State). restart config state founds ≡ Some one → IsSound config one) (may_start config state founds)
     (restarted config state founds) next
     (λ may came. record {
       memory = restarts_have config state (restarted config state founds) founds is_config fits came;

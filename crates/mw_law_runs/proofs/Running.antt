@@ -1,5 +1,5 @@
 -- Every run of a new world leads to a sound one.
-use Rattle.std.specs.Prelude.{ℕ, ◌≡◌, ◌==◌, ◌&&◌, true, List, [], ◌∷◌, length, Option, Some, None}
+use Rattle.std.specs.Prelude.{ℕ, ◌≡◌, true, List, [], ◌∷◌, Option, Some, None}
 use Rattle.std.specs.Option.{option_and_then}
 use Rattle.std.proofs.Common.{refl, sym, subst}
 use Rattle.mw_words.specs.declared.jobs.Job.{Job}
@@ -12,12 +12,13 @@ use Rattle.mw_world.specs.declared.config.Config.{Config}
 use Rattle.mw_world.specs.Definition.Calls.{Called, call, call_if, called_at, calling, calls_made, can_be_made, fails_on, moved_if, place_for, starts_from}
 use Rattle.mw_world.specs.Definition.Extent.{has_slot}
 use Rattle.mw_world.specs.Definition.Happenings.{Found, Happening, Come, Step, File, Hand, Restart}
-use Rattle.mw_world.specs.Definition.Restarts.{found_of, may_all_be_found, restart, restarted}
-use Rattle.mw_world.specs.Definition.State.{State, IsConfig, IsStart, Opening, tenants_of, world_at}
+use Rattle.mw_world.specs.Definition.Restarts.{found_of, restart, restarted}
+use Rattle.mw_world.specs.Definition.State.{State, IsConfig, IsStart, Opening, world_at}
 use Rattle.mw_world.specs.Definition.Requests.{came, gave}
 use Rattle.mw_world.specs.Definition.Turns.{turn}
 use Rattle.mw_world.specs.Definition.World.{come, hand, handed, may_come, run, step}
 use Rattle.mw_law_counts.proofs.Room.{doors-count-the-taken, who-waits-has-room}
+use Rattle.mw_law_counts.proofs.Startable.{may_start, start_tells}
 use Rattle.mw_law_runs.proofs.Owed.Owing.{owed_words_are_owed}
 use Rattle.mw_law_runs.specs.Files.{AreEntries, FileFits, FilesFit}
 use Rattle.mw_law_runs.specs.Laws.{EventsKeepSound, RoomIsLeft, RunsAreSound, SoundWorldsAreRight}
@@ -28,7 +29,7 @@ use Rattle.mw_law_runs.proofs.Ending.{same_file, turn_ends}
 use Rattle.mw_law_runs.proofs.Files.{all_found, called_fits, opened_fits, own_fit, words_fit}
 use Rattle.mw_law_runs.proofs.Filing.{calls_keep_sound}
 use Rattle.mw_law_runs.proofs.Seating.{are_seated}
-use Rattle.mw_law_runs.proofs.Tests.{first_holds, guarded, if_slot, second_holds}
+use Rattle.mw_law_runs.proofs.Tests.{guarded, if_slot}
 use Rattle.mw_law_runs.proofs.Turning.{turns_keep_sound}
 
 pub sound_worlds_are_right : SoundWorldsAreRight
@@ -104,14 +105,14 @@ came_fit config state next worker tenant job fit is =
 
 -- what a start finds
 module _ (config : Config) (state next : State) (founds : List Found) (fit : FilesFit state) where
-  founds_fit : ((length founds == tenants_of config) && may_all_be_found config state founds (tenants_of config)) ≡ true → (tenant : ℕ) → AreWords (found_of founds tenant).words
+  founds_fit : may_start config state founds ≡ true → (tenant : ℕ) → AreWords (found_of founds tenant).words
   founds_fit may =
-      all_found config state founds fit (first_holds (length founds == tenants_of config) (may_all_be_found config state founds (tenants_of config)) may)
-      (second_holds (length founds == tenants_of config) (may_all_be_found config state founds (tenants_of config)) may)
+      let told = start_tells config state founds may in
+      all_found config state founds fit told.each told.found
 
   started_fit : restart config state founds ≡ Some next → ((tenant : ℕ) → AreWords (found_of founds tenant).words) × FilesFit next
   started_fit is =
-      let test = (length founds == tenants_of config) && may_all_be_found config state founds (tenants_of config) in (
+      let test = may_start config state founds in (
         guarded (λ (one : State). (tenant : ℕ) → AreWords (found_of founds tenant).words) test (restarted config state founds) next founds_fit is,
         guarded FilesFit test (restarted config state founds) next (λ may tenant. opened_fits (found_of founds tenant).words (found_of founds tenant).fails_at (founds_fit may tenant)) is,
       )

@@ -29,12 +29,13 @@ use Rattle.mw_world.specs.Definition.Changes.{Shape, Exchange, Store, Fetch, sha
 use Rattle.mw_world.specs.Definition.Counting.{frees_at}
 use Rattle.mw_world.specs.Definition.Extent.{has_slot}
 use Rattle.mw_world.specs.Definition.Happenings.{Happening, Come, Step as StepEvent, File as FileEvent, Hand, Restart}
-use Rattle.mw_world.specs.Definition.Restarts.{restarted, may_all_be_found}
+use Rattle.mw_world.specs.Definition.Restarts.{restarted}
 use Rattle.mw_world.specs.Definition.State.{State, Seat, IsConfig, tenants_of, world_at}
 use Rattle.mw_world.specs.Definition.Turns.{Made, turn, turned, may_make, moved, made_of, next_attempt}
 use Rattle.mw_world.specs.Definition.World.{run, step}
 use Rattle.mw_law_moves.specs.Stepped.{SameMemory}
 use Rattle.mw_law_moves.proofs.Stepping.{comes_leave, hands_leave}
+use Rattle.mw_law_counts.proofs.Startable.{may_start}
 use Rattle.mw_law_runs.specs.Knowledge.Told.{KnowsItsPoint}
 use Rattle.mw_law_runs.specs.Files.{FilesFit}
 use Rattle.mw_law_runs.specs.Sound.{IsSound}
@@ -218,7 +219,7 @@ event_below config many state next (StepEvent worker) sound below is = below_mor
 event_below config many state next (FileEvent worker outcome) sound below is = below_more config many state next below (call_by config state next sound worker (state.seats worker).actor outcome refl is)
 event_below config many state next (Hand worker) sound below is = below_more config many state next below (same_rises state next (hands_leave state next worker is))
 event_below config many state next (Restart founds) sound below is =
-    guarded (IsBelow config (many + 1)) ((length founds == tenants_of config) && may_all_be_found config state founds (tenants_of config)) (restarted config state founds) next
+    guarded (IsBelow config (many + 1)) (may_start config state founds) (restarted config state founds) next
     (λ may. record { slots = λ slot. omega arith; attempts = λ worker. omega arith }) is
 
 -- all events of a run

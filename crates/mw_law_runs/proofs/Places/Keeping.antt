@@ -18,12 +18,13 @@ use Rattle.mw_world.specs.Definition.Calls.{Called, call, call_if, called_at}
 use Rattle.mw_world.specs.Definition.Cells.{Cells}
 use Rattle.mw_world.specs.Definition.Happenings.{Happening, Come, Step as StepEvent, File as FileEvent, Hand, Restart}
 use Rattle.mw_world.specs.Definition.Requests.{came, gave}
-use Rattle.mw_world.specs.Definition.Restarts.{may_all_be_found, restarted}
+use Rattle.mw_world.specs.Definition.Restarts.{restarted}
 use Rattle.mw_world.specs.Definition.State.{State, Seat, IsConfig, tenants_of, world_at}
 use Rattle.mw_world.specs.Definition.Turns.{turn, next_attempt}
 use Rattle.mw_world.specs.Definition.World.{come, hand, handed, may_come, run, step}
 use Rattle.mw_world.specs.Claim.Headline.{IsPlayed}
 use Rattle.mw_law_moves.proofs.Stepping.{comes_leave, hands_leave}
+use Rattle.mw_law_counts.proofs.Startable.{may_start}
 use Rattle.mw_law_runs.proofs.Knowledge.Deeds.Keeping.{upd_here, upd_else}
 use Rattle.mw_law_runs.specs.Files.{FilesFit}
 use Rattle.mw_law_runs.specs.Owed.{OneStepped}
@@ -158,7 +159,7 @@ event_within config state next (StepEvent worker) sound within is = turn_by conf
 event_within config state next (FileEvent worker outcome) sound within is = call_by config state next sound within worker (state.seats worker).actor outcome refl is
 event_within config state next (Hand worker) sound within is = hand_by config state within next worker (state.seats worker).actor is
 event_within config state next (Restart founds) sound within is =
-    guarded (AreWithin config) ((length founds == tenants_of config) && may_all_be_found config state founds (tenants_of config)) (restarted config state founds) next
+    guarded (AreWithin config) (may_start config state founds) (restarted config state founds) next
     (λ may. record { points = λ worker actor sits. absurd (none_some actor sits); attempts = λ worker past. refl }) is
 
 -- from any sound world on
