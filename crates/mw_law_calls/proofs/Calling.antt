@@ -65,7 +65,7 @@ same_gifts accounts tenant now keeps other = by_tenant (same_or_other other tena
     by_tenant : (other ≡ tenant) ⊎ (other ≢ tenant) → KeepsGifts (accounts other) (upd accounts tenant now other)
     by_tenant (inl same) = subst (λ k. KeepsGifts (accounts k) (upd accounts tenant now k)) (sym same) (subst (KeepsGifts (accounts tenant)) (sym (upd_here accounts tenant now)) keeps)
     by_tenant (inr apart) =
-        subst (KeepsGifts (accounts other)) (sym (upd_else accounts tenant other now apart)) (record { quota = refl; is_up = refl; asked = refl; closed = refl })
+        subst (KeepsGifts (accounts other)) (sym (upd_else accounts tenant other now apart)) (record { quota = refl; places = refl; is_up = refl; asked = refl; closed = refl })
 
 module _ (config : Config) (openings : ℕ → Opening) (events : List Happening) (state : State) (worker : ℕ) (actor : Acting) (called : Called) (status : Status) (rights : FileRights)
     (played : IsPlayed config openings events state) (calling : IsCalling config state worker actor called status rights) where
@@ -99,7 +99,7 @@ module _ (config : Config) (openings : ℕ → Opening) (events : List Happening
         ∙ ap (λ (one : News). record (state.seats worker) { actor = Some (tells actor one (state.seats worker).attempt) }) news;
     seats = λ other apart. upd_else state.seats worker other _ apart;
     accounts = λ tenant apart. upd_else state.accounts actor.tenant tenant _ apart;
-    gifts = same_gifts state.accounts actor.tenant _ (record { quota = refl; is_up = refl; asked = refl; closed = refl });
+    gifts = same_gifts state.accounts actor.tenant _ (record { quota = refl; places = refl; is_up = refl; asked = refl; closed = refl });
     marks = ap (λ (account : Account). account.lines) (upd_here state.accounts actor.tenant _)
         ∙ ap (λ (one : Note). marked one (state.seats worker) state.history (state.accounts actor.tenant).lines) note;
     has = has;

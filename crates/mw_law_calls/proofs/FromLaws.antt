@@ -9,3 +9,4 @@ pub use Rattle.mw_law_store.proofs.Momenting.{got_within}
 pub use Rattle.mw_law_store.proofs.OverCalls.{on_with, replies_keep_their_place, requests_begin, requests_have_begun, requests_stay_begun, sealed_are_right}
 pub use Rattle.mw_law_store.proofs.Running.{events_are_followed, runs_are_followed}
 pub use Rattle.mw_law_store.proofs.SealedLists.{places_stay_right}
+pub use Rattle.mw_law_store.proofs.TurningBack.{reads_find_their_way}

@@ -47,7 +47,7 @@ rights_stay_long config events state last rights beside is has =
 pub rights_stay_over_calls : RightsStayOverCalls
 rights_stay_over_calls config state worker actor made rights same has =
     kept_told config.pool rights (state.accounts rights.tenant) ((moved state worker actor made).accounts rights.tenant)
-    (one_kept state.accounts actor.tenant _ (record { file = same; quota = refl; is_up = refl }) rights.tenant) has
+    (one_kept state.accounts actor.tenant _ (record { file = same; quota = refl; places = refl; is_up = refl }) rights.tenant) has
 
 -- The file of which a right tells is as a call needs it where the tenant's file is.
 module _ (many_places many_slots : ℕ) (rights : FileRights) (file : File) (tells : TellsFile many_places many_slots rights file) where

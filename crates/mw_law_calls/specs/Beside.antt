@@ -17,10 +17,11 @@ abbrev pub AreBesideFile : Config → ℕ → State → List Happening → Type 
 AreBesideFile config tenant state [] = Unit {0}
 AreBesideFile config tenant state (event ∷ events) = IsBesideFile state tenant event × ((next : State) → step config state event ≡ Some next → AreBesideFile config tenant next events)
 
--- The tenant has the file that it had, and as many places; and its file opened at the last start or didn't, as it was.
+-- The tenant has the file that it had, with as many places, and may use as many of them; and its file opened at the last start or didn't, as it was.
 pub record KeepsFile (old new : Account) : Type 0 where
   pub file : new.file ≡ old.file
   pub quota : new.quota ≡ old.quota
+  pub places : new.places ≡ old.places
   pub is_up : new.is_up ≡ old.is_up
 
 -- In any world an event that is no start and no call on a tenant's file leaves the file.
@@ -32,7 +33,3 @@ OthersLeaveFiles = (config : Config) (state next : State) (event : Happening) (t
 abbrev pub OthersLeaveFilesLong : Type 0
 OthersLeaveFilesLong = (config : Config) (events : List Happening) (state last : State) (tenant : ℕ) → AreBesideFile config tenant state events → run config state events ≡ Some last
     → KeepsFile (state.accounts tenant) (last.accounts tenant)
-
--- Every event leaves each tenant as many places as it had, a start and a call too.
-abbrev pub EventsLeaveQuotas : Type 0
-EventsLeaveQuotas = (config : Config) (state next : State) (event : Happening) (tenant : ℕ) → step config state event ≡ Some next → (next.accounts tenant).quota ≡ (state.accounts tenant).quota

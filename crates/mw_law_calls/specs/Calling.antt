@@ -96,9 +96,10 @@ rights_by GoesWell rights actor called = rights_after rights actor called
 rights_by (MeetsFault number) rights actor called = rights_after_fault rights called
 rights_by end rights actor called = rights
 
--- What the latest start gave a tenant, how many requests it has made, and its marks up to that start.
+-- What the latest start gave a tenant, how many places its file has, how many requests it has made, and its marks up to that start.
 pub record KeepsGifts (old new : Account) : Type 0 where
   pub quota : new.quota ≡ old.quota
+  pub places : new.places ≡ old.places
   pub is_up : new.is_up ≡ old.is_up
   pub asked : new.asked ≡ old.asked
   pub closed : new.closed ≡ old.closed

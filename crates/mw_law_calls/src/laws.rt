@@ -1,5 +1,6 @@
 //! What holds of calls on tenants' files: facts for proofs to cite. The functions do nothing.
-ghost use Rattle.mw_law_calls.specs.Beside.{EventsLeaveQuotas, OthersLeaveFiles, OthersLeaveFilesLong};
+ghost use Rattle.mw_law_store.specs.Quotas.{EventsTellQuotas};
+ghost use Rattle.mw_law_calls.specs.Beside.{OthersLeaveFiles, OthersLeaveFilesLong};
 ghost use Rattle.mw_law_calls.specs.Calling.{CallingStays, CallingStaysLong, CallsEndByRights};
 ghost use Rattle.mw_law_calls.specs.Ending.{CallsChangeNoMore, CallsEndWell, CallsFindFaults, CallsMeetFaults, CallsSkip, RequestsGoOnFromCalls};
 ghost use Rattle.mw_law_calls.specs.Rights.{RightsFollowCalls, RightsFollowFaults, RightsTellCalls, RightsTellFiles, RightsTellOpenedFiles};
@@ -8,11 +9,12 @@ ghost use Rattle.mw_law_calls.specs.Tied.{CallsAreMadeByRights, EachFileHasRight
 ghost use Rattle.mw_law_calls.specs.Waiting.{StatusesWait, StatusesWaitLong};
 
 /// In any world an event that is no start and no call on a tenant's file leaves the file, and so do any
-/// number of them. Every event leaves each tenant as many places as it had.
+/// number of them. Every event leaves each tenant's file as many places as it had, and every event but a start
+/// leaves its quota; a start gives it the one that is told, if one is.
 pub fn others_leave_files()
     ensures event { OthersLeaveFiles }
     ensures long { OthersLeaveFilesLong }
-    ensures quotas { EventsLeaveQuotas }
+    ensures quotas { EventsTellQuotas }
 {}
 
 /// After every run the words with which a call may end are there: its change's status, and its tenant's door.

@@ -11,7 +11,7 @@ use Rattle.mw_words.specs.declared.jobs.Job.TheVariants.{Get, Cas}
 use Rattle.mw_words.specs.Change.{word_at, fits, is_well_formed}
 use Rattle.mw_words.specs.declared.replies.Reply.TheVariants.{Val}
 use Rattle.mw_lone.specs.declared.marks.Mark.TheVariants.{Ask, Admit, Busy, Look, Miss, Seal, SealFail, FileFail, GiveUp, Retire, Reply as HandOut, Restart}
-use Rattle.mw_lone.specs.Store.{Store, RequestState, request, with_reply, is_cas, entries_of, ask, admit, refuse_busy, look_at, miss_at, seal, fail_seal, give_up, retire, hand_out, restart, is_waiting, is_under_way, may_seal, is_empty, may_be_interrupted, has_in_doubt}
+use Rattle.mw_lone.specs.Store.{Store, RequestState, request, with_reply, is_cas, entries_of, ask, admit, refuse_busy, look_at, miss_at, seal, fail_seal, give_up, retire, hand_out, restart, is_waiting, is_under_way, may_seal, is_empty, is_quota, may_be_interrupted, has_in_doubt}
 use Rattle.mw_law_late.specs.Doing.{Asks, Waits, Admits, RefusesBusy, Looks, Misses, Fits, Writes, FailsToWrite, Fails, GivesUp, Retires, HandsOut, CouldBeInterrupted, IsInDoubt, Restarts}
 use Rattle.mw_law_late.specs.Laws.{MarksDo, DoingIsMarked}
 
@@ -199,13 +199,15 @@ found_from : (s : Store) (interrupted : Option ℕ) (take : Bool) → (not take 
 found_from s interrupted true h e = doubt_from s interrupted h
 found_from s interrupted false h e = absurd (cc)
 
-restart_does : (s t : Store) (interrupted : Option ℕ) (take opened : Bool) → restart s interrupted take opened ≡ Some t → Restarts s interrupted take opened t
-restart_does s t interrupted take opened e =
+restart_does : (s t : Store) (interrupted : Option ℕ) (take opened : Bool) (quota : ℕ) → restart s interrupted take opened quota ≡ Some t → Restarts s interrupted take opened quota t
+restart_does s t interrupted take opened quota e =
     let found = not take || has_in_doubt s interrupted in
-    let c = chosen (may_be_interrupted s interrupted && found) _ t e in
+    let c = chosen (may_be_interrupted s interrupted && found && is_quota quota) _ t e in
+    let could = first_of (may_be_interrupted s interrupted && found) (is_quota quota) c.0 in
     record {
-      could_be_interrupted = could_from s interrupted (first_of (may_be_interrupted s interrupted) found c.0);
-      is_in_doubt = found_from s interrupted take (second_of (may_be_interrupted s interrupted) found c.0);
+      could_be_interrupted = could_from s interrupted (first_of (may_be_interrupted s interrupted) found could);
+      is_in_doubt = found_from s interrupted take (second_of (may_be_interrupted s interrupted) found could);
+      may_be_given = second_of (may_be_interrupted s interrupted && found) (is_quota quota) c.0;
       after = c.1;
     }
 
@@ -221,7 +223,7 @@ marks-do s t FileFail e = fail_does s t s.faulted refl e
 marks-do s t (GiveUp n) e = option_and_then_some (give_up s n) (request s n) t e (λ r at f. give_up_does s t n r at f)
 marks-do s t (Retire n) e = option_and_then_some (retire s n) (request s n) t e (λ r at f. retire_does s t n r at f)
 marks-do s t (HandOut n) e = option_and_then_some (hand_out s n) (request s n) t e (λ r at f. hand_out_does s t n r at f)
-marks-do s t (Restart interrupted take opened) e = restart_does s t interrupted take opened e
+marks-do s t (Restart interrupted take opened quota) e = restart_does s t interrupted take opened quota e
 
 -- From the words to the tests.
 
@@ -291,5 +293,6 @@ doing-marks s t (Retire n) d =
 doing-marks s t (HandOut n) d =
     met (hand_out s n) (request s n) d.found d.is_asked
     ∙ choose _ _ t (both (is_some d.found.placed) _ (some_there _ d.reply d.has_reply) (negated _ d.not_handed)) d.after
-doing-marks s t (Restart interrupted take opened) d =
-    choose _ _ t (both (may_be_interrupted s interrupted) _ (could_to s interrupted d.could_be_interrupted) (found_to s interrupted take d.is_in_doubt)) d.after
+doing-marks s t (Restart interrupted take opened quota) d =
+    let could = both (may_be_interrupted s interrupted) _ (could_to s interrupted d.could_be_interrupted) (found_to s interrupted take d.is_in_doubt) in
+    choose _ _ t (both (may_be_interrupted s interrupted && (not take || has_in_doubt s interrupted)) (is_quota quota) could d.may_be_given) d.after

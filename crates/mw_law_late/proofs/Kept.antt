@@ -97,7 +97,7 @@ would_beside s FileFail n m x reply said there d = absurd d
 would_beside s (GiveUp k) n m x reply said there d = absurd d
 would_beside s (Retire k) n m x reply said there d = absurd d
 would_beside s (HandOut k) n m x reply said there d = absurd d
-would_beside s (Restart interrupted take opened) n m x reply said there d = absurd d
+would_beside s (Restart interrupted take opened quota) n m x reply said there d = absurd d
 
 -- the store at a place, and what a mark would do there
 record At (start : Store) (lines : List (Option Mark)) (mark : Mark) (n : ℕ) (reply : Reply) : Type 0 where

@@ -128,7 +128,7 @@ does_beside s t n x (HandOut k) h d = record {
   not_handed = d.not_handed;
   after = written s t s.requests k n x (record d.found { handed = true }) (apart_from k n h) d.after;
 }
-does_beside s t n x (Restart interrupted take opened) h d = absurd (cc)
+does_beside s t n x (Restart interrupted take opened quota) h d = absurd (cc)
 
 pub replies-commute : RepliesCommute
 replies-commute s t n r reply mark h e = doing-marks (with_reply s n r reply) (with_reply t n r reply) mark (does_beside s t n (record r { placed = Some reply }) mark h (marks-do s t mark e))
@@ -152,7 +152,7 @@ does_leave s t n FileFail h d = ap (λ (v : Store). request v n) d.after
 does_leave s t n (GiveUp k) h d = left s t k n _ h (requests_of t _ d.after)
 does_leave s t n (Retire k) h d = left s t k n _ h (requests_of t _ d.after)
 does_leave s t n (HandOut k) h d = left s t k n _ h (requests_of t _ d.after)
-does_leave s t n (Restart interrupted take opened) h d = absurd (cc)
+does_leave s t n (Restart interrupted take opened quota) h d = absurd (cc)
 
 pub others-left : OthersAreLeft
 others-left s t n mark h e = does_leave s t n mark h (marks-do s t mark e)

@@ -42,7 +42,7 @@ touches s t FileFail d = stay (next_of t _ d.after) (requests_of t _ d.after)
 touches s t (GiveUp k) d = written k d.found _ d.is_asked (replied (is_none d.found.placed)) (next_of t _ d.after) (requests_of t _ d.after)
 touches s t (Retire k) d = written k d.found _ d.is_asked (λ h. h) (next_of t _ d.after) (requests_of t _ d.after)
 touches s t (HandOut k) d = written k d.found _ d.is_asked (λ h. h) (next_of t _ d.after) (requests_of t _ d.after)
-touches s t (Restart interrupted take opened) d = gone (next_of t _ d.after) (requests_of t _ d.after)
+touches s t (Restart interrupted take opened quota) d = gone (next_of t _ d.after) (requests_of t _ d.after)
 
 pub mark-touches : (s t : Store) (mark : Mark) → step s mark ≡ Some t → Touches s t
 mark-touches s t mark e = touches s t mark (marks-do s t mark e)

@@ -125,7 +125,7 @@ named_done s t n r FileFail h f d = absurd (true_false (sym h))
 named_done s t n r (GiveUp k) h f d = answered s t k n _ h refl f.below (next_of t _ d.after) (requests_of t _ d.after)
 named_done s t n r (Retire k) h f d = absurd (no_reply s k n r d.found d.reply h d.is_asked d.has_reply f)
 named_done s t n r (HandOut k) h f d = absurd (no_reply s k n r d.found d.reply h d.is_asked d.has_reply f)
-named_done s t n r (Restart interrupted take opened) h f d = record {
+named_done s t n r (Restart interrupted take opened quota) h f d = record {
   below = subst (λ q. n < q) (sym (next_of t _ d.after)) f.below;
   closed = open_of t n None (got s t n _ (requests_of t _ d.after) ∙ map.get-empty nat_cmp n);
 }
@@ -222,7 +222,7 @@ decided s t FileFail n reply marks i d e never = absurd d
 decided s t (GiveUp k) n reply marks i d e never = absurd d
 decided s t (Retire k) n reply marks i d e never = absurd d
 decided s t (HandOut k) n reply marks i d e never = absurd d
-decided s t (Restart interrupted take opened) n reply marks i d e never = absurd d
+decided s t (Restart interrupted take opened quota) n reply marks i d e never = absurd d
 
 -- A mark put in late.
 

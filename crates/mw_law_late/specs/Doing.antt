@@ -9,7 +9,7 @@ use Rattle.mw_words.specs.declared.replies.Reply.TheVariants.{Val, Yes, No, Busy
 use Rattle.mw_words.specs.Change.{word_at, fits, put, is_well_formed}
 use Rattle.mw_lone.specs.declared.marks.Mark.{Mark}
 use Rattle.mw_lone.specs.declared.marks.Mark.TheVariants.{Ask, Admit, Busy, Look, Miss, Seal, SealFail, FileFail, GiveUp, Retire, Reply as HandOut, Restart}
-use Rattle.mw_lone.specs.Store.{Store, RequestState, request, with_request, with_reply, asked, is_cas, entries_of, entries_in_doubt, store_after_start}
+use Rattle.mw_lone.specs.Store.{Store, RequestState, request, with_request, with_reply, asked, is_cas, entries_of, entries_in_doubt, is_quota, store_after_start}
 
 -- a request comes under the next number, and its job is well formed
 pub record Asks (s : Store) (n : ℕ) (job : Job) (t : Store) : Type 0 where
@@ -121,11 +121,12 @@ abbrev pub IsInDoubt : Store → Option ℕ → Type 0
 IsInDoubt s None = s.in_doubt ≢ []
 IsInDoubt s (Some n) = Unit
 
--- all stops and starts again; a change is found only where one is in doubt
-pub record Restarts (s : Store) (interrupted : Option ℕ) (take opened : Bool) (t : Store) : Type 0 where
+-- all stops and starts again, with a quota that a tenant may have; a change is found only where one is in doubt
+pub record Restarts (s : Store) (interrupted : Option ℕ) (take opened : Bool) (quota : ℕ) (t : Store) : Type 0 where
   pub could_be_interrupted : CouldBeInterrupted s interrupted
   pub is_in_doubt : take ≡ true → IsInDoubt s interrupted
-  pub after : t ≡ store_after_start s (if take then put s.words (entries_in_doubt s interrupted) else s.words) opened
+  pub may_be_given : is_quota quota ≡ true
+  pub after : t ≡ store_after_start s (if take then put s.words (entries_in_doubt s interrupted) else s.words) opened quota
 
 -- this mark is legal, and this is the store after it
 abbrev pub Does : Store → Mark → Store → Type 0
@@ -140,4 +141,4 @@ Does s FileFail t = Fails s t
 Does s (GiveUp n) t = GivesUp s n t
 Does s (Retire n) t = Retires s n t
 Does s (HandOut n) t = HandsOut s n t
-Does s (Restart interrupted take opened) t = Restarts s interrupted take opened t
+Does s (Restart interrupted take opened quota) t = Restarts s interrupted take opened quota t

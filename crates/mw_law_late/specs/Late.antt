@@ -43,7 +43,7 @@ names FileFail n = false
 names (GiveUp k) n = k == n
 names (Retire k) n = k == n
 names (HandOut k) n = k == n
-names (Restart interrupted take opened) n = true
+names (Restart interrupted take opened quota) n = true
 
 -- each request that was asked has a number below the next one
 abbrev pub IsNumbered : Store → Type 0
@@ -86,7 +86,7 @@ WouldAnswer s FileFail n reply = ⊥
 WouldAnswer s (GiveUp k) n reply = ⊥
 WouldAnswer s (Retire k) n reply = ⊥
 WouldAnswer s (HandOut k) n reply = ⊥
-WouldAnswer s (Restart interrupted take opened) n reply = ⊥
+WouldAnswer s (Restart interrupted take opened quota) n reply = ⊥
 
 -- this place of these lines is empty, and at its moment this mark would have given this request that reply, if the request had none then
 pub record IsKeptFor (start : Store) (lines : List (Option Mark)) (place : ℕ) (mark : Mark) (n : ℕ) (reply : Reply) : Type 0 where

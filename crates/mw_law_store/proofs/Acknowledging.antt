@@ -45,7 +45,7 @@ put_by now FileFail = refl
 put_by now (GiveUp k) = refl
 put_by now (Retire k) = refl
 put_by now (HandOut k) = refl
-put_by now (Restart interrupted found opened) = put_found now interrupted found
+put_by now (Restart interrupted found opened quota) = put_found now interrupted found
 
 -- the words of a moment are the first ones with all changes
 pub words_of_changes : (now : Moment) (marks : List Mark) → (after_marks now marks).words ≡ put_all now.words (changes_of now marks)
@@ -192,10 +192,10 @@ remembers_on words marks FileFail s t old d = goes_on_quiet words marks s t old 
 remembers_on words marks (GiveUp k) s t old d = refused words marks (GiveUp k) s t k d.found _ old d refl (requests_of t _ d.after) d.is_asked (λ e. cc)
 remembers_on words marks (Retire k) s t old d = restated words marks (Retire k) s t k d.found _ old d refl (requests_of t _ d.after) d.is_asked refl refl
 remembers_on words marks (HandOut k) s t old d = restated words marks (HandOut k) s t k d.found _ old d refl (requests_of t _ d.after) d.is_asked refl refl
-remembers_on words marks (Restart interrupted found opened) s t old d =
-    begins words (marks ++ Restart interrupted found opened ∷ []) t (requests_of t _ d.after)
-    (subst (λ (now : Moment). Tells now t) (sym (marks_more (first_moment words) marks (Restart interrupted found opened)))
-    (goes_tells (after_marks (first_moment words) marks) s t (Restart interrupted found opened) d old.tells))
+remembers_on words marks (Restart interrupted found opened quota) s t old d =
+    begins words (marks ++ Restart interrupted found opened quota ∷ []) t (requests_of t _ d.after)
+    (subst (λ (now : Moment). Tells now t) (sym (marks_more (first_moment words) marks (Restart interrupted found opened quota)))
+    (goes_tells (after_marks (first_moment words) marks) s t (Restart interrupted found opened quota) d old.tells))
 
 -- What is handed out.
 
@@ -245,7 +245,7 @@ handed_now words before marks s t (SealFail k) n old d e = absurd (none-some _ e
 handed_now words before marks s t FileFail n old d e = absurd (none-some _ e)
 handed_now words before marks s t (GiveUp k) n old d e = absurd (none-some _ e)
 handed_now words before marks s t (Retire k) n old d e = absurd (none-some _ e)
-handed_now words before marks s t (Restart interrupted found opened) n old d e = absurd (none-some _ e)
+handed_now words before marks s t (Restart interrupted found opened quota) n old d e = absurd (none-some _ e)
 
 -- which of the replies it is: the first mark's, or one after it
 which_reply : (o : Option (ℕ × Reply)) (replies : List (ℕ × Reply)) (place n : ℕ) → slice_get (option_to_list o ++ replies) place ≡ Some (n, SaysYes)

@@ -5,7 +5,7 @@ pub mod Inside
 pub mod Points
 pub mod Requests
 pub mod Turns
-use Rattle.std.specs.Prelude.{ℕ, ◌≡◌, ◌≢◌, ◌⊎◌, ◌==◌, ◌&&◌, Bool, true, false, List, [], ◌∷◌, length, Option, Some, None}
+use Rattle.std.specs.Prelude.{ℕ, ◌≡◌, ◌≢◌, ◌⊎◌, true, false, List, [], ◌∷◌, Option, Some, None}
 use Rattle.std.specs.Option.{option_and_then}
 use Rattle.std.proofs.Common.{refl, sym, ap, subst, ◌∙◌, inl, inr}
 use Rattle.mw_words.specs.declared.jobs.Job.{Job}
@@ -16,10 +16,11 @@ use Rattle.mw_actor.specs.Program.{replied}
 use Rattle.mw_world.specs.declared.config.Config.{Config}
 use Rattle.mw_world.specs.Definition.Happenings.{Happening, Come, Step, File, Hand, Restart}
 use Rattle.mw_world.specs.Definition.Requests.{came, gave}
-use Rattle.mw_world.specs.Definition.Restarts.{may_all_be_found, restarted}
-use Rattle.mw_world.specs.Definition.State.{State, Account, IsConfig, Seat, started, tenants_of, world_at}
+use Rattle.mw_world.specs.Definition.Restarts.{restarted}
+use Rattle.mw_world.specs.Definition.State.{State, Account, IsConfig, Seat, started, world_at}
 use Rattle.mw_world.specs.Definition.World.{come, hand, handed, may_come, run, step}
 use Rattle.mw_world_file.specs.Maps.{upd}
+use Rattle.mw_law_counts.proofs.Startable.{may_start}
 use Rattle.mw_law_runs.proofs.Knowledge.Deeds.Keeping.{upd_else, upd_here}
 use Rattle.mw_law_runs.specs.Files.{FilesFit}
 use Rattle.mw_law_runs.specs.Sound.{IsSound}
@@ -120,7 +121,7 @@ events_keep_grounds config state next (Step worker) made sound fit has grounds i
 events_keep_grounds config state next (File worker outcome) made sound fit has grounds is = calls_keep_grounds config state next worker outcome sound grounds is
 events_keep_grounds config state next (Hand worker) made sound fit has grounds is = hands_keep config state next grounds worker (state.seats worker).actor is
 events_keep_grounds config state next (Restart founds) made sound fit has grounds is =
-    guarded HasGrounds ((length founds == tenants_of config) && may_all_be_found config state founds (tenants_of config)) (restarted config state founds) next
+    guarded HasGrounds (may_start config state founds) (restarted config state founds) next
     (λ may. started_grounds config _) is
 
 runs_go_on : (config : Config) (events : List Happening) (state last : State) → IsConfig config → IsSound config state → FilesFit state → HasFiles config state → HasGrounds state

@@ -78,7 +78,7 @@ seals_by_mark now FileFail start lines store may = inl refl
 seals_by_mark now (GiveUp k) start lines store may = inl refl
 seals_by_mark now (Retire k) start lines store may = inl refl
 seals_by_mark now (HandOut k) start lines store may = inl refl
-seals_by_mark now (Restart interrupted found opened) start lines store may = absurd may
+seals_by_mark now (Restart interrupted found opened quota) start lines store may = absurd may
 
 said_seals : (start : Moment) (lines : List (Option Mark)) (says : Saying) (store after : Store) → MayBeSaid start lines says store → StoreGoes says store after → SealsGoOn start lines (lines_after says lines)
 said_seals start lines Silent store after may goes = record { no_fewer = omega arith; marks = λ place mark at. at; before = λ place within. refl; one_more = inl refl }

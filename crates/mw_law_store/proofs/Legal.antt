@@ -57,14 +57,14 @@ pub whole_run : (first base : Store) (closed marks : List Mark) → run_of_store
 whole_run first base closed marks from = run-append first closed marks ∙ ap (option_and_then (λ u. run_of_store u marks)) from
 
 -- a start is said at the end of all marks
-pub restart_legal : (first s t : Store) (marks : List Mark) (interrupted : Option ℕ) (found opened : Bool) → run_of_store first marks ≡ Some s → Restarts s interrupted found opened t
-    → run_of_store first (marks ++ Restart interrupted found opened ∷ []) ≡ Some t
-restart_legal first s t marks interrupted found opened e does =
-    run-extend first marks (Restart interrupted found opened) ∙ ap (option_and_then (λ u. step u (Restart interrupted found opened))) e ∙ doing-marks s t (Restart interrupted found opened) does
+pub restart_legal : (first s t : Store) (marks : List Mark) (interrupted : Option ℕ) (found opened : Bool) (quota : ℕ) → run_of_store first marks ≡ Some s → Restarts s interrupted found opened quota t
+    → run_of_store first (marks ++ Restart interrupted found opened quota ∷ []) ≡ Some t
+restart_legal first s t marks interrupted found opened quota e does =
+    run-extend first marks (Restart interrupted found opened quota) ∙ ap (option_and_then (λ u. step u (Restart interrupted found opened quota))) e ∙ doing-marks s t (Restart interrupted found opened quota) does
 
 -- after a start no request has a number
-pub start_numbered : (s : Store) (words : List ℕ) (opened : Bool) → IsNumbered (store_after_start s words opened)
-start_numbered s words opened n r at = absurd (none-some r (sym (map.get-empty nat_cmp n) ∙ at))
+pub start_numbered : (s : Store) (words : List ℕ) (opened : Bool) (quota : ℕ) → IsNumbered (store_after_start s words opened quota)
+start_numbered s words opened quota n r at = absurd (none-some r (sym (map.get-empty nat_cmp n) ∙ at))
 
 -- A place that was made just now.
 

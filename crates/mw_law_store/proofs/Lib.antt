@@ -8,6 +8,7 @@ pub mod Coming
 pub mod Dues
 pub mod Elsewhere
 pub mod Ends
+pub mod EndsRead
 pub mod Fates
 pub mod Files
 pub mod Fitting
@@ -29,6 +30,7 @@ pub mod Numbers
 pub mod OverCalls
 pub mod Owning
 pub mod Placed
+pub mod Quotas
 pub mod Reaching
 pub mod ReadsWear
 pub mod Recalling
@@ -42,9 +44,11 @@ pub mod Serving
 pub mod SinceStart
 pub mod Starting
 pub mod Stepped
+pub mod TakenNumbers
 pub mod Taking
 pub mod Telling
 pub mod Turning
+pub mod TurningBack
 pub mod Valuing
 pub mod Wearing
 pub mod Writing

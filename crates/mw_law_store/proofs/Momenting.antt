@@ -47,7 +47,7 @@ mild_still FileFail now mild = absurd mild
 mild_still (GiveUp n) now mild = absurd mild
 mild_still (Retire n) now mild = absurd mild
 mild_still (HandOut n) now mild = absurd mild
-mild_still (Restart interrupted found opened) now mild = absurd mild
+mild_still (Restart interrupted found opened quota) now mild = absurd mild
 
 -- a line that is there is no empty place
 pub not_empty : (mark : Mark) → Some (Some mark) ≡ Some None → ⊥

@@ -1,5 +1,5 @@
 -- Where numbers are left no request comes to be on the way to WORN.
-use Rattle.std.specs.Prelude.{ℕ, ◌≡◌, ◌≢◌, ◌<◌, ◌≤◌, ◌⊎◌, ◌==◌, ◌&&◌, Bool, true, false, not, cond, is_some, List, [], length, Option, Some, None}
+use Rattle.std.specs.Prelude.{ℕ, ◌≡◌, ◌≢◌, ◌<◌, ◌≤◌, ◌⊎◌, ◌==◌, ◌&&◌, Bool, true, false, not, cond, is_some, List, [], Option, Some, None}
 use Rattle.std.proofs.Common.{refl, sym, ap, subst, ◌∙◌, append-nil, inl, inr, arith}
 use Rattle.std.proofs.lemmas.Bool.Decides.{nat_tests}
 use Rattle.mw_words.specs.declared.gates.Gate.{Gate}
@@ -29,10 +29,11 @@ use Rattle.mw_world.specs.Definition.Changes.{Shape, Exchange, Store, Fetch, cha
 use Rattle.mw_world.specs.Definition.Extent.{has_slot}
 use Rattle.mw_world.specs.Definition.Happenings.{Happening, Come, Step as StepEvent, File as FileEvent, Hand, Restart}
 use Rattle.mw_world.specs.Definition.Requests.{came, gave}
-use Rattle.mw_world.specs.Definition.Restarts.{may_all_be_found, restarted}
-use Rattle.mw_world.specs.Definition.State.{State, Seat, tenants_of}
+use Rattle.mw_world.specs.Definition.Restarts.{restarted}
+use Rattle.mw_world.specs.Definition.State.{State, Seat}
 use Rattle.mw_world.specs.Definition.Turns.{Made, turn, turned, may_make, moved, made_of, next_attempt}
 use Rattle.mw_world.specs.Definition.World.{come, hand, handed, may_come, step}
+use Rattle.mw_law_counts.proofs.Startable.{may_start}
 use Rattle.mw_law_moves.proofs.Stepping.{comes_leave, hands_leave}
 use Rattle.mw_law_runs.proofs.Knowledge.Deeds.Keeping.{upd_here, upd_else}
 use Rattle.mw_law_runs.specs.Owed.{OneStepped}
@@ -218,7 +219,7 @@ event_fresh config state next (StepEvent worker) sound numbers none is = turn_by
 event_fresh config state next (FileEvent worker outcome) sound numbers none is = call_by config state next sound numbers none worker (state.seats worker).actor outcome refl is
 event_fresh config state next (Hand worker) sound numbers none is = hand_fresh state next worker (state.seats worker).actor refl none is (hands_leave state next worker is).attempts
 event_fresh config state next (Restart founds) sound numbers none is =
-    guarded NoneIsWorn ((length founds == tenants_of config) && may_all_be_found config state founds (tenants_of config)) (restarted config state founds) next
+    guarded NoneIsWorn (may_start config state founds) (restarted config state founds) next
     (λ may. record { points = λ worker actor sits. absurd (none_some actor sits); attempts = λ worker. omega arith }) is
 
 pub runs_are_not_worn : RunsAreNotWorn

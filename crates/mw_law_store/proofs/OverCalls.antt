@@ -1,5 +1,5 @@
 -- The place of each reply over its call, in every played run.
-use Rattle.std.specs.Prelude.{ℕ, ◌≡◌, ◌≢◌, ◌<◌, ◌≤◌, ◌&&◌, ◌==◌, ◌++◌, true, is_none, List, [], ◌∷◌, length, slice_get, Option, Some, None}
+use Rattle.std.specs.Prelude.{ℕ, ◌≡◌, ◌≢◌, ◌<◌, ◌≤◌, ◌++◌, true, is_none, List, [], ◌∷◌, length, slice_get, Option, Some, None}
 use Rattle.std.proofs.Common.{refl, sym, ap, subst, ◌∙◌, inl, inr, arith}
 use Rattle.std.proofs.lemmas.Bool.{cases_eq}
 use Rattle.std.specs.Option.{option_and_then}
@@ -18,10 +18,11 @@ use Rattle.mw_world.specs.Definition.Happenings.{Found, Happening, Come, Step, F
 use Rattle.mw_world.specs.Definition.History.{History}
 use Rattle.mw_world.specs.Definition.Noting.{more, seated}
 use Rattle.mw_world.specs.Definition.Requests.{came, gave}
-use Rattle.mw_world.specs.Definition.Restarts.{may_all_be_found, restarted}
+use Rattle.mw_world.specs.Definition.Restarts.{restarted}
 use Rattle.mw_world.specs.Definition.State.{State, Seat, Account, Opening, marks_of, tenants_of, world_at}
 use Rattle.mw_world.specs.Definition.Turns.{Made, made_of, moved, turn}
 use Rattle.mw_world.specs.Definition.World.{asked, hand, may_come, run, step}
+use Rattle.mw_law_counts.proofs.Startable.{may_start}
 use Rattle.mw_law_runs.proofs.Knowledge.Deeds.Keeping.{upd_here, upd_else}
 use Rattle.mw_law_runs.proofs.Running.{runs_are_sound}
 use Rattle.mw_law_runs.proofs.Tests.{first_holds, guarded, second_holds}
@@ -60,7 +61,7 @@ start_seals_nothing config openings state founds tenant =
 
 pub starts_seal_nothing : StartsSealNothing
 starts_seal_nothing config openings state next founds tenant is =
-    guarded (λ (one : State). sealed_of openings one tenant ≡ []) ((length founds == tenants_of config) && may_all_be_found config state founds (tenants_of config)) (restarted config state founds) next
+    guarded (λ (one : State). sealed_of openings one tenant ≡ []) (may_start config state founds) (restarted config state founds) next
     (λ may. start_seals_nothing config openings state founds tenant) is
 
 -- A worker's request over one event.
@@ -173,13 +174,13 @@ module _ (config : Config) (state next : State) (worker : ℕ) (idle : (state.se
       (λ reply stands. still_idle (gave state by one.tenant) (upd_else state.seats by worker _ (apart_from by one goes))) is)
 
   no_restart : (founds : List Found) → step config state (Restart founds) ≡ Some next → ⊥
-  no_restart founds is = not_idle (guarded (λ (one : State). (one.seats worker).actor ≡ None) ((length founds == tenants_of config) && may_all_be_found config state founds (tenants_of config))
+  no_restart founds is = not_idle (guarded (λ (one : State). (one.seats worker).actor ≡ None) (may_start config state founds)
       (restarted config state founds) next (λ may. refl) is)
 
 -- A start leaves nobody a request.
 none_restarted : (config : Config) (state next : State) (founds : List Found) (worker : ℕ) (after : Acting) → step config state (Restart founds) ≡ Some next → (next.seats worker).actor ≡ Some after → ⊥
 none_restarted config state next founds worker after is there =
-    none-some after (sym (guarded (λ (one : State). (one.seats worker).actor ≡ None) ((length founds == tenants_of config) && may_all_be_found config state founds (tenants_of config))
+    none-some after (sym (guarded (λ (one : State). (one.seats worker).actor ≡ None) (may_start config state founds)
     (restarted config state founds) next (λ may. refl) is) ∙ there)
 
 -- Where a request comes.
@@ -258,7 +259,7 @@ start_fresh config openings events state tenant played low =
     by_event before (File worker outcome) now next so_far fresh is = stays before (File worker outcome) now next so_far fresh tt is
     by_event before (Hand worker) now next so_far fresh is = stays before (Hand worker) now next so_far fresh tt is
     by_event before (Restart founds) now next so_far fresh is =
-        guarded (λ (one : State). (start_of openings one tenant).sealed ≡ []) ((length founds == tenants_of config) && may_all_be_found config now founds (tenants_of config)) (restarted config now founds) next
+        guarded (λ (one : State). (start_of openings one tenant).sealed ≡ []) (may_start config now founds) (restarted config now founds) next
         (λ may. start_seals_nothing config openings now founds tenant) is
 
 pub sealed_go_on : SealedGoOn

@@ -32,10 +32,11 @@ use Rattle.mw_world.specs.Definition.Happenings.{Found, Happening, Come, Step, F
 use Rattle.mw_world.specs.Definition.History.{History}
 use Rattle.mw_world.specs.Definition.Noting.{late_unless, marked, more, more_unless}
 use Rattle.mw_world.specs.Definition.Requests.{came, gave}
-use Rattle.mw_world.specs.Definition.Restarts.{may_all_be_found, restarted}
-use Rattle.mw_world.specs.Definition.State.{State, Seat, Account, marks_in, marks_of, tenants_of, world_at}
+use Rattle.mw_world.specs.Definition.Restarts.{restarted}
+use Rattle.mw_world.specs.Definition.State.{State, Seat, Account, marks_in, marks_of, world_at}
 use Rattle.mw_world.specs.Definition.Turns.{Made, made_of, may_make, moved, turn, turned}
 use Rattle.mw_world.specs.Definition.World.{come, hand, handed, may_come, run, step}
+use Rattle.mw_law_counts.proofs.Startable.{may_start}
 use Rattle.mw_law_store.proofs.Files.Turning.{follows}
 use Rattle.mw_law_runs.proofs.Knowledge.Deeds.Keeping.{upd_here, upd_else}
 use Rattle.mw_law_runs.proofs.Tests.{guarded, if_slot}
@@ -364,7 +365,7 @@ module _ (config : Config) (state next : State) (tenant : ℕ) (stay : Stays sta
 -- a start adds its own mark, which tells of no failed call
 start_faults : (config : Config) (state next : State) (founds : List Found) (tenant : ℕ) → step config state (Restart founds) ≡ Some next → FaultsGoOn false state next tenant
 start_faults config state next founds tenant is =
-    guarded (λ (one : State). FaultsGoOn false state one tenant) ((length founds == tenants_of config) && may_all_be_found config state founds (tenants_of config)) (restarted config state founds) next
+    guarded (λ (one : State). FaultsGoOn false state one tenant) (may_start config state founds) (restarted config state founds) next
     (λ may. record {
       one_fails = λ e. absurd (false_not e);
       none_else = λ e.

@@ -49,7 +49,7 @@ by_coming start lines place FileFail n job reply P looks misses could = absurd c
 by_coming start lines place (GiveUp k) n job reply P looks misses could = absurd could
 by_coming start lines place (Retire k) n job reply P looks misses could = absurd could
 by_coming start lines place (HandOut k) n job reply P looks misses could = absurd could
-by_coming start lines place (Restart interrupted found opened) n job reply P looks misses could = absurd could
+by_coming start lines place (Restart interrupted found opened quota) n job reply P looks misses could = absurd could
 
 pub coming_is_mild : (start : Moment) (lines : List (Option Mark)) (place : ℕ) (mark : Mark) (n : ℕ) (job : Job) (reply : Reply) → CouldCome start lines place mark n job reply → IsMild mark
 coming_is_mild start lines place mark n job reply could = by_coming start lines place mark n job reply (λ came says. IsMild came) (λ k value is looks. tt) (λ k index address value is misses. tt) could

@@ -1,5 +1,5 @@
 -- After every run each request is at a point where it comes to be.
-use Rattle.std.specs.Prelude.{ℕ, ◌≡◌, ◌≢◌, ◌⊎◌, ◌==◌, ◌&&◌, Bool, true, false, List, [], ◌∷◌, length, Option, Some, None}
+use Rattle.std.specs.Prelude.{ℕ, ◌≡◌, ◌≢◌, ◌⊎◌, Bool, true, false, List, [], ◌∷◌, Option, Some, None}
 use Rattle.std.specs.Option.{option_and_then}
 use Rattle.std.proofs.Common.{refl, sym, ap, subst, ◌∙◌, inl, inr}
 use Rattle.mw_words.specs.declared.jobs.Job.{Job}
@@ -17,10 +17,11 @@ use Rattle.mw_world.specs.Definition.Calls.{Called, breaks, call, call_if, calle
 use Rattle.mw_world.specs.Definition.Extent.{has_slot}
 use Rattle.mw_world.specs.Definition.Happenings.{Happening, Come, Step, File, Hand, Restart}
 use Rattle.mw_world.specs.Definition.Requests.{came, gave}
-use Rattle.mw_world.specs.Definition.Restarts.{may_all_be_found, restarted}
-use Rattle.mw_world.specs.Definition.State.{State, Seat, Opening, IsConfig, tenants_of, world_at}
+use Rattle.mw_world.specs.Definition.Restarts.{restarted}
+use Rattle.mw_world.specs.Definition.State.{State, Seat, Opening, IsConfig, world_at}
 use Rattle.mw_world.specs.Definition.Turns.{Made, moved, next_attempt, turn}
 use Rattle.mw_world.specs.Definition.World.{come, hand, handed, may_come, run, step}
+use Rattle.mw_law_counts.proofs.Startable.{may_start}
 use Rattle.mw_law_runs.proofs.Knowledge.Deeds.Keeping.{upd_else, upd_here}
 use Rattle.mw_law_runs.specs.Files.{FilesFit}
 use Rattle.mw_law_runs.specs.Sound.{IsSound}
@@ -124,7 +125,7 @@ events_keep_meant config state next (Step worker) sound meant is = turns_keep co
 events_keep_meant config state next (File worker outcome) sound meant is = calls_keep_seat config state next meant worker (state.seats worker).actor outcome is
 events_keep_meant config state next (Hand worker) sound meant is = hands_keep config state next meant worker (state.seats worker).actor is
 events_keep_meant config state next (Restart founds) sound meant is =
-    guarded ArePointsMeant ((length founds == tenants_of config) && may_all_be_found config state founds (tenants_of config)) (restarted config state founds) next
+    guarded ArePointsMeant (may_start config state founds) (restarted config state founds) next
     (λ may worker actor sits. absurd (none_some actor sits)) is
 
 runs_keep_meant : (config : Config) (events : List Happening) (state last : State) → IsConfig config → IsSound config state → FilesFit state → ArePointsMeant state → run config state events ≡ Some last

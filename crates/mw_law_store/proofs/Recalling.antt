@@ -110,7 +110,7 @@ says_recalled start lines mark s t numbered recalled may d = by mark may d (goes
   by (GiveUp k) may d tells since = answered start lines (GiveUp k) s t k d.found SaysFault recalled d.is_asked d.has_no_reply (requests_of t _ d.after) tells tt (no_seal start lines (GiveUp k) k _ (λ n e. cc)) since
   by (Retire k) may d tells since = restated start lines (Retire k) s t k d.found _ recalled d.is_asked (requests_of t _ d.after) refl refl (λ n e. cc) tells since
   by (HandOut k) may d tells since = restated start lines (HandOut k) s t k d.found _ recalled d.is_asked (requests_of t _ d.after) refl refl (λ n e. cc) tells since
-  by (Restart interrupted found opened) may d tells since = absurd may
+  by (Restart interrupted found opened quota) may d tells since = absurd may
 
 -- A mark that comes late.
 

@@ -46,7 +46,7 @@ others_hand_out s n r reply (SealFail k) apart = refl
 others_hand_out s n r reply FileFail apart = refl
 others_hand_out s n r reply (GiveUp k) apart = refl
 others_hand_out s n r reply (Retire k) apart = refl
-others_hand_out s n r reply (Restart interrupted found opened) apart = refl
+others_hand_out s n r reply (Restart interrupted found opened quota) apart = refl
 
 first_unnamed : (named rest : Bool) → not named && rest ≡ true → named ≡ false
 first_unnamed true rest h = absurd (cc)
@@ -82,7 +82,7 @@ hands_out_nothing s FileFail n reply d = absurd d
 hands_out_nothing s (GiveUp k) n reply d = absurd d
 hands_out_nothing s (Retire k) n reply d = absurd d
 hands_out_nothing s (HandOut k) n reply d = absurd d
-hands_out_nothing s (Restart interrupted found opened) n reply d = absurd d
+hands_out_nothing s (Restart interrupted found opened quota) n reply d = absurd d
 
 -- at the first place
 late_first : (start end : Store) (mark : Mark) (n : ℕ) (reply : Reply) (marks : List Mark) → IsNumbered start → WouldAnswer start mark n reply → run_of_store start marks ≡ Some end → (IsDone end n → ⊥)

@@ -1,19 +1,22 @@
 -- All stops and starts again: each tenant's part of the world is tied to what the start leaves of its store.
-use Rattle.std.specs.Prelude.{ℕ, ◌≡◌, ◌<◌, ◌==◌, ◌&&◌, ◌||◌, not, Bool, true, false, if◌then◌else◌, is_none, length, bytes_eq, List, [], ◌∷◌, Option, Some, None}
+use Rattle.std.specs.Prelude.{ℕ, ◌≡◌, ◌<◌, ◌≤◌, ◌&&◌, ◌||◌, not, Bool, true, false, if◌then◌else◌, is_none, nat_le, bytes_eq, List, [], ◌∷◌, Option, Some, None}
 use Rattle.std.proofs.Common.{refl, sym, ap, subst, ◌∙◌, arith}
+use Rattle.std.proofs.lemmas.Bool.{and_from, le-leb}
 use Rattle.std.proofs.lemmas.Option.{same_Some, none-some}
 use Rattle.std.proofs.lemmas.Slice.Eq.{bytes_eq-Decides}
 use Rattle.mw_words.specs.declared.jobs.Entry.{Entry}
 use Rattle.mw_words.specs.Change.{put}
-use Rattle.mw_lone.specs.Store.{Store, entries_in_doubt, store_after_start}
+use Rattle.mw_words.specs.declared.limits.TheConstants.{MAX_QUOTA}
+use Rattle.mw_lone.specs.Store.{Store, entries_in_doubt, is_quota, store_after_start}
 use Rattle.mw_law_late.specs.Doing.{IsInDoubt, Restarts}
 use Rattle.mw_world.specs.declared.config.Config.{Config}
 use Rattle.mw_world.specs.Definition.Happenings.{Found}
-use Rattle.mw_world.specs.Definition.Restarts.{takes, may_find, may_fail, may_interrupt, may_be_found, may_all_be_found, opened_file, found_of, under_way, doubt_then, is_sealed_then, interrupted_request, reopened, restarted, restart}
+use Rattle.mw_world.specs.Definition.Restarts.{takes, may_find, may_fail, may_interrupt, may_be_found, opened_file, found_of, quota_then, under_way, doubt_then, is_sealed_then, interrupted_request, reopened, restarted, restart}
 use Rattle.mw_world.specs.Definition.State.{State, tenants_of}
 use Rattle.mw_law_store.specs.Files.Files.{HasFiles}
 use Rattle.mw_law_store.proofs.Files.Beginning.{among_all}
 use Rattle.mw_law_runs.specs.Sound.{IsSound}
+use Rattle.mw_law_counts.proofs.Startable.{may_start, start_tells}
 use Rattle.mw_law_runs.proofs.Tests.{first_holds, second_holds}
 use Rattle.mw_law_store.proofs.Starting.{started_tied, leaves_in_doubt, could_be_cut}
 use Rattle.mw_law_store.specs.Grounds.{HasGrounds}
@@ -71,11 +74,15 @@ opened_doubt : (words : List ℕ) (fails : Option ℕ) → (opened_file words fa
 opened_doubt words None = refl
 opened_doubt words (Some number) = refl
 
+-- a quota that fits is one that a tenant may have
+fits_test : (quota : ℕ) → (1 ≤ quota) × (quota ≤ MAX_QUOTA) → is_quota quota ≡ true
+fits_test quota fits = and_from (nat_le 1 quota) (nat_le quota MAX_QUOTA) (le-leb 1 quota fits.0) (le-leb quota MAX_QUOTA fits.1)
+
 -- A start of all, as the store says it, where a change that was decided to be made fits its file's words.
 pub restart_tied : (config : Config) (state next : State) (founds : List Found) (tenant : ℕ) (store : Store) → DecidedChangesFit → IsSound config state → HasFiles config state → HasGrounds state
     → tenant < tenants_of config → Tied state tenant store → restart config state founds ≡ Some next
     → let found = found_of founds tenant in let call = under_way config state found.interrupted in let file = (state.accounts tenant).file in
-    (t : Store) × Restarts store (interrupted_request call) (takes file.contents (doubt_then file call) found.words) (is_none found.fails_at) t × Tied next tenant t
+    (t : Store) × Restarts store (interrupted_request call) (takes file.contents (doubt_then file call) found.words) (is_none found.fails_at) (quota_then (state.accounts tenant) found) t × Tied next tenant t
 restart_tied config state next founds tenant store decided sound files grounds low tied is =
     let found = found_of founds tenant in
     let call = under_way config state found.interrupted in
@@ -84,9 +91,11 @@ restart_tied config state next founds tenant store decided sound files grounds l
     let doubt = doubt_then file call in
     let take = takes before doubt found.words in
     let opened = is_none found.fails_at in
-    let came = if_some ((length founds == tenants_of config) && may_all_be_found config state founds (tenants_of config)) (restarted config state founds) next is in
+    let quota = quota_then (state.accounts tenant) found in
+    let came = if_some (may_start config state founds) (restarted config state founds) next is in
+    let starts = start_tells config state founds came.0 in
     let may : may_be_found config state tenant found ≡ true =
-    among_all config state founds (tenants_of config) tenant (second_holds (length founds == tenants_of config) (may_all_be_found config state founds (tenants_of config)) came.0) low in
+    among_all config state founds (tenants_of config) tenant starts.found low in
     let found_there = may_find (is_sealed_then call) before doubt found.words in
     let both : may_interrupt config state tenant found.interrupted && found_there ≡ true =
     first_holds (may_interrupt config state tenant found.interrupted && found_there) (may_fail found.opening_calls found.fails_at) may in
@@ -98,13 +107,14 @@ restart_tied config state next founds tenant store decided sound files grounds l
     let same_found : found.words ≡ words =
     found_so (is_sealed_then call) before doubt found.words finds
     ∙ ap (λ (w : List ℕ). if take then put w doubt else w) left.words ∙ ap (λ (d : List Entry). if take then put store.words d else store.words) same_doubt in (
-      store_after_start store words opened,
+      store_after_start store words opened quota,
       record {
         could_be_interrupted = could_be_cut config state tenant store found.interrupted decided sound files grounds tied cut;
         is_in_doubt = λ taken. in_doubt store (interrupted_request call) before found.words doubt same_doubt taken;
+        may_be_given = fits_test quota (starts.quotas.each tenant low);
         after = refl;
       },
-      subst (λ (s : State). Tied s tenant (store_after_start store words opened)) came.1
-          (started_tied config (λ other. reopened (state.accounts other) (found_of founds other) (under_way config state (found_of founds other).interrupted)) tenant (store_after_start store words opened)
-          (opened_words found.words found.fails_at ∙ same_found) tied.holds.quota refl (opened_failed found.words found.fails_at) (opened_doubt found.words found.fails_at) tied.holds.next refl),
+      subst (λ (s : State). Tied s tenant (store_after_start store words opened quota)) came.1
+          (started_tied config (λ other. reopened (state.accounts other) (found_of founds other) (under_way config state (found_of founds other).interrupted)) tenant (store_after_start store words opened quota)
+          (opened_words found.words found.fails_at ∙ same_found) refl refl (opened_failed found.words found.fails_at) (opened_doubt found.words found.fails_at) tied.holds.next refl),
     )

@@ -28,11 +28,11 @@ grows_on now then end one two = record {
 }
 
 no_start_here : (line : Option Mark) (lines : List (Option Mark)) → HasNoStart (line ∷ lines) → HasNoStart (line ∷ [])
-no_start_here line lines none zero interrupted found opened at = none zero interrupted found opened at
-no_start_here line lines none (suc place) interrupted found opened at = absurd (none-some _ at)
+no_start_here line lines none zero interrupted found opened quota at = none zero interrupted found opened quota at
+no_start_here line lines none (suc place) interrupted found opened quota at = absurd (none-some _ at)
 
 no_start_later : (line : Option Mark) (lines : List (Option Mark)) → HasNoStart (line ∷ lines) → HasNoStart lines
-no_start_later line lines none place interrupted found opened at = none (suc place) interrupted found opened at
+no_start_later line lines none place interrupted found opened quota at = none (suc place) interrupted found opened quota at
 
 line_grows : (now : Moment) (line : Option Mark) → HasNoStart (line ∷ []) → Grows now (after_line now line)
 line_grows now None none = stays now now refl refl
@@ -47,7 +47,7 @@ line_grows now (Some FileFail) none = stays now now refl refl
 line_grows now (Some (GiveUp k)) none = stays now now refl refl
 line_grows now (Some (Retire k)) none = stays now now refl refl
 line_grows now (Some (HandOut k)) none = stays now now refl refl
-line_grows now (Some (Restart interrupted found opened)) none = absurd (none zero interrupted found opened refl)
+line_grows now (Some (Restart interrupted found opened quota)) none = absurd (none zero interrupted found opened quota refl)
 
 lines_grow : (now : Moment) (lines : List (Option Mark)) → HasNoStart lines → Grows now (moment_of now lines)
 lines_grow now [] none = stays now now refl refl

@@ -72,7 +72,7 @@ places_stay_right words sealed more place n job SaysWorn within right = tt
 -- Lines since a start at which nothing was sealed.
 
 no_start_taken : (lines : List (Option Mark)) (many : ℕ) → HasNoStart lines → HasNoStart (take many lines)
-no_start_taken lines many none place interrupted found opened at = none place interrupted found opened (got_taken lines many place _ at)
+no_start_taken lines many none place interrupted found opened quota at = none place interrupted found opened quota (got_taken lines many place _ at)
 
 module _ (start : Moment) (lines : List (Option Mark)) (fresh : start.sealed ≡ []) (none : HasNoStart lines) where
   -- how many are sealed before a place, and the words there
@@ -117,7 +117,7 @@ fewer_before start lines none zero later low =
 fewer_before start lines none (suc place) zero low = absurd (omega (arith, low))
 fewer_before start [] none (suc place) (suc later) low = omega arith
 fewer_before start (line ∷ lines) none (suc place) (suc later) low =
-    fewer_before (after_line start line) lines (λ other interrupted found opened at. none (suc other) interrupted found opened at) place later (omega (arith, low))
+    fewer_before (after_line start line) lines (λ other interrupted found opened quota at. none (suc other) interrupted found opened quota at) place later (omega (arith, low))
 
 -- The line at which a sealed change stands that was sealed since the first moment.
 pub record StandsAt (start : Moment) (lines : List (Option Mark)) (place : ℕ) (one : SealedChange) : Type 0 where
@@ -147,13 +147,13 @@ by_line now (Some FileFail) place one none at = inl at
 by_line now (Some (GiveUp k)) place one none at = inl at
 by_line now (Some (Retire k)) place one none at = inl at
 by_line now (Some (HandOut k)) place one none at = inl at
-by_line now (Some (Restart interrupted found opened)) place one none at = absurd (none zero interrupted found opened refl)
+by_line now (Some (Restart interrupted found opened quota)) place one none at = absurd (none zero interrupted found opened quota refl)
 
 stands_since : (start : Moment) (lines : List (Option Mark)) (place : ℕ) (one : SealedChange) → HasNoStart lines → slice_get (moment_of start lines).sealed place ≡ Some one
     → (slice_get start.sealed place ≡ Some one) ⊎ StandsAt start lines place one
 stands_since start [] place one none at = inl at
 stands_since start (line ∷ lines) place one none at =
-    elim (stands_since (after_line start line) lines place one (λ other interrupted found opened is. none (suc other) interrupted found opened is) at) [
+    elim (stands_since (after_line start line) lines place one (λ other interrupted found opened quota is. none (suc other) interrupted found opened quota is) at) [
       | inl before ↦ elim (by_line start line place one first before) [
         | inl earlier ↦ inl earlier
         | inr here ↦ inr (record { line = 0; is = ap Some here.0; entries = here.1; before = here.2 })
@@ -162,8 +162,8 @@ stands_since start (line ∷ lines) place one none at =
     ]
   where
     first : HasNoStart (line ∷ [])
-    first zero interrupted found opened is = none zero interrupted found opened is
-    first (suc other) interrupted found opened is = absurd (none-some _ is)
+    first zero interrupted found opened quota is = none zero interrupted found opened quota is
+    first (suc other) interrupted found opened quota is = absurd (none-some _ is)
 
 pub stands_at : (start : Moment) (lines : List (Option Mark)) (place : ℕ) (one : SealedChange) → start.sealed ≡ [] → HasNoStart lines → slice_get (moment_of start lines).sealed place ≡ Some one
     → StandsAt start lines place one

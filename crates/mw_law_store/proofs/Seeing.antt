@@ -85,7 +85,7 @@ found_here words entries index address formed at =
     subst (λ (one : ℕ). entry_for entries one ≡ Some (entry_at entries index)) at.same (entry_found entries 0 index (addresses_rise words entries formed) at.within)
 
 -- a change that a trail leads to has an entry of the word
-entry_by_trail : (state : State) (tenant address : ℕ) (trail : Trail) → CameBy state tenant address trail → IsFrom (state.history.change (slot_of trail) (seq_of trail)) 0 address
+pub entry_by_trail : (state : State) (tenant address : ℕ) (trail : Trail) → CameBy state tenant address trail → IsFrom (state.history.change (slot_of trail) (seq_of trail)) 0 address
 entry_by_trail state tenant address (ByHeld slot seq) came = index_of (state.history.change slot seq) address came.entry
 entry_by_trail state tenant address (ByPlanted worker number row) came = record { index = row.entry; from = omega arith; entry = came.entry }
 

@@ -1,5 +1,5 @@
 -- A run in which there are numbers left serves each tenant as its store alone would: what holds of one event, over all of them.
-use Rattle.std.specs.Prelude.{ℕ, ◌≡◌, ◌≢◌, ◌<◌, ◌++◌, ◌&&◌, ◌==◌, true, false, All, Bool, if◌then◌else◌, is_none, length, List, [], ◌∷◌, Option, Some, None}
+use Rattle.std.specs.Prelude.{ℕ, ◌≡◌, ◌≢◌, ◌<◌, ◌++◌, ◌==◌, true, false, All, Bool, if◌then◌else◌, is_none, List, [], ◌∷◌, Option, Some, None}
 use Rattle.std.specs.Option.{option_and_then, option_map, option_to_list, unwrap_or}
 use Rattle.std.proofs.Common.{refl, sym, ap, subst, ◌∙◌, append_assoc, append-nil}
 use Rattle.std.proofs.lemmas.List.Elements.{All-nil, All-cons, All-append}
@@ -21,9 +21,10 @@ use Rattle.mw_actor.specs.Program.{reply_at, replied}
 use Rattle.mw_world.specs.declared.config.Config.{Config}
 use Rattle.mw_world.specs.Claim.Headline.{IsPlayed, IsRun, ShowsStore, LeavesStore, EveryRunServesAlone}
 use Rattle.mw_world.specs.Definition.Happenings.{Found, Happening, Come, Step, File, Hand, Restart}
-use Rattle.mw_world.specs.Definition.Restarts.{restart, restarted, may_all_be_found, found_of, under_way, interrupted_request, doubt_then, takes}
+use Rattle.mw_world.specs.Definition.Restarts.{restart, restarted, found_of, quota_then, under_way, interrupted_request, doubt_then, takes}
 use Rattle.mw_world.specs.Definition.State.{State, IsConfig, IsStart, Opening, tenants_of, tenant_at, marks_in, marks_of, store_at, world_at}
 use Rattle.mw_world.specs.Definition.World.{step, run, outgoing, reply_for, replies_to}
+use Rattle.mw_law_counts.proofs.Startable.{may_start}
 use Rattle.mw_law_store.specs.Followed.{IsFollowedBy, GoesOn, IsLegalTo}
 use Rattle.mw_law_store.specs.Going.{Saying, Silent, Says, KeepsPlace, SaysLate, lines_after, StoreGoes, given_out}
 use Rattle.mw_law_runs.specs.Files.{FilesFit}
@@ -132,11 +133,11 @@ module _ (events_serve : EventsAreServed) (restarts_serve : RestartsAreServed) (
       }
 
   -- a start hands out nothing
-  start_gives : (store : Store) (marks : List Mark) (interrupted : Option ℕ) (found opened : Bool) → run_of_store first marks ≡ Some store
-      → replies_from first (marks ++ IsRestart interrupted found opened ∷ []) ≡ replies_from first marks ++ []
-  start_gives store marks interrupted found opened ran =
-      replies_append first store marks (IsRestart interrupted found opened ∷ []) ran
-      ∙ ap (λ (given : List (ℕ × Reply)). replies_from first marks ++ given) (nothing_more (step_of_store store (IsRestart interrupted found opened)))
+  start_gives : (store : Store) (marks : List Mark) (interrupted : Option ℕ) (found opened : Bool) (quota : ℕ) → run_of_store first marks ≡ Some store
+      → replies_from first (marks ++ IsRestart interrupted found opened quota ∷ []) ≡ replies_from first marks ++ []
+  start_gives store marks interrupted found opened quota ran =
+      replies_append first store marks (IsRestart interrupted found opened quota ∷ []) ran
+      ∙ ap (λ (given : List (ℕ × Reply)). replies_from first marks ++ given) (nothing_more (step_of_store store (IsRestart interrupted found opened quota)))
 
   restarted_gives : (state : State) (founds : List Found) → IsServed openings state tenant → RepliesGoOn openings tenant state (restarted config state founds) []
   restarted_gives state founds served =
@@ -144,14 +145,15 @@ module _ (events_serve : EventsAreServed) (restarts_serve : RestartsAreServed) (
       let call = under_way config state (found_of founds tenant).interrupted in
       let found = takes account.file.contents (doubt_then account.file call) (found_of founds tenant).words in
       let opened = is_none (found_of founds tenant).fails_at in
-      ap (replies_from first) (append-nil (account.closed ++ marks_in account.lines ++ IsRestart (interrupted_request call) found opened ∷ []))
-      ∙ start_gives served.store (account.closed ++ marks_in account.lines) (interrupted_request call) found opened (all_legal state served.store served.legal)
+      let quota = quota_then account (found_of founds tenant) in
+      ap (replies_from first) (append-nil (account.closed ++ marks_in account.lines ++ IsRestart (interrupted_request call) found opened quota ∷ []))
+      ∙ start_gives served.store (account.closed ++ marks_in account.lines) (interrupted_request call) found opened quota (all_legal state served.store served.legal)
 
   restart_gives : (state next : State) (founds : List Found) → IsGroundedWorld config state → tenant < tenants_of config → IsServed openings state tenant → restart config state founds ≡ Some next
       → GivesOn state next (Restart founds)
   restart_gives state next founds grounded low served is = record {
     served = restarts_serve config openings state next founds tenant grounded low served is;
-    replies = by_test ((length founds == tenants_of config) && may_all_be_found config state founds (tenants_of config)) is;
+    replies = by_test (may_start config state founds) is;
   }
     where
       by_test : (test : Bool) → (if test then Some (restarted config state founds) else None) ≡ Some next → RepliesGoOn openings tenant state next []
@@ -279,4 +281,5 @@ module _ (events_serve : EventsAreServed) (restarts_serve : RestartsAreServed) (
         never_worn = all.never_worn;
         shown = shown config state tenant all.served.store world low all.served.followed.tied;
         left = left config state tenant all.served.store world low all.served.followed.tied;
+        quota = all.served.followed.tied.holds.quota;
       }

@@ -16,13 +16,13 @@ pub none_since : (next : ℕ) → AreSinceStart [] next
 none_since next = record {
   numbers = λ place n job at. absurd (none-some (Some (Ask n job)) at);
   ask_once = λ place other n job another at there. absurd (none-some (Some (Ask n job)) at);
-  no_start = λ place interrupted found opened at. absurd (none-some (Some (Restart interrupted found opened)) at);
+  no_start = λ place interrupted found opened quota at. absurd (none-some (Some (Restart interrupted found opened quota)) at);
 }
 
 -- neither a request that comes nor a start
 abbrev pub IsLater : Option Mark → Type 0
 IsLater (Some (Ask n job)) = ⊥
-IsLater (Some (Restart interrupted found opened)) = ⊥
+IsLater (Some (Restart interrupted found opened quota)) = ⊥
 IsLater line = Unit {0}
 
 pub since_more : (lines : List (Option Mark)) (line : Option Mark) (next : ℕ) → IsLater line → AreSinceStart lines next → AreSinceStart (more lines line) next
@@ -35,8 +35,8 @@ since_more lines line next later old =
     record {
       numbers = λ place n job at. old.numbers place n job (back place n job at);
       ask_once = λ place other n job another at there. old.ask_once place other n job another (back place n job at) (back other n another there);
-      no_start = λ place interrupted found opened at. elim (got_which lines line (Some (Restart interrupted found opened)) place at) [
-        | inl before ↦ old.no_start place interrupted found opened before
+      no_start = λ place interrupted found opened quota at. elim (got_which lines line (Some (Restart interrupted found opened quota)) place at) [
+        | inl before ↦ old.no_start place interrupted found opened quota before
         | inr last ↦ absurd (subst IsLater last.1 later)
       ];
     }
@@ -64,8 +64,8 @@ since_ask lines k came old = record {
       | inr too ↦ last.0 ∙ sym too.0
     ]
   ];
-  no_start = λ place interrupted found opened at. elim (got_which lines (Some (Ask k came)) (Some (Restart interrupted found opened)) place at) [
-    | inl before ↦ old.no_start place interrupted found opened before
+  no_start = λ place interrupted found opened quota at. elim (got_which lines (Some (Ask k came)) (Some (Restart interrupted found opened quota)) place at) [
+    | inl before ↦ old.no_start place interrupted found opened quota before
     | inr last ↦ absurd (subst is_ask last.1 tt)
   ];
 }
@@ -80,8 +80,8 @@ since_late lines kept mark next mild free old =
     record {
       numbers = λ place n job at. old.numbers place n job (back place n job at);
       ask_once = λ place other n job another at there. old.ask_once place other n job another (back place n job at) (back other n another there);
-      no_start = λ place interrupted found opened at. elim (got_late_which lines kept mark (Restart interrupted found opened) place free at) [
-        | inl before ↦ old.no_start place interrupted found opened before
+      no_start = λ place interrupted found opened quota at. elim (got_late_which lines kept mark (Restart interrupted found opened quota) place free at) [
+        | inl before ↦ old.no_start place interrupted found opened quota before
         | inr same ↦ absurd (subst IsMild same mild)
       ];
     }
@@ -102,4 +102,4 @@ goes_since start lines s t FileFail may d old = next_of _ t _ d.after (since_mor
 goes_since start lines s t (GiveUp k) may d old = next_of _ t _ d.after (since_more lines (Some (GiveUp k)) s.next tt old)
 goes_since start lines s t (Retire k) may d old = next_of _ t _ d.after (since_more lines (Some (Retire k)) s.next tt old)
 goes_since start lines s t (HandOut k) may d old = next_of _ t _ d.after (since_more lines (Some (HandOut k)) s.next tt old)
-goes_since start lines s t (Restart interrupted found opened) may d old = absurd may
+goes_since start lines s t (Restart interrupted found opened quota) may d old = absurd may

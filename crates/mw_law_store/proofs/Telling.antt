@@ -97,7 +97,7 @@ goes_tells now s t FileFail d tells = subst (Tells now) (sym d.after) (record { 
 goes_tells now s t (GiveUp k) d tells = written_tells now s t _ k d.found _ d.after refl refl refl d.is_asked refl tells
 goes_tells now s t (Retire k) d tells = written_tells now s t _ k d.found _ d.after refl refl refl d.is_asked refl tells
 goes_tells now s t (HandOut k) d tells = written_tells now s t _ k d.found _ d.after refl refl refl d.is_asked refl tells
-goes_tells now s t (Restart interrupted found opened) d tells = subst (Tells (after_mark now (Restart interrupted found opened))) (sym d.after) (record {
+goes_tells now s t (Restart interrupted found opened quota) d tells = subst (Tells (after_mark now (Restart interrupted found opened quota))) (sym d.after) (record {
   words = found_words now s interrupted found d.could_be_interrupted tells;
   doubt = refl;
   entries = none_asked (first_moment []);
@@ -116,7 +116,7 @@ does_goes s t FileFail d = d
 does_goes s t (GiveUp k) d = d
 does_goes s t (Retire k) d = record { found = d.found; is_asked = d.is_asked; has_slot = d.has_slot; not_retired = d.not_retired; after = d.after }
 does_goes s t (HandOut k) d = record { found = d.found; is_asked = d.is_asked; not_handed = d.not_handed; after = d.after }
-does_goes s t (Restart interrupted found opened) d = d
+does_goes s t (Restart interrupted found opened quota) d = d
 
 pub step_tells : (now : Moment) (s t : Store) (mark : Mark) → step s mark ≡ Some t → Tells now s → Tells (after_mark now mark) t
 step_tells now s t mark e tells = goes_tells now s t mark (does_goes s t mark (marks-do s t mark e)) tells

@@ -13,7 +13,7 @@ use Rattle.mw_law_store.specs.Moments.{Moment, first_moment, doubt_at, after_mar
 -- The changes that a mark puts over the words: a seal puts its request's, a start the one in doubt if it is found.
 abbrev pub change_of : Moment → Mark → List (List Entry)
 change_of now (Seal n) = now.entries n ∷ []
-change_of now (Restart interrupted found opened) = if found then doubt_at now interrupted ∷ [] else []
+change_of now (Restart interrupted found opened quota) = if found then doubt_at now interrupted ∷ [] else []
 change_of now mark = []
 
 -- those of all these marks, in their order
@@ -27,7 +27,7 @@ put_all words [] = words
 put_all words (change ∷ changes) = put_all (put words change) changes
 
 abbrev pub is_start : Mark → Bool
-is_start (Restart interrupted found opened) = true
+is_start (Restart interrupted found opened quota) = true
 is_start mark = false
 
 -- there is no start among these marks
@@ -49,9 +49,9 @@ pub record IsHeld (words : List ℕ) (marks : List Mark) (n : ℕ) : Type 0 wher
   pub later : List (List Entry)
   pub its_change : changes_of (first_moment words) marks ≡ changes_of (first_moment words) (first ++ Ask n job ∷ until_seal) ++ entries_of job ∷ later
 
--- a store that begins with these words, of which nothing was asked; its file opened, or didn't
+-- a store that begins with these words and this quota, of which nothing was asked; its file opened, or didn't. Later starts may tell other quotas
 abbrev pub begun : List ℕ → ℕ → Bool → Store
-begun words quota opened = store_after_start (new_store words quota) words opened
+begun words quota opened = store_after_start (new_store words quota) words opened quota
 
 -- After every legal run of such a store its words are the first ones with all changes put over them, and each YES that was handed out is held.
 abbrev pub SealsAreHeld : Type 0

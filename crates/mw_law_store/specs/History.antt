@@ -46,7 +46,7 @@ pub record IsBeginning (first all : List SealedChange) : Type 0 where
   pub parted : all ≡ first ++ rest
 
 abbrev pub HasNoStart : List (Option Mark) → Type 0
-HasNoStart lines = (place : ℕ) (interrupted : Option ℕ) (found opened : Bool) → slice_get lines place ≡ Some (Some (MarkOfStart interrupted found opened)) → ⊥
+HasNoStart lines = (place : ℕ) (interrupted : Option ℕ) (found opened : Bool) (quota : ℕ) → slice_get lines place ≡ Some (Some (MarkOfStart interrupted found opened quota)) → ⊥
 
 -- The words after lines are the words before them with the changes put over these that were sealed by the lines, in order.
 abbrev pub WordsAreOfSealed : Type 0

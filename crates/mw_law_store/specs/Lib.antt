@@ -11,6 +11,8 @@ pub mod Laws
 pub mod Moments
 pub mod OverCalls
 pub mod Own
+pub mod Quotas
 pub mod Recalled
 pub mod Tied
+pub mod TurningBack
 pub mod Worn

@@ -42,7 +42,7 @@ after_mark now (Seal n) = record now {
   sealed = now.sealed ++ record { request = n; entries = now.entries n } ∷ [];
 }
 after_mark now (SealFail n) = record now { doubt = now.entries n }
-after_mark now (Restart interrupted found opened) = first_moment (if found then put now.words (doubt_at now interrupted) else now.words)
+after_mark now (Restart interrupted found opened quota) = first_moment (if found then put now.words (doubt_at now interrupted) else now.words)
 after_mark now mark = now
 
 -- after a line; an empty place changes nothing

@@ -25,7 +25,7 @@ pub record IsSealedIn (store : Store) (n : ℕ) : Type 0 where
 pub record AreSinceStart (lines : List (Option Mark)) (next : ℕ) : Type 0 where
   pub numbers : (place n : ℕ) (job : Job) → slice_get lines place ≡ Some (Some (Ask n job)) → n < next
   pub ask_once : (place other n : ℕ) (job another : Job) → slice_get lines place ≡ Some (Some (Ask n job)) → slice_get lines other ≡ Some (Some (Ask n another)) → place ≡ other
-  pub no_start : (place : ℕ) (interrupted : Option ℕ) (found opened : Bool) → slice_get lines place ≡ Some (Some (Restart interrupted found opened)) → ⊥
+  pub no_start : (place : ℕ) (interrupted : Option ℕ) (found opened : Bool) (quota : ℕ) → slice_get lines place ≡ Some (Some (Restart interrupted found opened quota)) → ⊥
 
 pub record Recalled (start : Moment) (lines : List (Option Mark)) (store : Store) : Type 0 where
   pub words : (moment_of start lines).words ≡ store.words
@@ -41,5 +41,5 @@ pub record Recalled (start : Moment) (lines : List (Option Mark)) (store : Store
 abbrev pub MayBeSaid : Moment → List (Option Mark) → Saying → Store → Type 0
 MayBeSaid start lines (SaysLate place mark n reply) store =
     (slice_get lines place ≡ Some None) × ((r : RequestState) → request store n ≡ Some r → CouldCome start lines place mark n r.job reply)
-MayBeSaid start lines (Says (Restart interrupted found opened)) store = ⊥
+MayBeSaid start lines (Says (Restart interrupted found opened quota)) store = ⊥
 MayBeSaid start lines says store = Unit {0}

@@ -77,7 +77,8 @@ pub fn runs_are_enabled()
 
 /// After every run an event can happen just where it is ready: a request comes to an idle worker, a reply is
 /// handed out where it stands, a step or a call is made where a request has come to one, a device call fails in
-/// a call that makes it, and all starts again where this may be found of the files.
+/// a call that makes it, and all starts again where this may be found of the files and the quotas that the start
+/// gives fit.
 pub fn ready_events_happen()
     ensures ready { ReadyEventsHappen }
     ensures others { OtherEventsDoNot }

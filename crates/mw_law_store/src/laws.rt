@@ -5,7 +5,9 @@ ghost use Rattle.mw_law_store.specs.HeldInRuns.{RunsHoldChanges};
 ghost use Rattle.mw_law_store.specs.History.{AsksStandOnce, RepliesHavePlaces, SealedComeInOrder, SealsFit, SealsStay, SealsStayLong, WordsAreOfSealed};
 ghost use Rattle.mw_law_store.specs.OverCalls.{AsksTellTheirJobs, CallsKeepTheirPlace, PlacesStayRight, RepliesKeepTheirPlace, RequestsBegin, RequestsHaveBegun, RequestsStayBegun, SealedAreRight, SealedGoOn, SealsBegin, StartsSealNothing};
 ghost use Rattle.mw_law_store.specs.Own.{FaultsAreCounted, FaultsAreOwn, MarksAreOwn, NeighboursFaultsLeaveNoMark};
+ghost use Rattle.mw_law_store.specs.Quotas.{EventsTellQuotas, QuotasAreTold, QuotasMayStay, QuotasStayWithinThePool};
 ghost use Rattle.mw_law_store.specs.Laws.{DecidedChangesFit, EventsAreFollowed, EventsKeepGrounds, LateMarksLeaveReplies, LinesAreMoments, RunsAreFollowed, RunsHaveGrounds, SayingsAreRecalled, WordsAreOfMarks};
+ghost use Rattle.mw_law_store.specs.TurningBack.{ReadsFindTheirWay, ReadsTurnBackForThreeReasons};
 ghost use Rattle.mw_law_store.specs.Worn.{RunsAreNotWorn};
 
 /// After every run of the store alone its words are the first ones, with the changes of all seals put over
@@ -52,6 +54,16 @@ pub fn changes_fit()
 /// Where numbers are left no request comes to say WORN.
 pub fn runs_are_not_worn()
     ensures { RunsAreNotWorn }
+{}
+
+/// A read begins again for three reasons alone, in every run, also where numbers are used up: the word was
+/// another one when it was loaded again; the gate of its slot wasn't as the word, or the row of its attempt,
+/// implies; or the gate had changed between its load and the exchange that was to pin it. For the gate of such a
+/// slot has room for a pin, and a number that isn't worn; one of the slot's entries is the word's; and no word
+/// is held by a change that was made and is done with.
+pub fn reads_turn_back_for_three_reasons()
+    ensures ways { ReadsFindTheirWay }
+    ensures reasons { ReadsTurnBackForThreeReasons }
 {}
 
 /// Each tenant's store follows its part of a world after every run, also where a number was used up.
@@ -107,6 +119,18 @@ pub fn marks_are_own()
     ensures neighbours { NeighboursFaultsLeaveNoMark }
     ensures faults { FaultsAreOwn }
     ensures counted { FaultsAreCounted }
+{}
+
+/// A start alone changes a tenant's quota, and nothing changes how many places its file has. So after every
+/// run, also where a number was used up, the quota is the one that the last start among the tenant's marks
+/// tells, else the one with which the run began; it is within its limits, and no more than the places of the
+/// file, which are as many as at the beginning; and the pool has slots for the quotas of all tenants together.
+/// A start that tells none gives quotas that fit.
+pub fn quotas_are_told()
+    ensures events { EventsTellQuotas }
+    ensures told { QuotasAreTold }
+    ensures together { QuotasStayWithinThePool }
+    ensures stay { QuotasMayStay }
 {}
 
 /// Every run in which there are numbers left serves each tenant as its store alone would; runs in which a

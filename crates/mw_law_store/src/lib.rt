@@ -10,7 +10,7 @@ pub use file_laws::{
     starts_find_words, starts_have_files, turns_keep_files,
 };
 pub use laws::{
-    changes_fit, every_run_serves_alone, late_marks_leave_replies, marks_are_own,
+    changes_fit, every_run_serves_alone, late_marks_leave_replies, marks_are_own, quotas_are_told,
     replies_have_places, replies_keep_their_place, requests_have_begun, runs_are_followed,
     runs_are_not_worn, runs_have_grounds, sayings_are_recalled, sealed_changes_go_on,
     sealed_come_in_order, seals_are_held, words_are_of_marks,

@@ -18,6 +18,7 @@ use Rattle.mw_world.specs.Definition.Requests.{came, gave}
 use Rattle.mw_world.specs.Definition.State.{State, Account, account_at, started, tenant_at, tenants_of}
 use Rattle.mw_world.specs.Definition.World.{come, hand, handed, may_come}
 use Rattle.mw_lone.proofs.SoundStores.{length-put}
+use Rattle.mw_law_counts.proofs.Startable.{may_start, start_tells}
 use Rattle.mw_law_moves.proofs.Stepping.{comes_leave, hands_leave}
 use Rattle.mw_law_moves.proofs.Shared.{memory_is_shared}
 use Rattle.mw_law_runs.proofs.Tests.{first_holds, guarded, second_holds}
@@ -175,18 +176,17 @@ module _ (config : Config) (state : State) (founds : List Found) (has : HasFiles
 
 pub restarts_keep_files : RestartsKeepFiles
 restarts_keep_files config state next founds has is =
-    let all = may_all_be_found config state founds (tenants_of config) in
-    guarded (HasFiles config) ((length founds == tenants_of config) && all) (restarted config state founds) next
-    (λ may. starts_again config state founds has (second_holds (length founds == tenants_of config) all may)) is
+    guarded (HasFiles config) (may_start config state founds) (restarted config state founds) next
+    (λ may. starts_again config state founds has (start_tells config state founds may).found) is
 
 -- what a start gave a tenant was just opened
-opened_so : (config : Config) (tenant quota : ℕ) (words : List ℕ) (is_up : Bool) → length words ≡ (tenant_at config tenant).words
-    → IsOpened config tenant (account_at (record { quota = quota; words = words; is_up = is_up }))
-opened_so config tenant quota words true long = record { found = words; fails_at = None; file = refl; is_up = refl; long = long }
-opened_so config tenant quota words false long = record { found = words; fails_at = Some 0; file = refl; is_up = refl; long = long }
+opened_so : (config : Config) (tenant quota places : ℕ) (words : List ℕ) (is_up : Bool) → length words ≡ (tenant_at config tenant).words
+    → IsOpened config tenant (account_at (record { quota = quota; places = places; words = words; is_up = is_up }))
+opened_so config tenant quota places words true long = record { found = words; fails_at = None; file = refl; is_up = refl; long = long }
+opened_so config tenant quota places words false long = record { found = words; fails_at = Some 0; file = refl; is_up = refl; long = long }
 
 pub first_starts_have_files : FirstStartsHaveFiles
 first_starts_have_files config openings start =
     started_has config _ (λ tenant low.
     let opening = openings tenant in
-    opened_so config tenant opening.quota opening.words opening.is_up (start.long tenant low))
+    opened_so config tenant opening.quota opening.places opening.words opening.is_up (start.long tenant low))

@@ -23,10 +23,11 @@ use Rattle.mw_world.specs.Definition.Calls.{Called, breaks, call, call_if, calle
 use Rattle.mw_world.specs.Definition.Extent.{has_slot}
 use Rattle.mw_world.specs.Definition.Happenings.{Found, Happening, Come, Step, File as FileEvent, Hand, Restart}
 use Rattle.mw_world.specs.Definition.Requests.{came, gave}
-use Rattle.mw_world.specs.Definition.Restarts.{may_all_be_found, restart, restarted}
+use Rattle.mw_world.specs.Definition.Restarts.{restart, restarted}
 use Rattle.mw_world.specs.Definition.State.{State, tenant_at, tenants_of}
 use Rattle.mw_world.specs.Definition.Turns.{Made, may_make, moved, turn, turned}
 use Rattle.mw_world.specs.Definition.World.{come, hand, handed, may_come, step}
+use Rattle.mw_law_counts.proofs.Startable.{may_start, start_passes, start_tells}
 use Rattle.mw_law_store.specs.Files.Ready.{IsReady, MakesCall, MayCall, MayCome, MayFail, MayHand, MayRestart, MayStep, OtherEventsDoNot, ReadyEventsHappen}
 use Rattle.mw_law_store.proofs.Files.Enabling.{runs_are_enabled}
 
@@ -256,14 +257,13 @@ is_same one other is = grind (arith, nat_tests, is)
 
 restart_can : (config : Config) (state : State) (founds : List Found) → MayRestart config state founds → Is (restart config state founds)
 restart_can config state founds may =
-    tested ((length founds == tenants_of config) && may_all_be_found config state founds (tenants_of config)) (restarted config state founds)
-    (both (length founds == tenants_of config) (may_all_be_found config state founds (tenants_of config)) (same_number (length founds) (tenants_of config) may.each) may.found)
+    tested (may_start config state founds) (restarted config state founds)
+    (start_passes config state founds (record { each = same_number (length founds) (tenants_of config) may.each; found = may.found; quotas = may.quotas }))
 
 restart_may : (config : Config) (state next : State) (founds : List Found) → restart config state founds ≡ Some next → MayRestart config state founds
 restart_may config state next founds is =
-    let held = both_held (length founds == tenants_of config) (may_all_be_found config state founds (tenants_of config))
-    (test_held ((length founds == tenants_of config) && may_all_be_found config state founds (tenants_of config)) (restarted config state founds) next is) in
-    record { each = is_same (length founds) (tenants_of config) held.here; found = held.there }
+    let held = start_tells config state founds (test_held (may_start config state founds) (restarted config state founds) next is) in
+    record { each = is_same (length founds) (tenants_of config) held.each; found = held.found; quotas = held.quotas }
 
 -- All of it.
 

@@ -1,6 +1,6 @@
 -- Starts: each tenant is followed and served by its store at the first one, and after all stopped and started again; and what a followed store says of the
 -- tenant's words and file.
-use Rattle.std.specs.Prelude.{ℕ, ◌≡◌, ◌==◌, ◌&&◌, ◌++◌, Bool, List, [], ◌∷◌, is_none, length, Option, Some}
+use Rattle.std.specs.Prelude.{ℕ, ◌≡◌, ◌++◌, Bool, List, [], ◌∷◌, is_none, Option, Some}
 use Rattle.std.specs.FinMap as map
 use Rattle.std.specs.Ordering.{nat_cmp}
 use Rattle.std.proofs.Common.{refl, sym, ap, subst, ◌∙◌}
@@ -11,8 +11,9 @@ use Rattle.mw_lone.specs.Store.{Store, RequestState, request, new_store}
 use Rattle.mw_law_late.specs.Doing.{Restarts}
 use Rattle.mw_world.specs.declared.config.Config.{Config}
 use Rattle.mw_world.specs.Definition.Happenings.{Found}
-use Rattle.mw_world.specs.Definition.Restarts.{restart, restarted, may_all_be_found, found_of, under_way, interrupted_request, doubt_then, takes}
-use Rattle.mw_world.specs.Definition.State.{State, Account, Opening, started, marks_in, store_at, world_at, tenants_of}
+use Rattle.mw_world.specs.Definition.Restarts.{restart, restarted, found_of, quota_then, under_way, interrupted_request, doubt_then, takes}
+use Rattle.mw_world.specs.Definition.State.{State, Account, Opening, started, marks_in, store_at, world_at}
+use Rattle.mw_law_counts.proofs.Startable.{may_start}
 use Rattle.mw_law_runs.proofs.Tests.{guarded}
 use Rattle.mw_law_store.specs.Followed.{start_of, IsFollowed, IsFollowedBy, IsLegalTo}
 use Rattle.mw_law_store.specs.Kept.{Kept}
@@ -71,7 +72,7 @@ starts_served config openings tenant start low = record {
   legal = record {
     base = store_at (openings tenant);
     closed = refl;
-    numbered = start_numbered (new_store (openings tenant).words (openings tenant).quota) (openings tenant).words (openings tenant).is_up;
+    numbered = start_numbered (new_store (openings tenant).words (openings tenant).quota) (openings tenant).words (openings tenant).is_up (openings tenant).quota;
     lines = refl;
     kept = λ worker actor is same. absurd (none-some actor is);
   };
@@ -95,30 +96,33 @@ module _ (config : Config) (openings : ℕ → Opening) (state : State) (founds 
   abbrev opened : Bool
   opened = is_none found.fails_at
 
+  abbrev told : ℕ
+  told = quota_then account found
+
   -- the moment of the start, by the marks before it
-  start_is : start_of openings (restarted config state founds) tenant ≡ after_mark (moment_of (start_of openings state tenant) account.lines) (IsRestart cut took opened)
+  start_is : start_of openings (restarted config state founds) tenant ≡ after_mark (moment_of (start_of openings state tenant) account.lines) (IsRestart cut took opened told)
   start_is =
       let first = first_moment (openings tenant).words in
-      marks_more first (account.closed ++ marks_in account.lines) (IsRestart cut took opened)
-      ∙ ap (λ (now : Moment). after_mark now (IsRestart cut took opened))
+      marks_more first (account.closed ++ marks_in account.lines) (IsRestart cut took opened told)
+      ∙ ap (λ (now : Moment). after_mark now (IsRestart cut took opened told))
       (marks_append first account.closed (marks_in account.lines) ∙ sym (lines_are_moments (start_of openings state tenant) account.lines))
 
-  restarted_followed : (store after : Store) → IsFollowedBy openings state tenant store → Restarts store cut took opened after → Tied (restarted config state founds) tenant after
+  restarted_followed : (store after : Store) → IsFollowedBy openings state tenant store → Restarts store cut took opened told after → Tied (restarted config state founds) tenant after
       → IsFollowedBy openings (restarted config state founds) tenant after
   restarted_followed store after followed restarts tied = record {
     tied = tied;
     recalled = subst (λ (start : Moment). Recalled start [] after) (sym start_is)
-        (none_recalled (after_mark (moment_of (start_of openings state tenant) account.lines) (IsRestart cut took opened)) after (ap (λ (t : Store). t.requests) restarts.after)
-        (goes_tells (moment_of (start_of openings state tenant) account.lines) store after (IsRestart cut took opened) restarts
+        (none_recalled (after_mark (moment_of (start_of openings state tenant) account.lines) (IsRestart cut took opened told)) after (ap (λ (t : Store). t.requests) restarts.after)
+        (goes_tells (moment_of (start_of openings state tenant) account.lines) store after (IsRestart cut took opened told) restarts
         (recalled_tells (start_of openings state tenant) account.lines store followed.recalled)));
     kept = none_kept config _ tenant (start_of openings (restarted config state founds) tenant);
   }
 
-  restarted_legal : (store after : Store) → IsLegalTo openings state tenant store → Restarts store cut took opened after → Tied (restarted config state founds) tenant after
+  restarted_legal : (store after : Store) → IsLegalTo openings state tenant store → Restarts store cut took opened told after → Tied (restarted config state founds) tenant after
       → IsLegalTo openings (restarted config state founds) tenant after
   restarted_legal store after legal restarts tied = record {
     base = after;
-    closed = restart_legal (store_at (openings tenant)) store after (account.closed ++ marks_in account.lines) cut took opened
+    closed = restart_legal (store_at (openings tenant)) store after (account.closed ++ marks_in account.lines) cut took opened told
         (whole_run (store_at (openings tenant)) legal.base account.closed (marks_in account.lines) legal.closed ∙ legal.lines) restarts;
     numbered = tied.holds.numbered;
     lines = refl;
@@ -128,7 +132,7 @@ module _ (config : Config) (openings : ℕ → Opening) (state : State) (founds 
   -- the world after a start is the one that was found
   by_start : (P : State → Type 0) (next : State) → (restart config state founds ≡ Some (restarted config state founds) → P (restarted config state founds)) → restart config state founds ≡ Some next → P next
   by_start P next there is =
-      guarded (λ (one : State). restart config state founds ≡ Some one → P one) ((length founds == tenants_of config) && may_all_be_found config state founds (tenants_of config))
+      guarded (λ (one : State). restart config state founds ≡ Some one → P one) (may_start config state founds)
       (restarted config state founds) next (λ may so. there so) is is
 
 pub restarts_followed : RestartsAreFollowed

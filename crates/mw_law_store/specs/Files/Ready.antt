@@ -12,8 +12,8 @@ use Rattle.mw_world.specs.declared.config.Config.{Config}
 use Rattle.mw_world.specs.Claim.Headline.{IsPlayed}
 use Rattle.mw_world.specs.Definition.Calls.{Called, called_at, calls_made, fails_on, is_made, place_for, starts_from}
 use Rattle.mw_world.specs.Definition.Happenings.{Found, Happening, Come, Step, File as FileEvent, Hand, Restart}
-use Rattle.mw_world.specs.Definition.Restarts.{may_all_be_found}
-use Rattle.mw_world.specs.Definition.State.{State, Opening, tenant_at, tenants_of}
+use Rattle.mw_world.specs.Definition.Restarts.{may_all_be_found, quotas_then}
+use Rattle.mw_world.specs.Definition.State.{State, Opening, QuotasFit, places_of, tenant_at, tenants_of}
 use Rattle.mw_world.specs.Definition.World.{step}
 
 -- A request may come: the worker and the tenant are there, the worker has no request, and the tenant may ask for this.
@@ -55,10 +55,11 @@ pub record MayHand (state : State) (worker : ℕ) : Type 0 where
   pub sits : (state.seats worker).actor ≡ Some actor
   pub stands : replied actor ≡ Some reply
 
--- All may stop and start again: something is told of each tenant's file, and may be found of it.
+-- All may stop and start again: something is told of each tenant's file, and may be found of it; and the quotas that the start gives fit.
 pub record MayRestart (config : Config) (state : State) (founds : List Found) : Type 0 where
   pub each : length founds ≡ tenants_of config
   pub found : may_all_be_found config state founds (tenants_of config) ≡ true
+  pub quotas : QuotasFit config (quotas_then state founds) (places_of state)
 
 abbrev pub IsReady : Config → State → Happening → Type 0
 IsReady config state (Come worker tenant job) = MayCome config state worker tenant job

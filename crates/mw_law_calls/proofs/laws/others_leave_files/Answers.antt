@@ -1,5 +1,6 @@
-use Rattle.mw_law_calls.proofs.Beside.{events_leave_quotas, others_leave_files, others_leave_files_long}
+use Rattle.mw_law_store.proofs.Quotas.{events_tell_quotas}
+use Rattle.mw_law_calls.proofs.Beside.{others_leave_files, others_leave_files_long}
 use Rattle.mw_law_calls.proofs.laws.others_leave_files.Goals as goal
 
 pub returns : goal.returns
-returns c = record { event = others_leave_files; long = others_leave_files_long; quotas = events_leave_quotas }
+returns c = record { event = others_leave_files; long = others_leave_files_long; quotas = events_tell_quotas }
