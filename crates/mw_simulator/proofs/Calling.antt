@@ -268,7 +268,7 @@ refiled old new state tenant place shown book file shows config cells seats clai
   accounts = subst (λ (c : Config). ShowsAccounts c new.accounts.items (upd state.accounts tenant after)) (sym config)
       (subst (λ kept. ShowsAccounts old.config kept (upd state.accounts tenant after)) (sym (accounts ∙ ap (λ i. slice_set old.accounts.items i (record shown { book = book })) at))
       (accounts_set old.config old.accounts.items state.accounts tenant (record shown { book = book }) after there
-      (record { book = of.shows; quota = one.quota; places = of.places; words_are = of.words; asked = one.asked; closed = one.closed; lines = one.lines }) shows.accounts));
+      (record { book = of.shows; quota = one.quota; places = of.places; file_places = of.file_places; words_are = of.words; asked = one.asked; closed = one.closed; lines = one.lines }) shows.accounts));
 }
   where
     after : Account

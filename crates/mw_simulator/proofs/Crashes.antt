@@ -149,7 +149,7 @@ module _ (config : Config) (state : State) (worker : ℕ) (actor : Acting) (call
       (leaves_same (memory_facts (disk_under kept.device)) (λ image may.
       subst (λ ws. IsFileOfEither ws file.doubt image) (sym one.book.same_contents)
       (subst (λ es. IsFileOfEither kept.contents.items es image) (sym one.book.same_doubt)
-      (image_of_device kept.device (length kept.places.items) kept.contents.items kept.doubt.items image one.book.stands may)))))
+      (image_of_device kept.device kept.file_places kept.contents.items kept.doubt.items image one.book.stands may)))))
     where
       file : File
       file = (state.accounts actor.tenant).file

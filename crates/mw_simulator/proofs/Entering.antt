@@ -113,7 +113,7 @@ pub lines_moved : (config : Config) (kept : List AccountInMemory) (accounts : �
 lines_moved config kept accounts tenant was lines there is same shows =
     let one = shows tenant was (element kept tenant was there is) in
     set_keeps_at (ShowsOne config) kept accounts tenant (record was { lines = lines }) there
-    (record { book = one.book; quota = one.quota; places = one.places; words_are = one.words_are; asked = one.asked; closed = ap (λ marks. marks.items) same.closed ∙ one.closed; lines = same.lines ∙ one.lines })
+    (record { book = one.book; quota = one.quota; places = one.places; file_places = one.file_places; words_are = one.words_are; asked = one.asked; closed = ap (λ marks. marks.items) same.closed ∙ one.closed; lines = same.lines ∙ one.lines })
     shows
 
 -- and then there is room for one more
@@ -186,7 +186,7 @@ seated_request note past lines seat = refl
 lines_grew : (config : Config) (tenant : ℕ) (was : AccountInMemory) (account : Account) (lines : Lines) (new : List (Option Mark)) → ShowsOne config tenant was account
     → lines.closed ≡ was.lines.closed → lines.lines.items ≡ new → ShowsOne config tenant (record was { lines = lines }) (record account { lines = new })
 lines_grew config tenant was account lines new one closed is =
-    record { book = one.book; quota = one.quota; places = one.places; words_are = one.words_are; asked = one.asked; closed = ap (λ marks. marks.items) closed ∙ one.closed; lines = is }
+    record { book = one.book; quota = one.quota; places = one.places; file_places = one.file_places; words_are = one.words_are; asked = one.asked; closed = ap (λ marks. marks.items) closed ∙ one.closed; lines = is }
 
 is_home : (world : World) (next : Acting) (seat : Seat) → seat.actor ≡ Some next → next.tenant < length world.accounts.items → IsHome world.config seat
 is_home world next seat has there actor is =
@@ -278,7 +278,7 @@ begins old new state worker tenant place home request job actor was shown lines 
     (accounts ∙ ap (λ i. slice_set old.accounts.items i (record shown { lines = lines; asked = request + 1 })) at_home) has_worker has_tenant
     (ap (λ s. begun s actor request) here ∙ ap (λ a. begun seat a request) is_actor ∙ ap (λ r. begun seat one_actor r) is_request)
     (is_home old one_actor last refl has_tenant)
-    (record { book = one.book; quota = one.quota; places = one.places; words_are = one.words_are; asked = ap (λ r. r + 1) is_request; closed = ap (λ ms. ms.items) closed ∙ one.closed; lines = line })
+    (record { book = one.book; quota = one.quota; places = one.places; file_places = one.file_places; words_are = one.words_are; asked = ap (λ r. r + 1) is_request; closed = ap (λ ms. ms.items) closed ∙ one.closed; lines = line })
     (subst (λ known. Recalls known state.history) (sym claims) shows.claims)
 
 -- the world once other bits stand at its places

@@ -12,13 +12,13 @@ use Rattle.mw_words.specs.declared.jobs.Entry.{Entry}
 use Rattle.mw_words.specs.Change.{AreWords, is_change, put}
 use Rattle.mw_words.specs.declared.limits.TheConstants.{MAX_VALUE}
 use Rattle.mw_world_file.specs.declared.kept.Book.{Book}
-use Rattle.mw_world_file.specs.declared.unopened.TheConstants.{OLD_ENTRIES}
+use Rattle.mw_world_file.specs.declared.unopened.TheConstants.{OLD_ENTRIES, OLD_PLACES}
 use Rattle.mw_world_file.specs.Books.{Shows as ShowsFile}
 use Rattle.mw_world_file.specs.Files.{File, broken, file_of}
 use Rattle.mw_world_file.specs.Giving.{IsGiven}
 use Rattle.mw_world.specs.declared.config.Config.{Config}
 use Rattle.mw_world.specs.Definition.History.{no_history}
-use Rattle.mw_world.specs.Definition.State.{Account, account_at, first_openings, first_cells, idle_seat, may_be_old, no_tenant, old_entries, started, tenant_at, tenants_of}
+use Rattle.mw_world.specs.Definition.State.{Account, account_at, first_openings, first_cells, idle_seat, is_old, may_be_old, no_tenant, old_entries, started, tenant_at, tenants_of}
 use Rattle.mw_world_memory.specs.declared.accounts.Account.{Account as AccountInMemory}
 use Rattle.mw_world_memory.specs.declared.seats.Seat.{Seat}
 use Rattle.mw_simulator.specs.declared.world.World.{World}
@@ -122,11 +122,13 @@ pub shows_old : {E : Type 0} (words : ℕ) (old : Option (ArrayVec Entry)) (chan
     → IfOk made (λ book. ShowsFile book (broken (file_of (put (replicate words 0) change.items)) [])) → IfOk made (λ book. ShowsFile book (file_with words old))
 shows_old words old change made is shows = subst (λ (one : Option (ArrayVec Entry)). IfOk made (λ book. ShowsFile book (file_with words one))) (sym is) shows
 
--- the change in an old file is well formed
-pub old_parts : (words : ℕ) (old : Option (ArrayVec Entry)) (change : ArrayVec Entry) → old ≡ Some change → IsTrue (may_be_old words old)
-    → IsTrue (is_change words change.items) × IsTrue (nat_le (length change.items) OLD_ENTRIES)
-old_parts words old change is formed =
-    and_parts (is_change words change.items) (nat_le (length change.items) OLD_ENTRIES) (subst (λ (one : Option (ArrayVec Entry)). IsTrue (may_be_old words one)) is formed)
+-- the change in an old file is well formed, and the file has enough places
+pub old_parts : (words quota : ℕ) (old : Option (ArrayVec Entry)) (change : ArrayVec Entry) → old ≡ Some change → IsTrue (may_be_old words quota old)
+    → IsTrue (is_change words change.items) × IsTrue (nat_le (length change.items) OLD_ENTRIES) × IsTrue (nat_le quota OLD_PLACES)
+old_parts words quota old change is formed =
+    let parts = and_parts (is_old words change.items) (nat_le quota OLD_PLACES) (subst (λ (one : Option (ArrayVec Entry)). IsTrue (may_be_old words quota one)) is formed) in
+    let two = and_parts (is_change words change.items) (nat_le (length change.items) OLD_ENTRIES) parts.0 in
+    (two.0, two.1, parts.1)
 
 -- the tenants of a new world
 abbrev pub first_accounts : Config → ℕ → Account

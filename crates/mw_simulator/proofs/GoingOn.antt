@@ -10,9 +10,9 @@ use Rattle.mw_world.specs.declared.events.Event.{Event}
 use Rattle.mw_world.specs.declared.events.Event.TheVariants.{Come as IsCome, Step as IsStep, File as IsFile, Hand as IsHand, Restart as IsRestart}
 use Rattle.mw_world.specs.declared.events.Stop.{Stop}
 use Rattle.mw_world.specs.Definition.Happenings.{Happening, Come, Step, File, Hand, Restart}
-use Rattle.mw_world.specs.Definition.Restarts.{may_all_be_found, restarted}
+use Rattle.mw_world.specs.Definition.Restarts.{may_all_be_found, quotas_then, restarted}
 use Rattle.mw_world.proofs.RunsExtend.{run-extends}
-use Rattle.mw_world.specs.Definition.State.{State, new_world, tenants_of}
+use Rattle.mw_world.specs.Definition.State.{State, may_be_quotas, new_world, places_of, tenants_of}
 use Rattle.mw_world.specs.Definition.World.{come, run, step}
 use Rattle.mw_simulator.specs.declared.faults.WorldFault.{WorldFault}
 use Rattle.mw_simulator.specs.declared.faults.WorldFault.TheVariants.{NotEnabled, LastNumber, Memory}
@@ -26,21 +26,22 @@ record HasHappened (config : Config) (new : World) (state : State) (event : Even
   tells : Tells event happening
   leads : Leads (step config state happening) new
 
-counted : {A : Type 0} (m n : ℕ) (b : Bool) (x y : A) → (if (m == n) && b then Some x else None) ≡ Some y → m ≡ n
-counted m n b x y e = grind (arith, nat_tests, e)
+counted : {A : Type 0} (m n : ℕ) (b d : Bool) (x y : A) → (if (m == n) && b && d then Some x else None) ≡ Some y → m ≡ n
+counted m n b d x y e = grind (arith, nat_tests, e)
 
 -- what was found of the tenants' files is what the stops say
 all_told : (old new : World) (state : State) (stops : List Stop) → new.config ≡ old.config → (started : Started old new state stops) → AreTold stops started.founds
 all_told old new state stops same started tenant lt = elim ((slice_get_cases old.accounts.items tenant).1) [
   | inl w ↦ elim ((slice_get_cases new.accounts.items tenant).1) [
-    | inl v ↦ let found = (started.found tenant w.0 v.0 w.2 v.2).found_so in (found.same_call, found.same_failure)
+    | inl v ↦ let found = (started.found tenant w.0 v.0 w.2 v.2).found_so in (found.same_call, found.same_failure, found.same_quota)
     | inr past ↦ absurd (omega (arith, past.0, lt, count, new.tenants, ap tenants_of same))
   ]
   | inr past ↦ absurd (omega (arith, past.0, lt, count, old.tenants))
 ]
   where
     count : length started.founds ≡ tenants_of old.config
-    count = counted (length started.founds) (tenants_of old.config) (may_all_be_found old.config state started.founds (tenants_of old.config)) (restarted old.config state started.founds) started.leads.state started.leads.is
+    count = counted (length started.founds) (tenants_of old.config) (may_all_be_found old.config state started.founds (tenants_of old.config))
+        (may_be_quotas old.config (quotas_then state started.founds) (places_of state)) (restarted old.config state started.founds) started.leads.state started.leads.is
 
 has_happened : (old new : World) (state : State) (event : Event) (x : Unit {0}) → new.config ≡ old.config → Happens old new state event (Ok x) → HasHappened old.config new state event
 has_happened old new state (IsCome worker tenant job) x same comes = record { happening = Come worker tenant job; tells = refl; leads = comes.1 }

@@ -42,7 +42,7 @@ images_at_rest serves config openings events state world tenant shown store imag
     let doubt : shown.book.doubt.items ≡ store.in_doubt = sym book.same_doubt ∙ served.left.in_doubt None refl ∙ ap (λ s. s.in_doubt) same_store in
     subst (λ ws. IsFileOfEither ws store.in_doubt image) words
     (subst (λ es. IsFileOfEither shown.book.contents.items es image) doubt
-    (image_of_device shown.book.device (length shown.book.places.items) shown.book.contents.items shown.book.doubt.items image book.stands may))
+    (image_of_device shown.book.device shown.book.file_places shown.book.contents.items shown.book.doubt.items image book.stands may))
 
 -- the same of a book
 pub there_at : (accounts : List AccountInMemory) (tenant : ℕ) (book : Book) → option_map (λ account. account.book) (slice_get accounts tenant) ≡ Some book → tenant < length accounts

@@ -10,6 +10,7 @@ pub mod Halting
 pub mod Holding
 pub mod Images
 pub mod OpenedImages
+pub mod Quotas
 pub mod Reopened
 pub mod Restarted
 pub mod Serving

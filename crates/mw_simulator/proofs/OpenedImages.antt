@@ -16,8 +16,8 @@ use Rattle.mw_world.specs.declared.events.Interrupted.{Interrupted}
 use Rattle.mw_world.specs.declared.events.Stop.{Stop}
 use Rattle.mw_world.specs.Claim.Headline.{EveryRunServesAlone, IsRun, LeavesStore}
 use Rattle.mw_world.specs.Definition.Happenings.{Found, Happening}
-use Rattle.mw_world.specs.Definition.Restarts.{UnderWay, doubt_then, found_of, interrupted_request, is_sealed_then, may_all_be_found, may_be_found, may_fail, may_find, may_interrupt, opened_file, restarted, under_way}
-use Rattle.mw_world.specs.Definition.State.{Opening, State, store_of, tenants_of}
+use Rattle.mw_world.specs.Definition.Restarts.{UnderWay, doubt_then, found_of, interrupted_request, is_sealed_then, may_all_be_found, may_be_found, may_fail, may_find, may_interrupt, opened_file, quotas_then, restarted, under_way}
+use Rattle.mw_world.specs.Definition.State.{Opening, State, may_be_quotas, places_of, store_of, tenants_of}
 use Rattle.mw_world_memory.specs.declared.accounts.Account.{Account as AccountInMemory}
 use Rattle.mw_simulator.specs.declared.world.World.{World}
 use Rattle.mw_simulator.specs.Images.{EveryImageInAStartIsOfStore, EveryImageIsOfStore, IsLeftInStart}
@@ -41,10 +41,11 @@ among config state founds (suc count) tenant all lt =
     ]
 
 -- what comes of a test that held
-held : {A : Type 0} (counted may : Bool) (x y : A) → (if counted && may then Some x else None) ≡ Some y → (may ≡ true) × (x ≡ y)
-held true true x y is = (refl, cc)
-held true false x y is = absurd (cc)
-held false may x y is = absurd (cc)
+held : {A : Type 0} (counted may fit : Bool) (x y : A) → (if counted && may && fit then Some x else None) ≡ Some y → (may ≡ true) × (x ≡ y)
+held true true true x y is = (refl, cc)
+held true true false x y is = absurd (cc)
+held true false fit x y is = absurd (cc)
+held false may fit x y is = absurd (cc)
 
 opened_contents : (words : List ℕ) (fails_at : Option ℕ) → (opened_file words fails_at).contents ≡ words
 opened_contents words None = refl
@@ -89,7 +90,8 @@ module _ (openings : ℕ → Opening) (events : List Happening) (state : State) 
   found = found_of start.founds tenant
 
   leads : (may_all_be_found old.config state start.founds (tenants_of old.config) ≡ true) × (restarted old.config state start.founds ≡ start.leads.state)
-  leads = held (length start.founds == tenants_of old.config) (may_all_be_found old.config state start.founds (tenants_of old.config)) (restarted old.config state start.founds) start.leads.state start.leads.is
+  leads = held (length start.founds == tenants_of old.config) (may_all_be_found old.config state start.founds (tenants_of old.config))
+      (may_be_quotas old.config (quotas_then state start.founds) (places_of state)) (restarted old.config state start.founds) start.leads.state start.leads.is
 
   -- the words of the new book are those that were found
   words_are : found.words ≡ now.contents.items

@@ -6,6 +6,7 @@ use Rattle.mw_lone.specs.declared.marks.Mark.TheVariants.{Restart as IsRestart}
 use Rattle.mw_file.specs.Opening.{open_calls}
 use Rattle.mw_world_file.specs.declared.faults.BookFault.{BookFault}
 use Rattle.mw_world_file.specs.declared.faults.BookFault.TheVariants.{NotEnabled, Memory}
+use Rattle.std.specs.Option.{unwrap_or}
 use Rattle.mw_world_file.specs.Books.{quota_of}
 use Rattle.mw_world_file.specs.Devices.{disk_under}
 use Rattle.mw_world_file.specs.Reopening.{IsLeft, IsLeftOf, IsRestarted, Restarts, doubt_left, is_sealed_left, may_be_made}
@@ -16,6 +17,7 @@ use Rattle.mw_world.specs.Definition.State.{State, marks_in, tenant_at}
 use Rattle.mw_world_memory.specs.declared.accounts.Account.{Account as AccountInMemory}
 use Rattle.mw_simulator.specs.declared.world.halts.Halt.{Halt}
 use Rattle.mw_simulator.specs.declared.world.World.{World}
+use Rattle.mw_simulator.specs.Quotas.{quota_after}
 use Rattle.mw_simulator.specs.Running.{IsFoundBy, Outage, outage_of}
 use Rattle.mw_simulator.specs.Shows.{Shows, ShowsAccount}
 use Rattle.mw_simulator.specs.Stops.{AllReopen, IsHalted, IsReopened, Reopens}
@@ -41,8 +43,8 @@ module _ (config : Config) (state : State) (tenant : ℕ) (shown : AccountInMemo
   may_is = halted.may ∙ ap (λ places. may_be_made (state.accounts tenant).file places halt.cut) (sym places_are)
 
   abbrev found_by : (words image : List ℕ) → IsLeft shown.book (state.accounts tenant).file halt.cut outage.torn words image
-      → IsFoundBy shown outage (record { interrupted = outage.interrupted; words = words; opening_calls = open_calls image; fails_at = outage.fails_at })
-  found_by words image left = record { same_call = refl; same_failure = refl; image = image; words = left.has; calls = refl; left = subst (λ made. IsLeftOf (disk_under shown.book.device) made outage.torn image) halted.made_so left.left }
+      → IsFoundBy shown outage (record { interrupted = outage.interrupted; words = words; opening_calls = open_calls image; fails_at = outage.fails_at; quota = outage.quota })
+  found_by words image left = record { same_call = refl; same_failure = refl; same_quota = refl; image = image; words = left.has; calls = refl; left = subst (λ made. IsLeftOf (disk_under shown.book.device) made outage.torn image) halted.made_so left.left }
 
   may_have_words : (words image : List ℕ) → IsLeft shown.book (state.accounts tenant).file halt.cut outage.torn words image
       → may_find (is_sealed_then (under_way config state outage.interrupted)) (state.accounts tenant).file.contents
@@ -55,16 +57,17 @@ module _ (config : Config) (state : State) (tenant : ℕ) (shown : AccountInMemo
       ∙ left.found
 
   -- the tenant after a start that went well
-  pub is_reopened : (took opened : Bool) (new : AccountInMemory) → IsRestarted shown.book (state.accounts tenant).file halt.cut outage.torn outage.fails_at new.book took → opened ≡ is_none outage.fails_at
-      → new.quota ≡ shown.quota → new.asked ≡ shown.asked → new.lines.lines.items ≡ []
-      → new.lines.closed.items ≡ shown.lines.closed.items ++ marks_in shown.lines.lines.items ++ IsRestart halt.sealing took opened ∷ []
+  pub is_reopened : (took opened : Bool) (told : ℕ) (new : AccountInMemory) → told ≡ quota_after outage.quota shown → IsRestarted shown.book (state.accounts tenant).file halt.cut outage.torn outage.fails_at told new.book took → opened ≡ is_none outage.fails_at
+      → new.quota ≡ told → new.asked ≡ shown.asked → new.lines.lines.items ≡ []
+      → new.lines.closed.items ≡ shown.lines.closed.items ++ marks_in shown.lines.lines.items ++ IsRestart halt.sealing took opened told ∷ []
       → words_of ≡ (tenant_at config tenant).words → IsReopened config state tenant outage shown new
-  is_reopened took opened new started up quota asked none closed long =
+  is_reopened took opened told new is_told started up quota asked none closed long =
       let account = state.accounts tenant in
       let call = under_way config state outage.interrupted in
+      let given : told ≡ unwrap_or outage.quota account.quota = is_told ∙ ap (λ quota. unwrap_or outage.quota quota) shows.quota in
       let taken = started.taken ∙ ap (λ doubt. takes account.file.contents doubt started.words) (sym doubt_is) in
       record {
-        found = record { interrupted = outage.interrupted; words = started.words; opening_calls = open_calls started.image; fails_at = outage.fails_at };
+        found = record { interrupted = outage.interrupted; words = started.words; opening_calls = open_calls started.image; fails_at = outage.fails_at; quota = outage.quota };
         opened = record { found_so = found_by started.words started.image started.left; came = started.came };
         may = all_true (may_interrupt config state tenant outage.interrupted)
             (may_find (is_sealed_then call) account.file.contents (doubt_then account.file call) started.words)
@@ -72,26 +75,29 @@ module _ (config : Config) (state : State) (tenant : ℕ) (shown : AccountInMemo
             (may_is ∙ started.left.made) (may_have_words started.words started.image started.left) started.fails;
         shows = record {
           book = started.shows;
-          quota = quota ∙ shows.quota;
-          places = started.count ∙ places_are;
+          quota = quota ∙ given;
+          places = started.count ∙ given;
+          file_places = started.has ∙ shows.file_places;
           words_are = started.long ∙ shows.words_are ∙ long;
           asked = asked ∙ shows.asked;
-          closed = closed ∙ ap (λ marks. marks ++ marks_in shown.lines.lines.items ++ IsRestart halt.sealing took opened ∷ []) shows.closed
-              ∙ ap (λ lines. account.closed ++ marks_in lines ++ IsRestart halt.sealing took opened ∷ []) shows.lines
-              ∙ ap (λ request. account.closed ++ marks_in account.lines ++ IsRestart request took opened ∷ []) (sym halted.is.request)
-              ∙ ap (λ take. account.closed ++ marks_in account.lines ++ IsRestart (interrupted_request call) take opened ∷ []) taken
+          closed = closed ∙ ap (λ marks. marks ++ marks_in shown.lines.lines.items ++ IsRestart halt.sealing took opened told ∷ []) shows.closed
+              ∙ ap (λ lines. account.closed ++ marks_in lines ++ IsRestart halt.sealing took opened told ∷ []) shows.lines
+              ∙ ap (λ request. account.closed ++ marks_in account.lines ++ IsRestart request took opened told ∷ []) (sym halted.is.request)
+              ∙ ap (λ take. account.closed ++ marks_in account.lines ++ IsRestart (interrupted_request call) take opened told ∷ []) taken
               ∙ ap (λ was. account.closed ++ marks_in account.lines ++ IsRestart (interrupted_request call)
-              (takes account.file.contents (doubt_then account.file call) started.words) was ∷ []) up;
+              (takes account.file.contents (doubt_then account.file call) started.words) was told ∷ []) up
+              ∙ ap (λ gives. account.closed ++ marks_in account.lines ++ IsRestart (interrupted_request call)
+              (takes account.file.contents (doubt_then account.file call) started.words) (is_none outage.fails_at) gives ∷ []) given;
           lines = none;
         };
       }
 
 -- a start of a tenant that was refused
-pub not_reopened : (world : World) (state : State) (tenant : ℕ) (shown : AccountInMemory) (outage : Outage) (halt : Halt)
+pub not_reopened : (world : World) (state : State) (tenant : ℕ) (shown : AccountInMemory) (outage : Outage) (halt : Halt) (told : ℕ)
     (fault : BookFault) → slice_get world.accounts.items tenant ≡ Some shown → Shows world state → IsHalted world.config state tenant outage.interrupted halt
-    → Restarts shown.book halt.cut outage.torn outage.fails_at (Err fault) → Reopens world state tenant shown outage (Err fault)
-not_reopened world state tenant shown outage halt Memory here shows halted ends = tt
-not_reopened world state tenant shown outage halt NotEnabled here shows halted ends =
+    → Restarts shown.book halt.cut outage.torn outage.fails_at told (Err fault) → Reopens world state tenant shown outage (Err fault)
+not_reopened world state tenant shown outage halt told Memory here shows halted ends = tt
+not_reopened world state tenant shown outage halt told NotEnabled here shows halted ends =
     let account = state.accounts tenant in
     let shown_so = shows.accounts tenant shown here in
     let config = world.config in
@@ -103,7 +109,7 @@ not_reopened world state tenant shown outage halt NotEnabled here shows halted e
         | inr cannot ↦ inr (record {
           shown = shown;
           is = here;
-          found = record { interrupted = outage.interrupted; words = cannot.words; opening_calls = open_calls cannot.image; fails_at = outage.fails_at };
+          found = record { interrupted = outage.interrupted; words = cannot.words; opening_calls = open_calls cannot.image; fails_at = outage.fails_at; quota = outage.quota };
           found_so = found_by config state tenant shown outage halt words shown_so halted cannot.words cannot.image cannot.left;
           may = may_have_words config state tenant shown outage halt words shown_so halted cannot.words cannot.image cannot.left;
           fails = cannot.fails;

@@ -1,6 +1,7 @@
 -- A world in memory after a start.
 use Rattle.std.specs.Prelude.{ℕ, zero, suc, ◌≡◌, ◌<◌, ◌+◌, ◌==◌, ◌&&◌, Bool, true, false, not, if◌then◌else◌, List, [], ◌∷◌, ◌++◌, is_none, is_some, length, slice_get, Option, Some, None}
-use Rattle.std.proofs.Common.{refl, sym, subst, ◌∙◌, inl, inr, arith}
+use Rattle.std.specs.Option.{unwrap_or}
+use Rattle.std.proofs.Common.{refl, sym, ap, subst, ◌∙◌, inl, inr, arith}
 use Rattle.std.proofs.Math.Seq.{get_or-append_seam}
 use Rattle.std.proofs.lemmas.Bool.{cases_lt}
 use Rattle.std.proofs.lemmas.Bool.Decides.{nat_tests}
@@ -13,16 +14,17 @@ use Rattle.mw_world.specs.declared.config.Config.{Config}
 use Rattle.mw_world.specs.declared.events.Stop.{Stop}
 use Rattle.mw_world.specs.Definition.Happenings.{Found}
 use Rattle.mw_world.specs.Definition.History.{no_history}
-use Rattle.mw_world.specs.Definition.Restarts.{found_of, may_all_be_found, may_be_found, nothing_found, opened_file, reopened, restart, restarted, under_way}
-use Rattle.mw_world.specs.Definition.State.{Account, State, first_cells, started, tenant_at, tenants_of}
+use Rattle.mw_world.specs.Definition.Restarts.{found_of, may_all_be_found, may_be_found, nothing_found, opened_file, quotas_then, reopened, restart, restarted, under_way}
+use Rattle.mw_world.specs.Definition.State.{Account, State, first_cells, may_be_quotas, places_of, started, tenant_at, tenants_of}
 use Rattle.mw_world_memory.specs.declared.accounts.Account.{Account as AccountInMemory}
 use Rattle.mw_simulator.specs.declared.world.World.{World}
 use Rattle.mw_world_memory.specs.Claims.{Recalls}
-use Rattle.mw_simulator.specs.Running.{IsOpenedBy, Started, are_named, outage_of}
+use Rattle.mw_simulator.specs.Running.{IsOpenedBy, Started, are_named, outage_of, quotas_told}
 use Rattle.mw_simulator.specs.Shows.{Shows, ShowsAccount}
 use Rattle.mw_simulator.specs.Starts.{AreIdle, HaveWords}
 use Rattle.mw_simulator.specs.Stops.{AreReopened, IsReopened}
 use Rattle.mw_world_memory.specs.Ties.{Tie}
+use Rattle.mw_simulator.proofs.Quotas.{same_quotas}
 use Rattle.mw_simulator.proofs.FirstWorlds.{AreShown, have_words, shows_start, zeros_are_words}
 
 pub none_is : {A : Type 0} (o : Option A) (b : Bool) → is_some o ≡ not b → b ≡ is_none o
@@ -31,9 +33,10 @@ none_is None false is = absurd (cc)
 none_is (Some x) true is = absurd (cc)
 none_is (Some x) false is = refl
 
-guarded : {A : Type 0} (m n : ℕ) (b : Bool) (x : A) → m ≡ n → b ≡ true → (if (m == n) && b then Some x else None) ≡ Some x
-guarded m n true x same is = grind (arith, nat_tests, same)
-guarded m n false x same is = absurd (cc)
+guarded : {A : Type 0} (m n : ℕ) (b d : Bool) (x : A) → m ≡ n → b ≡ true → d ≡ true → (if (m == n) && b && d then Some x else None) ≡ Some x
+guarded m n true true x same is so = grind (arith, nat_tests, same)
+guarded m n true false x same is so = absurd (cc)
+guarded m n false d x same is so = absurd (cc)
 
 both : (a b : Bool) → a ≡ true → b ≡ true → (a && b) ≡ true
 both true true a b = refl
@@ -93,6 +96,7 @@ pub record WasFound (config : Config) (state : State) (stops : List Stop) (olds 
   pub by : (old new : AccountInMemory) → slice_get olds tenant ≡ Some old → slice_get news tenant ≡ Some new
       → IsOpenedBy old new (outage_of stops tenant) found
   pub may : may_be_found config state tenant found ≡ true
+  pub quota : found.quota ≡ (outage_of stops tenant).quota
   pub shows : (new : AccountInMemory) → slice_get news tenant ≡ Some new
       → ShowsAccount (tenant_at config tenant).words new (reopened (state.accounts tenant) found (under_way config state found.interrupted))
   pub words : AreWords found.words
@@ -105,6 +109,7 @@ was_found config state stops olds news tenant old new at_old at_new is = record 
       subst (λ o. IsOpenedBy o now (outage_of stops tenant) is.found) (some_same (slice_get olds tenant) old was at_old at_was)
       (subst (λ o. IsOpenedBy old o (outage_of stops tenant) is.found) (some_same (slice_get news tenant) new now at_new at_now) is.opened);
   may = is.may;
+  quota = is.opened.found_so.same_quota;
   shows = λ other at. subst (λ o. ShowsAccount (tenant_at config tenant).words o (reopened (state.accounts tenant) is.found (under_way config state is.found.interrupted)))
       (some_same (slice_get news tenant) new other at_new at) is.shows;
   words = found_words is.opened.found_so.image is.found.words is.opened.found_so.words;
@@ -153,22 +158,29 @@ module _ (old : World) (state : State) (stops : List Stop) (news : List AccountI
     | inr past ↦ subst (λ f. AreWords f.words) (sym (get_or_past found.founds tenant nothing_found (omega (arith, past, found.long)))) (zeros_are_words 0)
   ]
 
-  restarts_to : restart old.config state found.founds ≡ Some (restarted old.config state found.founds)
-  restarts_to = guarded (length found.founds) (tenants_of old.config) (may_all_be_found old.config state found.founds (tenants_of old.config)) (restarted old.config state found.founds)
-      found.long (all_may old.config state found.founds (tenants_of old.config) (λ tenant low. (found.each tenant low).may))
+  -- the quotas that are given are those that are told
+  quotas_are : may_be_quotas old.config (quotas_then state found.founds) (places_of state) ≡ may_be_quotas old.config (quotas_told state stops) (places_of state)
+  quotas_are = same_quotas old.config (quotas_then state found.founds) (quotas_told state stops) (places_of state) (places_of state)
+      (λ tenant low. ap (λ told. unwrap_or told (state.accounts tenant).quota) (found.each tenant low).quota) (λ tenant low. refl)
+
+  restarts_to : may_be_quotas old.config (quotas_told state stops) (places_of state) ≡ true → restart old.config state found.founds ≡ Some (restarted old.config state found.founds)
+  restarts_to fit = guarded (length found.founds) (tenants_of old.config) (may_all_be_found old.config state found.founds (tenants_of old.config))
+      (may_be_quotas old.config (quotas_then state found.founds) (places_of state)) (restarted old.config state found.founds)
+      found.long (all_may old.config state found.founds (tenants_of old.config) (λ tenant low. (found.each tenant low).may)) (quotas_are ∙ fit)
 
   -- the start went well
-  pub has_started : (new : World) → new.config ≡ old.config → are_named (tenants_of old.config) stops ≡ true → new.accounts.items ≡ news
+  pub has_started : (new : World) → new.config ≡ old.config → are_named (tenants_of old.config) stops ≡ true
+      → may_be_quotas old.config (quotas_told state stops) (places_of state) ≡ true → new.accounts.items ≡ news
       → Tie new.cells (first_cells old.config (λ tenant. (made old.config state found.founds tenant).file.contents) (λ tenant. (made old.config state found.founds tenant).is_up))
       → AreIdle old.config.workers new.seats.items → Recalls new.claims no_history → Started old new state stops
-  has_started new same named is tied idle recalls = record {
+  has_started new same named fit is tied idle recalls = record {
     named = named;
     founds = found.founds;
     found = λ tenant shown now at at_now.
         (found.each tenant (omega (arith, slice_get_within old.accounts.items tenant shown at, old.tenants))).by shown now at (subst (λ all. slice_get all tenant ≡ Some now) is at_now);
     leads = record {
       state = restarted old.config state found.founds;
-      is = restarts_to;
+      is = restarts_to fit;
       shows = subst (λ config. Shows new (started config (made old.config state found.founds))) same
           (shows_start new (made old.config state found.founds)
           (subst (λ config. Tie new.cells (first_cells config (λ tenant. (made old.config state found.founds tenant).file.contents) (λ tenant. (made old.config state found.founds tenant).is_up))) (sym same) tied)

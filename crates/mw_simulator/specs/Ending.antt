@@ -11,7 +11,7 @@ use Rattle.mw_world_file.specs.declared.outcomes.Outcome.TheVariants.{Good, Fail
 use Rattle.mw_world_file.specs.declared.faults.BookFault.{BookFault}
 use Rattle.mw_world_file.specs.declared.faults.BookFault.TheVariants.{NotEnabled, Memory}
 use Rattle.mw_world_file.specs.declared.kept.Book.{Book}
-use Rattle.mw_world_file.specs.Books.{Shows as ShowsFile, quota_of}
+use Rattle.mw_world_file.specs.Books.{Shows as ShowsFile, places_of_file, quota_of}
 use Rattle.mw_world_file.specs.Crashes.{IsCrashSafe as IsCallSafe}
 use Rattle.mw_world_file.specs.Files.{File}
 use Rattle.mw_world.specs.declared.notes.Note.{Note}
@@ -33,10 +33,11 @@ use Rattle.mw_simulator.specs.Stepping.{HasRoom, with_cells, with_file}
 abbrev pub called_of : CalledInMemory → Called
 called_of called = record { call = called.call; change = called.change }
 
--- the book of a tenant's file, with as many words as the tenant has, and as many places as it may use slots
+-- the book of a tenant's file, with as many words as the tenant has, as many places in use as it may use slots, and as many in all as the file has
 pub record IsBookOf (config : Config) (state : State) (tenant : ℕ) (book : Book) (file : File) : Type 0 where
   pub shows : ShowsFile book file
   pub places : quota_of book ≡ (state.accounts tenant).quota
+  pub file_places : places_of_file book ≡ (state.accounts tenant).places
   pub words : length book.contents.items ≡ (tenant_at config tenant).words
 
 -- no device call fails

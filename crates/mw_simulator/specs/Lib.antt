@@ -4,6 +4,7 @@ pub mod Faults
 pub mod FromMemory
 pub mod Holding
 pub mod Images
+pub mod Quotas
 pub mod Running
 pub mod Serving
 pub mod Shows

@@ -1,6 +1,7 @@
 -- Events in memory, what happens by them, and whole runs.
 use Rattle.std.specs.Prelude.{ℕ, ◌≡◌, ◌<◌, ◌==◌, ◌&&◌, ◌⊎◌, Bool, true, false, not, List, [], ◌∷◌, ◌++◌, length, take, nat_lt, slice_get, Option, Some, None, Result, Ok, Err}
 use Rattle.std.specs.List.{list_any, find}
+use Rattle.std.specs.Option.{unwrap_or}
 use Rattle.mw_record.specs.Damages.{file_words}
 use Rattle.mw_file.specs.Opening.{open_calls}
 use Rattle.mw_world_file.specs.Devices.{disk_under}
@@ -14,7 +15,7 @@ use Rattle.mw_world.specs.declared.events.Stop.{Stop}
 use Rattle.mw_world.specs.Definition.Calls.{call}
 use Rattle.mw_world.specs.Definition.Happenings.{Found, Happening, Come, Step, File as FileCall, Hand, Restart}
 use Rattle.mw_world.specs.Definition.Restarts.{UnderWay, doubt_then, found_of, is_sealed_then, may_fail, may_find, may_interrupt, restart, under_way}
-use Rattle.mw_world.specs.Definition.State.{State, new_world, tenants_of}
+use Rattle.mw_world.specs.Definition.State.{State, may_be_quotas, new_world, places_of, tenants_of}
 use Rattle.mw_world.specs.Definition.Turns.{turn}
 use Rattle.mw_world.specs.Definition.World.{come, hand, step, run}
 use Rattle.mw_world_memory.specs.declared.accounts.Account.{Account as AccountInMemory}
@@ -39,16 +40,17 @@ are_named tenants [] = true
 are_named tenants (stop ∷ stops) = nat_lt stop.tenant tenants && not (list_any (is_of stop.tenant) stops) && are_named tenants stops
 
 -- How a tenant's file was stopped and is opened again: the call that was under way, the bytes that stand where bytes were written and not synced, and the
--- device call of the opening that fails.
+-- device call of the opening that fails. And the quota that the start gives the tenant, if it isn't to be the one before.
 pub record Outage : Type 0 where
   pub interrupted : Option Interrupted
   pub torn : List ℕ
   pub fails_at : Option ℕ
+  pub quota : Option ℕ
 
 -- as a stop says; a tenant that isn't named has none of these
 abbrev pub outage_in : Option Stop → Outage
-outage_in None = record { interrupted = None; torn = []; fails_at = None }
-outage_in (Some stop) = record { interrupted = stop.interrupted; torn = stop.torn.items; fails_at = stop.fails_at }
+outage_in None = record { interrupted = None; torn = []; fails_at = None; quota = None }
+outage_in (Some stop) = record { interrupted = stop.interrupted; torn = stop.torn.items; fails_at = stop.fails_at; quota = stop.quota }
 
 abbrev pub outage_of : List Stop → ℕ → Outage
 outage_of stops tenant = outage_in (stop_of stops tenant)
@@ -63,6 +65,7 @@ made_in (Some interrupted) = interrupted.made
 pub record IsFoundBy (shown : AccountInMemory) (outage : Outage) (found : Found) : Type 0 where
   pub same_call : found.interrupted ≡ outage.interrupted
   pub same_failure : found.fails_at ≡ outage.fails_at
+  pub same_quota : found.quota ≡ outage.quota
   pub image : List ℕ
   pub words : file_words image ≡ Some found.words
   pub calls : open_calls image ≡ found.opening_calls
@@ -99,9 +102,18 @@ pub record CannotStop (world : World) (state : State) (tenant : ℕ) (outage : O
   pub there : tenant < tenants_of world.config
   pub why : (may_interrupt world.config state tenant outage.interrupted ≡ false) ⊎ CannotFail world state tenant outage
 
--- The world can't be stopped so: a tenant is named that isn't there, or twice; or one can't have been stopped so.
+-- the quotas that a start gives: to each tenant the one that is told, else the one before
+abbrev pub quotas_told : State → List Stop → ℕ → ℕ
+quotas_told state stops tenant = unwrap_or (outage_of stops tenant).quota (state.accounts tenant).quota
+
+-- The start can't give the quotas that are told: one is outside its limits or above the places of the tenant's file, or together they are above the pool.
+abbrev pub CannotGive : World → State → List Stop → Type 0
+CannotGive world state stops = may_be_quotas world.config (quotas_told state stops) (places_of state) ≡ false
+
+-- The world can't be stopped and started so: a tenant is named that isn't there, or twice; the quotas don't fit; or one can't have been stopped so.
 abbrev pub CannotRestart : World → State → List Stop → Type 0
-CannotRestart world state stops = (are_named (tenants_of world.config) stops ≡ false) ⊎ ((tenant : ℕ) × CannotStop world state tenant (outage_of stops tenant))
+CannotRestart world state stops =
+    (are_named (tenants_of world.config) stops ≡ false) ⊎ (CannotGive world state stops ⊎ ((tenant : ℕ) × CannotStop world state tenant (outage_of stops tenant)))
 
 -- How a start ends, by its answer. After an error the world in memory is what it was.
 abbrev pub Restarts : World → World → State → List Stop → Result (Unit {0}) WorldFault → Type 0
@@ -122,6 +134,7 @@ Happens old new state (IsRestart stops) result = Restarts old new state stops.it
 abbrev pub AreTold : List Stop → List Found → Type 0
 AreTold stops founds = (tenant : ℕ) → tenant < length founds
     → ((found_of founds tenant).interrupted ≡ (outage_of stops tenant).interrupted) × ((found_of founds tenant).fails_at ≡ (outage_of stops tenant).fails_at)
+    × ((found_of founds tenant).quota ≡ (outage_of stops tenant).quota)
 
 -- An event says that this happens.
 abbrev pub Tells : Event → Happening → Type 0

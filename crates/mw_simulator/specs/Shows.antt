@@ -1,7 +1,7 @@
 -- A world in memory, and the world as it is defined.
 use Rattle.std.specs.Prelude.{ℕ, ◌≡◌, ◌<◌, ◌≤◌, length, slice_get, Option, Some, None, Result, Ok, Err}
 use Rattle.mw_actor.specs.Acting.{Acting}
-use Rattle.mw_world_file.specs.Books.{Shows as ShowsFile, quota_of}
+use Rattle.mw_world_file.specs.Books.{Shows as ShowsFile, places_of_file, quota_of}
 use Rattle.mw_world.specs.Definition.State.{State, Account, tenant_at, tenants_of}
 use Rattle.mw_world.specs.Definition.Cells.{AllFit}
 use Rattle.mw_world_memory.specs.declared.accounts.Account.{Account as AccountInMemory}
@@ -20,6 +20,7 @@ pub record ShowsAccount (words : ℕ) (shown : AccountInMemory) (account : Accou
   pub book : ShowsFile shown.book account.file
   pub quota : shown.quota ≡ account.quota
   pub places : quota_of shown.book ≡ account.quota
+  pub file_places : places_of_file shown.book ≡ account.places
   pub words_are : length shown.book.contents.items ≡ words
   pub asked : shown.asked ≡ account.asked
   pub closed : shown.lines.closed.items ≡ account.closed

@@ -7,7 +7,7 @@
 //! files an event leaves. `specs/Images` is what a crash leaves of a tenant's disk, if every run is as it is
 //! to be. The other files of `specs` are about the parts: `Bits`, `Ties`, `BitPlaces` and `Making` the shared
 //! words in bits, `Claims`, `Lines` and `Seats` what is kept beside them, `TenantBooks` the tenants' files,
-//! `Stepping` and `Ending` a step and a call, `Starts`, `Openings` and `Stops` starts.
+//! `Stepping` and `Ending` a step and a call, `Starts`, `Openings`, `Quotas` and `Stops` starts.
 #![tactic(auto)]
 
 mod faults;

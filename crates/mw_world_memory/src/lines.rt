@@ -190,10 +190,12 @@ fn copy(mark: &Mark) -> Mark
             interrupted,
             take,
             opened,
+            quota,
         } => Mark::Restart {
             interrupted: *interrupted,
             take: *take,
             opened: *opened,
+            quota: *quota,
         },
     }
 }

@@ -2,7 +2,8 @@
 ghost use Rattle.std.specs.Prelude.{◌≡◌, ℕ, ◌≤◌, [], All, Bool, IfOk, IsTrue, List, length};
 ghost use Rattle.mw_world.specs.Definition.State as spec;
 ghost use Rattle.mw_world.specs.Definition.State.{IsConfig, may_be_old};
-ghost use Rattle.mw_world_file.specs.Books.{Shows as ShowsFile, quota_of};
+ghost use Rattle.mw_world_file.specs.FirstPlaces.{first_places};
+ghost use Rattle.mw_world_file.specs.Books.{Shows as ShowsFile, places_of_file, quota_of};
 ghost use Rattle.mw_world_memory.specs.BitPlaces.{HasPlacesOf};
 ghost use Rattle.mw_simulator.specs.Holding.{Holds};
 ghost use Rattle.mw_simulator.specs.Running.{Stands};
@@ -18,9 +19,10 @@ use mw_world_memory::{Account, Cells, Claims, Lines, Seat};
 use std::alloc::{AllocError, Global};
 
 impl World {
-    /// A new world of this configuration: no worker has a request. Each tenant's file is made with as many
-    /// places as the tenant may use slots, has zeros and is open; or it is an old one, which no start has opened yet, in which the
-    /// record of the change that the configuration tells stands open. The only error is want of memory.
+    /// A new world of this configuration: no worker has a request. Each tenant's file has zeros and is open, with
+    /// places for twice as many changes as the tenant may use slots, or `MAX_PLACES`, where that is fewer; or it is
+    /// an old one, which no start has opened yet, in which the record of the change that the configuration tells
+    /// stands open. The only error is want of memory.
     pub fn new(alloc: Global, config: Config) -> Result<World, AllocError>
         requires { IsConfig config }
         ensures config { IfOk result (λ world. world.config ≡ config) }
@@ -46,7 +48,7 @@ impl World {
 fn fresh_accounts(alloc: Global, tenants: &[Tenant]) -> Result<Vec<Account>, AllocError>
     requires words { All (λ tenant. (1 ≤ tenant.words) × (tenant.words ≤ MAX_WORDS)) tenants.now }
     requires quotas { All (λ tenant. (1 ≤ tenant.quota) × (tenant.quota ≤ MAX_QUOTA)) tenants.now }
-    requires old { All (λ tenant. IsTrue (may_be_old tenant.words tenant.old)) tenants.now }
+    requires old { All (λ tenant. IsTrue (may_be_old tenant.words tenant.quota tenant.old)) tenants.now }
     ensures { IfOk result (λ accounts. AreFresh tenants.now accounts.items) }
 {
     let mut accounts = Vec::with_capacity(alloc, tenants.len())?;
@@ -60,7 +62,7 @@ fn fresh_accounts(alloc: Global, tenants: &[Tenant]) -> Result<Vec<Account>, All
 fn fresh_account(alloc: Global, tenant: &Tenant) -> Result<Account, AllocError>
     requires words { (1 ≤ tenant.now.words) × (tenant.now.words ≤ MAX_WORDS) }
     requires quota { (1 ≤ tenant.now.quota) × (tenant.now.quota ≤ MAX_QUOTA) }
-    requires old { IsTrue (may_be_old tenant.now.words tenant.now.old) }
+    requires old { IsTrue (may_be_old tenant.now.words tenant.now.quota tenant.now.old) }
     ensures { IfOk result (IsFresh tenant.now) }
 {
     Ok(Account {
@@ -75,9 +77,10 @@ fn fresh_account(alloc: Global, tenant: &Tenant) -> Result<Account, AllocError>
 fn first_book(alloc: Global, tenant: &Tenant) -> Result<Book, AllocError>
     requires words { (1 ≤ tenant.now.words) × (tenant.now.words ≤ MAX_WORDS) }
     requires quota { (1 ≤ tenant.now.quota) × (tenant.now.quota ≤ MAX_QUOTA) }
-    requires old { IsTrue (may_be_old tenant.now.words tenant.now.old) }
+    requires old { IsTrue (may_be_old tenant.now.words tenant.now.quota tenant.now.old) }
     ensures shows { IfOk result (λ book. ShowsFile book (fresh tenant.now).file) }
     ensures places { IfOk result (λ book. quota_of book ≡ tenant.now.quota) }
+    ensures has { IfOk result (λ book. places_of_file book ≡ first_places tenant.now.quota) }
     ensures words { IfOk result (λ book. length book.contents.items ≡ tenant.now.words) }
 {
     match &tenant.old {

@@ -1,8 +1,11 @@
 //! All stops and starts again.
-ghost use Rattle.std.specs.Prelude.{◌≡◌, IfOk, OnErr, Some, None, MatchOption, slice_get};
+ghost use Rattle.std.specs.Prelude.{◌≡◌, ◌≤◌, ◌&&◌, true, IfOk, OnErr, Some, None, MatchOption, length, nat_le, slice_get};
 ghost use Rattle.std.specs.List.{list_any};
+ghost use Rattle.mw_lone.specs.Store.{is_quota};
+ghost use Rattle.mw_world_file.specs.Books.{places_of_file};
 ghost use Rattle.mw_world_file.specs.SoundBooks.{HasSound};
-ghost use Rattle.mw_world.specs.Definition.State.{State, tenant_at};
+ghost use Rattle.mw_world.specs.Definition.State.{State, each_fits, may_be_quotas, places_of, quotas_together, tenant_at};
+ghost use Rattle.mw_simulator.specs.Quotas.{HaveRoom, places_in, quota_after, quotas_in};
 ghost use Rattle.mw_simulator.specs.Running as spec;
 ghost use Rattle.mw_simulator.specs.Running.{Restarts};
 ghost use Rattle.mw_simulator.specs.Shows.{Shows};
@@ -14,6 +17,7 @@ use crate::faults::WorldFault;
 use crate::world::World;
 use crate::world::making::{first_cells, idle_seats};
 use mw_lone::Mark;
+use mw_words::{MAX_QUOTA, MAX_TENANTS};
 use mw_world::{Interrupted, Stop};
 use mw_world_file::BookFault;
 use mw_world_memory::{Account, Lines};
@@ -26,6 +30,9 @@ impl World {
         ensures ends { (state : State) → Shows self.old state → Restarts self.old self.new state stops.now result }
     {
         if !are_named(self.accounts.len(), stops) {
+            return Err(WorldFault::NotEnabled);
+        }
+        if !self.may_give(stops) {
             return Err(WorldFault::NotEnabled);
         }
         let accounts = match self.all_reopened(stops) {
@@ -45,8 +52,22 @@ impl World {
         Ok(())
     }
 
-    /// The tenants after the start.
+    /// Whether the start can give the quotas that are told: each is 1 to `MAX_QUOTA`, and at most the places
+    /// of the tenant's file; together they are at most the pool.
+    fn may_give(&self, stops: &[Stop]) -> bool
+        ensures room { result ≡ true → HaveRoom self.now.accounts.items stops.now }
+        ensures shown { (state : State) → Shows self.now state
+            → result ≡ may_be_quotas self.now.config (spec.quotas_told state stops.now) (places_of state) }
+    {
+        if !each_can_be(&self.accounts, stops) {
+            return false;
+        }
+        all_together(&self.accounts, stops) <= self.config.pool
+    }
+
+    /// The tenants after the start, which can give them the quotas that are told.
     fn all_reopened(&self, stops: &[Stop]) -> Result<Vec<Account>, BookFault>
+        requires room { HaveRoom self.now.accounts.items stops.now }
         ensures reopen { AllReopen self.now stops.now result }
         ensures sound { IfOk result (λ accounts. AreSound self.now.config accounts.items) }
     {
@@ -73,7 +94,8 @@ impl World {
         account: &Account,
         stops: &[Stop],
     ) -> Result<Account, BookFault>
-        requires { slice_get self.now.accounts.items tenant ≡ Some account.now }
+        requires there { slice_get self.now.accounts.items tenant ≡ Some account.now }
+        requires room { quota_after (spec.outage_of stops.now tenant).quota account.now ≤ places_of_file account.now.book }
         ensures sound { IfOk result (λ new. HasSound (tenant_at self.now.config tenant).words new.book) }
         ensures reopens { (state : State) → Shows self.now state
             → Reopens self.now state tenant account.now (spec.outage_of stops.now tenant) result }
@@ -85,13 +107,14 @@ impl World {
                 stop.interrupted,
                 &stop.torn,
                 stop.fails_at,
+                stop.quota,
             ),
-            None => self.reopened(tenant, account, None, &[], None),
+            None => self.reopened(tenant, account, None, &[], None, None),
         }
     }
 
     /// A tenant after the start, by the call on its file that was under way, by the bytes that stand where
-    /// bytes weren't synced, and by the device call of the opening that fails.
+    /// bytes weren't synced, by the device call of the opening that fails, and by the quota that is told.
     fn reopened(
         &self,
         tenant: usize,
@@ -99,15 +122,21 @@ impl World {
         interrupted: Option<Interrupted>,
         torn: &[u8],
         fails_at: Option<u64>,
+        told: Option<u8>,
     ) -> Result<Account, BookFault>
-        requires { slice_get self.now.accounts.items tenant ≡ Some account.now }
+        requires there { slice_get self.now.accounts.items tenant ≡ Some account.now }
+        requires room { quota_after told account.now ≤ places_of_file account.now.book }
         ensures sound { IfOk result (λ new. HasSound (tenant_at self.now.config tenant).words new.book) }
-        ensures reopens { (state : State) → Shows self.now state → Reopens self.now state tenant account.now (record { interrupted = interrupted; torn = torn.now; fails_at = fails_at }) result }
+        ensures reopens { (state : State) → Shows self.now state → Reopens self.now state tenant account.now (record { interrupted = interrupted; torn = torn.now; fails_at = fails_at; quota = told }) result }
     {
         let Some(halt) = self.halt(tenant, account, interrupted) else {
             return Err(BookFault::NotEnabled);
         };
-        let (book, take) = match account.book.restart(self.alloc, halt.cut, torn, fails_at) {
+        let quota = quota_of(account, told);
+        let (book, take) = match account
+            .book
+            .restart(self.alloc, halt.cut, torn, fails_at, quota)
+        {
             Ok(restarted) => restarted,
             Err(fault) => return Err(fault),
         };
@@ -115,6 +144,7 @@ impl World {
             interrupted: halt.sealing,
             take,
             opened: fails_at.is_none(),
+            quota,
         };
         let Ok(closed) = account.lines.closed_with(self.alloc, mark) else {
             return Err(BookFault::Memory);
@@ -123,10 +153,64 @@ impl World {
         lines.reopen(closed);
         Ok(Account {
             book,
-            quota: account.quota,
+            quota,
             lines,
             asked: account.asked,
         })
+    }
+}
+
+/// Whether each tenant's quota after the start is 1 to `MAX_QUOTA`, and at most the places of its file.
+fn each_can_be(accounts: &[Account], stops: &[Stop]) -> bool
+    ensures { result ≡ each_fits (quotas_in accounts.now stops.now) (places_in accounts.now) (length accounts.now) }
+{
+    for (tenant, account) in accounts.iter().enumerate() {
+        if !can_be(account, quota_told(account, stops, tenant)) {
+            return false;
+        }
+    }
+    true
+}
+
+/// Whether a tenant can have this quota: it is 1 to `MAX_QUOTA`, and at most the places of its file.
+fn can_be(account: &Account, quota: u8) -> bool
+    ensures { result ≡ (is_quota quota && nat_le quota (places_of_file account.now.book)) }
+{
+    if quota == 0 || quota > MAX_QUOTA {
+        return false;
+    }
+    u16::from(quota) <= account.book.file_places()
+}
+
+/// The quotas of all tenants after the start, together.
+fn all_together(accounts: &[Account], stops: &[Stop]) -> u16
+    requires { length accounts.now ≤ MAX_TENANTS }
+    ensures { result ≡ quotas_together (quotas_in accounts.now stops.now) (length accounts.now) }
+{
+    let mut together: u16 = 0;
+    for (tenant, account) in accounts.iter().enumerate() {
+        together += u16::from(quota_told(account, stops, tenant));
+    }
+    together
+}
+
+/// A tenant's quota after the start.
+fn quota_told(account: &Account, stops: &[Stop], tenant: usize) -> u8
+    ensures { result ≡ quota_after (spec.outage_of stops.now tenant).quota account.now }
+{
+    match stop_of(stops, tenant) {
+        Some(stop) => quota_of(account, stop.quota),
+        None => account.quota,
+    }
+}
+
+/// A tenant's quota after the start: the one that is told, else the one before.
+fn quota_of(account: &Account, told: Option<u8>) -> u8
+    ensures { result ≡ quota_after told account.now }
+{
+    match told {
+        Some(quota) => quota,
+        None => account.quota,
     }
 }
 

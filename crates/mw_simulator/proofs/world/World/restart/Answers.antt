@@ -25,4 +25,5 @@ returns-clause-ends c state shows =
     let words = λ (tenant : ℕ). (made old.config state found.founds tenant).file.contents in
     let ups = λ (tenant : ℕ). (made old.config state found.founds tenant).is_up in
     let have = subst (λ held. HaveWords held words ups) (sym c.deref.ensures.value) (news_words old state stops news all.0 found) in
-    has_started old state stops news all.0 found _ refl named refl (c.in-Ok-first_cells.ensures.tie words ups have) c.in-Ok-idle_seats.ensures c.clear.ensures
+    let fit = sym (c.may_give.ensures.shown state shows) ∙ c.if-not-may_give.false in
+    has_started old state stops news all.0 found _ refl named fit refl (c.in-Ok-first_cells.ensures.tie words ups have) c.in-Ok-idle_seats.ensures c.clear.ensures

@@ -63,7 +63,7 @@ returns-clause-ends c state shows same starts fails =
     let turns = subst (λ entries. Works book c.args.called.call c.args.called.change.slot entries c.args.outcome (Ok c.in-Ok.book)) own c.in-Ok.ensures.works in
     let turned = turns.shows (state.accounts actor.tenant).file two.book in
     let filed = subst (λ t. (file : File) → IsBookOf c.args.self.now.config state t c.in-Ok.book file → Shows c.file.new.self (with_file state t file)) c.tenant-2.ensures (λ file. c.file.ensures.shows state file shows) in
-    let then_shows = filed turned.0 (record { shows = turned.2; places = turns.places ∙ two.places; words = turns.words ∙ two.words_are }) in
+    let then_shows = filed turned.0 (record { shows = turned.2; places = turns.places ∙ two.places; file_places = turns.has ∙ two.file_places; words = turns.words ∙ two.words_are }) in
     let closed = subst (λ t. Shows c.close.new.self (with_cells (with_file state actor.tenant turned.0) (cells_closed state.cells t c.args.called.call c.args.called.change.slot c.args.status c.args.outcome))) c.tenant-3.ensures
     (c.close.ensures.shows (with_file state actor.tenant turned.0) then_shows same) in
     call_works c.args.self.now.config state actor (called_of c.args.called) c.args.status c.args.outcome same starts fails formed _ two.places c.close.new.self turned.0 c.close.result turned.1 c.close.ensures.is closed
