@@ -8,4 +8,6 @@ mod mistake_tests;
 #[cfg(test)]
 mod replay_tests;
 #[cfg(test)]
+mod restart_tests;
+#[cfg(test)]
 mod schedule_tests;

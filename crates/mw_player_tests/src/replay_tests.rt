@@ -68,7 +68,7 @@ impl Played {
 
 /// A schedule that is read from here, traced or not, ends with this status, prints this and says that;
 /// `what` tells what is played.
-fn play<R: Abort + AllocGlobal, I: Read>(
+pub fn play<R: Abort + AllocGlobal, I: Read>(
     rt: &R,
     what: &str,
     input: &mut I,
@@ -170,7 +170,7 @@ fn behind_head(alloc: Global, lines: &str) -> Result<String, AllocError> {
 }
 
 /// A schedule with these lines behind [`HEAD`] ends with this status, prints this and says that.
-fn play_behind_head<R: Abort + AllocGlobal>(
+pub fn play_behind_head<R: Abort + AllocGlobal>(
     rt: &R,
     lines: &str,
     wanted: (u8, &str, &str),

@@ -14,7 +14,7 @@ use Rattle.mw_words.specs.declared.jobs.Entry.{Entry}
 use Rattle.mw_words.specs.declared.limits.TheConstants.{MAX_QUOTA, MAX_WORDS}
 use Rattle.mw_words.specs.Name.{is_name}
 use Rattle.mw_world.specs.declared.config.Tenant.{Tenant}
-use Rattle.mw_world.specs.Definition.State.{is_old, may_be_old, no_tenant}
+use Rattle.mw_world.specs.Definition.State.{may_be_old, no_tenant}
 use Rattle.mw_schedule.specs.Playing.{IsFree, IsNext, AreNamed, AreTenants}
 
 pub neither : (a b : Bool) → (a || b) ≡ false → (a ≡ false) × (b ≡ false)
@@ -51,14 +51,14 @@ sum_more tenants tenant =
 
 -- the change in a tenant's old file, if it has one, is well formed
 abbrev pub IsOldOf : Tenant → Type 0
-IsOldOf tenant = IsTrue (may_be_old tenant.words tenant.old)
+IsOldOf tenant = IsTrue (may_be_old tenant.words tenant.quota tenant.old)
 
 pub tenants_more : (pool free : ℕ) (tenants : List Tenant) (tenant : Tenant) → AreTenants pool tenants → sum_by (λ (t : Tenant). t.quota) tenants + free ≡ pool → IsNext tenants free tenant → AreTenants pool (tenants ++ tenant ∷ [])
 tenants_more pool free tenants tenant are left next = record {
   names = named_more tenants tenant are.names next.named next.new;
   words = All-append (λ (t : Tenant). (1 ≤ t.words) × (t.words ≤ MAX_WORDS)) tenants (tenant ∷ []) are.words (one (λ t. (1 ≤ t.words) × (t.words ≤ MAX_WORDS)) tenant next.words);
   quotas = All-append (λ (t : Tenant). (1 ≤ t.quota) × (t.quota ≤ MAX_QUOTA)) tenants (tenant ∷ []) are.quotas (one (λ t. (1 ≤ t.quota) × (t.quota ≤ MAX_QUOTA)) tenant next.quota);
-  old = All-append IsOldOf tenants (tenant ∷ []) are.old (one IsOldOf tenant (subst (λ (old : Option (ArrayVec Entry)). IsTrue (may_be_old tenant.words old)) (sym next.fresh) refl));
+  old = All-append IsOldOf tenants (tenant ∷ []) are.old (one IsOldOf tenant (subst (λ (old : Option (ArrayVec Entry)). IsTrue (may_be_old tenant.words tenant.quota old)) (sym next.fresh) refl));
   slots = omega (arith, sum_more tenants tenant, next.slots, left);
 }
 
@@ -82,7 +82,7 @@ module _ (pool : ℕ) (tenants : List Tenant) (index : ℕ) (change : ArrayVec E
     | inr apart ↦ ap (λ (one : Tenant). one.name) (get_or-set_other tenants index k (with_old tenant change) d apart)
   ]
 
-  pub tenants_with_old : IsTrue (is_old tenant.words change.items) → AreTenants pool (set tenants index (with_old tenant change))
+  pub tenants_with_old : IsOldOf (with_old tenant change) → AreTenants pool (set tenants index (with_old tenant change))
   tenants_with_old is = record {
     names = record {
       named = All-set (λ (t : Tenant). IsTrue (is_name t.name.items)) tenants index (with_old tenant change) (are.names.named index no_tenant there) are.names.named;
@@ -112,7 +112,7 @@ module _ (tenants : ArrayVec Tenant) (index : ℕ) (now : List Tenant) (read : T
       ∙ ap (λ (all : List Tenant). set all index (with_old (get_or all index read) change)) is
       ∙ ap (λ (one : Tenant). set tenants.items index (with_old one change)) (get_or_default tenants.items index read no_tenant there)
 
-  pub written_tenants : (pool : ℕ) → AreTenants pool tenants.items → IsTrue (is_old (get_or tenants.items index no_tenant).words change.items) → AreTenants pool (with_items tenants written).items
+  pub written_tenants : (pool : ℕ) → AreTenants pool tenants.items → IsOldOf (with_old (get_or tenants.items index no_tenant) change) → AreTenants pool (with_items tenants written).items
   written_tenants pool are old = subst (AreTenants pool) (sym written_is) (tenants_with_old pool tenants.items index change are there old)
 
   pub written_count : length (with_items tenants written).items ≡ length tenants.items

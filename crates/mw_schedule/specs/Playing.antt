@@ -32,13 +32,13 @@ pub record AreNamed (tenants : List Tenant) : Type 0 where
   pub named : All (λ tenant. IsTrue (is_name tenant.name.items)) tenants
   pub once : AllPairs (λ earlier later. earlier.name.items ≢ later.name.items) tenants
 
--- each tenant has a name of its own and is within its limits, and the change in its old file, if it has one, is well formed; and a pool of so many
--- slots has all their quotas
+-- each tenant has a name of its own and is within its limits; where its file is an old one, the change in it is well formed, and it has places for the
+-- quota; and a pool of so many slots has all their quotas
 pub record AreTenants (pool : ℕ) (tenants : List Tenant) : Type 0 where
   pub names : AreNamed tenants
   pub words : All (λ tenant. (1 ≤ tenant.words) × (tenant.words ≤ MAX_WORDS)) tenants
   pub quotas : All (λ tenant. (1 ≤ tenant.quota) × (tenant.quota ≤ MAX_QUOTA)) tenants
-  pub old : All (λ tenant. IsTrue (may_be_old tenant.words tenant.old)) tenants
+  pub old : All (λ tenant. IsTrue (may_be_old tenant.words tenant.quota tenant.old)) tenants
   pub slots : sum_by (λ tenant. tenant.quota) tenants ≤ pool
 
 -- the call that was cut off, if one was, is of a worker that some world has

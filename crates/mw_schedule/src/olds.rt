@@ -1,7 +1,7 @@
 //! The lines of a schedule that tell of old files.
-ghost use Rattle.std.specs.Prelude.{◌≡◌, ◌<◌, ◌≤◌, get_or, length, IfSome, IsTrue};
+ghost use Rattle.std.specs.Prelude.{◌≡◌, ◌<◌, ◌≤◌, get_or, length, IfSome, IsTrue, Some};
 ghost use Rattle.mw_words.specs.declared.limits.TheConstants.{MAX_VALUE, MAX_WORDS};
-ghost use Rattle.mw_world.specs.Definition.State.{is_old, no_tenant};
+ghost use Rattle.mw_world.specs.Definition.State.{is_old, may_be_old, no_tenant};
 ghost use Rattle.mw_schedule.specs.Playing.{AreTenants};
 
 use crate::fields::{item_at, number_within};
@@ -9,7 +9,7 @@ use crate::rest::Lines;
 use arrayvec::ArrayVec;
 use mw_line::{behind, field};
 use mw_words::{Entries, Entry, MAX_TENANTS, MAX_VALUE, MAX_WORDS, is_change};
-use mw_world::{OLD_ENTRIES, Tenant};
+use mw_world::{OLD_ENTRIES, OLD_PLACES, Tenant};
 
 /// These tenants with the changes of the lines `old NAME A:V ..` in front, at most one for each tenant, and
 /// the lines behind them.
@@ -35,17 +35,17 @@ pub(crate) fn read_olds<'a>(
 }
 
 // The tenant and the change of the line in front, which is the first of that tenant, and the lines behind
-// it.
+// it. An old file has places for the tenant's quota.
 fn old_line<'a>(tenants: &[Tenant], lines: Lines<'a>) -> Option<(usize, Entries, Lines<'a>)>
     ensures there { IfSome result (λ read. read.0 < length tenants.now) }
-    ensures change { IfSome result (λ read. IsTrue (is_old (get_or tenants.now read.0 no_tenant).words read.1.items)) }
+    ensures old { IfSome result (λ read. IsTrue (may_be_old (get_or tenants.now read.0 no_tenant).words (get_or tenants.now read.0 no_tenant).quota (Some read.1))) }
 {
     let (line, after) = lines.split()?;
     let (name, pairs) = item_at(behind(b"old ", line)?);
     let index = tenants
         .iter()
         .position(|tenant| tenant.name.as_slice() == name)?;
-    if tenants[index].old.is_some() {
+    if tenants[index].old.is_some() || tenants[index].quota > OLD_PLACES {
         return None;
     }
     let change = read_change(tenants[index].words, pairs)?;

@@ -15,10 +15,10 @@ use std::alloc::Global;
 /// pool P                     how many slots there are, 1 to 256
 /// workers N                  how many workers there are, 1 to 64
 /// seq S                      if wanted: each slot's first number, 0 to 281474976710654
-/// tenant NAME WORDS QUOTA    1 to 16 of them: 1 to 4096 words; a quota of 1 to 32, all of them at most P
-/// old NAME A:V ..            if wanted, one for each tenant at most: its file is an old one, which no start
-///                            has opened yet, and a change of 1 to 8 words stands open in it: A rises,
-///                            V is 0 to 281474976710655
+/// tenant NAME WORDS QUOTA    1 to 16 of them: 1 to 4096 words; a quota of 1 to 64, all of them at most P
+/// old NAME A:V ..            if wanted, one for each tenant at most, whose quota is at most 32: its file is
+///                            an old one, which no start has opened yet, and a change of 1 to 8 words stands
+///                            open in it: A rises, V is 0 to 281474976710655
 /// ```
 ///
 /// and then any number of these, where W is a worker, 0 to 63:
@@ -36,11 +36,12 @@ use std::alloc::Global;
 ///
 /// KIND is one of `load`, `admit`, `claim`, `fill`, `pin`, `unpin`, `free`, `drop`, `row`, `plant`,
 /// `resolve`, `decide-yes`, `decide-no`, `release`, `clean`, `prepare`, `seal`, `settle` and `cancel`.
-/// ITEM is `NAME=W,K,HEX` or `NAME=W,K,HEX,F`, no name twice: W's next step is a call on the tenant's
-/// file, of which K device calls were made, or W and K are `-`; HEX are the torn bytes, as pairs of the
-/// digits 0 to 9 and a to f; F is the device call of the opening that fails. A and V are an address of the
-/// tenant and the value of its word, and the addresses rise. A number is `0`, or a digit
-/// from 1 to 9 and any number of digits; K and F may be any.
+/// ITEM is `NAME=W,K,HEX` or `NAME=W,K,HEX,F`, or one of these with `,qN` behind it, no name twice: W's
+/// next step is a call on the tenant's file, of which K device calls were made, or W and K are `-`; HEX are
+/// the torn bytes, as pairs of the digits 0 to 9 and a to f; F is the device call of the opening that fails;
+/// N is the tenant's quota from then on, where it is above 255 as 255. A and V are an address of the tenant
+/// and the value of its word, and the addresses rise. A number is `0`, or a digit from 1 to 9 and any number
+/// of digits; K, F and N may be any.
 ///
 /// # Errors
 ///

@@ -64,12 +64,13 @@ fn is_named(stops: &[Stop], tenant: u8) -> bool
     stops.iter().any(|stop| stop.tenant == tenant)
 }
 
-// The stop `NAME=W,K,HEX` or `NAME=W,K,HEX,F`. None where the text is none of these.
+// The stop `NAME=W,K,HEX` or `NAME=W,K,HEX,F`, or one of these with `,qN` behind it. None where the text is
+// none of these.
 fn read_stop(alloc: Global, text: &[u8], config: &Config) -> Result<Option<Stop>, AllocError>
     ensures tenant { IfOk result (λ read. IfSome read (λ stop. stop.tenant < tenants_of config.now)) }
     ensures worker { IfOk result (λ read. IfSome read (λ stop. IsOfWorker stop.interrupted)) }
 {
-    let Some((tenant, interrupted, torn, fails_at)) = stop_parts(text, config) else {
+    let Some((tenant, interrupted, torn, start)) = stop_parts(text, config) else {
         return Ok(None);
     };
     let Some(torn) = bytes_of(alloc, torn)? else {
@@ -79,23 +80,31 @@ fn read_stop(alloc: Global, text: &[u8], config: &Config) -> Result<Option<Stop>
         tenant,
         interrupted,
         torn,
-        fails_at,
+        fails_at: start.fails_at,
+        quota: start.quota,
     }))
+}
+
+// What an item says of its tenant's start: the device call of the opening that fails, and the quota.
+#[derive(Clone, Copy)]
+struct Start {
+    fails_at: Option<u64>,
+    quota: Option<u8>,
 }
 
 // The parts of a stop, with its torn bytes as they are written.
 fn stop_parts<'a>(
     text: &'a [u8],
     config: &Config,
-) -> Option<(u8, Option<Interrupted>, &'a [u8], Option<u64>)>
+) -> Option<(u8, Option<Interrupted>, &'a [u8], Start)>
     ensures tenant { IfSome result (λ read. read.0 < tenants_of config.now) }
     ensures worker { IfSome result (λ read. IsOfWorker read.1) }
 {
     let (name, rest) = field(b'=', text)?;
     let tenant = tenant_of(config, name)?;
     let (interrupted, rest) = interrupted_at(rest)?;
-    let (torn, fails_at) = torn_at(rest)?;
-    Some((tenant, interrupted, torn, fails_at))
+    let (torn, start) = torn_at(rest)?;
+    Some((tenant, interrupted, torn, start))
 }
 
 // The call that was cut off, `W,K,`, or `-,-,` where none was, and the text behind it.
@@ -114,12 +123,44 @@ fn interrupted_at(text: &[u8]) -> Option<(Option<Interrupted>, &[u8])>
     Some((Some(interrupted), rest))
 }
 
-// The torn bytes as they are written, and the device call that fails if one is named behind them.
-fn torn_at(text: &[u8]) -> Option<(&[u8], Option<u64>)> {
+// The torn bytes as they are written, and what the parts behind them say, if there are any.
+fn torn_at(text: &[u8]) -> Option<(&[u8], Start)> {
     match field(b',', text) {
-        Some((torn, call)) => Some((torn, Some(number(call)?))),
-        None => Some((text, None)),
+        Some((torn, parts)) => Some((torn, start_of(parts)?)),
+        None => Some((
+            text,
+            Start {
+                fails_at: None,
+                quota: None,
+            },
+        )),
     }
+}
+
+// What the parts `F`, `qN` or `F,qN` say.
+fn start_of(text: &[u8]) -> Option<Start> {
+    if text.starts_with(b"q") {
+        return Some(Start {
+            fails_at: None,
+            quota: Some(quota_of(text)?),
+        });
+    }
+    match field(b',', text) {
+        Some((call, quota)) => Some(Start {
+            fails_at: Some(number(call)?),
+            quota: Some(quota_of(quota)?),
+        }),
+        None => Some(Start {
+            fails_at: Some(number(text)?),
+            quota: None,
+        }),
+    }
+}
+
+// The quota of the part `qN`. One above 255 is 255, which no tenant may have either.
+fn quota_of(text: &[u8]) -> Option<u8> {
+    let quota = number(behind(b"q", text)?)?;
+    Some(quota.min(u64::from(u8::MAX)) as u8)
 }
 
 // The bytes that are written as pairs of the digits 0 to 9 and a to f. None where the text isn't that.

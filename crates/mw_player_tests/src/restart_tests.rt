@@ -1,0 +1,205 @@
+//! Restarts that give quotas, and files that no start has opened yet. A schedule stands in a line here; `/`
+//! is where one of its own lines ends.
+
+use crate::replay_tests::{play, play_behind_head};
+use std::alloc::{AllocError, Global};
+use std::process::Abort;
+use std::test::Fail;
+
+/// Plays a schedule, behind which stand what is printed and what is said, each behind `|`. It is to end with
+/// this status.
+fn play_case<R: Abort + AllocGlobal>(rt: &R, status: u8, case: &str) -> Result<(), Fail> {
+    let lines = case.replace(rt.alloc(), "/", "\n")?;
+    let (schedule, told) = lines.split_once('|').expect(rt, "what is printed");
+    let (out, err) = told.split_once('|').expect(rt, "what is said");
+    play(
+        rt,
+        case,
+        &mut schedule.as_bytes(),
+        false,
+        (status, out, err),
+    )
+}
+
+/// Plays such schedules, one a line.
+fn play_cases<R: Abort + AllocGlobal>(rt: &R, status: u8, cases: &str) -> Result<(), Fail> {
+    for case in cases.split('\n') {
+        play_case(rt, status, case)?;
+    }
+    Ok(())
+}
+
+/// A start gives a tenant a second slot.
+const QUOTA_AT_RESTART: &str =
+    "pool 3/workers 2/tenant t 2 1/come 0 t CAS 0:0:1/to 0 plant/come 1 t CAS 1:0:1/end 1/restart t=-,-,,q2/come 0 t CAS 0:0:1/to 0 plant/come 1 t CAS 1:0:1/end 1/end 0/|1 t BUSY/1 t YES/0 t YES/|";
+
+/// The same with a third one, for which the file has no place.
+const NO_PLACE_AT_RESTART: &str =
+    "pool 3/workers 2/tenant t 2 1/come 0 t CAS 0:0:1/to 0 plant/come 1 t CAS 1:0:1/end 1/restart t=-,-,,q3/come 0 t CAS 0:0:1/to 0 plant/come 1 t CAS 1:0:1/end 1/end 0/|1 t BUSY/|line 8 not enabled/";
+
+#[test]
+fn quota_at_restart(rt: HostRuntime) -> Result<(), Fail> {
+    play_case(&rt, 0, QUOTA_AT_RESTART)?;
+    play_case(&rt, 3, NO_PLACE_AT_RESTART)
+}
+
+/// Quotas that are given, stay, or move to another tenant.
+const QUOTAS: &str = "\
+pool 2/workers 2/tenant t 2 1/restart t=-,-,,q2/restart t=-,-,/restart/come 0 t CAS 0:0:1/to 0 plant/come 1 t CAS 1:0:1/end 1/end 0/|1 t YES/0 t YES/|
+pool 2/workers 2/tenant t 2 1/restart t=-,-,,2,q2/come 0 t GET 0/end 0/restart/come 0 t CAS 0:0:1/to 0 plant/come 1 t CAS 1:0:1/end 1/end 0/|0 t FAULT/1 t YES/0 t YES/|
+pool 2/workers 2/tenant t 2 1/restart t=-,-,,q2/restart t=-,-,,q1/come 0 t CAS 0:0:1/to 0 plant/come 1 t CAS 1:0:1/end 1/end 0/|1 t BUSY/0 t YES/|
+pool 3/workers 2/tenant t 2 2/tenant u 2 1/restart t=-,-,,q1 u=-,-,,q2/come 0 u CAS 0:0:1/to 0 plant/come 1 u CAS 1:0:1/end 1/end 0/come 0 t CAS 0:0:1/to 0 plant/come 1 t CAS 1:0:1/end 1/end 0/|1 u YES/0 u YES/1 t BUSY/0 t YES/|
+pool 64/workers 1/tenant t 1 64/restart t=-,-,,q64/come 0 t CAS 0:0:1/end 0/restart t=-,-,,q1/come 0 t CAS 0:1:2/end 0/|0 t YES/0 t YES/|
+pool 64/workers 1/tenant t 1 32/restart t=-,-,,q64/come 0 t CAS 0:0:1/end 0/|0 t YES/|
+pool 64/workers 1/tenant t 1 32/old t 0:1/restart t=-,-,,q64/come 0 t GET 0/end 0/|0 t VAL 1/|
+pool 2/workers 2/tenant t 2 1/old t 0:5/restart t=-,-,,7,q2/restart t=-,-,00/come 0 t CAS 0:5:1/to 0 plant/come 1 t CAS 1:0:1/end 1/end 0/|1 t YES/0 t YES/|";
+
+#[test]
+fn quotas_of_restarts(rt: HostRuntime) -> Result<(), Fail> {
+    play_cases(&rt, 0, QUOTAS)
+}
+
+/// Quotas below what was under way: a change that wasn't sealed, one that was, in a place above the new
+/// quota; a seal that is cut off, and is found or not; a change that another worker had decided.
+const LOWERED: &str = "\
+pool 2/workers 2/tenant t 2 2/come 0 t CAS 0:0:1/to 0 plant/come 1 t CAS 1:0:1/before 1 settle/restart t=-,-,,q1/come 0 t GET 0/end 0/come 0 t GET 1/end 0/come 0 t CAS 0:0:1/to 0 plant/come 1 t CAS 1:1:2/end 1/end 0/|0 t VAL 0/0 t VAL 1/1 t BUSY/0 t YES/|
+pool 2/workers 2/tenant t 2 2/come 0 t CAS 0:0:1/to 0 plant/come 1 t CAS 1:0:1/before 1 seal/restart t=1,1,a5,q1/come 0 t GET 0/end 0/come 0 t GET 1/end 0/|0 t VAL 0/0 t VAL 1/|
+pool 2/workers 2/tenant t 2 2/come 0 t CAS 0:0:1/to 0 plant/come 1 t CAS 1:0:1/before 1 seal/restart t=1,1,00,q1/come 0 t GET 0/end 0/come 0 t GET 1/end 0/|0 t VAL 0/0 t VAL 0/|
+pool 2/workers 2/tenant t 2 2/come 0 t CAS 0:0:1/to 0 plant/come 1 t CAS 1:0:1/before 1 seal/restart t=1,1,a5,3,q1/come 0 t GET 0/end 0/restart t=-,-,ff/come 0 t GET 1/end 0/|0 t FAULT/0 t VAL 1/|
+pool 2/workers 2/tenant t 2 2/come 0 t CAS 0:0:1/to 0 plant/come 1 t CAS 0:0:5/end 1/restart t=-,-,,q1/come 0 t GET 0/end 0/|1 t NO 0 1/0 t VAL 1/|";
+
+#[test]
+fn quotas_below_what_was_under_way(rt: HostRuntime) -> Result<(), Fail> {
+    play_cases(&rt, 0, LOWERED)
+}
+
+/// Quotas that no tenant may have, that are above the places of the file or the pool, and openings that make
+/// no such call.
+const NOT_ENABLED: &str = "\
+pool 256/workers 1/tenant t 1 64/restart t=-,-,,q0/||line 4 not enabled/
+pool 256/workers 1/tenant t 1 64/restart t=-,-,,q65/||line 4 not enabled/
+pool 256/workers 1/tenant t 1 64/restart t=-,-,,q256/||line 4 not enabled/
+pool 256/workers 1/tenant t 1 64/restart t=-,-,,q257/||line 4 not enabled/
+pool 256/workers 1/tenant t 1 64/restart t=-,-,,q300/||line 4 not enabled/
+pool 256/workers 1/tenant t 1 64/restart t=-,-,,q18446744073709551617/||line 4 not enabled/
+pool 4/workers 1/tenant t 1 1/restart t=-,-,,2,q3/||line 4 not enabled/
+pool 4/workers 1/tenant t 1 1/restart t=-,-,,3,q2/||line 4 not enabled/
+pool 3/workers 1/tenant t 1 2/tenant u 1 1/restart t=-,-,,q3/||line 5 not enabled/
+pool 3/workers 1/tenant t 1 1/tenant u 1 1/restart t=-,-,,q2 u=-,-,,q2/||line 5 not enabled/
+pool 4/workers 1/tenant t 1 1/old t 0:1/restart t=-,-,,q3/||line 5 not enabled/
+pool 4/workers 1/tenant t 1 1/old t 0:1/restart/restart t=-,-,,q3/||line 6 not enabled/
+pool 1/workers 1/tenant t 1 1/old t 0:1/restart t=-,-,,8/||line 5 not enabled/
+pool 1/workers 1/tenant t 1 1/old t 0:1/restart t=-,-,,7/restart t=-,-,a5,3/||line 6 not enabled/";
+
+#[test]
+fn restarts_that_can_not_happen(rt: HostRuntime) -> Result<(), Fail> {
+    play_cases(&rt, 3, NOT_ENABLED)
+}
+
+/// Items whose part of the quota is wrong, or doesn't come last.
+const WRONG_ITEMS: &str = "\
+t=-,-,,q
+t=-,-,,q01
+t=-,-,,q-1
+t=-,-,,q2,
+t=-,-,,q2,1
+t=-,-,,q2,q2
+t=-,-,,q2x
+t=-,-,,Q2
+t=-,-,,q2q2
+t=-,-,,2q2
+t=-,-,,,q2
+t=-,-,q2
+t=-,q2
+t=q2
+t=-,-,00,1,q
+t=-,-,00,1,2
+t=-,-,00,1,
+t=-,-,00,1,q2,
+t=-,-,00,1,q2,3
+t=-,-,00,q2,1
+t=-,-,,q2 u=-,-,,q
+t=-,-,,q 2";
+
+#[test]
+fn items_that_are_wrong(rt: HostRuntime) -> Result<(), Fail> {
+    for item in WRONG_ITEMS.split('\n') {
+        let line = format!(in rt.alloc(); "restart {item}\n")?;
+        play_behind_head(&rt, &line, (2, "", "line 5 wrong\n"))?;
+    }
+    Ok(())
+}
+
+/// First lines at a limit.
+const FIRST_LINES: &str = "\
+pool 32/workers 1/tenant t 1 32/old t 0:1/restart/come 0 t GET 0/end 0/|0 t VAL 1/|
+pool 33/workers 1/tenant t 1 33/come 0 t GET 0/end 0/|0 t VAL 0/|
+pool 64/workers 1/tenant t 1 64/come 0 t CAS 0:0:1/end 0/|0 t YES/|
+pool 1/workers 1/tenant t 9 1/old t 0:1 1:2 2:3 3:4 4:5 5:6 6:7 8:281474976710655/restart/come 0 t GET 7/end 0/come 0 t GET 8/end 0/|0 t VAL 0/0 t VAL 281474976710655/|
+pool 2/workers 1/tenant t 1 1/tenant u 1 1/old u 0:2/old t 0:1/restart t=-,-,/come 0 t GET 0/end 0/come 0 u GET 0/end 0/|0 t VAL 1/0 u VAL 2/|";
+
+#[test]
+fn first_lines_at_a_limit(rt: HostRuntime) -> Result<(), Fail> {
+    play_cases(&rt, 0, FIRST_LINES)
+}
+
+/// First lines past a limit, or at a wrong place.
+const WRONG_FIRST_LINES: &str = "\
+pool 33/workers 1/tenant t 1 33/old t 0:1/||line 4 wrong/
+pool 256/workers 1/tenant t 1 65/||line 3 wrong/
+pool 63/workers 1/tenant t 1 64/||line 3 wrong/
+pool 1/workers 1/tenant t 9 1/old t 0:1 1:2 2:3 3:4 4:5 5:6 6:7 7:8 8:9/||line 4 wrong/
+pool 1/workers 1/tenant t 1 1/old t 0:1/old t 0:1/||line 5 wrong/
+pool 1/workers 1/old t 0:1/tenant t 1 1/||line 3 wrong/
+pool 2/workers 1/tenant t 1 1/old t 0:1/tenant u 1 1/||line 5 wrong/
+pool 2/workers 1/tenant t 1 1/old u 0:1/tenant u 1 1/||line 4 wrong/";
+
+#[test]
+fn first_lines_that_are_wrong(rt: HostRuntime) -> Result<(), Fail> {
+    play_cases(&rt, 2, WRONG_FIRST_LINES)
+}
+
+/// What stands before and behind the restarts below, and what is printed: the words that the old file has,
+/// and a change that a further start finds.
+const OLD_FILE: &str = "pool 1/workers 1/tenant t 2 1/old t 0:5 1:6/";
+
+const OLD_WORDS: &str =
+    "come 0 t GET 0/end 0/come 0 t GET 1/end 0/come 0 t CAS 0:5:7/end 0/restart/come 0 t GET 0/end 0/|0 t VAL 5/0 t VAL 6/0 t YES/0 t VAL 7/|";
+
+/// Openings of an old file, each of which fails but for the last, and what stands where an opening wrote and
+/// did not sync.
+const OPENINGS: &str = "\
+restart/
+restart t=-,-,,1/restart/
+restart t=-,-,,2/restart t=-,-,ff/
+restart t=-,-,,3/restart t=-,-,/
+restart t=-,-,,3/restart t=-,-,ffffffffff/
+restart t=-,-,,4/restart t=-,-,/
+restart t=-,-,,4/restart t=-,-,ffffffffffffffff4d5743/
+restart t=-,-,,5/restart t=-,-,/
+restart t=-,-,,5/restart t=-,-,0000000000000000ffffffffff/
+restart t=-,-,,6/restart t=-,-,/
+restart t=-,-,,6/restart t=-,-,7f/
+restart t=-,-,,6/restart t=-,-,a5/
+restart t=-,-,,7/restart t=-,-,/
+restart t=-,-,,7/restart t=-,-,00/
+restart t=-,-,,7/restart t=-,-,7f/
+restart t=-,-,,3/restart t=-,-,ffff,4/restart t=-,-,ffffffffffffffffffff,5/restart t=-,-,ff,6/restart t=-,-,01,7/restart t=-,-,00/
+restart t=-,-,,7/restart t=-,-,a5,2/restart/";
+
+/// The schedule with these openings of the old file.
+fn with_openings(alloc: Global, openings: &str) -> Result<String, AllocError> {
+    let mut schedule = String::from_str(alloc, OLD_FILE)?;
+    schedule.push_str(openings)?;
+    schedule.push_str(OLD_WORDS)?;
+    Ok(schedule)
+}
+
+#[test]
+fn old_files_are_opened(rt: HostRuntime) -> Result<(), Fail> {
+    for openings in OPENINGS.split('\n') {
+        let case = with_openings(rt.alloc(), openings)?;
+        play_case(&rt, 0, &case)?;
+    }
+    Ok(())
+}
