@@ -20,10 +20,11 @@ fn mark_of(line: &[u8]) -> Option<Mark> {
     }
 }
 
-/// All stops and starts again, and the file opens: the change in doubt is found, or the change of this
-/// request was under way and is lost.
+/// All stops and starts again with a quota, and the file opens: the change in doubt is found, or the change
+/// of this request was under way and is lost.
 fn restart_of(found: &[u8]) -> Option<Mark> {
-    let interrupted = match behind(b"lost ", found) {
+    let (quota, found) = value_at(found)?;
+    let interrupted = match behind(b" lost ", found) {
         Some(request) => Some(value_at(request)?.0),
         None => None,
     };
@@ -31,6 +32,7 @@ fn restart_of(found: &[u8]) -> Option<Mark> {
         interrupted,
         take: interrupted.is_none(),
         opened: true,
+        quota: u8::try_from(quota).ok()?,
     })
 }
 
@@ -158,7 +160,7 @@ reply 0 FAULT
 ask 1 GET 0
 give-up 1
 reply 1 FAULT
-restart found
+restart 1 found
 ask 2 GET 0
 look 2
 reply 2 VAL 1";
@@ -171,7 +173,7 @@ fn failed_seal(rt: HostRuntime) -> Result<(), Fail> {
 const TORN_GATE: &str = "\
 ask 0 CAS 0:0:1 1:0:2
 admit 0
-restart lost 0
+restart 1 lost 0
 ask 1 GET 0
 look 1
 reply 1 VAL 0

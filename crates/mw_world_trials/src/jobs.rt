@@ -1,17 +1,17 @@
 //! Random jobs, stops and worlds.
-ghost use Rattle.std.specs.Prelude.{◌≡◌, ◌≤◌, None};
-ghost use Rattle.mw_world.specs.Definition.State.{IsConfig};
+ghost use Rattle.std.specs.Prelude.{◌≡◌, ◌≤◌, None, IsTrue};
+ghost use Rattle.mw_world.specs.Definition.State.{IsConfig, may_be_old};
 
 use crate::dice::Dice;
 use arrayvec::ArrayVec;
-use mw_words::{Entries, Entry, Job, Name};
-use mw_world::{Config, Interrupted, Stop, Tenant};
+use mw_words::{Entries, Entry, Job, Name, is_change};
+use mw_world::{Config, Interrupted, OLD_ENTRIES, OLD_PLACES, Stop, Tenant};
 use std::alloc::{AllocError, Global};
 
 /// The values that words have.
 const VALUES: u64 = 3;
 
-/// A small world: two to four workers, one or two tenants of one to three words.
+/// A small world: two to four workers, one or two tenants of one to three words, some with an old file.
 pub fn small_world(dice: &mut Dice) -> Config
     ensures { IsConfig result }
 {
@@ -63,13 +63,32 @@ fn large_tenant(dice: &mut Dice) -> Tenant
 fn small_tenant(dice: &mut Dice) -> Tenant
     ensures words { (1 ≤ result.words) × (result.words ≤ 3) }
     ensures quota { (1 ≤ result.quota) × (result.quota ≤ 3) }
-    ensures new { result.old ≡ None }
+    ensures old { IsTrue (may_be_old result.words result.quota result.old) }
 {
+    let words = 1 + u16::from(dice.small(3));
+    let quota = 1 + dice.small(3);
     Tenant {
         name: Name::new(),
-        words: 1 + u16::from(dice.small(3)),
-        quota: 1 + dice.small(3),
-        old: None,
+        words,
+        quota,
+        old: if dice.once_in(4) {
+            old_change(dice, words, quota)
+        } else {
+            None
+        },
+    }
+}
+
+/// The change in an old file, now and then none.
+fn old_change(dice: &mut Dice, words: u16, quota: u8) -> Option<Entries>
+    ensures { IsTrue (may_be_old words quota result) }
+{
+    let change = entries(dice, words);
+    let is_old = is_change(&change, usize::from(words)) && change.len() <= OLD_ENTRIES;
+    if is_old && quota <= OLD_PLACES {
+        Some(change)
+    } else {
+        None
     }
 }
 
@@ -80,6 +99,11 @@ pub fn job(dice: &mut Dice, words: u16) -> Job
     if dice.once_in(3) {
         return Job::Get(dice.below(u64::from(words)) as u16);
     }
+    Job::Cas(entries(dice, words))
+}
+
+/// Entries of some words; now and then none.
+fn entries(dice: &mut Dice, words: u16) -> Entries {
     let mut entries = Entries::new();
     for addr in 0..words {
         if dice.once_in(2) && !entries.is_full() {
@@ -90,10 +114,10 @@ pub fn job(dice: &mut Dice, words: u16) -> Job
             });
         }
     }
-    Job::Cas(entries)
+    entries
 }
 
-/// A way to stop each tenant's file, and to open it again.
+/// A way to stop each tenant's file, and to open it again, with quotas that may not fit.
 pub fn stops(alloc: Global, dice: &mut Dice, config: &Config) -> Result<Vec<Stop>, AllocError>
     requires { 1 ≤ config.now.workers }
 {
@@ -117,7 +141,18 @@ fn stop(alloc: Global, dice: &mut Dice, tenant: u8, workers: u8) -> Result<Stop,
         interrupted: interrupted(dice, workers),
         torn,
         fails_at: failing(dice),
+        quota: told(dice),
     })
+}
+
+/// A quota, or none that is told. Now and then it is one that no tenant can have.
+fn told(dice: &mut Dice) -> Option<u8> {
+    match dice.small(12) {
+        0..=5 => None,
+        6 => Some(0),
+        7 => Some(dice.small(255)),
+        _ => Some(1 + dice.small(4)),
+    }
 }
 
 /// A byte that opens a gate, one that shuts it, and one that does neither by itself.

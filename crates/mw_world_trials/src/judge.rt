@@ -3,7 +3,8 @@ ghost use Rattle.std.specs.Prelude.{◌<◌, length};
 
 use mw_lone::{Lone, LoneFault, Mark};
 use mw_simulator::World;
-use mw_words::{At, Job, Reply, Word};
+use mw_words::{At, Entries, Job, Reply, Word};
+use mw_world::Tenant;
 use std::alloc::{AllocError, Global};
 
 /// How a world and a store alone disagree.
@@ -19,6 +20,10 @@ pub enum Disagreement {
     Replies,
     /// A word has another value after a start.
     Word,
+    /// A quota is another one.
+    Quota,
+    /// Quotas that don't fit were taken, or left something changed.
+    Taken,
 }
 
 /// Why a trial came to no good end.
@@ -40,6 +45,8 @@ impl TrialFault {
             TrialFault::Disagreement(Disagreement::Reply) => "reply",
             TrialFault::Disagreement(Disagreement::Replies) => "replies",
             TrialFault::Disagreement(Disagreement::Word) => "word",
+            TrialFault::Disagreement(Disagreement::Quota) => "quota",
+            TrialFault::Disagreement(Disagreement::Taken) => "taken",
         }
     }
 }
@@ -74,19 +81,22 @@ struct Alone {
     lone: Lone,
     /// How many requests were asked.
     asked: u64,
+    /// The quota that the last start gave.
+    quota: u8,
 }
 
 /// Gives a tenant's marks to a new store of its words alone, which has to take them, and to hand out what
-/// the tenant was handed out.
+/// the tenant was handed out. The last start gave the tenant this quota.
 pub(crate) fn judge(
     alloc: Global,
     world: &World,
     tenant: u8,
+    quota: u8,
     handed: &[Handed],
 ) -> Result<(), TrialFault>
     requires { tenant < length world.now.config.tenants.items }
 {
-    after_marks(alloc, world, tenant, handed)?;
+    after_marks(alloc, world, tenant, quota, handed)?;
     Ok(())
 }
 
@@ -95,11 +105,12 @@ pub(crate) fn judge_start(
     alloc: Global,
     world: &World,
     tenant: u8,
+    quota: u8,
     handed: &[Handed],
 ) -> Result<(), TrialFault>
     requires { tenant < length world.now.config.tenants.items }
 {
-    let mut judge = after_marks(alloc, world, tenant, handed)?;
+    let mut judge = after_marks(alloc, world, tenant, quota, handed)?;
     let words = world.config().tenants[usize::from(tenant)].words;
     for address in 0..words {
         let word = Word::unpack(world.word(At::Data { tenant, address }));
@@ -114,15 +125,19 @@ fn after_marks(
     alloc: Global,
     world: &World,
     tenant: u8,
+    quota: u8,
     handed: &[Handed],
 ) -> Result<Alone, TrialFault>
     requires { tenant < length world.now.config.tenants.items }
 {
-    let its = &world.config().tenants[usize::from(tenant)];
-    let mut judge = Alone::new(alloc, its.words, its.quota)?;
+    let mut judge = Alone::new(alloc, &world.config().tenants[usize::from(tenant)])?;
     let replies = judge.replies(alloc, world.marks(tenant)?)?;
     compare(&replies, tenant, handed)?;
-    Ok(judge)
+    if judge.quota == quota {
+        Ok(judge)
+    } else {
+        Err(TrialFault::Disagreement(Disagreement::Quota))
+    }
 }
 
 /// These replies are those that the tenant was handed out.
@@ -142,12 +157,14 @@ fn compare(replies: &[Reply], tenant: u8, handed: &[Handed]) -> Result<(), Trial
 }
 
 impl Alone {
-    /// The store alone of a tenant with so many words, which are 0, and this quota.
-    fn new(alloc: Global, words: u16, quota: u8) -> Result<Alone, TrialFault> {
-        let zeros = zeros(alloc, words)?;
+    /// The store alone of a tenant, with the words of its first file. It begins faulted where that is an old
+    /// one.
+    fn new(alloc: Global, tenant: &Tenant) -> Result<Alone, TrialFault> {
+        let words = first_words(alloc, tenant)?;
         Ok(Alone {
-            lone: Lone::new(alloc, &zeros, quota, false)?,
+            lone: Lone::new(alloc, &words, tenant.quota, tenant.old.is_some())?,
             asked: 0,
+            quota: tenant.quota,
         })
     }
 
@@ -169,6 +186,9 @@ impl Alone {
         if let Mark::Ask(request, _) = &mark {
             self.asked = request.saturating_add(1);
         }
+        if let Mark::Restart { quota, .. } = &mark {
+            self.quota = *quota;
+        }
         Ok(self.lone.mark(mark)?)
     }
 
@@ -180,6 +200,25 @@ impl Alone {
         match self.mark(Mark::Reply(request))? {
             Some(Reply::Val(value)) => Ok(value),
             _ => Err(TrialFault::Disagreement(Disagreement::Reply)),
+        }
+    }
+}
+
+/// The words of a tenant's first file.
+fn first_words(alloc: Global, tenant: &Tenant) -> Result<Vec<u64>, AllocError> {
+    let mut words = zeros(alloc, tenant.words)?;
+    if let Some(change) = &tenant.old {
+        put(&mut words, change);
+    }
+    Ok(words)
+}
+
+/// Puts a change over words.
+fn put(words: &mut Vec<u64>, change: &Entries) {
+    for entry in change {
+        let place = usize::from(entry.addr);
+        if place < words.len() {
+            words[place] = entry.new;
         }
     }
 }

@@ -64,6 +64,10 @@ restart t=63,0,0123456789abcdef
 restart t=0,2,ffff,4
 restart t=0,2,,0
 restart t=-,-,,99999999999999999999999999
+restart t=-,-,,q2
+restart t=0,1,a5,4,q3
+restart t=-,-,,q0
+restart t=-,-,,q99999999999999999999999999
 restart t=0,99999999999999999999999999,
 restart u-1=-,-,
 restart t=-,-, u-1=1,3,ff,2";
@@ -219,7 +223,7 @@ pool 1/workers 1/tenant t 4097 1/
 pool 1/workers 1/tenant t 65537 1/
 pool 1/workers 1/tenant t 1 0/
 pool 1/workers 1/tenant t 1 2/
-pool 256/workers 1/tenant t 1 33/
+pool 256/workers 1/tenant t 1 65/
 pool 256/workers 1/tenant t 1 257/
 pool 1/workers 1/tenant T 1 1/
 pool 1/workers 1/tenant abcdefghijklmnopq 1 1/
@@ -283,7 +287,7 @@ fn first_lines_that_are_right(rt: HostRuntime) -> Result<(), Fail> {
         ("least", b"pool 1\nworkers 1\ntenant t 1 1\n"),
         (
             "most",
-            b"pool 256\nworkers 64\nseq 281474976710654\ntenant abcdefghijklmnop 4096 32\n",
+            b"pool 256\nworkers 64\nseq 281474976710654\ntenant abcdefghijklmnop 4096 64\n",
         ),
         ("sixteen", SIXTEEN),
         ("head", HEAD),
@@ -423,30 +427,30 @@ fn what_is_to_happen(rt: HostRuntime) {
     }
 }
 
-/// Whether a stop is that of this tenant, cut off there, with these torn bytes, and an opening that
-/// fails there.
+/// Whether a stop is that of this tenant, cut off there, with these torn bytes, an opening that fails
+/// there, and this quota.
 fn is_stop(
     stop: &Stop,
     tenant: u8,
     interrupted: Option<Interrupted>,
     torn: &[u8],
-    fails_at: Option<u64>,
+    start: (Option<u64>, Option<u8>),
 ) -> bool {
     let is_cut = (stop.tenant, stop.interrupted) == (tenant, interrupted);
-    is_cut && stop.torn.as_slice() == torn && stop.fails_at == fails_at
+    is_cut && stop.torn.as_slice() == torn && (stop.fails_at, stop.quota) == start
 }
 
-/// A stop that is cut off, and one that isn't.
+/// A stop that is cut off, and one that isn't. The second one's quota is the greatest that a stop tells.
 const STOPS: &[u8] =
-    b"pool 2\nworkers 1\ntenant t 1 1\ntenant u 9 1\nrestart u=3,4,00a5ff,6 t=-,-,\n";
+    b"pool 2\nworkers 1\ntenant t 1 1\ntenant u 9 1\nrestart u=3,4,00a5ff,6,q2 t=-,-,,q300\n";
 
 /// Whether these stops are those of [`STOPS`].
 fn are_stops(stops: &[Stop]) -> bool {
     let interrupted = Some(Interrupted { worker: 3, made: 4 });
     match stops {
         [first, second] => {
-            is_stop(first, 1, interrupted, &[0, 0xa5, 0xff], Some(6))
-                && is_stop(second, 0, None, &[], None)
+            is_stop(first, 1, interrupted, &[0, 0xa5, 0xff], (Some(6), Some(2)))
+                && is_stop(second, 0, None, &[], (None, Some(255)))
         }
         _ => false,
     }

@@ -5,10 +5,11 @@ ghost use Rattle.mw_world.specs.Definition.State.{IsConfig};
 use crate::dice::Dice;
 use crate::jobs::{job, small_world, stops};
 use crate::judge::{Disagreement, Handed, TrialFault, judge, judge_start};
+use crate::shares::{Share, first_shares, quotas_alone, shares_after};
 use mw_look::Op;
 use mw_simulator::{World, WorldFault};
 use mw_words::{At, Door, Reply};
-use mw_world::{Event, Outcome};
+use mw_world::{Event, Outcome, Stop};
 use std::alloc::{AllocError, Global};
 
 /// What happened in a trial.
@@ -18,6 +19,10 @@ pub struct Tally {
     pub failures: u64,
     /// How often all stopped as the dice wanted it.
     pub interruptions: u64,
+    /// How often a start was refused, since the quotas didn't fit.
+    pub refusals: u64,
+    /// How often a start gave quotas that were told.
+    pub gifts: u64,
 }
 
 /// A world, and what it has handed out.
@@ -26,6 +31,7 @@ struct Trial {
     alloc: Global,
     world: World,
     handed: Vec<Handed>,
+    shares: Vec<Share>,
     tally: Tally,
     ghost configured: { IsConfig world.config },
 }
@@ -50,10 +56,13 @@ enum Next {
 /// [`TrialFault`] says what differed, or that memory was wanting.
 pub fn play(alloc: Global, seed: u64, events: u64) -> Result<Tally, TrialFault> {
     let mut dice = Dice::new(seed);
+    let config = small_world(&mut dice);
+    let shares = first_shares(alloc, &config)?;
     let mut trial = Trial {
         alloc,
-        world: World::new(alloc, small_world(&mut dice))?,
+        world: World::new(alloc, config)?,
         handed: Vec::new(alloc),
+        shares,
         tally: Tally::default(),
     };
     for _ in 0..events {
@@ -121,15 +130,61 @@ impl Trial {
         self.must(Event::Hand(worker))
     }
 
-    /// All stops and starts again, as the dice want it if that can be.
+    /// All stops and starts again, as the dice want it if that can be. Quotas that don't fit are refused.
     fn restart(&mut self, dice: &mut Dice) -> Result<(), TrialFault> {
         let stops = stops(self.alloc, dice, self.world.config())?;
+        let pool = self.world.config().pool;
+        match shares_after(self.alloc, &self.shares, &stops, pool)? {
+            Some(shares) => {
+                self.start(stops)?;
+                self.shares = shares;
+                self.judge_start()
+            }
+            None => self.refuse(stops),
+        }
+    }
+
+    /// All stops and starts again with these quotas, which fit, and as the dice want it if that can be.
+    fn start(&mut self, stops: Vec<Stop>) -> Result<(), TrialFault> {
+        let quotas = quotas_alone(self.alloc, &stops)?;
+        if quotas.iter().any(|stop| stop.quota.is_some()) {
+            count(&mut self.tally.gifts);
+        }
         if self.may(Event::Restart(stops))? {
             count(&mut self.tally.interruptions);
-        } else {
-            self.must(Event::Restart(Vec::new(self.alloc)))?;
+            return Ok(());
         }
-        self.judge_start()
+        self.must(Event::Restart(quotas))
+    }
+
+    /// Quotas that don't fit are refused, whatever else is told, and the world stays as it is.
+    fn refuse(&mut self, stops: Vec<Stop>) -> Result<(), TrialFault> {
+        let quotas = quotas_alone(self.alloc, &stops)?;
+        let before = self.glance()?;
+        if self.may(Event::Restart(stops))? || self.may(Event::Restart(quotas))? {
+            return Err(TrialFault::Disagreement(Disagreement::Taken));
+        }
+        if self.glance()? != before {
+            return Err(TrialFault::Disagreement(Disagreement::Taken));
+        }
+        count(&mut self.tally.refusals);
+        Ok(())
+    }
+
+    /// A number that tells how many marks there are, what the doors are and who has a request. A start would
+    /// make it another one.
+    fn glance(&self) -> Result<u64, TrialFault> {
+        let mut glance: u64 = 0;
+        for tenant in 0..self.world.config().tenants.len() {
+            let tenant = tenant as u8;
+            let marks = self.world.marks(tenant)?;
+            glance = mixed(glance, marks.len() as u64);
+            glance = mixed(glance, self.world.word(At::Door(tenant)));
+        }
+        for worker in 0..self.world.config().workers {
+            glance = mixed(glance, u64::from(self.world.actor(worker).is_some()));
+        }
+        Ok(glance)
     }
 
     /// An event that can happen.
@@ -152,7 +207,14 @@ impl Trial {
 
     fn judge(&self) -> Result<(), TrialFault> {
         for tenant in 0..self.world.config().tenants.len() {
-            judge(self.alloc, &self.world, tenant as u8, &self.handed)?;
+            let tenant = tenant as u8;
+            judge(
+                self.alloc,
+                &self.world,
+                tenant,
+                self.quota(tenant),
+                &self.handed,
+            )?;
         }
         Ok(())
     }
@@ -166,13 +228,33 @@ impl Trial {
                     self.alloc,
                     &self.world,
                     tenant,
+                    self.quota(tenant),
                     &self.handed,
                 )?,
-                _ => judge(self.alloc, &self.world, tenant, &self.handed)?,
+                _ => judge(
+                    self.alloc,
+                    &self.world,
+                    tenant,
+                    self.quota(tenant),
+                    &self.handed,
+                )?,
             }
         }
         Ok(())
     }
+
+    /// The quota that the last start gave a tenant.
+    fn quota(&self, tenant: u8) -> u8 {
+        match self.shares.get(usize::from(tenant)) {
+            Some(share) => share.quota,
+            None => 0,
+        }
+    }
+}
+
+/// A number more, after others.
+fn mixed(others: u64, number: u64) -> u64 {
+    others.wrapping_mul(31).wrapping_add(number)
 }
 
 /// One more. A count stays at its last number.

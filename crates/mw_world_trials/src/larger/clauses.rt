@@ -23,10 +23,11 @@ pub(crate) enum Group {
     Files,
     Places,
     Counts,
+    Limits,
 }
 
 /// All of them.
-pub(crate) const GROUPS: [Group; 12] = [
+pub(crate) const GROUPS: [Group; 13] = [
     Group::Bits,
     Group::Requests,
     Group::Claims,
@@ -39,6 +40,7 @@ pub(crate) const GROUPS: [Group; 12] = [
     Group::Files,
     Group::Places,
     Group::Counts,
+    Group::Limits,
 ];
 
 impl Group {
@@ -56,6 +58,7 @@ impl Group {
             Group::Files => "files",
             Group::Places => "places",
             Group::Counts => "counts",
+            Group::Limits => "limits",
         }
     }
 }
@@ -85,5 +88,6 @@ pub(crate) fn holds(seen: &Seen, group: Group) -> bool {
         Group::Files => files::files(seen),
         Group::Places => files::places(seen),
         Group::Counts => counts::counts(seen),
+        Group::Limits => counts::limits(seen),
     }
 }

@@ -2,7 +2,9 @@
 ghost use Rattle.std.specs.Prelude.{◌<◌, ◌≤◌};
 
 use crate::larger::past::Past;
+use crate::shares::{Share, first_shares};
 use mw_actor::{Actor, Slot};
+use mw_lone::Mark;
 use mw_simulator::World;
 use mw_words::{
     At, Door, Entry, Gate, MAX_ENTRIES, MAX_POOL, MAX_TENANTS, MAX_WORKERS, Row, Status, Word,
@@ -37,9 +39,9 @@ pub(crate) struct Seat {
 /// What the readers of a world show, and its past as far as its events have told it.
 #[derive(Drop)]
 pub(crate) struct Seen {
-    /// By tenant: how many words it has, how many slots it may use, and its door.
+    /// By tenant: how many words it has, what it may use since the last start, and its door.
     pub(crate) words: Vec<u16>,
-    pub(crate) quotas: Vec<u8>,
+    pub(crate) shares: Vec<Share>,
     pub(crate) doors: Vec<Door>,
     pub(crate) slots: Vec<Written>,
     pub(crate) seats: Vec<Seat>,
@@ -54,7 +56,7 @@ impl Seen {
     pub(crate) fn new(alloc: Global) -> Seen {
         Seen {
             words: Vec::new(alloc),
-            quotas: Vec::new(alloc),
+            shares: Vec::new(alloc),
             doors: Vec::new(alloc),
             slots: Vec::new(alloc),
             seats: Vec::new(alloc),
@@ -65,14 +67,28 @@ impl Seen {
     }
 
     /// Looks at a world that has just started.
-    pub(crate) fn begin(&mut self, world: &World) -> Result<(), AllocError> {
+    pub(crate) fn begin(&mut self, alloc: Global, world: &World) -> Result<(), AllocError> {
         self.look(world)?;
-        self.start()
+        self.shares = first_shares(alloc, world.config())?;
+        self.past.start(&self.data)
     }
 
-    /// All has started, with the words that are seen.
-    pub(crate) fn start(&mut self) -> Result<(), AllocError> {
+    /// All has started, with the words that are seen, and with the quotas that the marks tell.
+    pub(crate) fn start(&mut self, world: &World) -> Result<(), AllocError> {
+        for tenant in 0..MAX_TENANTS {
+            self.look_at_share(world, tenant)?;
+        }
         self.past.start(&self.data)
+    }
+
+    /// Looks at what a tenant may use, if there is one of this number.
+    fn look_at_share(&mut self, world: &World, tenant: usize) -> Result<(), AllocError> {
+        if tenant >= world.config().tenants.len() || tenant >= self.shares.len() {
+            return Ok(());
+        }
+        let told = last_quota(&world.marks(tenant as u8)?);
+        self.shares[tenant].quota = told.unwrap_or(self.shares[tenant].quota);
+        Ok(())
     }
 
     /// Looks at a world.
@@ -85,7 +101,6 @@ impl Seen {
 
     fn look_at_tenants(&mut self, world: &World) -> Result<(), AllocError> {
         self.words.clear();
-        self.quotas.clear();
         self.doors.clear();
         self.data.clear();
         for number in 0..MAX_TENANTS {
@@ -96,11 +111,10 @@ impl Seen {
 
     /// Looks at a tenant, if there is one of this number.
     fn look_at_tenant(&mut self, world: &World, tenant: u8) -> Result<(), AllocError> {
-        let Some((words, quota)) = extent(world, tenant) else {
+        let Some(words) = words_of(world, tenant) else {
             return Ok(());
         };
         self.words.push(words)?;
-        self.quotas.push(quota)?;
         self.look_at_door(world, tenant)?;
         self.look_at_data(world, tenant, words)
     }
@@ -238,12 +252,23 @@ fn seat_of(world: &World, worker: u8) -> Option<Seat>
     })
 }
 
-/// How many words a tenant has, and how many slots it may use.
-fn extent(world: &World, tenant: u8) -> Option<(u16, u8)> {
+/// How many words a tenant has.
+fn words_of(world: &World, tenant: u8) -> Option<u16> {
     match world.config().tenants.get(usize::from(tenant)) {
-        Some(its) => Some((its.words, its.quota)),
+        Some(its) => Some(its.words),
         None => None,
     }
+}
+
+/// The quota that the last start gave, as the marks tell it.
+fn last_quota(marks: &[Mark]) -> Option<u8> {
+    let mut last = None;
+    for mark in marks {
+        if let Mark::Restart { quota, .. } = mark {
+            last = Some(*quota);
+        }
+    }
+    last
 }
 
 /// The bits of a shared word; zeros for one that the world hasn't got.

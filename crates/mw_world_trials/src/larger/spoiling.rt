@@ -15,6 +15,7 @@ pub(crate) fn spoil(seen: &mut Seen, group: Group) {
         Group::Owed => spoil_seats(seen),
         Group::Files => spoil_contents(seen),
         Group::Places => spoil_quotas(seen),
+        Group::Limits => spoil_places(seen),
     }
 }
 
@@ -34,8 +35,15 @@ fn spoil_contents(seen: &mut Seen) {
 
 /// No tenant may use a slot.
 fn spoil_quotas(seen: &mut Seen) {
-    for quota in &mut seen.quotas {
-        *quota = 0;
+    for share in &mut seen.shares {
+        share.quota = 0;
+    }
+}
+
+/// Every file has a place fewer than its tenant's quota.
+fn spoil_places(seen: &mut Seen) {
+    for share in &mut seen.shares {
+        share.places = u16::from(share.quota).saturating_sub(1);
     }
 }
 

@@ -7,9 +7,10 @@ use crate::jobs::{job, large_world, stops};
 use crate::larger::clauses::Group;
 use crate::larger::past::{call_deed, step_deed};
 use crate::larger::seen::Seen;
+use crate::shares::{Share, quotas_alone, shares_after};
 use mw_look::Op;
 use mw_simulator::{World, WorldFault};
-use mw_world::{Event, Outcome};
+use mw_world::{Event, Outcome, Stop};
 use std::alloc::{AllocError, Global};
 
 /// Why a run ended before its last event.
@@ -19,6 +20,8 @@ pub(crate) enum RunFault {
     Memory,
     /// A worker's next step was refused.
     Stuck,
+    /// Quotas that don't fit were taken, or a start gave others than were told.
+    Quotas,
     /// A group doesn't hold after this event.
     Broken(Group, u64),
 }
@@ -29,6 +32,7 @@ impl RunFault {
         match self {
             RunFault::Memory => ("memory", 0),
             RunFault::Stuck => ("stuck", 0),
+            RunFault::Quotas => ("quotas", 0),
             RunFault::Broken(group, event) => (group.name(), event),
         }
     }
@@ -61,7 +65,7 @@ impl Watch {
 
     /// Looks at the world, to which nothing has happened yet.
     pub(crate) fn begin(&mut self) -> Result<(), AllocError> {
-        self.seen.begin(&self.world)
+        self.seen.begin(self.alloc, &self.world)
     }
 
     /// One event, of a worker or of all.
@@ -113,13 +117,36 @@ impl Watch {
         self.must(Event::File(worker, Outcome::Good))
     }
 
-    /// All stops and starts again, as the dice want it if that can be.
+    /// All stops and starts again, as the dice want it if that can be. Quotas that don't fit are refused, and
+    /// what is to hold is looked at then too, of a world to which nothing has happened.
     fn restart(&mut self, dice: &mut Dice) -> Result<(), RunFault> {
         let stops = stops(self.alloc, dice, self.world.config())?;
-        if !self.may(Event::Restart(stops))? {
-            self.must(Event::Restart(Vec::new(self.alloc)))?;
+        let pool = self.world.config().pool;
+        match shares_after(self.alloc, &self.seen.shares, &stops, pool)? {
+            Some(shares) => self.start(stops, &shares),
+            None => self.refuse(stops),
         }
-        Ok(self.seen.start()?)
+    }
+
+    /// All stops and starts again with quotas that fit, and as the dice want it if that can be.
+    fn start(&mut self, stops: Vec<Stop>, shares: &[Share]) -> Result<(), RunFault> {
+        let quotas = quotas_alone(self.alloc, &stops)?;
+        if !self.may(Event::Restart(stops))? {
+            self.must(Event::Restart(quotas))?;
+        }
+        self.seen.start(&self.world)?;
+        if are_same(shares, &self.seen.shares) {
+            Ok(())
+        } else {
+            Err(RunFault::Quotas)
+        }
+    }
+
+    fn refuse(&mut self, stops: Vec<Stop>) -> Result<(), RunFault> {
+        if self.may(Event::Restart(stops))? {
+            return Err(RunFault::Quotas);
+        }
+        Ok(self.seen.look(&self.world)?)
     }
 
     fn must(&mut self, event: Event) -> Result<(), RunFault> {
@@ -141,4 +168,15 @@ impl Watch {
             Err(WorldFault::Memory) => Err(RunFault::Memory),
         }
     }
+}
+
+/// Whether as many slots may be used by each tenant.
+fn are_same(wanted: &[Share], found: &[Share]) -> bool {
+    for (tenant, share) in wanted.iter().enumerate() {
+        match found.get(tenant) {
+            Some(other) if other.quota == share.quota => {}
+            _ => return false,
+        }
+    }
+    true
 }

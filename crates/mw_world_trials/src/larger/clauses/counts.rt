@@ -3,14 +3,21 @@
 use crate::larger::past::Change;
 use crate::larger::pins::{frees, pins_held, waits};
 use crate::larger::seen::Seen;
+use crate::shares::can_be;
 use mw_actor::Slot;
 use mw_words::Gate;
 
 /// A gate counts the pins that are held or were left behind, and a slot that is taken and has no pin is to be
 /// freed by one request; a door counts the slots that are taken for its tenant and the requests that wait, no
-/// more than the quota, and the quotas fit.
+/// more than the quota.
 pub(super) fn counts(seen: &Seen) -> bool {
-    are_gates(seen) && are_doors(seen) && are_left(seen) && all_quotas(seen) <= seen.slots.len()
+    are_gates(seen) && are_doors(seen) && are_left(seen)
+}
+
+/// The quotas fit: each is within its limits and at most the places of its tenant's file, and together they
+/// are at most the pool.
+pub(super) fn limits(seen: &Seen) -> bool {
+    can_be(&seen.shares, seen.slots.len() as u16)
 }
 
 fn are_gates(seen: &Seen) -> bool {
@@ -66,21 +73,13 @@ fn all_freeing(seen: &Seen, slot: u8) -> u16 {
 
 fn are_doors(seen: &Seen) -> bool {
     let mut tenant: u8 = 0;
-    for quota in &seen.quotas {
-        if !is_door(seen, tenant, *quota) {
+    for share in &seen.shares {
+        if !is_door(seen, tenant, share.quota) {
             return false;
         }
         tenant = tenant.saturating_add(1);
     }
     true
-}
-
-fn all_quotas(seen: &Seen) -> usize {
-    let mut all: usize = 0;
-    for quota in &seen.quotas {
-        all = all.saturating_add(usize::from(*quota));
-    }
-    all
 }
 
 fn are_left(seen: &Seen) -> bool {

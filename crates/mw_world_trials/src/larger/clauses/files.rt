@@ -86,8 +86,8 @@ fn shares(change: &Change, other: &Change) -> bool {
 /// No more of a tenant's changes are in its file than its quota.
 pub(super) fn places(seen: &Seen) -> bool {
     let mut tenant: u8 = 0;
-    for quota in &seen.quotas {
-        if placed(seen, tenant) > u64::from(*quota) {
+    for share in &seen.shares {
+        if placed(seen, tenant) > u64::from(share.quota) {
             return false;
         }
         tenant = tenant.saturating_add(1);
