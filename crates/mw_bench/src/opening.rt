@@ -47,14 +47,16 @@ fn config() -> Config
 
 /// What their files gave: the words 7 and 9.
 fn openings(alloc: Global) -> Result<Vec<FileOpening>, AllocError>
-    ensures { IfOk result (λ found. (one : Vec ℕ Global) × (other : Vec ℕ Global) × (one.items ≡ 7 ∷ []) × (other.items ≡ 9 ∷ []) × (found.items ≡ record { quota = 1; words = Some one } ∷ record { quota = 1; words = Some other } ∷ [])) }
+    ensures { IfOk result (λ found. (one : Vec ℕ Global) × (other : Vec ℕ Global) × (one.items ≡ 7 ∷ []) × (other.items ≡ 9 ∷ []) × (found.items ≡ record { quota = 1; places = 2; words = Some one } ∷ record { quota = 1; places = 2; words = Some other } ∷ [])) }
 {
     let first = FileOpening {
         quota: 1,
+        places: 2,
         words: Some(vec![in alloc; 7]?),
     };
     let second = FileOpening {
         quota: 1,
+        places: 2,
         words: Some(vec![in alloc; 9]?),
     };
     let openings = vec![in alloc; first, second]?;

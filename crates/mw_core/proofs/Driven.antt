@@ -18,7 +18,7 @@ use Rattle.mw_actor.specs.Asks.{asks, asks_at}
 use Rattle.mw_actor.specs.Program.{replied, tells}
 use Rattle.mw_world.specs.Definition.Calls.{Called, called_at}
 use Rattle.mw_world.specs.Definition.Turns.{next_attempt}
-use Rattle.mw_table.specs.FromRule.{Began, Each, IsReady, IsReadyFor, MayCome, Reins, Took, comes, settled, settled_as, stepped, told}
+use Rattle.mw_table.specs.FromRule.{Began, Each, GoesOnByStep, IsReady, IsReadyFor, MayCome, Reins, Took, comes, settled, settled_as, stepped, told}
 use Rattle.mw_table.specs.declared.shared.Pass.{Pass}
 use Rattle.mw_table.specs.Carried.{IsCarried}
 use Rattle.mw_table.specs.Numbers.{number_of}
@@ -30,7 +30,7 @@ use Rattle.mw_core.specs.declared.calls.Advance.TheVariants.{NeedsFile, Finished
 use Rattle.mw_core.specs.Advancing.{Advances, Ends, IsTold, answer_of}
 
 -- a read makes no call on a file
-read_calls_none : (tenant address : ℕ) (point : LookPoint) → is_file (op_of (read_asks_at tenant address point)) ≡ false
+pub read_calls_none : (tenant address : ℕ) (point : LookPoint) → is_file (op_of (read_asks_at tenant address point)) ≡ false
 read_calls_none tenant address (Pin trail from to) = refl
 read_calls_none tenant address (Unpin slot seq after) = refl
 read_calls_none tenant address (FreeSlot slot seq after) = refl
@@ -77,10 +77,10 @@ file_next pass actor running is =
 
 -- a step was made
 pub step_made : (old new : Pass) (actor next : Acting) (got : Got) (result : Advance) → replied actor ≡ None → is_file (op_of (asks actor)) ≡ false → Took got old.seat.me.0 new.seat.me.0
-    → IsTold new actor next got → result ≡ answer_of (replied next) → Advances old new actor next result
-step_made old new actor next got result running plain took told is =
+    → GoesOnByStep got old.seat.me.0 new.seat.me.0 → IsTold new actor next got → result ≡ answer_of (replied next) → Advances old new actor next result
+step_made old new actor next got result running plain took event told is =
     subst (λ (reply : Option Reply). Ends old new actor next result reply (called_at actor.point)) (sym running)
-    (subst (λ (called : Option Called). Ends old new actor next result None called) (sym (no_call_there actor actor.point plain)) (is, record { got = got; took = took; told = told }))
+    (subst (λ (called : Option Called). Ends old new actor next result None called) (sym (no_call_there actor actor.point plain)) (is, record { got = got; took = took; event = event; told = told }))
 
 abbrev second_of : List (ℕ × ℕ) → ℕ
 second_of [] = 0

@@ -1,13 +1,11 @@
 -- What the steps of a read that is under way have found, and so why it turns back.
-use Rattle.std.specs.Prelude.{ℕ, ◌≡◌, ◌≤◌, ◌<◌, ◌+◌, ◌-◌, ◌==◌, ◌⊎◌, Bool, true, false, cond, nat_lt, List, [], ◌∷◌, Option, Some, None, IfSome}
+use Rattle.std.specs.Prelude.{ℕ, ◌≡◌, ◌+◌, ◌-◌, ◌==◌, Bool, true, false, cond, nat_lt, List, [], ◌∷◌, Option, Some, None, IfSome}
 use Rattle.std.specs.Option.{option_or}
-use Rattle.std.proofs.Common.{refl, sym, subst, inl, inr, arith}
-use Rattle.std.proofs.lemmas.Bool.Decides.{nat_tests}
-use Rattle.mw_words.specs.declared.limits.TheConstants.{MAX_ENTRIES, MAX_PINS, WORN_NUMBER}
+use Rattle.std.proofs.Common.{refl, inl, inr}
+use Rattle.mw_words.specs.declared.limits.TheConstants.{MAX_ENTRIES, WORN_NUMBER}
 use Rattle.mw_words.specs.declared.gates.Gate.{Gate}
 use Rattle.mw_words.specs.declared.places.At.TheVariants.{Gate as AtGate, Data, Status as AtStatus, Addr}
 use Rattle.mw_words.specs.declared.statuses.Status.{Status}
-use Rattle.mw_words.specs.declared.statuses.Status.TheVariants.{DoneYes}
 use Rattle.mw_words.specs.declared.words.Word.{Word}
 use Rattle.mw_words.specs.declared.words.Word.TheVariants.{Plain, Planted, Held, Dirty}
 use Rattle.mw_look.specs.declared.news.News.{News}
@@ -19,14 +17,15 @@ use Rattle.mw_look.specs.declared.points.Point.TheVariants.{ReadDoor, ReadWord, 
 use Rattle.mw_look.specs.declared.points.Trail.{Trail}
 use Rattle.mw_look.specs.declared.points.Trail.TheVariants.{Held as ByHeld, Planted as ByPlanted}
 use Rattle.mw_look.specs.Places.{pack}
-use Rattle.mw_look.specs.Program.{asks_at, first_entry, goes, is_over, next_entry, pinned, resumed, same_word, seq_of, slot_of, word_of, word_seen}
+use Rattle.mw_look.specs.Program.{asks_at, first_entry, goes, next_entry, pinned, resumed, same_word, seq_of, slot_of, word_of, word_seen}
 use Rattle.mw_look.specs.Runs.{Event, Happened, loaded}
 use Rattle.mw_look.proofs.RangeLaws.{either_way}
 use Rattle.mw_world.specs.Definition.Cells.{Cells, read}
+use Rattle.mw_table.specs.FromRule.{is_as_named}
 use Rattle.mw_core.specs.declared.looking.WhyAgain.{WhyAgain}
-use Rattle.mw_core.specs.declared.looking.WhyAgain.TheVariants.{WordChanged, GateDiffers, GateFull, NumberWorn, PinLost, EntryMissing, ChangeDone}
+use Rattle.mw_core.specs.declared.looking.WhyAgain.TheVariants.{WordChanged, GateDiffers, PinLost}
 use Rattle.mw_core.specs.Looking.{is_under_way}
-use Rattle.mw_core.specs.Reasons.{Because, FoundGate, HeldStill, IsOfAnother, IsRowLoaded, Names, entry_turns, gate_turns, is_as_named, turns, word_turns}
+use Rattle.mw_core.specs.Reasons.{Because, IsRowLoaded, Names, gate_turns, turns, word_turns}
 use Rattle.mw_core.proofs.Turned.{found_at}
 
 -- the step at a point, and what it was told
@@ -43,11 +42,6 @@ pub record AtItsGate (tenant address : ℕ) (trail : Trail) (gate : Gate) (event
   pub names : Names tenant address trail events
   pub gate_loaded : Happened (loaded (AtGate (slot_of trail)) (SawGate gate) ∷ []) events
 
--- The entries up to this one are of other words.
-pub record Past (tenant address : ℕ) (trail : Trail) (status : Status) (entry : ℕ) (events : List Event) : Type 0 where
-  pub told : Told tenant address trail status events
-  pub each : (other : ℕ) → other < entry → IsOfAnother address (slot_of trail) other events
-
 -- what has been found by a point
 abbrev pub Seen : ℕ → ℕ → Point → List Event → Type 0
 Seen tenant address (ReadRow worker attempt) events = Happened (loaded (Data tenant address) (SawWord (Planted worker attempt)) ∷ []) events
@@ -55,7 +49,7 @@ Seen tenant address (ConfirmWord trail) events = Names tenant address trail even
 Seen tenant address (ReadGate trail) events = Names tenant address trail events
 Seen tenant address (Pin trail from to) events = AtItsGate tenant address trail from events
 Seen tenant address (ReadStatus trail) events = Names tenant address trail events
-Seen tenant address (FindEntry trail status entry) events = Past tenant address trail status entry events
+Seen tenant address (FindEntry trail status entry) events = Told tenant address trail status events
 Seen tenant address (ReadExpected trail status entry) events = Told tenant address trail status events
 Seen tenant address (ReadNew trail status entry expected) events = Told tenant address trail status events
 Seen tenant address (RecheckWord trail status expected new) events = Told tenant address trail status events
@@ -70,9 +64,6 @@ names_more tenant address trail events latest h = record { word = inr h.word; ro
 
 told_more : (tenant address : ℕ) (trail : Trail) (status : Status) (events : List Event) (latest : Event) → Told tenant address trail status events → Told tenant address trail status (latest ∷ events)
 told_more tenant address trail status events latest h = record { names = names_more tenant address trail events latest h.names; order = inr h.order }
-
-other_more : (address slot entry : ℕ) (events : List Event) (latest : Event) → IsOfAnother address slot entry events → IsOfAnother address slot entry (latest ∷ events)
-other_more address slot entry events latest h = record { number = h.number; loads_it = inr h.loads_it; apart = h.apart }
 
 word_now : (tenant address : ℕ) (word : Word) (events : List Event) → Seen tenant address (word_seen word) (loaded (Data tenant address) (SawWord word) ∷ events)
 word_now tenant address (Plain value) events = tt
@@ -97,31 +88,17 @@ pin_now tenant address trail from to false events latest h = tt
 
 first_now : (tenant address : ℕ) (trail : Trail) (status : Status) (events : List Event) → Names tenant address trail events
     → Seen tenant address (first_entry trail status) (loaded (AtStatus (slot_of trail)) (SawStatus status) ∷ events)
-first_now tenant address (ByHeld slot seq) status events h =
-    record { told = record { names = names_more tenant address (ByHeld slot seq) events _ h; order = inl (refl, h.word) }; each = λ other low. absurd (omega (arith, low)) }
+first_now tenant address (ByHeld slot seq) status events h = record { names = names_more tenant address (ByHeld slot seq) events _ h; order = inl (refl, h.word) }
 first_now tenant address (ByPlanted worker attempt row) status events h = record { names = names_more tenant address (ByPlanted worker attempt row) events _ h; order = inl (refl, h.word) }
 
--- one entry more is of another word
-one_more : (tenant address : ℕ) (trail : Trail) (status : Status) (entry number : ℕ) (events : List Event) → Past tenant address trail status entry events → (number == address) ≡ false
-    → (other : ℕ) → other < entry + 1 → IsOfAnother address (slot_of trail) other (loaded (Addr (slot_of trail) entry) (SawNumber number) ∷ events)
-one_more tenant address trail status entry number events h apart other low =
-    elim (below_or_same other entry low) [
-      | inl lower ↦ other_more address (slot_of trail) other events _ (h.each other lower)
-      | inr same ↦ subst (λ (n : ℕ). IsOfAnother address (slot_of trail) n (loaded (Addr (slot_of trail) entry) (SawNumber number) ∷ events)) (sym same)
-          (record { number = number; loads_it = inl (refl, tt); apart = apart })
-    ]
-  where
-    below_or_same : (n m : ℕ) → n < m + 1 → (n < m) ⊎ (n ≡ m)
-    below_or_same n m lt = grind (arith, nat_tests, lt)
-
-entry_now : (tenant address : ℕ) (trail : Trail) (status : Status) (entry number : ℕ) (events : List Event) → Past tenant address trail status entry events
+entry_now : (tenant address : ℕ) (trail : Trail) (status : Status) (entry number : ℕ) (events : List Event) → Told tenant address trail status events
     → Seen tenant address (goes address (FindEntry trail status entry) (SawNumber number)) (loaded (Addr (slot_of trail) entry) (SawNumber number) ∷ events)
 entry_now tenant address trail status entry number events h =
     let now = loaded (Addr (slot_of trail) entry) (SawNumber number) ∷ events in
     either_way (λ point. Seen tenant address point now) (number == address) (ReadExpected trail status entry) (next_entry trail status entry)
-    (λ own. told_more tenant address trail status events _ h.told)
+    (λ own. told_more tenant address trail status events _ h)
     (λ apart. either_way (λ point. Seen tenant address point now) (nat_lt entry (MAX_ENTRIES - 1)) (FindEntry trail status (entry + 1)) (Unpin (slot_of trail) (seq_of trail) Again)
-    (λ more. record { told = told_more tenant address trail status events _ h.told; each = one_more tenant address trail status entry number events h apart }) (λ last. tt))
+    (λ more. told_more tenant address trail status events _ h) (λ last. tt))
 
 unpin_now : (tenant address slot seq : ℕ) (next : After) (last : Bool) (events : List Event) → Seen tenant address (cond last (FreeSlot slot seq next) (resumed next)) events
 unpin_now tenant address slot seq Again true events = tt
@@ -162,15 +139,8 @@ pub because_more : (why : WhyAgain) (tenant address : ℕ) (events : List Event)
 because_more WordChanged tenant address events latest h = record { first = h.first; later = h.later; order = inr h.order; apart = h.apart }
 because_more GateDiffers tenant address events latest h =
     (record { trail = h.0.trail; gate = h.0.gate; names = names_more tenant address h.0.trail events latest h.0.names; loads_it = inr h.0.loads_it }, h.1)
-because_more GateFull tenant address events latest h =
-    (record { trail = h.0.trail; gate = h.0.gate; names = names_more tenant address h.0.trail events latest h.0.names; loads_it = inr h.0.loads_it }, h.1)
-because_more NumberWorn tenant address events latest h =
-    (record { trail = h.0.trail; gate = h.0.gate; names = names_more tenant address h.0.trail events latest h.0.names; loads_it = inr h.0.loads_it }, h.1)
 because_more PinLost tenant address events latest h =
     record { trail = h.trail; from = h.from; to = h.to; names = names_more tenant address h.trail events latest h.names; order = inr h.order }
-because_more EntryMissing tenant address events latest h =
-    record { trail = h.trail; names = names_more tenant address h.trail events latest h.names; each = λ entry low. other_more address (slot_of h.trail) entry events latest (h.each entry low) }
-because_more ChangeDone tenant address events latest h = record { slot = h.slot; seq = h.seq; order = inr h.order }
 
 -- what is said of a reason, if there is one
 abbrev pub Tells : ℕ → ℕ → List Event → Option WhyAgain → Type 0
@@ -180,78 +150,37 @@ gate_because : (tenant address : ℕ) (trail : Trail) (gate : Gate) (events : Li
     → Tells tenant address (loaded (AtGate (slot_of trail)) (SawGate gate) ∷ events) (gate_turns trail gate)
 gate_because tenant address trail gate events h =
     let now = loaded (AtGate (slot_of trail)) (SawGate gate) ∷ events in
-    let found : FoundGate tenant address now = record { trail = trail; gate = gate; names = names_more tenant address trail events _ h; loads_it = inl (refl, tt) } in
-    either_way (Tells tenant address now) (nat_lt (seq_of trail) WORN_NUMBER) (cond (is_as_named gate (seq_of trail)) (cond (nat_lt gate.pins MAX_PINS) None (Some GateFull)) (Some GateDiffers)) (Some NumberWorn)
-    (λ low. either_way (Tells tenant address now) (is_as_named gate (seq_of trail)) (cond (nat_lt gate.pins MAX_PINS) None (Some GateFull)) (Some GateDiffers)
-    (λ named. either_way (Tells tenant address now) (nat_lt gate.pins MAX_PINS) None (Some GateFull) (λ room. tt) (λ full. (found, no_less gate.pins MAX_PINS full)))
-    (λ differs. (found, differs)))
-    (λ worn. (found, no_less (seq_of trail) WORN_NUMBER worn))
-  where
-    no_less : (n m : ℕ) → nat_lt n m ≡ false → m ≤ n
-    no_less n m is = grind (arith, nat_tests, is)
+    either_way (Tells tenant address now) (is_as_named gate (seq_of trail)) None (Some GateDiffers) (λ named. tt)
+    (λ differs. (record { trail = trail; gate = gate; names = names_more tenant address trail events _ h; loads_it = inl (refl, tt) }, differs))
 
 pin_because : (tenant address : ℕ) (trail : Trail) (from to : Gate) (wins : Bool) (events : List Event) → AtItsGate tenant address trail from events
-    → Tells tenant address (made_at tenant address (Pin trail from to) (cond wins Won Lost) ∷ events) (turns address (Pin trail from to) (cond wins Won Lost))
+    → Tells tenant address (made_at tenant address (Pin trail from to) (cond wins Won Lost) ∷ events) (turns (Pin trail from to) (cond wins Won Lost))
 pin_because tenant address trail from to true events h = tt
 pin_because tenant address trail from to false events h =
     record { trail = trail; from = from; to = to; names = names_more tenant address trail events _ h.names; order = inl (refl, h.gate_loaded) }
 
-entry_because : (tenant address : ℕ) (trail : Trail) (status : Status) (entry number : ℕ) (events : List Event) → Past tenant address trail status entry events
-    → Tells tenant address (loaded (Addr (slot_of trail) entry) (SawNumber number) ∷ events) (entry_turns entry (number == address))
-entry_because tenant address trail status entry number events h =
-    let now = loaded (Addr (slot_of trail) entry) (SawNumber number) ∷ events in
-    either_way (Tells tenant address now) (number == address) None (cond (nat_lt entry (MAX_ENTRIES - 1)) None (Some EntryMissing)) (λ own. tt)
-    (λ apart. either_way (Tells tenant address now) (nat_lt entry (MAX_ENTRIES - 1)) None (Some EntryMissing) (λ more. tt)
-    (λ last. record {
-      trail = trail;
-      names = names_more tenant address trail events _ h.told.names;
-      each = λ other low. one_more tenant address trail status entry number events h apart other (up_to other entry low last);
-    }))
-  where
-    up_to : (n m : ℕ) → n < MAX_ENTRIES → nat_lt m (MAX_ENTRIES - 1) ≡ false → n < m + 1
-    up_to n m low last = grind (arith, nat_tests, low, last)
-
-same_word_is : (word other : Word) → same_word word other ≡ true → word ≡ other
-same_word_is (Plain value) (Plain other) is = grind (arith, nat_tests, is)
-same_word_is (Planted worker attempt) (Planted other number) is = grind (arith, nat_tests, is)
-same_word_is (Held slot seq) (Held other number) is = grind (arith, nat_tests, is)
-same_word_is (Dirty slot value) (Dirty other number) is = grind (arith, nat_tests, is)
-same_word_is word other is = cc
-
--- the word was held by a change that is done with
-done_because : (tenant address : ℕ) (trail : Trail) (status : Status) (events : List Event) → Told tenant address trail status events → is_over trail status ≡ true
-    → HeldStill tenant address (loaded (Data tenant address) (SawWord (word_of trail)) ∷ events)
-done_because tenant address (ByHeld slot seq) DoneYes events h over = record { slot = slot; seq = seq; order = inl (refl, h.order) }
-done_because tenant address trail status events h over = absurd (cc)
-
-word_because : (tenant address : ℕ) (trail : Trail) (status : Status) (word : Word) (events : List Event) → Told tenant address trail status events
-    → Tells tenant address (loaded (Data tenant address) (SawWord word) ∷ events) (word_turns trail status word)
-word_because tenant address trail status word events h =
-    let now = loaded (Data tenant address) (SawWord word) ∷ events in
-    either_way (Tells tenant address now) (same_word word (word_of trail)) (cond (is_over trail status) (Some ChangeDone) None) (Some WordChanged)
-    (λ same. either_way (Tells tenant address now) (is_over trail status) (Some ChangeDone) None
-    (λ over. subst (λ (one : Word). HeldStill tenant address (loaded (Data tenant address) (SawWord one) ∷ events)) (sym (same_word_is word (word_of trail) same))
-    (done_because tenant address trail status events h over)) (λ open_still. tt))
-    (λ apart. record { first = word_of trail; later = word; order = inl (refl, h.names.word); apart = apart })
+-- The word was loaded again, and was another one.
+word_because : (tenant address : ℕ) (trail : Trail) (word : Word) (events : List Event) → Names tenant address trail events
+    → Tells tenant address (loaded (Data tenant address) (SawWord word) ∷ events) (word_turns trail word)
+word_because tenant address trail word events h =
+    either_way (Tells tenant address (loaded (Data tenant address) (SawWord word) ∷ events)) (same_word word (word_of trail)) None (Some WordChanged) (λ same. tt)
+    (λ apart. record { first = word_of trail; later = word; order = inl (refl, h.word); apart = apart })
 
 -- Where a read turns back, this is why.
 pub turns_because : (tenant address : ℕ) (point : Point) (cells : Cells) (events : List Event) → is_under_way point ≡ true → Seen tenant address point events
-    → Tells tenant address (made_at tenant address point (found_at tenant address point cells) ∷ events) (turns address point (found_at tenant address point cells))
+    → Tells tenant address (made_at tenant address point (found_at tenant address point cells) ∷ events) (turns point (found_at tenant address point cells))
 turns_because tenant address ReadDoor cells events on h = absurd (cc)
 turns_because tenant address ReadWord cells events on h = tt
 turns_because tenant address (ReadRow worker attempt) cells events on h = tt
-turns_because tenant address (ConfirmWord trail) cells events on h =
-    let word = read cells (Data tenant address) in
-    either_way (Tells tenant address (loaded (Data tenant address) (SawWord word) ∷ events)) (same_word word (word_of trail)) None (Some WordChanged) (λ same. tt)
-    (λ apart. record { first = word_of trail; later = word; order = inl (refl, h.word); apart = apart })
+turns_because tenant address (ConfirmWord trail) cells events on h = word_because tenant address trail (read cells (Data tenant address)) events h
 turns_because tenant address (ReadGate trail) cells events on h = gate_because tenant address trail (read cells (AtGate (slot_of trail))) events h
 turns_because tenant address (Pin trail from to) cells events on h =
     pin_because tenant address trail from to (pack (AtGate (slot_of trail)) (read cells (AtGate (slot_of trail))) == pack (AtGate (slot_of trail)) from) events h
 turns_because tenant address (ReadStatus trail) cells events on h = tt
-turns_because tenant address (FindEntry trail status entry) cells events on h = entry_because tenant address trail status entry (read cells (Addr (slot_of trail) entry)) events h
+turns_because tenant address (FindEntry trail status entry) cells events on h = tt
 turns_because tenant address (ReadExpected trail status entry) cells events on h = tt
 turns_because tenant address (ReadNew trail status entry expected) cells events on h = tt
-turns_because tenant address (RecheckWord trail status expected new) cells events on h = word_because tenant address trail status (read cells (Data tenant address)) events h
+turns_because tenant address (RecheckWord trail status expected new) cells events on h = word_because tenant address trail (read cells (Data tenant address)) events h.names
 turns_because tenant address (Unpin slot seq next) cells events on h = tt
 turns_because tenant address (FreeSlot slot seq next) cells events on h = tt
 turns_because tenant address (LowerDoor next) cells events on h = tt

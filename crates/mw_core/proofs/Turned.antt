@@ -1,5 +1,5 @@
 -- A read that is under way: how many steps are left of it, what its steps have found, and why it turns back.
-use Rattle.std.specs.Prelude.{ℕ, ◌≡◌, ◌<◌, ◌+◌, ◌-◌, ◌==◌, ◌&&◌, Bool, true, false, cond, not, is_some, nat_le, nat_lt, Option, Some, None}
+use Rattle.std.specs.Prelude.{ℕ, ◌≡◌, ◌≤◌, ◌<◌, ◌+◌, ◌-◌, ◌==◌, ◌&&◌, Bool, true, false, cond, not, is_some, nat_le, nat_lt, Option, Some, None}
 use Rattle.std.specs.Option.{option_or}
 use Rattle.std.proofs.Common.{refl, arith}
 use Rattle.std.proofs.lemmas.Bool.Decides.{nat_tests}
@@ -22,8 +22,9 @@ use Rattle.mw_look.specs.Program.{asks_at, first_entry, goes, is_over, next_entr
 use Rattle.mw_look.proofs.RangeLaws.{either_way}
 use Rattle.mw_world.specs.Definition.Cells.{Cells, read}
 use Rattle.mw_world.specs.Definition.Changes.{done}
+use Rattle.mw_table.specs.FromRule.{FindsItsWay}
 use Rattle.mw_core.specs.declared.looking.WhyAgain.{WhyAgain}
-use Rattle.mw_core.specs.declared.looking.WhyAgain.TheVariants.{WordChanged, GateDiffers, GateFull, NumberWorn, EntryMissing, ChangeDone}
+use Rattle.mw_core.specs.declared.looking.WhyAgain.TheVariants.{WordChanged, GateDiffers}
 use Rattle.mw_core.specs.Looking.{is_under_way}
 use Rattle.mw_core.specs.Reasons.{turns}
 
@@ -130,34 +131,35 @@ back_confirm : (trail : Trail) (same : Bool) (why : Option WhyAgain) → is_back
 back_confirm trail true why is = absurd (cc)
 back_confirm trail false why is = refl
 
-back_gate : (trail : Trail) (gate to : Gate) (low taken pinned_once room same : Bool) (why : Option WhyAgain)
+-- The gate of a read has room for a pin, and a number that isn't worn.
+back_gate : (trail : Trail) (gate to : Gate) (low taken pinned_once room same : Bool) (why : Option WhyAgain) → low ≡ true → room ≡ true
     → is_back (cond low (pinned trail gate (cond (taken && pinned_once && room && same) (Some to) None)) ReadDoor) ≡ true
-    → is_some (option_or (cond low (cond (taken && pinned_once && same) (cond room None (Some GateFull)) (Some GateDiffers)) (Some NumberWorn)) why) ≡ true
-back_gate trail gate to false taken pinned_once room same why is = refl
-back_gate trail gate to true false pinned_once room same why is = refl
-back_gate trail gate to true true false room same why is = refl
-back_gate trail gate to true true true true true why is = absurd (cc)
-back_gate trail gate to true true true true false why is = refl
-back_gate trail gate to true true true false true why is = refl
-back_gate trail gate to true true true false false why is = refl
+    → is_some (option_or (cond (taken && pinned_once && same) None (Some GateDiffers)) why) ≡ true
+back_gate trail gate to low false pinned_once room same why is_low has_room is = refl
+back_gate trail gate to low true false room same why is_low has_room is = refl
+back_gate trail gate to low true true room false why is_low has_room is = refl
+back_gate trail gate to true true true true true why is_low has_room is = absurd (cc)
+back_gate trail gate to true true true false true why is_low has_room is = absurd (cc)
+back_gate trail gate to false true true room true why is_low has_room is = absurd (cc)
 
 back_pin : (address : ℕ) (trail : Trail) (from to : Gate) (wins : Bool) (why : Option WhyAgain) → is_back (goes address (Pin trail from to) (cond wins Won Lost)) ≡ true
-    → is_some (option_or (turns address (Pin trail from to) (cond wins Won Lost)) why) ≡ true
+    → is_some (option_or (turns (Pin trail from to) (cond wins Won Lost)) why) ≡ true
 back_pin address trail from to true why is = absurd (cc)
 back_pin address trail from to false why is = refl
 
-back_entry : (trail : Trail) (status : Status) (entry : ℕ) (own more : Bool) (why : Option WhyAgain)
-    → is_back (cond own (ReadExpected trail status entry) (cond more (FindEntry trail status (entry + 1)) (Unpin (slot_of trail) (seq_of trail) Again))) ≡ true
-    → is_some (option_or (cond own None (cond more None (Some EntryMissing))) why) ≡ true
-back_entry trail status entry true more why is = absurd (cc)
-back_entry trail status entry false true why is = absurd (cc)
-back_entry trail status entry false false why is = refl
+-- If it comes to the last entry that there can be, this is the word's.
+back_entry : (trail : Trail) (status : Status) (entry : ℕ) (own more : Bool) → (more ≡ false → own ≡ true)
+    → is_back (cond own (ReadExpected trail status entry) (cond more (FindEntry trail status (entry + 1)) (Unpin (slot_of trail) (seq_of trail) Again))) ≡ true → ⊥
+back_entry trail status entry true more last is = cc
+back_entry trail status entry false true last is = cc
+back_entry trail status entry false false last is = let own = last refl in cc
 
-back_recheck : (slot seq value : ℕ) (same over : Bool) (why : Option WhyAgain) → is_back (Unpin slot seq (cond (same && not over) (Answer value) Again)) ≡ true
-    → is_some (option_or (cond same (cond over (Some ChangeDone) None) (Some WordChanged)) why) ≡ true
-back_recheck slot seq value false over why is = refl
-back_recheck slot seq value true true why is = refl
-back_recheck slot seq value true false why is = absurd (cc)
+-- A word that is held still is held by no change that is done with.
+back_recheck : (slot seq value : ℕ) (same over : Bool) (why : Option WhyAgain) → (same ≡ true → over ≡ false) → is_back (Unpin slot seq (cond (same && not over) (Answer value) Again)) ≡ true
+    → is_some (option_or (cond same None (Some WordChanged)) why) ≡ true
+back_recheck slot seq value false over why held is = refl
+back_recheck slot seq value true true why held is = let over = held refl in absurd (cc)
+back_recheck slot seq value true false why held is = absurd (cc)
 
 back_unpin : (slot seq : ℕ) (next : After) (last : Bool) (why : Option WhyAgain) → (is_back (Unpin slot seq next) ≡ true → is_some why ≡ true)
     → is_back (cond last (FreeSlot slot seq next) (resumed next)) ≡ true → is_some why ≡ true
@@ -173,25 +175,45 @@ back_lower : (next : After) (why : Option WhyAgain) → (is_back (LowerDoor next
 back_lower Again why had is = had refl
 back_lower (Answer value) why had is = absurd (cc)
 
+is_lower : (n m : ℕ) → n < m → nat_lt n m ≡ true
+is_lower n m low = grind (arith, nat_tests, low)
+
+no_lower : (n m : ℕ) → nat_lt n m ≡ false → m ≤ n
+no_lower n m is = grind (arith, nat_tests, is)
+
+is_same : (n m : ℕ) → n ≡ m → (n == m) ≡ true
+is_same n m same = grind (arith, nat_tests, same)
+
+same_word_is : (word other : Word) → same_word word other ≡ true → word ≡ other
+same_word_is (Plain value) (Plain other) is = grind (arith, nat_tests, is)
+same_word_is (Planted worker attempt) (Planted other number) is = grind (arith, nat_tests, is)
+same_word_is (Held slot seq) (Held other number) is = grind (arith, nat_tests, is)
+same_word_is (Dirty slot value) (Dirty other number) is = grind (arith, nat_tests, is)
+same_word_is word other is = cc
+
 -- A read that is on its way back has a reason.
-pub backs : (tenant address : ℕ) (point : Point) (cells : Cells) (why : Option WhyAgain) → is_under_way point ≡ true → (is_back point ≡ true → is_some why ≡ true)
-    → is_back (goes address point (found_at tenant address point cells)) ≡ true → is_some (option_or (turns address point (found_at tenant address point cells)) why) ≡ true
-backs tenant address ReadDoor cells why on had is = absurd (cc)
-backs tenant address ReadWord cells why on had is = absurd (back_word (read cells (Data tenant address)) is)
-backs tenant address (ReadRow worker attempt) cells why on had is = absurd (cc)
-backs tenant address (ConfirmWord trail) cells why on had is = back_confirm trail (same_word (read cells (Data tenant address)) (word_of trail)) why is
-backs tenant address (ReadGate trail) cells why on had is =
+pub backs : (tenant address : ℕ) (point : Point) (cells : Cells) (why : Option WhyAgain) → is_under_way point ≡ true → FindsItsWay cells tenant address point → (is_back point ≡ true → is_some why ≡ true)
+    → is_back (goes address point (found_at tenant address point cells)) ≡ true → is_some (option_or (turns point (found_at tenant address point cells)) why) ≡ true
+backs tenant address ReadDoor cells why on way had is = absurd (cc)
+backs tenant address ReadWord cells why on way had is = absurd (back_word (read cells (Data tenant address)) is)
+backs tenant address (ReadRow worker attempt) cells why on way had is = absurd (cc)
+backs tenant address (ConfirmWord trail) cells why on way had is = back_confirm trail (same_word (read cells (Data tenant address)) (word_of trail)) why is
+backs tenant address (ReadGate trail) cells why on way had is =
     let gate = read cells (AtGate (slot_of trail)) in
-    back_gate trail gate (record gate { pins = gate.pins + 1 }) (nat_lt (seq_of trail) WORN_NUMBER) gate.taken (nat_le 1 gate.pins) (nat_lt gate.pins MAX_PINS) (gate.seq == seq_of trail) why is
-backs tenant address (Pin trail from to) cells why on had is =
+    back_gate trail gate (record gate { pins = gate.pins + 1 }) (nat_lt (seq_of trail) WORN_NUMBER) gate.taken (nat_le 1 gate.pins) (nat_lt gate.pins MAX_PINS) (gate.seq == seq_of trail) why
+    (is_lower (seq_of trail) WORN_NUMBER way.0) (is_lower gate.pins MAX_PINS way.1) is
+backs tenant address (Pin trail from to) cells why on way had is =
     back_pin address trail from to (pack (AtGate (slot_of trail)) (read cells (AtGate (slot_of trail))) == pack (AtGate (slot_of trail)) from) why is
-backs tenant address (ReadStatus trail) cells why on had is = absurd (back_first trail (read cells (AtStatus (slot_of trail))) is)
-backs tenant address (FindEntry trail status entry) cells why on had is = back_entry trail status entry (read cells (Addr (slot_of trail) entry) == address) (nat_lt entry (MAX_ENTRIES - 1)) why is
-backs tenant address (ReadExpected trail status entry) cells why on had is = absurd (cc)
-backs tenant address (ReadNew trail status entry expected) cells why on had is = absurd (cc)
-backs tenant address (RecheckWord trail status expected new) cells why on had is =
-    back_recheck (slot_of trail) (seq_of trail) (value_of trail status expected new) (same_word (read cells (Data tenant address)) (word_of trail)) (is_over trail status) why is
-backs tenant address (Unpin slot seq next) cells why on had is = back_unpin slot seq next ((read cells (AtGate slot)).pins == 1) why had is
-backs tenant address (FreeSlot slot seq next) cells why on had is = back_free slot seq next why had is
-backs tenant address (LowerDoor next) cells why on had is = back_lower next why had is
-backs tenant address (Replied reply) cells why on had is = absurd (cc)
+backs tenant address (ReadStatus trail) cells why on way had is = absurd (back_first trail (read cells (AtStatus (slot_of trail))) is)
+backs tenant address (FindEntry trail status entry) cells why on way had is =
+    let number = read cells (Addr (slot_of trail) entry) in
+    absurd (back_entry trail status entry (number == address) (nat_lt entry (MAX_ENTRIES - 1)) (λ last. is_same number address (way (no_lower entry (MAX_ENTRIES - 1) last))) is)
+backs tenant address (ReadExpected trail status entry) cells why on way had is = absurd (cc)
+backs tenant address (ReadNew trail status entry expected) cells why on way had is = absurd (cc)
+backs tenant address (RecheckWord trail status expected new) cells why on way had is =
+    let word = read cells (Data tenant address) in
+    back_recheck (slot_of trail) (seq_of trail) (value_of trail status expected new) (same_word word (word_of trail)) (is_over trail status) why (λ same. way (same_word_is word (word_of trail) same)) is
+backs tenant address (Unpin slot seq next) cells why on way had is = back_unpin slot seq next ((read cells (AtGate slot)).pins == 1) why had is
+backs tenant address (FreeSlot slot seq next) cells why on way had is = back_free slot seq next why had is
+backs tenant address (LowerDoor next) cells why on way had is = back_lower next why had is
+backs tenant address (Replied reply) cells why on way had is = absurd (cc)

@@ -22,14 +22,14 @@ use Rattle.mw_actor.specs.Acting.{Acting}
 use Rattle.mw_actor.specs.Asks.{asks}
 use Rattle.mw_actor.specs.Program.{replied, tells}
 use Rattle.mw_world.specs.Definition.Changes.{done}
-use Rattle.mw_table.specs.FromRule.{Answered, Began, IsFound, MayCome, Serves, Took, View, settled_as}
+use Rattle.mw_table.specs.FromRule.{Answered, Began, FindsWayAt, GoesOnByComing, GoesOnByStep, IsFound, MayCome, Serves, Took, View, settled_as}
 use Rattle.mw_table.proofs.FromRule.{calls_begin, calls_end, calls_go_on}
 use Rattle.mw_table.specs.declared.shared.Pass.{Pass}
 use Rattle.mw_table.specs.Carried.{IsCarried}
 use Rattle.mw_core.specs.declared.calls.Advance.{Advance}
 use Rattle.mw_core.specs.declared.looking.WhyAgain.{WhyAgain}
 use Rattle.mw_core.specs.Advancing.{Advances, Begins, StepsOnce}
-use Rattle.mw_core.specs.Looking.{EndsAs, IsLook, IsSince, Looks, MakesFirst, MakesNext, ServedAs, TookAs, Walked, Walks, heard, is_under_way}
+use Rattle.mw_core.specs.Looking.{EndsAs, GoesOnAs, IsLook, IsSince, Looks, MakesFirst, MakesNext, ServedAs, TookAs, Walked, Walks, heard, is_under_way}
 use Rattle.mw_core.specs.Reasons.{Because, turns}
 use Rattle.mw_core.proofs.Driven.{busy_so}
 use Rattle.mw_core.proofs.Reasoned.{Seen, Tells, sees_on, tells_either, tells_more, turns_because}
@@ -51,11 +51,17 @@ first_came old new actor next address same idle begins =
     let h = heard actor address [] in
     let got = Found begins.found in
     let began : Began h got old.seat.me.0 new.seat.me.0 = subst (λ (one : Acting). Began one got old.seat.me.0 new.seat.me.0) same begins.began in
+    let event : GoesOnByComing h got old.seat.me.0 new.seat.me.0 = subst (λ (one : Acting). GoesOnByComing one got old.seat.me.0 new.seat.me.0) same begins.event in
     record {
       told = news_of (place (asks h)) got;
       cells = began.found.cells;
       found = began.found.is;
-      walks = record { got = got; took = subst (λ (test : Bool). TookAs test h got old.seat.me.0 new.seat.me.0) (sym idle) began; is_told = refl };
+      walks = record {
+        got = got;
+        took = subst (λ (test : Bool). TookAs test h got old.seat.me.0 new.seat.me.0) (sym idle) began;
+        event = subst (λ (test : Bool). GoesOnAs test h got old.seat.me.0 new.seat.me.0) (sym idle) event;
+        is_told = refl;
+      };
       next_is = begins.told ∙ ap (λ (one : Acting). tells one (news_of (place (asks one)) got) new.attempt) same;
     }
 
@@ -71,15 +77,20 @@ first_stepped old new actor next address result same idle carried advances =
       told = news_of (place (asks h)) got;
       cells = found.cells;
       found = found.is;
-      walks = record { got = got; took = subst (λ (test : Bool). TookAs test h got old.seat.me.0 new.seat.me.0) (sym idle) steps.took; is_told = refl };
+      walks = record {
+        got = got;
+        took = subst (λ (test : Bool). TookAs test h got old.seat.me.0 new.seat.me.0) (sym idle) steps.took;
+        event = subst (λ (test : Bool). GoesOnAs test h got old.seat.me.0 new.seat.me.0) (sym idle) steps.event;
+        is_told = refl;
+      };
       next_is = steps.told;
     }
 
 -- a step of a read that is under way
 pub next_made : (old new : Pass) (actor next : Acting) (read : Reading) (got : Got) (why : Option WhyAgain) → actor.point ≡ Read read → IsCarried old actor → replied actor ≡ None
-    → Took got old.seat.me.0 new.seat.me.0 → next ≡ tells actor (news_of (place (asks actor)) got) new.attempt → why ≡ turns read.address read.point (news_of (place (asks actor)) got)
+    → Took got old.seat.me.0 new.seat.me.0 → GoesOnByStep got old.seat.me.0 new.seat.me.0 → next ≡ tells actor (news_of (place (asks actor)) got) new.attempt → why ≡ turns read.point (news_of (place (asks actor)) got)
     → MakesNext old new actor next read why
-next_made old new actor next read got why at carried running took told why_is =
+next_made old new actor next read got why at carried running took event told why_is =
     let same : actor ≡ record actor { point = Read read } = λ i. record actor { point = at i } in
     let news = news_of (place (asks actor)) got in
     let found = carried_found old new actor got carried running took in
@@ -87,7 +98,8 @@ next_made old new actor next read got why at carried running took told why_is =
       told = news;
       cells = found.cells;
       found = found.is ∙ ap (λ (one : Acting). done (asks one) found.cells (λ later news. news)) same;
-      walks = record { got = got; took = took; is_told = refl };
+      walks = record { got = got; took = took; event = event; is_told = refl };
+      way = subst (FindsWayAt found.cells) at found.way;
       next_is = told ∙ ap (λ (one : Acting). tells one news new.attempt) same;
       why_is = why_is;
     }
@@ -180,11 +192,11 @@ next_under old now new actor next last address why one under on makes =
       seen = subst (λ (told : News). Seen read.tenant read.address (goes read.address read.point told) (past begin (told ∷ news))) (sym made.found)
           (sees_on read.tenant read.address read.point made.cells events on under.seen);
       back = subst (λ (some : Option WhyAgain). is_back (goes read.address read.point made.told) ≡ true → is_some (option_or some why) ≡ true) (sym made.why_is)
-          (subst (λ (told : News). is_back (goes read.address read.point told) ≡ true → is_some (option_or (turns read.address read.point told) why) ≡ true) (sym made.found)
-          (backs read.tenant read.address read.point made.cells why on under.back));
+          (subst (λ (told : News). is_back (goes read.address read.point told) ≡ true → is_some (option_or (turns read.point told) why) ≡ true) (sym made.found)
+          (backs read.tenant read.address read.point made.cells why on made.way under.back));
       because = tells_either read.tenant read.address (past begin (made.told ∷ news)) one why
           (subst (Tells read.tenant read.address (past begin (made.told ∷ news))) (sym made.why_is)
-          (subst (λ (told : News). Tells read.tenant read.address (past begin (told ∷ news)) (turns read.address read.point told)) (sym made.found)
+          (subst (λ (told : News). Tells read.tenant read.address (past begin (told ∷ news)) (turns read.point told)) (sym made.found)
           (turns_because read.tenant read.address read.point made.cells events on under.seen)))
           (tells_more read.tenant read.address events _ why under.because);
       call = λ begun whole since.
@@ -197,11 +209,6 @@ next_under old now new actor next last address why one under on makes =
 abbrev pub look_at : Point → LookPoint
 look_at (Read look) = look.point
 look_at point = ReadDoor
-
--- which address it asks for
-abbrev pub address_in : Point → ℕ
-address_in (Read look) = look.address
-address_in point = 0
 
 -- Each further step leaves fewer.
 pub lower : (old now new : Pass) (actor next last : Acting) (address : ℕ) (why one : Option WhyAgain) (under : Under old now actor next address why)

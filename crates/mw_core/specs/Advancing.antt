@@ -9,7 +9,7 @@ use Rattle.mw_actor.specs.Acting.{Acting}
 use Rattle.mw_actor.specs.Asks.{asks}
 use Rattle.mw_actor.specs.Program.{replied, tells}
 use Rattle.mw_world.specs.Definition.Calls.{Called, called_at}
-use Rattle.mw_table.specs.FromRule.{Began, Took}
+use Rattle.mw_table.specs.FromRule.{Began, GoesOnByComing, GoesOnByStep, Took}
 use Rattle.mw_table.specs.declared.shared.Pass.{Pass}
 use Rattle.mw_core.specs.declared.calls.Advance.{Advance}
 use Rattle.mw_core.specs.declared.calls.Advance.TheVariants.{Stepped, NeedsFile, Finished}
@@ -18,10 +18,11 @@ use Rattle.mw_core.specs.declared.calls.Advance.TheVariants.{Stepped, NeedsFile,
 abbrev pub IsTold : Pass → Acting → Acting → Got → Type 0
 IsTold pass actor next got = next ≡ tells actor (news_of (place (asks actor)) got) pass.attempt
 
--- One step of the request was made, and the request was told what it found.
+-- One step of the request was made, by which alone a run of the world goes on, but for the hand-out of the reply, once that stands; and the request was told what it found.
 pub record StepsOnce (old new : Pass) (actor next : Acting) : Type 0 where
   pub got : Got
   pub took : Took got old.seat.me.0 new.seat.me.0
+  pub event : GoesOnByStep got old.seat.me.0 new.seat.me.0
   pub told : IsTold new actor next got
 
 -- Nothing was done.
@@ -43,8 +44,9 @@ Ends old new actor next result None None = (result ≡ answer_of (replied next))
 abbrev pub Advances : Pass → Pass → Acting → Acting → Advance → Type 0
 Advances old new actor next result = Ends old new actor next result (replied actor) (called_at actor.point)
 
--- The request came and made its first step, and was told what it found.
+-- The request came and made its first step, by which alone a run goes on so, and was told what it found.
 pub record Begins (old new : Pass) (actor next : Acting) : Type 0 where
   pub found : ℕ
   pub began : Began actor (Found found) old.seat.me.0 new.seat.me.0
+  pub event : GoesOnByComing actor (Found found) old.seat.me.0 new.seat.me.0
   pub told : IsTold new actor next (Found found)

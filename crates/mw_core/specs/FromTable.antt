@@ -2,7 +2,7 @@
 pub use Rattle.mw_table.specs.Beginning.{Basis, basis_of_world, seat_in}
 pub use Rattle.mw_table.specs.Carried.{IsCarried}
 pub use Rattle.mw_table.specs.Dealt.{AreInOrder, IsDealt}
-pub use Rattle.mw_table.specs.Filing.{IsFree, IsRightOf, file_kept}
+pub use Rattle.mw_table.specs.Filing.{IsFree, IsRightOf, IsSoOfWorld, file_kept}
 pub use Rattle.mw_table.specs.Fresh.{basis_of_start, opening_given, openings_given}
 pub use Rattle.mw_table.specs.FromRule.{Answered, Each, FileRights, Has, IsFinished, IsReady, IsReadyAt, IsReadyFor, IsRight, Keeps, Looked, MayCome, Met, NotesAs, Reins, Serves, View, after_call, comes, file_told, finished_as, index_of, opening_at, reins_of, rights_opened, settled, settled_as, stepped, told, told_of, went_well}
 pub use Rattle.mw_table.specs.Holding.{file_among}

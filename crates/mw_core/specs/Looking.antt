@@ -15,7 +15,7 @@ use Rattle.mw_actor.specs.declared.points.Point.TheVariants.{Read}
 use Rattle.mw_actor.specs.Acting.{Acting}
 use Rattle.mw_actor.specs.Asks.{asks}
 use Rattle.mw_actor.specs.Program.{replied}
-use Rattle.mw_table.specs.FromRule.{Answered, Began, Reins, Serves, Took, View}
+use Rattle.mw_table.specs.FromRule.{Answered, Began, FindsItsWay, GoesOnByComing, GoesOnByStep, Reins, Serves, Took, View}
 use Rattle.mw_world.specs.Definition.Cells.{Cells}
 use Rattle.mw_world.specs.Definition.Changes.{done}
 use Rattle.mw_table.specs.declared.shared.Pass.{Pass}
@@ -44,10 +44,16 @@ abbrev pub TookAs : Bool → Acting → Got → View → View → Type 0
 TookAs true actor got old new = Began actor got old new
 TookAs false actor got old new = Took got old new
 
--- One step of a read, which was told this.
+-- So it is of the event by which a run of the world goes on.
+abbrev pub GoesOnAs : Bool → Acting → Got → View → View → Type 0
+GoesOnAs true actor got old new = GoesOnByComing actor got old new
+GoesOnAs false actor got old new = GoesOnByStep got old new
+
+-- One step of a read, which was told this, and by which alone a run goes on, but for the coming of the request and the hand-out of its reply.
 pub record Walks (comes : Bool) (actor : Acting) (told : News) (old new : View) : Type 0 where
   pub got : Got
   pub took : TookAs comes actor got old new
+  pub event : GoesOnAs comes actor got old new
   pub is_told : told ≡ news_of (place (asks actor)) got
 
 -- These are the news of a read's steps from its first on, the latest first. At each of them but the first it was under way.
@@ -70,14 +76,15 @@ pub record MakesFirst (old new : Pass) (actor next : Acting) (address : ℕ) : T
   pub walks : Walks old.idle (heard actor address []) told old.seat.me.0 new.seat.me.0
   pub next_is : next ≡ heard actor address (told ∷ [])
 
--- The next step of a read was made, and this is why it turned back there, if it did.
+-- The next step of a read was made, in words in which it finds its way, and this is why it turned back there, if it did.
 pub record MakesNext (old new : Pass) (actor next : Acting) (read : Reading) (why : Option WhyAgain) : Type 0 where
   pub told : News
   pub cells : Cells
   pub found : told ≡ finds read cells
   pub walks : Walks false actor told old.seat.me.0 new.seat.me.0
+  pub way : FindsItsWay cells read.tenant read.address read.point
   pub next_is : next ≡ record actor { point = Read (tells read told) }
-  pub why_is : why ≡ turns read.address read.point told
+  pub why_is : why ≡ turns read.point told
 
 -- How it ends, by the reply and by why it turned back: with the reply the pass rests.
 abbrev pub EndsAs : Result Reply WhyAgain → Pass → Pass → Acting → Option WhyAgain → Type 0

@@ -1,7 +1,6 @@
 //! One pass of a read's program: up to its reply, or back to its first point.
-ghost use Rattle.std.specs.Prelude.{ℕ, ◌≡◌, true, false, is_some, None};
-ghost use Rattle.mw_words.specs.declared.jobs.Job.TheVariants.{Get};
-ghost use Rattle.mw_look.specs.declared.news.News.TheVariants.{SawGate, SawWord, SawNumber, Lost};
+ghost use Rattle.std.specs.Prelude.{◌≡◌, true, false, is_some, None};
+ghost use Rattle.mw_look.specs.declared.news.News.TheVariants.{SawGate, SawWord, Lost};
 ghost use Rattle.mw_look.specs.Program.{Reading};
 ghost use Rattle.mw_look.specs.Program as looks;
 ghost use Rattle.mw_actor.specs.declared.points.Point.TheVariants.{Read};
@@ -17,9 +16,11 @@ use crate::calls::Core;
 use mw_actor::{Actor, Point};
 use mw_look::{News, Point as LookPoint, Told, Trail};
 use mw_table::Pass;
-use mw_words::{Gate, Job, MAX_ENTRIES, MAX_PINS, Reply, Status, WORN_NUMBER, Word};
+use mw_words::{Gate, Reply, Word};
 
-/// Why a read began again. What it held is given back, and it stands at its first step.
+/// Why a read began again. What it held is given back, and it stands at its first step. There is no other
+/// reason: the gates that it comes to have room for a pin, and no word names the worn number; the change that
+/// a word is held for has an entry of it; and no word is held by a change that was made and is done with.
 #[derive(Clone, Copy, Debug, PartialEq, Eq)]
 pub enum WhyAgain {
     /// The word, loaded again, was another one than at first.
@@ -27,18 +28,8 @@ pub enum WhyAgain {
     /// The gate of the slot that the word, or the row of its attempt, names wasn't as these imply: it wasn't
     /// taken, had no pin, or had another number.
     GateDiffers,
-    /// The gate has [`MAX_PINS`] pins, the most that there can be.
-    ///
-    /// [`MAX_PINS`]: mw_words::MAX_PINS
-    GateFull,
-    /// The word, or the row of its attempt, names the worn number, under which no slot is used.
-    NumberWorn,
     /// The gate was no longer as it was loaded when a pin was to be added to it.
     PinLost,
-    /// None of the entries that a slot can have is the word's.
-    EntryMissing,
-    /// The word is held still by a change that was made and is done with.
-    ChangeDone,
 }
 
 impl Core {
@@ -91,21 +82,20 @@ impl Core {
         requires own { IsOf self.now.shared pass.old }
         requires carried { IsCarried pass.old actor.old }
         requires running { replied actor.old ≡ None }
-        requires look { (read : Reading) × (actor.old.point ≡ Read read) × (actor.old.job ≡ Get read.address) }
+        requires look { (read : Reading) × (actor.old.point ≡ Read read) }
         ensures own { IsOf self.now.shared pass.new }
         ensures worker { IsOfSameWorker pass.old pass.new }
         ensures made { (read : Reading) → actor.old.point ≡ Read read → MakesNext pass.old pass.new actor.old actor.new read result }
         ensures carried { IsCarried pass.new actor.new }
     {
         let point = look_point(actor);
-        let address = address_of(actor);
         let op = actor.ask();
         let got = self.shared().step(pass, op);
         actor.tell(Told {
             got,
             next: pass.attempt(),
         });
-        turns(address, point, News::of(op.place(), got))
+        turns(point, News::of(op.place(), got))
     }
 }
 
@@ -116,16 +106,6 @@ fn look_point(actor: &Actor) -> LookPoint
     match actor.point() {
         Point::Read(look) => look.point(),
         _ => LookPoint::ReadDoor,
-    }
-}
-
-/// The address that a read asks for. Of a change it tells nothing.
-fn address_of(actor: &Actor) -> u16
-    ensures { (address : ℕ) → actor.now.job ≡ Get address → result ≡ address }
-{
-    match actor.job() {
-        Job::Get(address) => *address,
-        Job::Cas(_) => 0,
     }
 }
 
@@ -158,25 +138,25 @@ fn end(pass: &mut Pass, actor: &Actor, why: Option<WhyAgain>) -> Result<Reply, W
 }
 
 /// Why a read turns back at a point, by what it is told there.
-fn turns(address: u16, point: LookPoint, news: News) -> Option<WhyAgain>
-    ensures { result ≡ reasons.turns address point news }
+fn turns(point: LookPoint, news: News) -> Option<WhyAgain>
+    ensures { result ≡ reasons.turns point news }
 {
     match news {
-        News::SawGate(gate) => turns_at_gate(address, point, gate),
-        News::SawWord(word) => turns_at_word(address, point, word),
-        News::SawNumber(number) => turns_at_number(address, point, number),
-        News::Lost => turns_at_loss(address, point),
+        News::SawGate(gate) => turns_at_gate(point, gate),
+        News::SawWord(word) => turns_at_word(point, word),
+        News::Lost => turns_at_loss(point),
         News::SawDoor(_) => None,
         News::SawStatus(_) => None,
         News::SawRow(_) => None,
+        News::SawNumber(_) => None,
         News::Won => None,
         News::Filed(_) => None,
         News::Junk => None,
     }
 }
 
-fn turns_at_gate(address: u16, point: LookPoint, gate: Gate) -> Option<WhyAgain>
-    ensures { result ≡ reasons.turns address point (SawGate gate) }
+fn turns_at_gate(point: LookPoint, gate: Gate) -> Option<WhyAgain>
+    ensures { result ≡ reasons.turns point (SawGate gate) }
 {
     match point {
         LookPoint::ReadGate(trail) => gate_turns(trail, gate),
@@ -184,28 +164,18 @@ fn turns_at_gate(address: u16, point: LookPoint, gate: Gate) -> Option<WhyAgain>
     }
 }
 
-fn turns_at_word(address: u16, point: LookPoint, word: Word) -> Option<WhyAgain>
-    ensures { result ≡ reasons.turns address point (SawWord word) }
+fn turns_at_word(point: LookPoint, word: Word) -> Option<WhyAgain>
+    ensures { result ≡ reasons.turns point (SawWord word) }
 {
     match point {
-        LookPoint::ConfirmWord(trail) if word == word_of(trail) => None,
-        LookPoint::ConfirmWord(_) => Some(WhyAgain::WordChanged),
-        LookPoint::RecheckWord { trail, status, .. } => word_turns(trail, status, word),
+        LookPoint::ConfirmWord(trail) => word_turns(trail, word),
+        LookPoint::RecheckWord { trail, .. } => word_turns(trail, word),
         _ => None,
     }
 }
 
-fn turns_at_number(address: u16, point: LookPoint, number: u64) -> Option<WhyAgain>
-    ensures { result ≡ reasons.turns address point (SawNumber number) }
-{
-    match point {
-        LookPoint::FindEntry { entry, .. } => entry_turns(entry, number == u64::from(address)),
-        _ => None,
-    }
-}
-
-fn turns_at_loss(address: u16, point: LookPoint) -> Option<WhyAgain>
-    ensures { result ≡ reasons.turns address point Lost }
+fn turns_at_loss(point: LookPoint) -> Option<WhyAgain>
+    ensures { result ≡ reasons.turns point Lost }
 {
     match point {
         LookPoint::Pin { .. } => Some(WhyAgain::PinLost),
@@ -216,37 +186,20 @@ fn turns_at_loss(address: u16, point: LookPoint) -> Option<WhyAgain>
 fn gate_turns(trail: Trail, gate: Gate) -> Option<WhyAgain>
     ensures { result ≡ reasons.gate_turns trail gate }
 {
-    let seq = seq_of(trail);
-    if seq >= WORN_NUMBER {
-        Some(WhyAgain::NumberWorn)
-    } else if !gate.taken || gate.pins == 0 || gate.seq != seq {
+    if !gate.taken || gate.pins == 0 || gate.seq != seq_of(trail) {
         Some(WhyAgain::GateDiffers)
-    } else if gate.pins >= MAX_PINS {
-        Some(WhyAgain::GateFull)
     } else {
         None
     }
 }
 
-fn entry_turns(entry: u8, is_the_words: bool) -> Option<WhyAgain>
-    ensures { result ≡ reasons.entry_turns entry is_the_words }
+fn word_turns(trail: Trail, word: Word) -> Option<WhyAgain>
+    ensures { result ≡ reasons.word_turns trail word }
 {
-    if is_the_words || usize::from(entry) < MAX_ENTRIES - 1 {
+    if word == word_of(trail) {
         None
     } else {
-        Some(WhyAgain::EntryMissing)
-    }
-}
-
-fn word_turns(trail: Trail, status: Status, word: Word) -> Option<WhyAgain>
-    ensures { result ≡ reasons.word_turns trail status word }
-{
-    if word != word_of(trail) {
-        return Some(WhyAgain::WordChanged);
-    }
-    match trail {
-        Trail::Held { .. } if status == Status::DoneYes => Some(WhyAgain::ChangeDone),
-        _ => None,
+        Some(WhyAgain::WordChanged)
     }
 }
 

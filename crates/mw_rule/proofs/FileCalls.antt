@@ -214,7 +214,7 @@ module _ (config : Config) (begun : (ℕ → Opening) → List Happening → Typ
         told = went_of config begun s tied (FileEvent by.reins.worker Good ∷ []) id index (make (slice_index s.words index)) old true held held.file moved;
       }
   loads_so true is make makes =
-      let looks = looks_as config begun id (index_of config.pool (AtStatus called.change.slot)) old make (found_there ∷ []) (inr (by.reins, [], by.has.only)) makes s tied at
+      let looks = looks_as config begun id (index_of config.pool (AtStatus called.change.slot)) old make (found_there ∷ []) old.glances (inr (by.reins, [], by.has.only)) makes s tied at
       (same_right config begun s tied id old at worker actor called held by found_there by.its) (found_holds is) in
       record {
         view = looks.view;

@@ -44,7 +44,7 @@ module _ (config : Config) (openings : ℕ → Opening) (before : List Happening
     others = λ other apart. upd_else state.seats worker other _ apart;
     quiet = λ other apart. no_deed worker other Called apart;
     no_starts = (tt, tt);
-    gifts = λ tenant. one_gift state.accounts actor.tenant _ (record { quota = refl; is_up = refl; asked = no_fewer _ _ refl }) tenant;
+    gifts = λ tenant. one_gift state.accounts actor.tenant _ (record { quota = refl; places = refl; is_up = refl; asked = no_fewer _ _ refl }) tenant;
     own = λ next there.
         let same = on_with config state (moved state worker actor made) worker actor sits (FileEvent worker outcome) tt happens next there in inl (actor, sits, sym same.tenant, sym same.number);
   }

@@ -24,6 +24,7 @@ use Rattle.mw_rule.proofs.Totals.{each_apart, each_on}
 -- what a start gave a tenant stays, and numbers that were given to requests are given
 pub record KeepsGift (old new : Account) : Type 0 where
   pub quota : new.quota ≡ old.quota
+  pub places : new.places ≡ old.places
   pub is_up : new.is_up ≡ old.is_up
   pub asked : old.asked ≤ new.asked
 
@@ -31,7 +32,7 @@ pub no_fewer : (n m : ℕ) → n ≡ m → n ≤ m
 no_fewer n m same = omega (arith, same)
 
 pub same_gift : (account : Account) → KeepsGift account account
-same_gift account = record { quota = refl; is_up = refl; asked = omega arith }
+same_gift account = record { quota = refl; places = refl; is_up = refl; asked = omega arith }
 
 -- A worker's request, of this tenant and number, was there, or its number is a new one.
 abbrev pub WasOrIsNew : State → ℕ → Acting → ℕ → Type 0
@@ -77,7 +78,7 @@ leads_on config old between new worker first more one two = record {
   others = λ other apart. two.others other apart ∙ one.others other apart;
   quiet = λ other apart. made_on other first more ∙ ap (λ made. made ++ made_by other more) (one.quiet other apart) ∙ two.quiet other apart;
   no_starts = no_starts_on first more one.no_starts two.no_starts;
-  gifts = λ tenant. record { quota = (two.gifts tenant).quota ∙ (one.gifts tenant).quota; is_up = (two.gifts tenant).is_up ∙ (one.gifts tenant).is_up; asked = (let more = (two.gifts tenant).asked in let some = (one.gifts tenant).asked in omega (arith, some, more)) };
+  gifts = λ tenant. record { quota = (two.gifts tenant).quota ∙ (one.gifts tenant).quota; places = (two.gifts tenant).places ∙ (one.gifts tenant).places; is_up = (two.gifts tenant).is_up ∙ (one.gifts tenant).is_up; asked = (let more = (two.gifts tenant).asked in let some = (one.gifts tenant).asked in omega (arith, some, more)) };
   own = λ after sits. elim (two.own after sits) [
     | inl was ↦ was_or_new old worker was.0 after (between.seats worker).request (new.seats worker).request was.2 was.3 (one.own was.0 was.1)
     | inr fresh ↦ let some = (one.gifts after.tenant).asked in inr (omega (arith, some, fresh))
@@ -142,6 +143,7 @@ module _ (config : Config) (openings : ℕ → Opening) (before : List Happening
     pub gave_on : (opening : Opening) → Gave openings old tenant opening → Gave openings new tenant opening
     gave_on opening gave = record {
       quota = (leads.gifts tenant).quota ∙ gave.quota;
+      places = (leads.gifts tenant).places ∙ gave.places;
       words = ap (λ (start : Moment). start.words) same_start ∙ gave.words;
       is_up = (leads.gifts tenant).is_up ∙ gave.is_up;
     }

@@ -1,6 +1,7 @@
 pub mod AnyNumber
 pub mod Apart
 pub mod Calling
+pub mod Events
 pub mod FileCalls
 pub mod Filed
 pub mod Filing

@@ -1,6 +1,7 @@
 -- Whatever a thread may do keeps the rule, by a step by which the run goes on.
-use Rattle.std.specs.Prelude.{ℕ, zero, suc, Bool, true, false, ◌≡◌, List, [], ◌∷◌, ◌++◌, map, slice_index, slice_set}
+use Rattle.std.specs.Prelude.{ℕ, zero, suc, ◌<◌, Bool, true, false, ◌≡◌, List, [], ◌∷◌, ◌++◌, length, map, slice_index, slice_set}
 use Rattle.std.proofs.Common.{refl, sym, ap, subst, ◌∙◌, inl, inr}
+use Rattle.std.proofs.lemmas.List.{get_or-set_same}
 use mathlib.Core.Option.{some, some-ne-none}
 use lib.ListN.{get_elem?}
 use Rattle.atomic_table.specs.Table.{State as Table, keeps}
@@ -10,16 +11,19 @@ use Rattle.mw_actor.specs.Acting.{Acting}
 use Rattle.mw_world.specs.declared.config.Config.{Config}
 use Rattle.mw_world.specs.Claim.Headline.{IsPlayed}
 use Rattle.mw_world.specs.Definition.Calls.{Called as CallOn, starts_from}
+use Rattle.mw_world.specs.Definition.Extent.{has_place}
 use Rattle.mw_world.specs.Definition.Happenings.{Happening}
-use Rattle.mw_world.specs.Definition.State.{Opening, State}
+use Rattle.mw_world.specs.Definition.State.{IsConfig, Opening, State}
 use Rattle.mw_rule.specs.declared.views.Held.{Held}
 use Rattle.mw_rule.specs.declared.views.Reins.{Reins}
 use Rattle.mw_rule.specs.declared.views.View.{View}
 use Rattle.mw_rule.specs.Carrying.{Looked, comes, told}
 use Rattle.mw_rule.specs.Filing.{LoadedAs, went}
-use Rattle.mw_rule.specs.Moves.{Breaks, Comes, Exchanges, FindsFault, Loads, Looks, Move, MovesAreAllowed, MovesGoOn, Steps, WentOn, events_by, index_by, told_by}
-use Rattle.mw_rule.specs.Rule.{Continues, Fits, IsLive, Tied}
+use Rattle.mw_rule.specs.Layout.{index_of, words_of}
+use Rattle.mw_rule.specs.Moves.{Breaks, Comes, Exchanges, FindsFault, Loads, Looks, Move, MovesAreAllowed, MovesChangeWords, MovesGoOn, StandsAt, Steps, WentOnAt, events_by, index_by, made_by, told_by}
+use Rattle.mw_rule.specs.Rule.{Continues, Fits, IsLive, Tied, Ties}
 use Rattle.mw_rule.specs.Ways.{finds}
+use Rattle.mw_rule.proofs.Layouts.{places_in_table}
 use Rattle.mw_rule.proofs.FileCalls.{calls_end_on, calls_find_faults_on, calls_load_on, calls_meet_faults_on}
 use Rattle.mw_rule.proofs.Moving.{first_steps_on, steps_on}
 use Rattle.mw_rule.proofs.Parting.{looks_on}
@@ -81,9 +85,23 @@ played_so config its openings other state events all one two three played =
     subst (λ (c : Config). IsPlayed c other all state) one
     (subst (λ (o : ℕ → Opening). IsPlayed config o all state) two (subst (λ (e : List Happening). IsPlayed config openings e state) three played))
 
+-- what the table has at an index stands there in its world
+stands_so : (config its : Config) (state : State) (words : List ℕ) (index : ℕ) → config ≡ its → Ties config state.cells words → StandsAt its state index (slice_index words index)
+stands_so config its state words index same ties at there is =
+    sym (ap (slice_index words) (ap (λ (c : Config). index_of c.pool at) same ∙ is)) ∙ ties at (ap (λ (c : Config). has_place c at) same ∙ there)
+
+-- so does what was set there
+set_stands : (config its : Config) (state : State) (words : List ℕ) (index bits : ℕ) → config ≡ its → IsConfig config → length words ≡ words_of config
+    → Ties config state.cells (slice_set words index bits) → StandsAt its state index bits
+set_stands config its state words index bits same is_config long ties at there is =
+    let here : index_of config.pool at ≡ index = ap (λ (c : Config). index_of c.pool at) same ∙ is in
+    let low : index_of config.pool at < length words =
+    subst (λ (n : ℕ). index_of config.pool at < n) (sym long) (places_in_table config at is_config (ap (λ (c : Config). has_place c at) same ∙ there)) in
+    sym (get_or-set_same words index bits 0 (subst (λ (n : ℕ). n < length words) here low)) ∙ stands_so config its state (slice_set words index bits) index same ties at there is
+
 module _ (config : Config) (begun : (ℕ → Opening) → List Happening → Type 0) where
   went_on : (s : Table Acting View) (tied : Tied config begun s) (id index bits : ℕ) (old new : View) (more : List Happening) → get_elem? s.views id ≡ some old → IsLive old → IsLive new
-      → Continues config begun s tied more (record { words = slice_set s.words index bits; homes = s.homes; views = slice_set s.views id new }) → WentOn more old new
+      → Continues config begun s tied more (record { words = slice_set s.words index bits; homes = s.homes; views = slice_set s.views id new }) → WentOnAt index (slice_index s.words index) bits more old new
   went_on s tied id index bits old new more at live live_on run =
       let past = tied.past in
       let after = run.after in
@@ -91,17 +109,21 @@ module _ (config : Config) (begun : (ℕ → Opening) → List Happening → Typ
       let same = sym fits.same_config in
       let later = live_fits config after.past.openings after.state after.events new live_on (after.fits id new (set_there s.views id old new at)) in
       record {
-        openings = past.openings;
-        before = past.before;
-        events = tied.events;
-        state = tied.state;
-        next = after.state;
-        no_starts = past.no_starts;
-        played = played_so config old.config past.openings past.openings tied.state (past.before ++ tied.events) (past.before ++ tied.events) same refl refl past.played;
-        goes_on = played_so config old.config after.past.openings past.openings after.state (after.past.before ++ after.events) (past.before ++ (tied.events ++ more)) same run.same_openings
-            (λ i. run.same_before i ++ run.events i) after.past.played;
-        knew = fits_so config old.config past.openings past.openings tied.state tied.events tied.events old same refl refl fits;
-        knows = fits_so config old.config after.past.openings past.openings after.state after.events (tied.events ++ more) new same run.same_openings run.events later;
+        run = record {
+          openings = past.openings;
+          before = past.before;
+          events = tied.events;
+          state = tied.state;
+          next = after.state;
+          no_starts = past.no_starts;
+          played = played_so config old.config past.openings past.openings tied.state (past.before ++ tied.events) (past.before ++ tied.events) same refl refl past.played;
+          goes_on = played_so config old.config after.past.openings past.openings after.state (after.past.before ++ after.events) (past.before ++ (tied.events ++ more)) same run.same_openings
+              (λ i. run.same_before i ++ run.events i) after.past.played;
+          knew = fits_so config old.config past.openings past.openings tied.state tied.events tied.events old same refl refl fits;
+          knows = fits_so config old.config after.past.openings past.openings after.state after.events (tied.events ++ more) new same run.same_openings run.events later;
+        };
+        stood = stands_so config old.config tied.state s.words index same tied.ties;
+        stands = set_stands config old.config after.state s.words index bits same past.played.made tied.long after.ties;
       }
 
   pub moves_go_on : MovesGoOn config begun
@@ -116,10 +138,14 @@ module _ (config : Config) (begun : (ℕ → Opening) → List Happening → Typ
   moves_go_on id view (FindsFault worker actor called held status by found failed) make makes s tied at =
       calls_find_faults_on config begun id worker view actor called held status make by found failed makes s tied at
 
-  pub moves_are_allowed : MovesAreAllowed config begun
-  moves_are_allowed slots id me move make makes s tied homes at low =
+  pub moves_change_words : MovesChangeWords config begun
+  moves_change_words slots id me move make makes s tied homes at low =
       let index = index_by config me.0 move in
       let bits = slice_index s.words index in
       let on = moves_go_on id me.0 move make makes s tied at in
       let went = went_on s tied id index (make bits) me.0 on.new (events_by me.0 move bits) at (lives me.0 move) (lives_on me.0 move bits on.new on.is_told) on.run in
-      (on.new, keeps, tt, on.run.after, (on.is_told, went))
+      (on.new, keeps, tt, on.run.after, (on.is_told, subst (λ (left : ℕ). WentOnAt index bits left (events_by me.0 move bits) me.0 on.new) (makes bits) went))
+
+  pub moves_are_allowed : MovesAreAllowed config begun
+  moves_are_allowed slots id me move make makes s tied homes at low =
+      let on = moves_change_words slots id me move make makes s tied homes at low in (on.0, on.1, on.2, on.3, (on.4.0, on.4.1.run))

@@ -19,22 +19,25 @@ use Rattle.mw_look.specs.News.{news_of, news_of_bits}
 use Rattle.mw_look.specs.Places.{pack}
 use Rattle.mw_look.specs.Steps.{Step, Load, Change, File, op_of, place, place_of}
 use Rattle.mw_look.proofs.PlaceLaws.{packs_are_seen, place_of_bits}
+use Rattle.mw_actor.specs.declared.points.Point.{Point}
+use Rattle.mw_actor.specs.declared.points.Point.TheVariants.{Read}
 use Rattle.mw_actor.specs.Acting.{Acting, first}
 use Rattle.mw_actor.specs.Asks.{asks}
 use Rattle.mw_actor.specs.Program.{replied}
 use Rattle.mw_world.specs.declared.config.Config.{Config}
+use Rattle.mw_world.specs.Claim.Headline.{IsPlayed}
 use Rattle.mw_world.specs.Definition.Calls.{called_at}
 use Rattle.mw_world.specs.Definition.Cells.{Cells, read}
 use Rattle.mw_world.specs.Definition.Extent.{has_place}
 use Rattle.mw_world.specs.Definition.Happenings.{Happening, Come}
-use Rattle.mw_world.specs.Definition.State.{Opening, tenant_at, tenants_of}
+use Rattle.mw_world.specs.Definition.State.{Opening, State, tenant_at, tenants_of}
 use Rattle.mw_world.specs.Definition.Turns.{may_make}
 use Rattle.mw_law_calls.specs.FromLaws.{IsBeginning, SealedChange, sealed_of}
-use Rattle.mw_law_calls.proofs.FromLaws.{runs_are_lawful}
+use Rattle.mw_law_calls.proofs.FromLaws.{reads_find_their_way, runs_are_lawful}
 use Rattle.mw_rule.specs.declared.views.Finished.{Finished}
 use Rattle.mw_rule.specs.declared.views.Reins.{Reins}
 use Rattle.mw_rule.specs.declared.views.View.{View}
-use Rattle.mw_rule.specs.Carrying.{IsFound, Notes, NotesAs, Took, comes, stepped, told, told_as, told_of}
+use Rattle.mw_rule.specs.Carrying.{FindsWayAt, IsFound, Notes, NotesAs, Took, comes, stepped, told, told_as, told_of}
 use Rattle.mw_rule.specs.Continuing.{FirstStepsGoOn, StepsGoOn, events_of}
 use Rattle.mw_rule.specs.Laws.{FirstStepsKeepTheRule, StepsKeepTheRule}
 use Rattle.mw_rule.specs.Layout.{index_of}
@@ -57,6 +60,15 @@ place_there config (File call slot) may = absurd (false_true may)
     false_true : false ≡ true → ⊥
     false_true e = cc
 
+-- A request finds its way in the words after a run, if it is a read.
+way_at : (config : Config) (openings : ℕ → Opening) (events : List Happening) (state : State) (worker : ℕ) (actor : Acting) → IsPlayed config openings events state
+    → (state.seats worker).actor ≡ Some actor → FindsWayAt state.cells actor.point
+way_at config openings events state worker actor played sits = by_point actor.point refl
+  where
+    by_point : (point : Point) → actor.point ≡ point → FindsWayAt state.cells point
+    by_point (Read look) is = reads_find_their_way config openings events state worker actor look played sits is
+    by_point point is = tt
+
 module _ (config : Config) (begun : (ℕ → Opening) → List Happening → Type 0) (s : Table Acting View) (tied : Tied config begun s) (id : ℕ) (old : View) (at : get_elem? s.views id ≡ some old)
     (reins : Reins) (only : old.reins ≡ reins ∷ []) where
   pub its_fits : Fits config tied.past.openings tied.state tied.events old
@@ -78,6 +90,7 @@ module _ (config : Config) (begun : (ℕ → Opening) → List Happening → Typ
         record {
           cells = state.cells;
           is = ap (λ bits. news_of (place step) (finds (op_of step) bits)) seen ∙ step_tells config step state.cells may (lawful.fit (place step));
+          way = way_at config tied.past.openings (tied.past.before ++ tied.events) state reins.worker actor tied.past.played (its_holds.actor ∙ carries);
         }
 
     step_moves : (index : ℕ) → index ≡ index_of config.pool (place (asks actor))
@@ -115,7 +128,7 @@ notes_behind : (reins : Reins) (tenant begun : ℕ) (job : Job) (reply : Option 
 notes_behind reins tenant begun job None old more none = ap (λ (all : List Finished). old ++ all) none ∙ append-nil old
 notes_behind reins tenant begun job (Some reply) old more one = record { place = one.place; no_smaller = one.no_smaller; noted = ap (λ (all : List Finished). old ++ all) one.noted }
 
-same_one : (reins other : Reins) → reins ∷ [] ≡ other ∷ [] → reins ≡ other
+pub same_one : (reins other : Reins) → reins ∷ [] ≡ other ∷ [] → reins ≡ other
 same_one reins other e = cc
 
 -- So it is said of whichever reins and request are the thread's.
@@ -180,6 +193,10 @@ first_asks : (worker tenant quota pool : ℕ) (job : Job) → asks (first worker
 first_asks worker tenant quota pool (Get address) = refl
 first_asks worker tenant quota pool (Cas entries) = refl
 
+first_way : (cells : Cells) (worker tenant quota pool : ℕ) (job : Job) → FindsWayAt cells (first worker tenant quota pool job).point
+first_way cells worker tenant quota pool (Get address) = tt
+first_way cells worker tenant quota pool (Cas entries) = tt
+
 no_shorter : (first all : List SealedChange) → IsBeginning first all → length first ≤ length all
 no_shorter first all begins = let long = ap (λ changes. length changes) begins.parted in omega (arith, long, length-append first begins.rest)
 
@@ -241,6 +258,7 @@ module _ (config : Config) (begun : (ℕ → Opening) → List Happening → Typ
         cells = state.cells;
         is = subst (λ (step : Step). news_of (place step) (Bits (slice_index s.words index)) ≡ news_after step state.cells) (sym asks_so)
             (ap (news_of_bits (AtDoor tenant)) (tied.ties (AtDoor tenant) there) ∙ packs_are_seen (AtDoor tenant) (read state.cells (AtDoor tenant)) (lawful.fit (AtDoor tenant)));
+        way = subst (λ (one : Acting). FindsWayAt state.cells one.point) (sym is) (first_way state.cells reins.worker tenant (state.accounts tenant).quota config.pool job);
       }
 
   first_moves : (actor : Acting) → actor ≡ the_first

@@ -18,6 +18,7 @@ use Rattle.mw_world.specs.Definition.Happenings.{Happening}
 use Rattle.mw_world.specs.Definition.State.{State, Opening, Seat, tenants_of}
 use Rattle.mw_law_calls.proofs.FromLaws.{requests_have_begun, same_or_other}
 use Rattle.mw_law_calls.specs.FromLaws.{IsBeginning, SealedChange, sealed_of}
+use Rattle.mw_rule.specs.declared.views.Glance.{Glance}
 use Rattle.mw_rule.specs.declared.views.Held.{Held}
 use Rattle.mw_rule.specs.declared.views.Reins.{Reins}
 use Rattle.mw_rule.specs.declared.views.View.{View}
@@ -67,8 +68,8 @@ stood_there config openings events state view index bits same played gave all is
   same_bits = subst (λ (one : Config). (at : At) → has_place one at ≡ true → index_of one.pool at ≡ index → bits ≡ pack at (read state.cells at)) (sym same) is;
 }
 
--- A load that is no event, after which this is held of files.
-pub record LooksAs (config : Config) (begun : (ℕ → Opening) → List Happening → Type 0) (s : Table Acting View) (tied : Tied config begun s) (id index bits : ℕ) (old : View) (files : List Held) : Type 0 where
+-- A load that is no event, after which this is held of files, and these loads are known.
+pub record LooksAs (config : Config) (begun : (ℕ → Opening) → List Happening → Type 0) (s : Table Acting View) (tied : Tied config begun s) (id index bits : ℕ) (old : View) (files : List Held) (glances : List Glance) : Type 0 where
   pub view : View
   pub goes_on : GoesOn old view
   pub stood : StoodThere view index (slice_index s.words index)
@@ -76,16 +77,17 @@ pub record LooksAs (config : Config) (begun : (ℕ → Opening) → List Happeni
   pub same_reins : view.reins ≡ old.reins
   pub same_mine : view.mine ≡ old.mine
   pub same_files : view.files ≡ files
+  pub same_glances : view.glances ≡ glances
   pub run : Continues config begun s tied [] (record { words = slice_set s.words index bits; homes = s.homes; views = slice_set s.views id view })
 
-pub looks_as : (config : Config) (begun : (ℕ → Opening) → List Happening → Type 0) (id index : ℕ) (view : View) (make : ℕ → ℕ) (files : List Held) → IsLive view → ((bits : ℕ) → make bits ≡ bits)
+pub looks_as : (config : Config) (begun : (ℕ → Opening) → List Happening → Type 0) (id index : ℕ) (view : View) (make : ℕ → ℕ) (files : List Held) (glances : List Glance) → IsLive view → ((bits : ℕ) → make bits ≡ bits)
     → (s : Table Acting View) (tied : Tied config begun s) → get_elem? s.views id ≡ some view → ((tenant : ℕ) → times_held tenant files ≡ holds_of tenant view) → Each (HoldsFile config tied.state) files
-    → LooksAs config begun s tied id index (make (slice_index s.words index)) view files
-looks_as config begun id index view make files live makes s tied at same_rights hold_files =
+    → LooksAs config begun s tied id index (make (slice_index s.words index)) view files glances
+looks_as config begun id index view make files glances live makes s tied at same_rights hold_files =
     let openings = tied.past.openings in
     let sealed = sealed_of openings tied.state in
     let fits = live_fits config openings tied.state tied.events view live (tied.fits id view at) in
-    let new = sees config sealed view view.reins view.mine files in
+    let new = record (sees config sealed view view.reins view.mine files) { glances = glances } in
     let before = tied.past.before ++ tied.events in
     let right = sees_right config openings tied.state new fits.same_config fits.gave before tied.past.played (all_at sealed (tenants_of config))
     (mine_in config openings tied.state view fits.same_config fits.gave fits.seen view.mine fits.right.mine) fits.right.once fits.right.own fits.right.alone in
@@ -95,12 +97,14 @@ looks_as config begun id index view make files live makes s tied at same_rights 
     let words : slice_set s.words index (make bits) ≡ s.words = ap (slice_set s.words index) (makes bits) ∙ set-get_or s.words index 0 in
     record {
       view = new;
-      goes_on = sees_on config sealed view view.reins view.mine files fits.same_config fits.seen fits.told;
+      goes_on = let on = sees_on config sealed view view.reins view.mine files fits.same_config fits.seen fits.told in
+          record { same_config = refl; same_openings = refl; same_spent = refl; same_told = refl; seen = on.seen; told = on.told };
       stood = stood_there config openings before tied.state new index bits fits.same_config tied.past.played fits.gave (all_at sealed (tenants_of config)) (λ place there is. sym (ap (slice_index s.words) is) ∙ tied.ties place there);
       right = right;
       same_reins = refl;
       same_mine = refl;
       same_files = refl;
+      same_glances = refl;
       run = other_views config begun s (record { words = slice_set s.words index (make bits); homes = s.homes; views = slice_set s.views id new }) tied words
           (λ other one is. elim (at_set s.views id other new one is) [
             | inl here ↦ inr (subst (Fits config openings tied.state tied.events) here.1 new_fits)
@@ -113,12 +117,13 @@ looks_as config begun id index view make files live makes s tied at same_rights 
 pub looks_on : (config : Config) (begun : (ℕ → Opening) → List Happening → Type 0) → LooksGoOn config begun
 looks_on config begun id index view make live makes s tied at =
     let fits = live_fits config tied.past.openings tied.state tied.events view live (tied.fits id view at) in
-    let looks = looks_as config begun id index view make view.files live makes s tied at (λ tenant. refl) fits.files in
+    let looks = looks_as config begun id index view make view.files (view.glances ++ record { index = index; bits = slice_index s.words index } ∷ []) live makes s tied at (λ tenant. refl) fits.files in
     record {
       new = looks.view;
       is_told = record {
         goes_on = looks.goes_on;
         stood = looks.stood;
+        glances = looks.same_glances;
         right = looks.right;
         same_reins = looks.same_reins;
         same_mine = looks.same_mine;

@@ -133,7 +133,7 @@ module _ (config : Config) (openings : ℕ → Opening) (before : List Happening
       others = λ other apart. upd_else state.seats worker other _ apart;
       quiet = λ other apart. no_deed worker other Stepped apart;
       no_starts = (tt, tt);
-      gifts = λ tenant. one_gift state.accounts actor.tenant _ (record { quota = refl; is_up = refl; asked = no_fewer _ _ refl }) tenant;
+      gifts = λ tenant. one_gift state.accounts actor.tenant _ (record { quota = refl; places = refl; is_up = refl; asked = no_fewer _ _ refl }) tenant;
       own = λ next there.
           let same = on_with config state (after_step state worker actor) worker actor sits (Step worker) tt
           (one_event config state (after_step state worker actor) (Step worker) (step_happens running there_so)) next there in inl (actor, sits, sym same.tenant, sym same.number);
@@ -177,7 +177,7 @@ module _ (config : Config) (openings : ℕ → Opening) (state : State) (events 
     others = λ other apart. upd_else state.seats reins.worker other _ apart;
     quiet = λ other apart. no_deed reins.worker other Handed apart;
     no_starts = (tt, tt);
-    gifts = λ tenant. one_gift state.accounts next.tenant _ (record { quota = refl; is_up = refl; asked = no_fewer _ _ refl }) tenant;
+    gifts = λ tenant. one_gift state.accounts next.tenant _ (record { quota = refl; places = refl; is_up = refl; asked = no_fewer _ _ refl }) tenant;
     own = λ after sits. absurd (none-some after (sym (ap (λ (seat : Seat). seat.actor) (upd_here state.seats reins.worker (record (state.seats reins.worker) { actor = None }))) ∙ sits));
   }
 
@@ -335,7 +335,7 @@ module _ (config : Config) (openings : ℕ → Opening) (state : State) (events 
     others = λ other apart. upd_else state.seats reins.worker other _ apart;
     quiet = λ other apart. no_deed reins.worker other Came apart;
     no_starts = (tt, tt);
-    gifts = λ other. one_gift state.accounts tenant _ (record { quota = refl; is_up = refl; asked = omega arith }) other;
+    gifts = λ other. one_gift state.accounts tenant _ (record { quota = refl; places = refl; is_up = refl; asked = omega arith }) other;
     own = λ after sits.
         let actor = first reins.worker tenant (state.accounts tenant).quota config.pool job in
         let seat = upd_here state.seats reins.worker (begun (state.seats reins.worker) actor (state.accounts tenant).asked) in

@@ -9,6 +9,8 @@ use Rattle.mw_look.specs.declared.steps.Op.{Op}
 use Rattle.mw_look.specs.News.{news_of}
 use Rattle.mw_look.specs.Places.{pack}
 use Rattle.mw_look.specs.Steps.{op_of, place, place_of}
+use Rattle.mw_actor.specs.declared.points.Point.{Point}
+use Rattle.mw_actor.specs.declared.points.Point.TheVariants.{Read}
 use Rattle.mw_actor.specs.Acting.{Acting, first}
 use Rattle.mw_actor.specs.Asks.{asks}
 use Rattle.mw_actor.specs.Program.{replied, tells}
@@ -22,7 +24,7 @@ use Rattle.mw_world.specs.Definition.Happenings.{Happening}
 use Rattle.mw_world.specs.Definition.State.{State, Opening, tenant_at, tenants_of}
 use Rattle.mw_world.specs.Definition.Turns.{may_make, next_attempt}
 use Rattle.mw_law_calls.specs.Starting.{HasWords}
-use Rattle.mw_law_calls.specs.FromLaws.{SealedChange, sealed_of}
+use Rattle.mw_law_calls.specs.FromLaws.{FindsItsWay, SealedChange, sealed_of}
 use Rattle.mw_rule.specs.declared.views.Deed.TheVariants.{Came, Stepped, Handed}
 use Rattle.mw_rule.specs.declared.views.Finished.{Finished}
 use Rattle.mw_rule.specs.declared.views.Reins.{Reins}
@@ -168,19 +170,26 @@ Ends got old new = (reins : Reins) (actor : Acting) → old.reins ≡ reins ∷ 
 abbrev pub EndsAtOnce : Acting → ℕ → ℕ → Got → View → View → Type 0
 EndsAtOnce actor request begun got old new = (reins : Reins) → old.reins ≡ reins ∷ [] → Notes got (comes actor request begun reins) actor old.mine new.mine
 
--- What a step of this request found is, as the request is told it, what the step finds in some shared words.
+-- what a read finds at its point in some shared words, so that it needn't begin again
+abbrev pub FindsWayAt : Cells → Point → Type 0
+FindsWayAt cells (Read look) = FindsItsWay cells look.tenant look.address look.point
+FindsWayAt cells point = Unit {0}
+
+-- What a step of this request found is, as the request is told it, what the step finds in some shared words; and a read finds its way there.
 pub record IsFound (got : Got) (actor : Acting) : Type 0 where
   pub cells : Cells
   pub is : news_of (place (asks actor)) got ≡ done (asks actor) cells (λ after news. news)
+  pub way : FindsWayAt cells actor.point
 
 -- So it is of the request that a thread carries.
 abbrev pub Finds : Got → View → Type 0
 Finds got old = (reins : Reins) (actor : Acting) → old.reins ≡ reins ∷ [] → reins.actor ≡ Some actor → IsFound got actor
 
--- A load that is no event, of these bits at this index. What the thread saw before, and what it was told, comes first of what it has seen now.
+-- A load that is no event, of these bits at this index, and of nothing else. What the thread saw before, and what it was told, comes first of what it has seen now.
 pub record Looked (index bits : ℕ) (old new : View) : Type 0 where
   pub goes_on : GoesOn old new
   pub stood : StoodThere new index bits
+  pub glances : new.glances ≡ old.glances ++ record { index = index; bits = bits } ∷ []
   pub right : IsRight new
   pub same_reins : new.reins ≡ old.reins
   pub same_mine : new.mine ≡ old.mine

@@ -18,7 +18,7 @@ reins_from seats first (suc left) = reins_of first (seats first) ∷ reins_from 
 
 -- what the first thread knows: what the latest start gave, the reins of these workers, and these files; it saw nothing sealed
 abbrev pub knows : Config → List Opening → List Reins → List Held → View
-knows config openings reins files = record { config = config; openings = openings; reins = reins; seen = []; told = []; mine = []; files = files; is_spent = false }
+knows config openings reins files = record { config = config; openings = openings; reins = reins; seen = []; told = []; mine = []; files = files; glances = []; is_spent = false }
 
 -- the first thread has the reins of all workers, and the files that are given
 abbrev pub maker : Config → List Opening → (ℕ → Seat) → List Held → View
@@ -102,5 +102,6 @@ spent = record {
   told = [];
   mine = [];
   files = [];
+  glances = [];
   is_spent = true;
 }

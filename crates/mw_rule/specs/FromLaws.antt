@@ -4,4 +4,4 @@ pub use Rattle.mw_law_calls.specs.Calling.{End, FindsFault, GoesWell, MayEnd, Me
 pub use Rattle.mw_law_calls.specs.Ending.{kind_of}
 pub use Rattle.mw_law_calls.specs.Starting.{HasWords}
 pub use Rattle.mw_law_calls.specs.Rights.{TellsFile, file_told, rights_broken, rights_filed, rights_opened}
-pub use Rattle.mw_law_calls.specs.FromLaws.{IsSound, after_marks, first_moment}
+pub use Rattle.mw_law_calls.specs.FromLaws.{FindsItsWay, IsSound, after_marks, first_moment, is_as_named}

@@ -3,9 +3,11 @@ use Rattle.std.specs.Prelude.{ℕ, true, false, ◌≡◌, List, [], ◌∷◌, 
 use mathlib.Core.Option.{some}
 use lib.ListN.{get_elem?}
 use Rattle.atomic_table.specs.Table.{State as Table, Allows, Me}
+use Rattle.mw_words.specs.declared.places.At.{At}
 use Rattle.mw_words.specs.declared.places.At.TheVariants.{Door as AtDoor, Status as AtStatus}
 use Rattle.mw_words.specs.declared.statuses.Status.{Status}
 use Rattle.mw_words.specs.Patterns.{unpacked_status}
+use Rattle.mw_look.specs.declared.news.Got.{Got}
 use Rattle.mw_look.specs.declared.news.Got.TheVariants.{Word as Bits}
 use Rattle.mw_look.specs.declared.steps.Op.{Op}
 use Rattle.mw_look.specs.Places.{pack}
@@ -16,6 +18,8 @@ use Rattle.mw_world_file.specs.declared.outcomes.Outcome.TheVariants.{Good, Fail
 use Rattle.mw_world.specs.declared.config.Config.{Config}
 use Rattle.mw_world.specs.Claim.Headline.{IsPlayed}
 use Rattle.mw_world.specs.Definition.Calls.{Called as CallOn, device_calls, is_made}
+use Rattle.mw_world.specs.Definition.Cells.{read}
+use Rattle.mw_world.specs.Definition.Extent.{has_place}
 use Rattle.mw_world.specs.Definition.Happenings.{Happening, Come, File as FileEvent}
 use Rattle.mw_world.specs.Definition.State.{Opening, State}
 use Rattle.mw_law_calls.specs.Ending.{exchange_of, fault_of}
@@ -99,6 +103,43 @@ pub record WentOn (more : List Happening) (old new : View) : Type 0 where
   pub knew : Fits old.config openings state events old
   pub knows : Fits old.config openings next (events ++ more) new
 
+-- These bits stand at an index of the table, in this world.
+abbrev pub StandsAt : Config → State → ℕ → ℕ → Type 0
+StandsAt config state index bits = (at : At) → has_place config at ≡ true → index_of config.pool at ≡ index → bits ≡ pack at (read state.cells at)
+
+-- A run goes on so, and what stands at this index is changed so: the first bits stand there at the first of these moments, and the others at the other.
+pub record WentOnAt (index found left : ℕ) (more : List Happening) (old new : View) : Type 0 where
+  pub run : WentOn more old new
+  pub stood : StandsAt old.config run.state index found
+  pub stands : StandsAt old.config run.next index left
+
+-- A run goes on by this step of a worker's request, and behind it by the hand-out of its reply, once that stands. The step found what the request is told of it: these bits stood there, and what it makes of them
+-- stands there then.
+pub record IsOneStep (worker : ℕ) (op : Op) (got : Got) (attempt : ℕ) (actor : Acting) (old new : View) : Type 0 where
+  pub bits : ℕ
+  pub found : got ≡ finds op bits
+  pub run : WentOn (events_of worker got attempt actor) old new
+  pub stood : bits ≡ pack (place_of op) (read run.state.cells (place_of op))
+  pub stands : made_of_bits op bits ≡ pack (place_of op) (read run.next.cells (place_of op))
+
+-- A run goes on by the coming of a request, behind it by its first step, and behind that by the hand-out of its reply, if that stands then. The step found the bits of its tenant's door, which stay.
+pub record IsFirstStep (worker : ℕ) (got : Got) (attempt : ℕ) (actor : Acting) (old new : View) : Type 0 where
+  pub bits : ℕ
+  pub found : got ≡ Bits bits
+  pub run : WentOn (Come worker actor.tenant actor.job ∷ events_of worker got attempt actor) old new
+  pub stood : bits ≡ pack (AtDoor actor.tenant) (read run.state.cells (AtDoor actor.tenant))
+  pub stands : bits ≡ pack (AtDoor actor.tenant) (read run.next.cells (AtDoor actor.tenant))
+
+-- So it is of the one step that the thread may make next, which found this; of the first step of this request, if it may come to the thread's worker; and a load that is no step adds no event.
+abbrev pub GoesOnByStep : Got → View → View → Type 0
+GoesOnByStep got old new = (worker : ℕ) (op : Op) (drives : Drives old worker op) → IsOneStep worker op got drives.reins.attempt drives.actor old new
+
+abbrev pub GoesOnByComing : Acting → Got → View → View → Type 0
+GoesOnByComing actor got old new = (worker : ℕ) (may : MayCome old worker actor) → IsFirstStep worker got may.reins.attempt actor old new
+
+abbrev pub GoesOnByNone : ℕ → ℕ → View → View → Type 0
+GoesOnByNone index bits old new = WentOnAt index bits bits [] old new
+
 module _ (config : Config) (begun : (ℕ → Opening) → List Happening → Type 0) where
   -- Whatever the table is, whatever a thread may do lets the run go on by its events.
   abbrev pub MovesGoOn : Type 0
@@ -109,6 +150,26 @@ module _ (config : Config) (begun : (ℕ → Opening) → List Happening → Typ
   abbrev pub MovesAreAllowed : Type 0
   MovesAreAllowed = (slots id : ℕ) (me : Me Acting View) (move : Move me.0) (make : ℕ → ℕ) → ((bits : ℕ) → make bits ≡ made_by me.0 move bits)
       → Allows (Tied config begun) slots id me (index_by config me.0 move) make (λ bits next. told_by me.0 move bits next.0 × WentOn (events_by me.0 move bits) me.0 next.0)
+
+  -- And over these events the word was changed so.
+  abbrev pub MovesChangeWords : Type 0
+  MovesChangeWords = (slots id : ℕ) (me : Me Acting View) (move : Move me.0) (make : ℕ → ℕ) → ((bits : ℕ) → make bits ≡ made_by me.0 move bits)
+      → Allows (Tied config begun) slots id me (index_by config me.0 move) make (λ bits next. told_by me.0 move bits next.0
+      × WentOnAt (index_by config me.0 move) bits (made_by me.0 move bits) (events_by me.0 move bits) me.0 next.0)
+
+  -- So it is of each step of a request, of its first step, and of a load that is no step: the run goes on by just this.
+  abbrev pub StepsAreEvents : Type 0
+  StepsAreEvents = (slots id worker : ℕ) (me : Me Acting View) (op : Op) (make : ℕ → ℕ) (got : ℕ → Got) → Drives me.0 worker op → ((bits : ℕ) → make bits ≡ made_of_bits op bits)
+      → ((bits : ℕ) → got bits ≡ finds op bits)
+      → Allows (Tied config begun) slots id me (index_of config.pool (place_of op)) make (λ bits next. Took (got bits) me.0 next.0 × GoesOnByStep (got bits) me.0 next.0)
+
+  abbrev pub FirstStepsAreEvents : Type 0
+  FirstStepsAreEvents = (slots id worker : ℕ) (me : Me Acting View) (actor : Acting) (make : ℕ → ℕ) → MayCome me.0 worker actor → ((bits : ℕ) → make bits ≡ bits)
+      → Allows (Tied config begun) slots id me (index_of config.pool (AtDoor actor.tenant)) make (λ bits next. Began actor (Bits bits) me.0 next.0 × GoesOnByComing actor (Bits bits) me.0 next.0)
+
+  abbrev pub LooksAreNoEvents : Type 0
+  LooksAreNoEvents = (slots id index : ℕ) (me : Me Acting View) (make : ℕ → ℕ) → IsLive me.0 → ((bits : ℕ) → make bits ≡ bits)
+      → Allows (Tied config begun) slots id me index make (λ bits next. Looked index bits me.0 next.0 × GoesOnByNone index bits me.0 next.0)
 
 -- Which of a call's device calls failed is for the thread to say: where the run goes on by one of them, it goes on as well by any other.
 abbrev pub AnyNumberFails : Type 0

@@ -19,15 +19,16 @@ ComeFirst tenants seen sealed = (tenant : ℕ) → tenant < tenants → IsBeginn
 
 -- past the last tenant a start gave nothing
 abbrev pub no_opening : Opening
-no_opening = record { quota = 0; words = []; is_up = true }
+no_opening = record { quota = 0; places = 0; words = []; is_up = true }
 
 -- what the start gave a tenant
 abbrev pub opening_at : List Opening → ℕ → Opening
 opening_at openings tenant = slice_index_or openings tenant no_opening
 
--- The latest start gave a tenant this: its quota, the words that were found, and whether its file opened.
+-- The latest start gave a tenant this: its quota, the places of its file, the words that were found, and whether its file opened.
 pub record Gave (openings : ℕ → Opening) (state : State) (tenant : ℕ) (opening : Opening) : Type 0 where
   pub quota : (state.accounts tenant).quota ≡ opening.quota
+  pub places : (state.accounts tenant).places ≡ opening.places
   pub words : words_at_start openings state tenant ≡ opening.words
   pub is_up : (state.accounts tenant).is_up ≡ opening.is_up
 

@@ -3,7 +3,7 @@ ghost use Rattle.mw_rule.specs.Calling.{CallsBegin, CallsBorrow, CallsDealt, Cal
 ghost use Rattle.mw_rule.specs.Continuing.{FileCallsEndOn, FileCallsFindFaultsOn, FileCallsLoadOn, FileCallsMeetFaultsOn, FirstStepsGoOn, JoinsGoOn, LooksGoOn, PartsGoOn, StepsGoOn};
 ghost use Rattle.mw_rule.specs.Laws.{BorrowingKeepsTheRule, FileCallsEndWell, FileCallsFindFaults, FileCallsLoad, FileCallsMeetFaults, ChangesAreOwn, DealsKeepTheRule, EntrustingKeepsTheRule, FirstStepsKeepTheRule, GatheredPartsAgain, GatheringKeepsTheRule, HearingKeepsTheRule, LooksKeepTheRule, MeetingKeepsTheRule, MeetingsAreRight, NotesKeepTheRule, NotesLoseNothing, PartsAreRight, StartsUnderTheRule, StepsKeepTheRule};
 ghost use Rattle.mw_rule.specs.Layout.{PlacesAreInTable, PlacesAreWithin, PlacesStandApart};
-ghost use Rattle.mw_rule.specs.Moves.{AnyNumberFails, MovesAreAllowed, MovesGoOn};
+ghost use Rattle.mw_rule.specs.Moves.{AnyNumberFails, FirstStepsAreEvents, LooksAreNoEvents, MovesAreAllowed, MovesChangeWords, MovesGoOn, StepsAreEvents};
 
 use crate::rule::Begins;
 
@@ -68,11 +68,17 @@ pub fn the_run_goes_on<B: Begins>()
 
 /// All that a thread may do to a word, together. The rule allows each by a step by which the run goes on by just its
 /// events; and what the thread is told of it goes with that: what it knew was so after some run, and what it knows then
-/// is so after the run with these events more. No law says which of the runs that fit the table is meant. So it is
-/// also of the device call that failed in a call on a file: the run goes on as well by any other of the call's.
+/// is so after the run with these events more. The bits that were found stood in the world before these, and the bits
+/// that are left stand in the world after them. So each step of a request is one event, its first step one more with
+/// which it comes, and a load that is no step is none. No law says which of the runs that fit the table is meant. So it
+/// is also of the device call that failed in a call on a file: the run goes on as well by any other of the call's.
 pub fn moves_are_of_the_run<B: Begins>()
     ensures go_on { (key : B) → MovesGoOn (B.config key) (B.begun key) }
     ensures allowed { (key : B) → MovesAreAllowed (B.config key) (B.begun key) }
+    ensures words { (key : B) → MovesChangeWords (B.config key) (B.begun key) }
+    ensures steps { (key : B) → StepsAreEvents (B.config key) (B.begun key) }
+    ensures first { (key : B) → FirstStepsAreEvents (B.config key) (B.begun key) }
+    ensures looks { (key : B) → LooksAreNoEvents (B.config key) (B.begun key) }
     ensures numbers { AnyNumberFails }
 {}
 

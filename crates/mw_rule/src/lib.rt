@@ -23,5 +23,5 @@ pub use laws::{
     the_run_goes_on, what_is_known_is_parted,
 };
 pub use rule::{Begins, Borrows, Deals, Entrusts, Gathers, Hears, Meets, Notes, Tie};
-pub use views::{Deed, Finding, Finished, FoundStatus, Held, Opened, Reins, Sealed, View};
+pub use views::{Deed, Finding, Finished, FoundStatus, Glance, Held, Opened, Reins, Sealed, View};
 pub use ways::{Way, way_of};

@@ -54,6 +54,8 @@ pub struct Reins {
 pub struct Opened {
     /// How many slots it may use at a time.
     pub quota: u8,
+    /// How many places for changes its file has.
+    pub places: u8,
     /// Its words.
     pub words: LinkedList<u64>,
     /// Whether its file opened.
@@ -65,7 +67,7 @@ impl Model for Opened {
 
     ghost Value = { Opening };
 
-    ghost view = { λ o. record { quota = o.quota; words = o.words; is_up = o.is_up } };
+    ghost view = { λ o. record { quota = o.quota; places = o.places; words = o.words; is_up = o.is_up } };
 }
 
 /// A change of a tenant that was sealed.
@@ -124,6 +126,14 @@ pub struct Held {
     pub found: Option<FoundStatus>,
 }
 
+/// A load that was no step of a request.
+pub struct Glance {
+    /// Which word was loaded, by its index in the table.
+    pub index: usize,
+    /// What stood there, in bits.
+    pub bits: u64,
+}
+
 /// What a thread knows.
 pub struct View {
     /// What the world is made of.
@@ -141,6 +151,10 @@ pub struct View {
     pub mine: LinkedList<Finished>,
     /// The files on which the thread may make calls.
     pub files: LinkedList<Held>,
+    /// The loads that were no steps of a request, in order: each such load of the thread adds itself, and nothing else
+    /// adds any. A thread that parts from another, or takes over what another knew, knows of those loads too of which
+    /// the one knew that it was before.
+    pub glances: LinkedList<Glance>,
     /// Whether all this was given to another thread. What is left tells nothing.
     pub is_spent: bool,
 }

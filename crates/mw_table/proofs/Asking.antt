@@ -17,6 +17,7 @@ use Rattle.mw_rule.specs.declared.views.Reins.{Reins}
 use Rattle.mw_rule.specs.declared.views.View.{View}
 use Rattle.mw_rule.specs.Carrying.{Began, Drives, Looked, MayCome, Took}
 use Rattle.mw_rule.specs.Layout.{index_of}
+use Rattle.mw_rule.specs.Moves.{GoesOnByComing, GoesOnByNone, GoesOnByStep}
 use Rattle.mw_rule.specs.Rule.{IsLive, Tied}
 use Rattle.mw_rule.specs.Ways.{finds, made_of_bits}
 use Rattle.mw_table.specs.declared.shared.Pass.{Pass}
@@ -24,9 +25,8 @@ use Rattle.mw_table.specs.declared.shared.Shared.{Shared}
 use Rattle.mw_table.specs.Numbers.{number_of}
 use Rattle.mw_table.specs.Origins.{begun_of, config_of}
 use Rattle.mw_table.specs.Passes.{IsOf}
+use Rattle.mw_rule.proofs.Events.{first_steps_are_events, looks_are_no_events, steps_are_events}
 use Rattle.mw_rule.proofs.Layouts.{places_in_table}
-use Rattle.mw_rule.proofs.Moving.{first_steps_keep, steps_keep}
-use Rattle.mw_rule.proofs.Parting.{looks_keep}
 
 -- the rule of a table
 abbrev pub rule_of : Shared → Table Acting View → Type 0
@@ -55,18 +55,16 @@ in_table shared pass at index own there is =
 -- a step of the request that the pass carries
 pub step_asks : (shared : Shared) (pass : Pass) (op : Op) (index : ℕ) (make : ℕ → ℕ) (got : ℕ → Got) → IsOf shared pass → Drives pass.seat.me.0 pass.worker op
     → index ≡ index_of shared.pool (place_of op) → ((bits : ℕ) → make bits ≡ made_of_bits op bits) → ((bits : ℕ) → got bits ≡ finds op bits)
-    → Asks shared pass index make (λ bits next. Took (got bits) pass.seat.me.0 next.0)
+    → Asks shared pass index make (λ bits next. Took (got bits) pass.seat.me.0 next.0 × GoesOnByStep (got bits) pass.seat.me.0 next.0)
 step_asks shared pass op index make got own drives is does tells =
     let origin = shared.table.shared.key in
     let slots = shared.table.shared.table_id.slots in
     let me = pass.seat.me in
     let at = in_table shared pass (place_of op) index own drives.there is in
-    let keeps = steps_keep (config_of origin) (begun_of origin) slots pass.seat.id pass.worker me op make drives does in (
+    let events = steps_are_events (config_of origin) (begun_of origin) slots pass.seat.id pass.worker me op make got drives does tells in (
       own.table,
       at.0,
-      allows_so (rule_of shared) slots pass.seat.id me index make (λ bits next. Took (finds op bits) me.0 next.0) (λ bits next. Took (got bits) me.0 next.0)
-          (λ bits next took. subst (λ (g : Got). Took g me.0 next.0) (sym (tells bits)) took)
-          (subst (λ (k : ℕ). Allows (rule_of shared) slots pass.seat.id me k make (λ bits next. Took (finds op bits) me.0 next.0)) at.1 keeps),
+      subst (λ (k : ℕ). Allows (rule_of shared) slots pass.seat.id me k make (λ bits next. Took (got bits) me.0 next.0 × GoesOnByStep (got bits) me.0 next.0)) at.1 events,
     )
 
 lower : (n m : ℕ) → n < m → nat_lt n m ≡ true
@@ -75,16 +73,16 @@ lower n m is = grind (arith, nat_tests, is)
 -- the first step of a request
 pub first_asks : (shared : Shared) (pass : Pass) (actor : Acting) (index : ℕ) (make : ℕ → ℕ) → IsOf shared pass → MayCome pass.seat.me.0 pass.worker actor
     → index ≡ index_of shared.pool (AtDoor actor.tenant) → ((bits : ℕ) → make bits ≡ bits)
-    → Asks shared pass index make (λ bits next. Began actor (Found bits) pass.seat.me.0 next.0)
+    → Asks shared pass index make (λ bits next. Began actor (Found bits) pass.seat.me.0 next.0 × GoesOnByComing actor (Found bits) pass.seat.me.0 next.0)
 first_asks shared pass actor index make own may is same =
     let origin = shared.table.shared.key in
     let slots = shared.table.shared.table_id.slots in
     let me = pass.seat.me in
     let at = in_table shared pass (AtDoor actor.tenant) index own (lower actor.tenant (tenants_of me.0.config) may.tenant) is in
-    let keeps = first_steps_keep (config_of origin) (begun_of origin) slots pass.seat.id pass.worker me actor make may same in (
+    let events = first_steps_are_events (config_of origin) (begun_of origin) slots pass.seat.id pass.worker me actor make may same in (
       own.table,
       at.0,
-      subst (λ (k : ℕ). Allows (rule_of shared) slots pass.seat.id me k make (λ bits next. Began actor (Found bits) me.0 next.0)) at.1 keeps,
+      subst (λ (k : ℕ). Allows (rule_of shared) slots pass.seat.id me k make (λ bits next. Began actor (Found bits) me.0 next.0 × GoesOnByComing actor (Found bits) me.0 next.0)) at.1 events,
     )
 
 -- a pass has reins
@@ -94,12 +92,12 @@ live view (one ∷ rest) worker attempt are is = inr (one, rest, are)
 
 -- a load that is no event
 pub look_asks : (shared : Shared) (pass : Pass) (at : At) (index : ℕ) → IsOf shared pass → has_place pass.seat.me.0.config at ≡ true → index ≡ index_of shared.pool at
-    → Asks shared pass index (λ bits. bits) (λ bits next. Looked index bits pass.seat.me.0 next.0)
+    → Asks shared pass index (λ bits. bits) (λ bits next. Looked index bits pass.seat.me.0 next.0 × GoesOnByNone index bits pass.seat.me.0 next.0)
 look_asks shared pass at index own there is =
     let origin = shared.table.shared.key in (
       own.table,
       (in_table shared pass at index own there is).0,
-      looks_keep (config_of origin) (begun_of origin) shared.table.shared.table_id.slots pass.seat.id index pass.seat.me (λ bits. bits)
+      looks_are_no_events (config_of origin) (begun_of origin) shared.table.shared.table_id.slots pass.seat.id index pass.seat.me (λ bits. bits)
           (live pass.seat.me.0 pass.seat.me.0.reins pass.worker pass.attempt refl pass.numbered) (λ bits. refl),
     )
 

@@ -25,6 +25,7 @@ use Rattle.mw_rule.specs.declared.views.Reins.{Reins}
 use Rattle.mw_rule.specs.declared.views.View.{View}
 use Rattle.mw_rule.specs.Carrying.{Drives, Took, told}
 use Rattle.mw_rule.specs.Layout.{index_of}
+use Rattle.mw_rule.specs.Moves.{GoesOnByStep}
 use Rattle.mw_rule.specs.Rule.{Each, Holds, IsLive, Tied}
 use Rattle.mw_rule.specs.Ways.{finds, made_of_bits}
 use Rattle.mw_rule.proofs.Viewing.{live_fits}
@@ -76,13 +77,14 @@ allows_more holds slots id me index make tells more so allows s is long at low =
 -- an attempt of the request that the pass carries
 pub attempt_asks : (shared : Shared) (pass : Pass) (op : Op) (index : ℕ) (make : ℕ → ℕ) (got : ℕ → Got) → IsOf shared pass → Drives pass.seat.me.0 pass.worker op
     → index ≡ index_of shared.pool (place_of op) → ((bits : ℕ) → make bits ≡ made_of_bits op bits) → ((bits : ℕ) → got bits ≡ finds op bits)
-    → Asks shared pass index make (λ bits next. Took (got bits) pass.seat.me.0 next.0 × AreNumbered pass.seat.me.0)
+    → Asks shared pass index make (λ bits next. (Took (got bits) pass.seat.me.0 next.0 × GoesOnByStep (got bits) pass.seat.me.0 next.0) × AreNumbered pass.seat.me.0)
 attempt_asks shared pass op index make got own drives is does tells =
     let asked = step_asks shared pass op index make got own drives is does tells in
     let lives = live pass.seat.me.0 pass.seat.me.0.reins pass.worker pass.attempt refl pass.numbered in (
       asked.0,
       asked.1,
-      allows_more (rule_of shared) shared.table.shared.table_id.slots pass.seat.id pass.seat.me index make (λ bits next. Took (got bits) pass.seat.me.0 next.0) (AreNumbered pass.seat.me.0)
+      allows_more (rule_of shared) shared.table.shared.table_id.slots pass.seat.id pass.seat.me index make
+          (λ bits next. Took (got bits) pass.seat.me.0 next.0 × GoesOnByStep (got bits) pass.seat.me.0 next.0) (AreNumbered pass.seat.me.0)
           (λ s tied at. numbered_so _ _ s pass.seat.id pass.seat.me.0 lives tied at) asked.2,
     )
 

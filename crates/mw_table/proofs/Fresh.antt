@@ -49,5 +49,5 @@ pub fresh_table : (config : Config) (found : List FileOpening) (words : List ℕ
     → Tied config (StartedWith config found) (opening {S = Acting} words [] (maker config (openings_given config.tenants.items found) (λ worker. idle_seat) (basis_of_start config found).files))
 fresh_table config found words made start long ties =
     starts config (StartedWith config found) (start_given config found) [] (world_given config found) (openings_given config.tenants.items found) (λ worker. idle_seat) (basis_of_start config found).files words
-    (record { given = refl; nothing = refl }) (record { made = made; starts = start; runs = refl }) (λ tenant low. record { quota = refl; words = refl; is_up = refl }) (λ worker low. refl)
+    (record { given = refl; nothing = refl }) (record { made = made; starts = start; runs = refl }) (λ tenant low. record { quota = refl; places = refl; words = refl; is_up = refl }) (λ worker low. refl)
     (all_held config (openings_given config.tenants.items found) 0 (tenants_of config) (omega arith)) (λ tenant. held_once config.pool (openings_given config.tenants.items found) tenant 0 (tenants_of config)) long ties

@@ -1,15 +1,18 @@
 -- A right to a file is taken and given back.
 use Rattle.std.specs.Prelude.{ℕ, ◌≡◌, true, List, [], ◌∷◌, ◌++◌, length, map, Option, Some, None, is_none}
-use Rattle.std.proofs.Common.{refl, sym, ap, ◌∙◌, inl, arith}
+use Rattle.std.proofs.Common.{refl, sym, ap, subst, ◌∙◌, inl, arith}
+use Rattle.mw_world.specs.declared.config.Config.{Config}
+use Rattle.mw_world.specs.Definition.State.{Opening}
 use Rattle.mw_rule.specs.declared.views.FoundStatus.{FoundStatus}
 use Rattle.mw_rule.specs.declared.views.Held.{Held}
 use Rattle.mw_rule.specs.declared.views.View.{View}
 use Rattle.mw_rule.specs.Dealing.{borrows, entrusted, first_held, other_held}
-use Rattle.mw_rule.specs.Rule.{IsLive}
+use Rattle.mw_rule.specs.Moves.{WentOn}
+use Rattle.mw_rule.specs.Rule.{Each, HoldsFile, IsLive}
 use Rattle.mw_table.specs.declared.right.FileRight.{FileRight}
 use Rattle.mw_table.specs.declared.shared.Shared.{Shared}
 use Rattle.mw_table.specs.Beginning.{Basis}
-use Rattle.mw_table.specs.Filing.{file_kept}
+use Rattle.mw_table.specs.Filing.{IsSoOfWorld, file_kept}
 use Rattle.mw_table.specs.Fresh.{held_given}
 use Rattle.mw_table.specs.Opened.{IsOpened}
 use Rattle.mw_table.specs.Holding.{HasFile, file_among, is_idle, tenant_held, tenants_held}
@@ -71,3 +74,22 @@ right_its right = let has = right_has right in ap (λ (files : List Held). (file
 -- the right that a start gave
 pub opened_kept : (shared : Shared) (basis : Basis) (tenant : ℕ) (right : FileRight) → IsOpened shared basis tenant right → file_kept right ≡ (held_given basis.config.pool basis.openings tenant).file
 opened_kept shared basis tenant right opened = ap (λ (view : View). file_among view.files) opened.view
+
+-- What a right knows is so of the world, by a run that goes on by no event.
+pub so_of_world : (config : Config) (given : List Opening) (right : FileRight) (new : View) → right.seat.me.0.config ≡ config → right.seat.me.0.openings ≡ given → WentOn [] right.seat.me.0 new
+    → IsSoOfWorld config given right.tenant (file_kept right)
+so_of_world config given right new same also went =
+    let view = right.seat.me.0 in
+    let holds = subst (λ (files : List Held). Each (HoldsFile view.config went.state) files) (right_is right) went.knew.files in
+    let so : IsSoOfWorld view.config view.openings (file_kept right).tenant (file_kept right) = record {
+      openings = went.openings;
+      events = went.before ++ went.events;
+      state = went.state;
+      played = went.played;
+      gave = went.knew.gave;
+      there = holds.0.there;
+      tells = holds.0.tells;
+    } in
+    subst (λ (c : Config). IsSoOfWorld c given right.tenant (file_kept right)) same
+    (subst (λ (all : List Opening). IsSoOfWorld view.config all right.tenant (file_kept right)) also
+    (subst (λ (n : ℕ). IsSoOfWorld view.config view.openings n (file_kept right)) (right_its right) so))

@@ -9,13 +9,14 @@ use Rattle.mw_rule.specs.declared.views.Reins.{Reins}
 use Rattle.mw_rule.specs.declared.views.View.{View}
 use Rattle.mw_rule.specs.Carrying.{Keeps, Looked, Met, Precede}
 use Rattle.mw_rule.specs.Dealing.{dealt, gathers, head_of, hears, left_over, note, of_head, of_rest, rest_of}
+use Rattle.mw_rule.specs.Moves.{GoesOnByNone}
 use Rattle.mw_rule.specs.Rule.{IsLive, IsRight, times}
 use Rattle.mw_rule.specs.Seen.{seen_at}
 use Rattle.mw_rule.proofs.Apart.{changes_are_own}
 use Rattle.mw_rule.proofs.Calling.{keeps_on, keeps_so}
+use Rattle.mw_rule.proofs.Events.{looks_are_no_events}
 use Rattle.mw_rule.proofs.Leading.{begins_on}
 use Rattle.mw_rule.proofs.Owning.{dealt_alone, gathered_parts_again}
-use Rattle.mw_rule.proofs.Parting.{looks_keep}
 use Rattle.mw_rule.proofs.Righting.{dealt_right, hears_right, left_right}
 use Rattle.mw_rule.proofs.Totals.{own_once, times_behind}
 use Rattle.mw_table.specs.declared.shared.Pass.{Pass}
@@ -40,8 +41,8 @@ note_has_none view its is = ap (λ (one : View). one.reins) is
 
 -- a load of any word by a thread that is live
 pub load_asks : (shared : Shared) (id : ℕ) (me : Me Acting View) → IsLive me.0
-    → (0 < shared.table.shared.table_id.words) × Allows (rule_of shared) shared.table.shared.table_id.slots id me 0 (λ bits. bits) (λ bits next. Looked 0 bits me.0 next.0)
-load_asks shared id me is_live = (some_word shared, looks_keep _ _ shared.table.shared.table_id.slots id 0 me (λ bits. bits) is_live (λ bits. refl))
+    → (0 < shared.table.shared.table_id.words) × Allows (rule_of shared) shared.table.shared.table_id.slots id me 0 (λ bits. bits) (λ bits next. Looked 0 bits me.0 next.0 × GoesOnByNone 0 bits me.0 next.0)
+load_asks shared id me is_live = (some_word shared, looks_are_no_events _ _ shared.table.shared.table_id.slots id 0 me (λ bits. bits) is_live (λ bits. refl))
 
 -- a thread that takes a look is live still
 pub looks_live : (bits : ℕ) (old new : View) → Looked 0 bits old new → IsLive old → IsLive new

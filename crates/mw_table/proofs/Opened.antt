@@ -19,8 +19,8 @@ use Rattle.mw_world.specs.Definition.Cells.{Cells}
 use Rattle.mw_world.specs.Definition.Extent.{has_slot}
 use Rattle.mw_world.specs.Definition.Happenings.{Happening, Come, Step, File, Hand, Restart}
 use Rattle.mw_world.specs.Definition.Requests.{came, gave}
-use Rattle.mw_world.specs.Definition.Restarts.{doubt_then, found_of, interrupted_request, may_all_be_found, restarted, takes, under_way}
-use Rattle.mw_world.specs.Definition.State.{Account, State, marks_in, tenants_of}
+use Rattle.mw_world.specs.Definition.Restarts.{doubt_then, found_of, interrupted_request, may_all_be_found, quota_then, quotas_then, restarted, takes, under_way}
+use Rattle.mw_world.specs.Definition.State.{Account, State, marks_in, may_be_quotas, places_of, tenants_of}
 use Rattle.mw_world.specs.Definition.Turns.{Made, made_of, may_make, moved, turn, turned}
 use Rattle.mw_world.specs.Definition.World.{asked, hand, handed, may_come, run, step}
 use Rattle.mw_simulator.proofs.FromMemory.{done_is}
@@ -33,10 +33,10 @@ IsTold first account = account.is_up ≡ up_after first account.closed
 abbrev pub AreTold : (ℕ → Bool) → State → Type 0
 AreTold firsts state = (tenant : ℕ) → IsTold (firsts tenant) (state.accounts tenant)
 
-up_last : (is_up : Bool) (marks : List Mark) (interrupted : Option ℕ) (found opened : Bool) → up_after is_up (marks ++ MarkOfStart interrupted found opened ∷ []) ≡ opened
-up_last is_up [] interrupted found opened = refl
-up_last is_up (MarkOfStart one two three ∷ marks) interrupted found opened = up_last three marks interrupted found opened
-up_last is_up (mark ∷ marks) interrupted found opened = up_last is_up marks interrupted found opened
+up_last : (is_up : Bool) (marks : List Mark) (interrupted : Option ℕ) (found opened : Bool) (quota : ℕ) → up_after is_up (marks ++ MarkOfStart interrupted found opened quota ∷ []) ≡ opened
+up_last is_up [] interrupted found opened quota = refl
+up_last is_up (MarkOfStart one two three four ∷ marks) interrupted found opened quota = up_last three marks interrupted found opened quota
+up_last is_up (mark ∷ marks) interrupted found opened quota = up_last is_up marks interrupted found opened quota
 
 some_same : (one next : State) → Some one ≡ Some next → one ≡ next
 some_same one next is = cc
@@ -96,12 +96,13 @@ module _ (firsts : ℕ → Bool) where
   event_told config state next (File worker outcome) all is = call_told config state next worker outcome (state.seats worker).actor all is
   event_told config state next (Hand worker) all is = hand_told state next worker (state.seats worker).actor all is
   event_told config state next (Restart founds) all is =
-      if_told ((length founds == tenants_of config) && may_all_be_found config state founds (tenants_of config)) (restarted config state founds) next
+      if_told ((length founds == tenants_of config) && may_all_be_found config state founds (tenants_of config) && may_be_quotas config (quotas_then state founds) (places_of state)) (restarted config state founds) next
       (λ tenant.
       let account = state.accounts tenant in
       let found = found_of founds tenant in
       let under = under_way config state found.interrupted in
-      sym (up_last (firsts tenant) (account.closed ++ marks_in account.lines) (interrupted_request under) (takes account.file.contents (doubt_then account.file under) found.words) (is_none found.fails_at)))
+      sym (up_last (firsts tenant) (account.closed ++ marks_in account.lines) (interrupted_request under) (takes account.file.contents (doubt_then account.file under) found.words) (is_none found.fails_at)
+      (quota_then account found)))
       is
 
   by_step : (config : Config) (next : State) (events : List Happening) → ((one : State) → AreTold firsts one → run config one events ≡ Some next → AreTold firsts next) → (after : Option State)

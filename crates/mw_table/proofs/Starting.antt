@@ -79,6 +79,7 @@ gave_so world before stands tenant low = by_account (slice_get_cases world.accou
         → Gave (first_openings world.config) stands.state tenant (opening_of (first_openings world.config tenant) shown)
     shown_so shown shows = record {
       quota = sym shows.quota;
+      places = sym shows.file_places;
       words = ap (λ (marks : List Mark). (after_marks (first_moment (first_openings world.config tenant).words) marks).words) (sym shows.closed);
       is_up =
           run_told (λ one. (first_openings world.config one).is_up) world.config before (new_world world.config) stands.state (λ one. refl) stands.runs tenant

@@ -3,6 +3,7 @@ use Rattle.std.specs.Prelude.{ℕ, ◌≡◌, ◌+◌, Bool, List, [], ◌∷◌
 use Rattle.std.specs.Option.{option_map_or}
 use Rattle.mw_lone.specs.declared.marks.Mark.{Mark}
 use Rattle.mw_lone.specs.declared.marks.Mark.TheVariants.{Restart}
+use Rattle.mw_world_file.specs.Books.{places_of_file}
 use Rattle.mw_world.specs.declared.config.Config.{Config}
 use Rattle.mw_world.specs.Definition.Happenings.{Happening}
 use Rattle.mw_world.specs.Definition.State.{Opening, Seat, first_openings, idle_seat}
@@ -27,13 +28,14 @@ pub record LedTo (world : World) (openings : ℕ → Opening) (before : List Hap
 -- Whether a tenant's file opened at the last start among these marks; where there is none, at the start before.
 abbrev pub up_after : Bool → List Mark → Bool
 up_after is_up [] = is_up
-up_after is_up (Restart interrupted found opened ∷ marks) = up_after opened marks
+up_after is_up (Restart interrupted found opened quota ∷ marks) = up_after opened marks
 up_after is_up (mark ∷ marks) = up_after is_up marks
 
--- what the last start gave a tenant to which the first of all gave this
+-- What the last start gave a tenant to which the first of all gave this: the quota that the tenant has now, the places that its file has, and of its words and its file what its marks tell.
 abbrev pub opening_of : Opening → Account → Opening
 opening_of first account = record {
   quota = account.quota;
+  places = places_of_file account.book;
   words = (after_marks (first_moment first.words) account.lines.closed.items).words;
   is_up = up_after first.is_up account.lines.closed.items;
 }

@@ -1,14 +1,18 @@
 -- What the calls of a table on tenants' files ask of a pass, and what they tell it.
-use Rattle.std.specs.Prelude.{ℕ, ◌≡◌, true, false, cond, [], ◌∷◌, Some}
+use Rattle.std.specs.Prelude.{ℕ, ◌≡◌, ◌<◌, true, false, cond, List, [], ◌∷◌, Some}
 use Rattle.mw_words.specs.declared.statuses.Status.{Status}
 use Rattle.mw_words.specs.Patterns.{IsStatusInRange, unpacked_status}
 use Rattle.mw_look.specs.declared.steps.Call.{Call}
 use Rattle.mw_actor.specs.Acting.{Acting}
 use Rattle.mw_world_file.specs.declared.outcomes.Outcome.TheVariants.{Good, Fail}
 use Rattle.mw_world_file.specs.Files.{entries_at}
+use Rattle.mw_world.specs.declared.config.Config.{Config}
+use Rattle.mw_world.specs.Claim.Headline.{IsPlayed}
 use Rattle.mw_world.specs.Definition.Calls.{Called, device_calls, is_made}
-use Rattle.mw_world.specs.Definition.Happenings.{File as FileEvent}
-use Rattle.mw_rule.specs.FromLaws.{FileRights, file_told, HasWords}
+use Rattle.mw_world.specs.Definition.Happenings.{Happening, File as FileEvent}
+use Rattle.mw_world.specs.Definition.State.{State, Opening, tenants_of}
+use Rattle.mw_rule.specs.FromLaws.{FileRights, file_told, HasWords, TellsFile}
+use Rattle.mw_rule.specs.Seen.{Gave, opening_at}
 use Rattle.mw_rule.specs.declared.views.Held.{Held}
 use Rattle.mw_rule.specs.declared.views.View.{View}
 use Rattle.mw_rule.specs.Continuing.{events_loaded, starts_by}
@@ -18,14 +22,28 @@ use Rattle.mw_table.specs.declared.right.FileRight.{FileRight}
 use Rattle.mw_table.specs.declared.shared.Pass.{Pass}
 use Rattle.mw_table.specs.declared.shared.Shared.{Shared}
 use Rattle.mw_table.specs.Holding.{file_among}
+use Rattle.mw_table.specs.Origins.{config_of, openings_of}
 
--- The right is one of this table.
-abbrev pub IsRightOf : Shared → FileRight → Type 0
-IsRightOf shared right = right.seat.table_id ≡ shared.table.shared.table_id
+-- The right is one of this table, and whoever has it knows what its world is made of, and what the latest start gave.
+pub record IsRightOf (shared : Shared) (right : FileRight) : Type 0 where
+  pub table : right.seat.table_id ≡ shared.table.shared.table_id
+  pub config : right.seat.me.0.config ≡ config_of shared.table.shared.key
+  pub openings : right.seat.me.0.openings ≡ openings_of shared.table.shared.key
 
 -- What is known of the file by whoever has the right.
 abbrev pub file_kept : FileRight → FileRights
 file_kept right = file_among right.seat.me.0.files
+
+-- What is known of a tenant's file is so in a world of this configuration, after some run whose latest start gave the tenants this. Which run it is, and whether the table may have begun with what came first in it, is
+-- not told.
+pub record IsSoOfWorld (config : Config) (given : List Opening) (tenant : ℕ) (rights : FileRights) : Type 0 where
+  pub openings : ℕ → Opening
+  pub events : List Happening
+  pub state : State
+  pub played : IsPlayed config openings events state
+  pub gave : (tenant : ℕ) → tenant < tenants_of config → Gave openings state tenant (opening_at given tenant)
+  pub there : tenant < tenants_of config
+  pub tells : TellsFile (state.accounts tenant).quota config.pool rights (state.accounts tenant).file
 
 -- The pass has no right to a file: so it is but for the time of a call on one.
 abbrev pub IsFree : Pass → Type 0

@@ -16,7 +16,7 @@ use Rattle.mw_table.specs.Beginning.{Basis}
 
 -- What the start gives a tenant. Where its file didn't open, zeros stand for its words, of which nobody is told.
 abbrev pub opening_given : Tenant → FileOpening → Opening
-opening_given tenant found = record { quota = found.quota; words = first_words tenant found.words; is_up = is_some found.words }
+opening_given tenant found = record { quota = found.quota; places = found.places; words = first_words tenant found.words; is_up = is_some found.words }
 
 -- the same by tenant
 abbrev pub openings_given : List Tenant → List FileOpening → List Opening

@@ -26,7 +26,8 @@ impl Shared {
     /// A table at a start, by what each tenant's file gave, with a pass for each worker, by worker, and the right to
     /// each tenant's file, by tenant, which tells of the file what its opening gave. There is an
     /// opening for each tenant, in the order of the tenants: of an opened file with as many words as the tenant
-    /// has, each a word's value, and with quotas of 1 to [`MAX_QUOTA`] slots that the pool has room for together.
+    /// has, each a word's value, and with quotas of 1 to [`MAX_QUOTA`] slots, none above the places of its file, that
+    /// the pool has room for together.
     /// Each tenant has the words of its file; where that didn't open, its words are 0 and its door has the fault. No
     /// worker has a request, and all passes are idle. The only error is want of memory; then there is no table.
     ///

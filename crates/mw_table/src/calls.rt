@@ -10,6 +10,7 @@ ghost use Rattle.mw_look.specs.declared.steps.Kind.TheVariants as kind;
 ghost use Rattle.mw_look.specs.declared.steps.Op.TheVariants.{Change as ChangeBits};
 ghost use Rattle.mw_look.specs.declared.news.Got.TheVariants.{Word as Found, Won as GotWon, Lost as GotLost};
 ghost use Rattle.mw_rule.specs.Carrying.{Drives, Took};
+ghost use Rattle.mw_rule.specs.Moves.{GoesOnByStep};
 ghost use Rattle.mw_table.specs.Passes.{IsOf, IsOfSameWorker};
 
 use crate::shared::{Pass, Shared};
@@ -24,6 +25,7 @@ impl Shared {
         ensures own { IsOf self.now pass.new }
         ensures worker { IsOfSameWorker pass.old pass.new }
         ensures took { Took (cond result GotWon GotLost) pass.old.seat.me.0 pass.new.seat.me.0 }
+        ensures event { GoesOnByStep (cond result GotWon GotLost) pass.old.seat.me.0 pass.new.seat.me.0 }
     {
         self.exchange(pass, Kind::Admit, At::Door(tenant), from.pack(), to.pack())
     }
@@ -37,6 +39,7 @@ impl Shared {
         ensures own { IsOf self.now pass.new }
         ensures worker { IsOfSameWorker pass.old pass.new }
         ensures took { Took (cond result GotWon GotLost) pass.old.seat.me.0 pass.new.seat.me.0 }
+        ensures event { GoesOnByStep (cond result GotWon GotLost) pass.old.seat.me.0 pass.new.seat.me.0 }
     {
         self.exchange(pass, Kind::Claim, At::Gate(slot), from.pack(), to.pack())
     }
@@ -50,6 +53,7 @@ impl Shared {
         ensures own { IsOf self.now pass.new }
         ensures worker { IsOfSameWorker pass.old pass.new }
         ensures took { Took (cond result GotWon GotLost) pass.old.seat.me.0 pass.new.seat.me.0 }
+        ensures event { GoesOnByStep (cond result GotWon GotLost) pass.old.seat.me.0 pass.new.seat.me.0 }
     {
         self.exchange(pass, Kind::Pin, At::Gate(slot), from.pack(), to.pack())
     }
@@ -61,6 +65,7 @@ impl Shared {
         ensures own { IsOf self.now pass.new }
         ensures worker { IsOfSameWorker pass.old pass.new }
         ensures took { Took GotWon pass.old.seat.me.0 pass.new.seat.me.0 }
+        ensures event { GoesOnByStep GotWon pass.old.seat.me.0 pass.new.seat.me.0 }
     {
         self.store(pass, Kind::Fill, at, bits)
     }
@@ -73,6 +78,7 @@ impl Shared {
         ensures own { IsOf self.now pass.new }
         ensures worker { IsOfSameWorker pass.old pass.new }
         ensures took { Took (Found result) pass.old.seat.me.0 pass.new.seat.me.0 }
+        ensures event { GoesOnByStep (Found result) pass.old.seat.me.0 pass.new.seat.me.0 }
     {
         self.subtract(pass, Kind::Unpin, At::Gate(slot), 1 << 48)
     }
@@ -85,6 +91,7 @@ impl Shared {
         ensures own { IsOf self.now pass.new }
         ensures worker { IsOfSameWorker pass.old pass.new }
         ensures took { Took GotWon pass.old.seat.me.0 pass.new.seat.me.0 }
+        ensures event { GoesOnByStep GotWon pass.old.seat.me.0 pass.new.seat.me.0 }
     {
         self.store(pass, Kind::Free, At::Gate(slot), gate.pack())
     }
@@ -96,6 +103,7 @@ impl Shared {
         ensures own { IsOf self.now pass.new }
         ensures worker { IsOfSameWorker pass.old pass.new }
         ensures took { Took (Found result) pass.old.seat.me.0 pass.new.seat.me.0 }
+        ensures event { GoesOnByStep (Found result) pass.old.seat.me.0 pass.new.seat.me.0 }
     {
         self.subtract(pass, Kind::Drop, At::Door(tenant), 1)
     }
@@ -108,6 +116,7 @@ impl Shared {
         ensures own { IsOf self.now pass.new }
         ensures worker { IsOfSameWorker pass.old pass.new }
         ensures took { Took GotWon pass.old.seat.me.0 pass.new.seat.me.0 }
+        ensures event { GoesOnByStep GotWon pass.old.seat.me.0 pass.new.seat.me.0 }
     {
         let at = At::Row(pass.worker);
         self.store(pass, Kind::Row, at, row.pack())
@@ -124,6 +133,7 @@ impl Shared {
         ensures worker { IsOfSameWorker pass.old pass.new }
         ensures attempt { pass.new.attempt ≡ pass.old.attempt + 1 }
         ensures took { Took (cond result GotWon GotLost) pass.old.seat.me.0 pass.new.seat.me.0 }
+        ensures event { GoesOnByStep (cond result GotWon GotLost) pass.old.seat.me.0 pass.new.seat.me.0 }
     {
         let attempt = Word::Planted {
             worker: pass.worker,
@@ -141,6 +151,7 @@ impl Shared {
         ensures own { IsOf self.now pass.new }
         ensures worker { IsOfSameWorker pass.old pass.new }
         ensures took { Took (cond result GotWon GotLost) pass.old.seat.me.0 pass.new.seat.me.0 }
+        ensures event { GoesOnByStep (cond result GotWon GotLost) pass.old.seat.me.0 pass.new.seat.me.0 }
     {
         self.exchange(pass, Kind::Resolve, at, from.pack(), to.pack())
     }
@@ -152,6 +163,7 @@ impl Shared {
         ensures own { IsOf self.now pass.new }
         ensures worker { IsOfSameWorker pass.old pass.new }
         ensures took { Took (cond result GotWon GotLost) pass.old.seat.me.0 pass.new.seat.me.0 }
+        ensures event { GoesOnByStep (cond result GotWon GotLost) pass.old.seat.me.0 pass.new.seat.me.0 }
     {
         self.exchange(
             pass,
@@ -171,6 +183,7 @@ impl Shared {
         ensures own { IsOf self.now pass.new }
         ensures worker { IsOfSameWorker pass.old pass.new }
         ensures took { Took (cond result GotWon GotLost) pass.old.seat.me.0 pass.new.seat.me.0 }
+        ensures event { GoesOnByStep (cond result GotWon GotLost) pass.old.seat.me.0 pass.new.seat.me.0 }
     {
         let no = Status::No { entry, value };
         self.exchange(
@@ -191,6 +204,7 @@ impl Shared {
         ensures own { IsOf self.now pass.new }
         ensures worker { IsOfSameWorker pass.old pass.new }
         ensures took { Took (cond result GotWon GotLost) pass.old.seat.me.0 pass.new.seat.me.0 }
+        ensures event { GoesOnByStep (cond result GotWon GotLost) pass.old.seat.me.0 pass.new.seat.me.0 }
     {
         self.exchange(pass, Kind::Release, at, from.pack(), to.pack())
     }

@@ -1,14 +1,26 @@
 //! The right to a tenant's file, and how a pass takes it for a call and gives it back.
-ghost use Rattle.std.specs.Prelude.{◌≡◌};
+ghost use Rattle.std.specs.Prelude.{◌≡◌, []};
 ghost use Rattle.mw_rule.specs.Dealing.{bereft, borrows, entrusted};
-ghost use Rattle.mw_table.specs.Filing.{IsFree, IsRightOf, file_kept};
+ghost use Rattle.mw_rule.specs.Carrying.{Looked};
+ghost use Rattle.mw_rule.specs.Moves.{WentOn};
+ghost use Rattle.mw_table.specs.Filing.{IsFree, IsRightOf, IsSoOfWorld, file_kept};
 ghost use Rattle.mw_table.specs.Holding.{HasFile, file_among};
 ghost use Rattle.mw_table.specs.Meeting.{IsSamePass};
+ghost use Rattle.mw_table.specs.Origins.{config_of, openings_of};
 ghost use Rattle.mw_table.specs.Passes.{IsOf};
 
 use crate::right::FileRight;
 use crate::shared::{Pass, Shared};
-use mw_rule::{Borrows, Entrusts};
+use atomic_table::Play;
+use mw_actor::Actor;
+use mw_rule::{Borrows, Entrusts, View};
+
+/// A load that is no event tells what stood there, and that what is known is so of the world behind the table.
+pub struct Confirms;
+
+impl Play<Actor, View> for Confirms {
+    ghost then = { λ step me found next. Looked step.word found me.0 next.0 × WentOn [] me.0 next.0 };
+}
 
 impl FileRight {
     /// Whose file it is: the tenant, by its index.
@@ -52,5 +64,17 @@ impl Shared {
     {
         let seat = self.table.shared.split_seat::<Entrusts>(&mut pass.seat);
         FileRight { seat, tenant }
+    }
+    /// What is known of a file by whoever has the right is so of the world behind the table, while nobody calls the
+    /// file. That is found by a load of a word, which is no step of a request. The right is given up.
+    pub fn confirm(&self, right: FileRight)
+        requires right { IsRightOf self.now right }
+        ensures { IsSoOfWorld (config_of self.now.table.shared.key) (openings_of self.now.table.shared.key) right.tenant (file_kept right) }
+    {
+        let FileRight {
+            mut seat,
+            tenant: _,
+        } = right;
+        self.table.shared.load::<Confirms>(&mut seat, 0);
     }
 }

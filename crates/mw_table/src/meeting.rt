@@ -2,9 +2,10 @@
 ghost use Rattle.std.specs.Prelude.{◌≡◌, ℕ, []};
 ghost use Rattle.mw_rule.specs.Carrying.{Looked, Met, Precede};
 ghost use Rattle.mw_rule.specs.Dealing.{dealt, gathers, hears, left_over, note as said_by};
+ghost use Rattle.mw_rule.specs.Moves.{WentOn};
 ghost use Rattle.mw_rule.specs.Rule.{IsLive};
 ghost use Rattle.mw_table.specs.Filing.{IsFree};
-ghost use Rattle.mw_table.specs.Meeting.{HaveMet, IsSamePass};
+ghost use Rattle.mw_table.specs.Meeting.{HaveMet, IsSamePass, MetByNone};
 ghost use Rattle.mw_table.specs.Passes.{IsOf};
 ghost use Rattle.mw_world.specs.Definition.State.{tenants_of};
 
@@ -19,7 +20,7 @@ impl Shared {
     /// Two passes meet: afterwards both have seen the same of what was sealed, which goes on from what each had
     /// seen before. Each has its own worker and the requests that this finished still; and all of these, of both,
     /// are right among what was seen, with a change of its own for each YES. Neither pass has the right to a file,
-    /// since none is lent for longer than a call. That is no step of a request.
+    /// since none is lent for longer than a call. That is no step of a request, and adds no event.
     pub fn meet(&self, one: &mut Pass, other: &mut Pass)
         requires one { IsOf self.now one.old }
         requires other { IsOf self.now other.old }
@@ -34,6 +35,7 @@ impl Shared {
         ensures one_met { Met one.old.seat.me.0 one.new.seat.me.0 }
         ensures other_met { Met other.old.seat.me.0 other.new.seat.me.0 }
         ensures both { HaveMet one.new.seat.me.0 other.new.seat.me.0 }
+        ensures event { MetByNone one.old.seat.me.0 other.old.seat.me.0 one.new.seat.me.0 other.new.seat.me.0 }
     {
         self.look(&mut one.seat);
         let said = self.note(&mut one.seat);
@@ -50,6 +52,7 @@ impl Shared {
         requires live { IsLive seat.old.me.0 }
         ensures table { seat.new.table_id ≡ seat.old.table_id }
         ensures looked { (bits : ℕ) × Looked 0 bits seat.old.me.0 seat.new.me.0 }
+        ensures event { WentOn [] seat.old.me.0 seat.new.me.0 }
     {
         self.table.shared.load::<Looks>(seat, 0);
     }
@@ -74,6 +77,7 @@ impl Shared {
         requires note { (view : View) × (note.me ≡ (said_by view, [])) }
         ensures table { seat.new.table_id ≡ seat.old.table_id }
         ensures looked { (bits : ℕ) × Looked 0 bits (hears seat.old.me.0 note.me.0) seat.new.me.0 }
+        ensures event { WentOn [] (hears seat.old.me.0 note.me.0) seat.new.me.0 }
     {
         self.table.shared.join_seat::<Hears>(seat, note);
         self.look(seat);
@@ -89,6 +93,7 @@ impl Shared {
         requires no_less { Precede (tenants_of seat.old.me.0.config) seat.old.me.0.seen its.me.0.seen }
         ensures table { seat.new.table_id ≡ seat.old.table_id }
         ensures looked { (bits : ℕ) × Looked 0 bits (gathers seat.old.me.0 its.me.0) seat.new.me.0 }
+        ensures event { WentOn [] (gathers seat.old.me.0 its.me.0) seat.new.me.0 }
     {
         self.table.shared.join_seat::<Gathers>(seat, its);
         self.look(seat);

@@ -11,6 +11,9 @@ use std::snapshot::Snapshot;
 pub struct FileOpening {
     /// How many slots the tenant may use at a time.
     pub quota: u8,
+    /// How many places for changes the file has, no fewer than the quota. Where it didn't open, that isn't known:
+    /// then as many as the quota will do.
+    pub places: u8,
     /// The tenant's words, or none where the file didn't open.
     pub words: Option<Vec<u64>>,
 }

@@ -4,6 +4,7 @@ ghost use Rattle.mw_look.specs.declared.steps.Kind.TheVariants as kind;
 ghost use Rattle.mw_look.specs.declared.steps.Op.TheVariants.{Load as LoadBits, Change as ChangeBits};
 ghost use Rattle.mw_look.specs.declared.news.Got.TheVariants.{Word as Found, Won as GotWon, Lost as GotLost};
 ghost use Rattle.mw_rule.specs.Carrying.{Drives, Took};
+ghost use Rattle.mw_rule.specs.Moves.{GoesOnByStep};
 ghost use Rattle.mw_rule.specs.Ways.{way_of};
 ghost use Rattle.mw_rule.specs.declared.ways.Way.TheVariants as way;
 ghost use Rattle.mw_table.specs.Numbers.{AreNumbered};
@@ -20,28 +21,28 @@ use mw_words::At;
 pub struct Finds;
 
 impl Play<Actor, View> for Finds {
-    ghost then = { λ step me found next. Took (Found found) me.0 next.0 };
+    ghost then = { λ step me found next. Took (Found found) me.0 next.0 × GoesOnByStep (Found found) me.0 next.0 };
 }
 
 /// An exchange tells whether it won.
 pub struct Exchanges;
 
 impl Play<Actor, View> for Exchanges {
-    ghost then = { λ step me found next. Took (cond (found == step.first) GotWon GotLost) me.0 next.0 };
+    ghost then = { λ step me found next. Took (cond (found == step.first) GotWon GotLost) me.0 next.0 × GoesOnByStep (cond (found == step.first) GotWon GotLost) me.0 next.0 };
 }
 
 /// An attempt to hold a word tells whether it won, and which number it had.
 pub struct Attempts;
 
 impl Play<Actor, View> for Attempts {
-    ghost then = { λ step me found next. Took (cond (found == step.first) GotWon GotLost) me.0 next.0 × AreNumbered me.0 };
+    ghost then = { λ step me found next. (Took (cond (found == step.first) GotWon GotLost) me.0 next.0 × GoesOnByStep (cond (found == step.first) GotWon GotLost) me.0 next.0) × AreNumbered me.0 };
 }
 
 /// A store tells that it was made.
 pub struct Stores;
 
 impl Play<Actor, View> for Stores {
-    ghost then = { λ step me found next. Took GotWon me.0 next.0 };
+    ghost then = { λ step me found next. Took GotWon me.0 next.0 × GoesOnByStep GotWon me.0 next.0 };
 }
 
 impl Shared {
@@ -52,6 +53,7 @@ impl Shared {
         ensures own { IsOf self.now pass.new }
         ensures worker { IsOfSameWorker pass.old pass.new }
         ensures took { Took (Found result) pass.old.seat.me.0 pass.new.seat.me.0 }
+        ensures event { GoesOnByStep (Found result) pass.old.seat.me.0 pass.new.seat.me.0 }
     {
         self.table
             .shared
@@ -67,6 +69,7 @@ impl Shared {
         ensures own { IsOf self.now pass.new }
         ensures worker { IsOfSameWorker pass.old pass.new }
         ensures took { Took (cond result GotWon GotLost) pass.old.seat.me.0 pass.new.seat.me.0 }
+        ensures event { GoesOnByStep (cond result GotWon GotLost) pass.old.seat.me.0 pass.new.seat.me.0 }
     {
         let found = self
             .table
@@ -84,6 +87,7 @@ impl Shared {
         ensures worker { IsOfSameWorker pass.old pass.new }
         ensures attempt { pass.new.attempt ≡ pass.old.attempt + 1 }
         ensures took { Took (cond result GotWon GotLost) pass.old.seat.me.0 pass.new.seat.me.0 }
+        ensures event { GoesOnByStep (cond result GotWon GotLost) pass.old.seat.me.0 pass.new.seat.me.0 }
     {
         let stood = self
             .table
@@ -101,6 +105,7 @@ impl Shared {
         ensures own { IsOf self.now pass.new }
         ensures worker { IsOfSameWorker pass.old pass.new }
         ensures took { Took GotWon pass.old.seat.me.0 pass.new.seat.me.0 }
+        ensures event { GoesOnByStep GotWon pass.old.seat.me.0 pass.new.seat.me.0 }
     {
         self.table
             .shared
@@ -115,6 +120,7 @@ impl Shared {
         ensures own { IsOf self.now pass.new }
         ensures worker { IsOfSameWorker pass.old pass.new }
         ensures took { Took (Found result) pass.old.seat.me.0 pass.new.seat.me.0 }
+        ensures event { GoesOnByStep (Found result) pass.old.seat.me.0 pass.new.seat.me.0 }
     {
         self.table
             .shared

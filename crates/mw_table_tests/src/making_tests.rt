@@ -70,15 +70,17 @@ fn two_tenants() -> Config
 
 /// What their files gave: the first has the word 7, the other didn't open.
 fn one_of_two(alloc: Global) -> Result<Vec<FileOpening>, AllocError>
-    ensures { IfOk result (λ found. (words : Vec ℕ Global) × (words.items ≡ 7 ∷ []) × (found.items ≡ record { quota = 1; words = Some words } ∷ record { quota = 1; words = None } ∷ [])) }
+    ensures { IfOk result (λ found. (words : Vec ℕ Global) × (words.items ≡ 7 ∷ []) × (found.items ≡ record { quota = 1; places = 2; words = Some words } ∷ record { quota = 1; places = 1; words = None } ∷ [])) }
 {
     let words = vec![in alloc; 7]?;
     let opened = FileOpening {
         quota: 1,
+        places: 2,
         words: Some(words),
     };
     let failed = FileOpening {
         quota: 1,
+        places: 1,
         words: None,
     };
     let openings = vec![in alloc; opened, failed]?;

@@ -32,7 +32,7 @@ returns-clause-advances c =
     let running = runs_still actor (sym (c.is_some.ensures ∙ ap is_some c.reply.ensures) ∙ c.if-is_some.false) in
     let plain : is_file (op_of (asks actor)) ≡ false = ap is_file (sym c.ask-op.ensures.is) ∙ plain_so c.ask-op.result c.in_default.not-File in
     let told : IsTold new actor c.tell.new.self got = c.tell.ensures ∙ ap (tells actor (news_of (place (asks actor)) got)) c.attempt.ensures in
-    step_made old new actor c.tell.new.self got c.ended.result running plain c.step-got.ensures.took told c.ended.ensures
+    step_made old new actor c.tell.new.self got c.ended.result running plain c.step-got.ensures.took c.step-got.ensures.event told c.ended.ensures
 
 pub returns-clause-carried : goal.returns-clause-carried
 returns-clause-carried c =

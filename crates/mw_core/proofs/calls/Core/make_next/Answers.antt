@@ -1,17 +1,27 @@
-use Rattle.std.proofs.Common.{◌≡◌, ap, sym, ◌∙◌, subst}
+use Rattle.std.proofs.Common.{◌≡◌, false, ap, sym, ◌∙◌, subst}
 use Rattle.mw_words.specs.declared.places.At.{At}
 use Rattle.mw_look.specs.News.{news_of}
-use Rattle.mw_look.specs.Steps.{place, place_of}
+use Rattle.mw_look.specs.Steps.{op_of, place, place_of}
 use Rattle.mw_look.proofs.PlaceLaws.{place_of_bits}
+use Rattle.mw_actor.specs.declared.points.Point.{Point}
 use Rattle.mw_actor.specs.Acting.{Acting}
-use Rattle.mw_actor.specs.Asks.{asks}
+use Rattle.mw_actor.specs.Asks.{asks, asks_at}
 use Rattle.mw_actor.specs.Program.{tells}
-use Rattle.mw_table.proofs.Driving.{carried_on}
+use Rattle.mw_table.proofs.Driving.{carried_on, drives_so, is_file}
 use Rattle.mw_table.specs.Carried.{IsCarried}
 use Rattle.mw_core.specs.Advancing.{IsTold}
 use Rattle.mw_core.specs.Reasons.{turns}
-use Rattle.mw_core.proofs.Walking.{address_in, next_made}
+use Rattle.mw_core.proofs.Driven.{read_calls_none}
+use Rattle.mw_core.proofs.Walking.{next_made}
 use Rattle.mw_core.proofs.calls.Core.make_next.Goals as goal
+
+pub step-got-requires-clause-next : goal.step-got-requires-clause-next
+step-got-requires-clause-next c =
+    let actor = c.args.actor.now in
+    let read = c.requires.look.0 in
+    let plain : is_file c.ask-op.result ≡ false =
+    ap is_file c.ask-op.ensures.is ∙ (ap (λ (point : Point). is_file (op_of (asks_at actor point))) c.requires.look.1 ∙ read_calls_none read.tenant read.address read.point) in
+    drives_so c.args.pass.now actor c.ask-op.result c.requires.carried c.requires.running (sym c.ask-op.ensures.is) plain
 
 pub returns-clause-made : goal.returns-clause-made
 returns-clause-made c =
@@ -20,12 +30,10 @@ returns-clause-made c =
     let told : IsTold c.step-got.new.pass actor c.tell.new.self got = c.tell.ensures ∙ ap (tells actor (news_of (place (asks actor)) got)) c.attempt.ensures in
     λ read at.
     let point_is : c.look_point-point.result ≡ read.point = c.look_point-point.ensures read at in
-    let address_is : c.address_of-address.result ≡ read.address =
-    c.address_of-address.ensures c.requires.look.0.address c.requires.look.2 ∙ ap address_in (sym c.requires.look.1 ∙ at) in
     let place_is : c.place.result ≡ place (asks actor) = c.place.ensures ∙ (ap place_of c.ask-op.ensures.is ∙ place_of_bits (asks actor)) in
     let news_is : c.of.result ≡ news_of (place (asks actor)) got = c.of.ensures.is ∙ ap (λ (place : At). news_of place got) place_is in
-    next_made c.args.pass.now c.step-got.new.pass actor c.tell.new.self read got c.turns.result at c.requires.carried c.requires.running c.step-got.ensures.took told
-    (c.turns.ensures ∙ (λ i. turns (address_is i) (point_is i) (news_is i)))
+    next_made c.args.pass.now c.step-got.new.pass actor c.tell.new.self read got c.turns.result at c.requires.carried c.requires.running c.step-got.ensures.took c.step-got.ensures.event told
+    (c.turns.ensures ∙ (λ i. turns (point_is i) (news_is i)))
 
 pub returns-clause-carried : goal.returns-clause-carried
 returns-clause-carried c =

@@ -1,6 +1,4 @@
 use Rattle.std.proofs.Common.{◌≡◌, ◌∷◌, true, false, Option, ap, sym, ◌∙◌, subst}
-use Rattle.mw_words.specs.declared.jobs.Job.TheVariants.{Get}
-use Rattle.mw_look.proofs.RunLaws.{keeps_address}
 use Rattle.mw_actor.specs.Acting.{Acting}
 use Rattle.mw_actor.specs.Program.{replied}
 use Rattle.mw_core.specs.declared.looking.WhyAgain.{WhyAgain}
@@ -29,14 +27,8 @@ make_next-requires-clause-running c =
 
 pub make_next-requires-clause-look : goal.make_next-requires-clause-look
 make_next-requires-clause-look c =
-    let goes = c.loop-pass.invariant.goes in
-    let under = goes.under in
-    let address = goes.look.address in
-    let news = under.latest ∷ under.earlier in (
-      read_by c.args.actor.now address news,
-      ap (λ (one : Acting). one.point) under.next_is,
-      ap (λ (one : Acting). one.job) under.next_is ∙ (goes.look.job ∙ ap Get (sym (keeps_address c.args.actor.now.tenant address news))),
-    )
+    let under = c.loop-pass.invariant.goes.under in
+    (read_by c.args.actor.now c.loop-pass.invariant.goes.look.address (under.latest ∷ under.earlier), ap (λ (one : Acting). one.point) under.next_is)
 
 pub loop-pass-smaller : goal.loop-pass-smaller
 loop-pass-smaller c =

@@ -16,7 +16,7 @@ pub invariant_of-pass : goal.invariant_of-pass
 invariant_of-pass c = record {
   numbered =
       numbers_begin c.args.actor.now (Found c.compare_exchange_with.result) c.args.pass.now.worker c.args.pass.now.seat.me.0 c.compare_exchange_with.new.seat.me.0
-      c.requires.may c.compare_exchange_with.ensures.2
+      c.requires.may c.compare_exchange_with.ensures.2.0
       ∙ c.args.pass.now.numbered;
   rests = λ idle. absurd (cc);
 }

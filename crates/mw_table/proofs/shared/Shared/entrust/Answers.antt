@@ -37,5 +37,13 @@ loop-tenant-preserved c =
       count = one_more_right c.loop-tenant.rights.items c.push.new.self.items _ tenant c.in_ok-push.ensures.items c.loop-tenant.invariant.count;
       each =
           more_opened c.args.self.now basis c.loop-tenant.rights.items c.push.new.self.items _ tenant c.in_ok-push.ensures.items c.loop-tenant.invariant.count c.loop-tenant.invariant.each
-          (record { own = c.split_seat-own.ensures.3 ∙ c.loop-tenant.invariant.same_table; whose = refl; view = ap (λ (me : Me Acting View). me.0) is });
+          (record {
+            own = record {
+              table = c.split_seat-own.ensures.3 ∙ c.loop-tenant.invariant.same_table;
+              config = ap (λ (me : Me Acting View). me.0.config) is;
+              openings = ap (λ (me : Me Acting View). me.0.openings) is;
+            };
+            whose = refl;
+            view = ap (λ (me : Me Acting View). me.0) is;
+          });
     }

@@ -19,7 +19,7 @@ pub invariant_of-pass : goal.invariant_of-pass
 invariant_of-pass c = record {
   numbered =
       numbers_stay (ChangeBits c.args.kind c.args.at c.args.from c.args.to) (cond (c.compare_exchange-found.result == c.args.from) GotWon GotLost) c.args.pass.now.worker
-      c.args.pass.now.seat.me.0 c.compare_exchange-found.new.seat.me.0 c.requires.plain c.requires.next c.compare_exchange-found.ensures.2
+      c.args.pass.now.seat.me.0 c.compare_exchange-found.new.seat.me.0 c.requires.plain c.requires.next c.compare_exchange-found.ensures.2.0
       ∙ c.args.pass.now.numbered;
   rests = λ idle. absurd (busy c.args.pass.now.seat.me.0 c.args.pass.now.worker (ChangeBits c.args.kind c.args.at c.args.from c.args.to) c.requires.next (c.args.pass.now.rests idle));
 }

@@ -14,6 +14,6 @@ load-requires c =
 
 pub invariant_of-pass : goal.invariant_of-pass
 invariant_of-pass c = record {
-  numbered = ap (map number_of) c.load.ensures.2.same_reins ∙ c.args.pass.now.numbered;
-  rests = λ idle. rests_on c.index_of.result c.load.result c.args.pass.now.seat.me.0 c.load.new.seat.me.0 c.load.ensures.2 (c.args.pass.now.rests idle);
+  numbered = ap (map number_of) c.load.ensures.2.0.same_reins ∙ c.args.pass.now.numbered;
+  rests = λ idle. rests_on c.index_of.result c.load.result c.args.pass.now.seat.me.0 c.load.new.seat.me.0 c.load.ensures.2.0 (c.args.pass.now.rests idle);
 }

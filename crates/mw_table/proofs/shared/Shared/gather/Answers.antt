@@ -1,7 +1,8 @@
-use Rattle.std.proofs.Common.{ap, sym, subst, ◌∙◌}
+use Rattle.std.proofs.Common.{[], ap, sym, subst, ◌∙◌}
 use Rattle.atomic_table.specs.Table.{Me}
 use Rattle.mw_actor.specs.Acting.{Acting}
 use Rattle.mw_rule.specs.declared.views.View.{View}
+use Rattle.mw_rule.specs.Moves.{WentOn}
 use Rattle.mw_rule.specs.Rule.{IsLive}
 use Rattle.mw_rule.proofs.Parting.{gathering_keeps}
 use Rattle.mw_table.proofs.Meetings.{gathers_lives, some_word}
@@ -21,3 +22,6 @@ look-requires c = record {
   table = c.join_seat.ensures.0 ∙ c.requires.table;
   live = subst IsLive (sym (ap (λ (me : Me Acting View). me.0) c.join_seat.ensures.2)) (gathers_lives c.args.seat.now.me.0 c.args.its.me.0 c.requires.live);
 }
+
+pub returns-clause-event : goal.returns-clause-event
+returns-clause-event c = subst (λ (view : View). WentOn [] view c.look.new.seat.me.0) (ap (λ (me : Me Acting View). me.0) c.join_seat.ensures.2) c.look.ensures.event

@@ -24,3 +24,11 @@ invariant_of-pass c =
 
 pub returns-clause-file : goal.returns-clause-file
 returns-clause-file c = ap (λ (me : Me Acting View). file_among me.0.files) c.split_seat-seat.ensures.4 ∙ given_file c.args.pass.now.seat.me.0.files
+
+pub returns-clause-right : goal.returns-clause-right
+returns-clause-right c =
+    let is = c.split_seat-seat.ensures.4 in record {
+      table = c.split_seat-seat.ensures.3 ∙ c.requires.own.table;
+      config = ap (λ (me : Me Acting View). me.0.config) is ∙ c.requires.own.config;
+      openings = ap (λ (me : Me Acting View). me.0.openings) is ∙ c.requires.own.openings;
+    }

@@ -12,7 +12,7 @@ load-requires c = step_asks c.args.self.now c.args.pass.now (LoadBits c.args.at)
 pub invariant_of-pass : goal.invariant_of-pass
 invariant_of-pass c = record {
   numbered =
-      numbers_stay (LoadBits c.args.at) (Found c.load.result) c.args.pass.now.worker c.args.pass.now.seat.me.0 c.load.new.seat.me.0 refl c.requires.next c.load.ensures.2
+      numbers_stay (LoadBits c.args.at) (Found c.load.result) c.args.pass.now.worker c.args.pass.now.seat.me.0 c.load.new.seat.me.0 refl c.requires.next c.load.ensures.2.0
       ∙ c.args.pass.now.numbered;
   rests = λ idle. absurd (busy c.args.pass.now.seat.me.0 c.args.pass.now.worker (LoadBits c.args.at) c.requires.next (c.args.pass.now.rests idle));
 }

@@ -1,10 +1,11 @@
-use Rattle.std.proofs.Common.{ap, map, sym, subst, ◌∙◌}
+use Rattle.std.proofs.Common.{[], ap, map, sym, subst, ◌∙◌}
 use Rattle.atomic_table.specs.Table.{Me}
 use Rattle.atomic_table.specs.declared.shared.Seat.{Seat}
 use Rattle.mw_actor.specs.Acting.{Acting}
 use Rattle.mw_rule.specs.declared.views.View.{View}
 use Rattle.mw_rule.specs.Carrying.{Met}
-use Rattle.mw_rule.specs.Dealing.{dealt}
+use Rattle.mw_rule.specs.Dealing.{dealt, gathers, hears}
+use Rattle.mw_rule.specs.Moves.{WentOn}
 use Rattle.mw_table.specs.Meeting.{HaveMet}
 use Rattle.mw_table.specs.Numbers.{number_of}
 use Rattle.mw_table.specs.Resting.{has_none}
@@ -231,3 +232,21 @@ returns-clause-both c =
     let first = ap (λ (seat : Seat Acting View). seat.me.0) c.replace.ensures.after ∙ ap (λ (me : Me Acting View). me.0) c.part-own.ensures.part in
     let second = ap (λ (seat : Seat Acting View). seat.me.0) c.replace.ensures.value ∙ c.part-own.ensures.rest in
     subst (λ (view : View). HaveMet view c.replace.result.me.0) (sym first) (subst (λ (view : View). HaveMet (dealt c.gather.new.seat.me.0) view) (sym second) (have_met one.seat.me.0 other.seat.me.0 (one.worker, one.attempt) (other.worker, other.attempt) one.numbered other.numbered config openings story))
+
+pub returns-clause-event : goal.returns-clause-event
+returns-clause-event c =
+    let same = ap (λ (me : Me Acting View). me.0) c.note-said.ensures.same in
+    let said = ap (λ (me : Me Acting View). me.0) c.note-said.ensures.note in
+    let its = ap (λ (me : Me Acting View). me.0) c.part-its.ensures.part in
+    record {
+      looked = c.look.new.seat.me.0;
+      first_look = c.look.ensures.event;
+      heard = c.hear.new.seat.me.0;
+      second_look = subst (λ (view : View). WentOn [] (hears c.args.other.now.seat.me.0 view) c.hear.new.seat.me.0) said c.hear.ensures.event;
+      all = c.gather.new.seat.me.0;
+      last_look =
+          subst (λ (view : View). WentOn [] (gathers view (dealt c.hear.new.seat.me.0)) c.gather.new.seat.me.0) same
+          (subst (λ (view : View). WentOn [] (gathers c.note-said.new.seat.me.0 view) c.gather.new.seat.me.0) its c.gather.ensures.event);
+      one_is = ap (λ (seat : Seat Acting View). seat.me.0) c.replace.ensures.after ∙ ap (λ (me : Me Acting View). me.0) c.part-own.ensures.part;
+      other_is = ap (λ (seat : Seat Acting View). seat.me.0) c.replace.ensures.value ∙ c.part-own.ensures.rest;
+    }

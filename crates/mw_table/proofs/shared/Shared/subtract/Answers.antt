@@ -18,7 +18,7 @@ pub invariant_of-pass : goal.invariant_of-pass
 invariant_of-pass c = record {
   numbered =
       numbers_stay (ChangeBits c.args.kind c.args.at 0 0) (Found c.fetch_sub.result) c.args.pass.now.worker c.args.pass.now.seat.me.0 c.fetch_sub.new.seat.me.0
-      (plain_fetch c.args.kind c.args.at 0 0 c.args.number c.requires.way) c.requires.next c.fetch_sub.ensures.2
+      (plain_fetch c.args.kind c.args.at 0 0 c.args.number c.requires.way) c.requires.next c.fetch_sub.ensures.2.0
       ∙ c.args.pass.now.numbered;
   rests = λ idle. absurd (busy c.args.pass.now.seat.me.0 c.args.pass.now.worker (ChangeBits c.args.kind c.args.at 0 0) c.requires.next (c.args.pass.now.rests idle));
 }

@@ -15,7 +15,7 @@ join_seat-requires c =
     let pass = c.args.pass.now in
     let right = c.args.right in (
       c.requires.own.table,
-      c.requires.right,
+      c.requires.right.table,
       nothing_in right.seat.me.1 right.no_slots,
       some_word c.args.self.now,
       borrowing_keeps _ _ pass.seat.id right.seat.id pass.seat.me.0 right.seat.me.0 (lives pass) (right_lives right),

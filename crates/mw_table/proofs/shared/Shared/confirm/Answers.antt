@@ -1,0 +1,14 @@
+use Rattle.std.proofs.Common.{refl}
+use Rattle.mw_rule.specs.Moves.{Looks}
+use Rattle.mw_rule.proofs.Moves.{moves_are_allowed}
+use Rattle.mw_table.proofs.Lending.{right_lives, so_of_world}
+use Rattle.mw_table.proofs.Meetings.{some_word}
+use Rattle.mw_table.proofs.shared.Shared.confirm.Goals as goal
+
+pub load-requires : goal.load-requires
+load-requires c =
+    let right = c.args.right in
+    (c.requires.right.table, some_word c.args.self.now, moves_are_allowed _ _ _ right.seat.id right.seat.me (Looks 0 (right_lives right)) (λ bits. bits) (λ bits. refl))
+
+pub returns : goal.returns
+returns c = so_of_world _ _ c.args.right c.load.new.seat.me.0 c.requires.right.config c.requires.right.openings c.load.ensures.2.1
