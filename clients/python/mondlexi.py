@@ -99,7 +99,7 @@ Entry = Tuple[int, int, int]
 
 _MAX_PATH = 107
 _MAX_LINE = 640
-_MAX_REPLY = 32
+_MAX_REPLY = 35
 _MAX_SECONDS = 1_000_000.0
 _REPORT_LINES = 17
 _REPORT_END = 8
@@ -192,10 +192,13 @@ class Outcome:
 @dataclass(frozen=True)
 class TenantReport:
     """How one tenant is: its `name`; its `words`, 1 to 4096; its `quota`, how many changes it may have under way at a
-    time, 1 to 32; how many are `under_way`; and whether it is `up`. Where it isn't, its calls raise Fault."""
+    time, 1 to 64; how many `places` its file has, which is the greatest quota that it may be given at a start of the
+    server, 1 to 64, or 0 where its file didn't open or doesn't fit its line; how many changes are `under_way`; and
+    whether it is `up`. Where it isn't, its calls raise Fault."""
     name: str
     words: int
     quota: int
+    places: int
     under_way: int
     up: bool
 
@@ -609,11 +612,11 @@ def _report_of(replies: List[str]) -> Report:
 
 def _tenant_of(line: str) -> TenantReport:
     """A tenant's line of a report, in its columns."""
-    found = re.fullmatch("([a-z][a-z0-9-]{0,15}) +([0-9]+) +([0-9]+) +([0-9]+) (up|down)", line)
+    found = re.fullmatch("([a-z][a-z0-9-]{0,15}) +([0-9]+) +([0-9]+) +([0-9]+) +([0-9]+) (up|down)", line)
     if not found:
         raise _strange(line)
-    name, state = found.group(1), found.group(5)
-    words, quota, under_way = (int(found.group(k)) for k in (2, 3, 4))
-    if line != f"{name:16} {words:4} {quota:2} {under_way:2} {state}":
+    name, state = found.group(1), found.group(6)
+    words, quota, places, under_way = (int(found.group(k)) for k in (2, 3, 4, 5))
+    if line != f"{name:16} {words:4} {quota:2} {places:2} {under_way:2} {state}":
         raise _strange(line)
-    return TenantReport(name, words, quota, under_way, state == "up")
+    return TenantReport(name, words, quota, places, under_way, state == "up")

@@ -47,8 +47,9 @@ impl<R: Read + Drop, W: Write + Drop> Administrator<R, W> {
         }
     }
 
-    /// The report: of each tenant its name, its words, its quota, how many slots it uses and whether its file takes
-    /// changes; and how many slots of the pool are free. These figures are just what the text tells that came.
+    /// The report: of each tenant its name, its words, its quota, how many places its file has, how many slots it uses
+    /// and whether its file takes changes; and how many slots of the pool are free. These figures are just what the text
+    /// tells that came.
     ///
     /// # Errors
     ///

@@ -10,7 +10,7 @@ use crate::conversation::{LINE_FEED, next_byte};
 use crate::replies::number;
 use arrayvec::ArrayVec;
 use mw_report::{Figures, MAX_REPORT, TenantFigures, report_text};
-use mw_words::{MAX_POOL, MAX_QUOTA, MAX_TENANTS, MAX_WORDS, Name};
+use mw_words::{MAX_PLACES, MAX_POOL, MAX_QUOTA, MAX_TENANTS, MAX_WORDS, Name};
 use std::io::Read;
 
 /// What the last line of a report begins with.
@@ -100,13 +100,15 @@ fn tenant_of(line: &[u8]) -> Option<TenantFigures>
     let (name, line) = field(line);
     let (words, line) = field(line);
     let (quota, line) = field(line);
+    let (places, line) = field(line);
     let (used, line) = field(line);
     let (state, _) = field(line);
     Some(TenantFigures {
         name: name_of(name)?,
         words: within(words, MAX_WORDS)?,
-        quota: slots(quota)?,
-        used: slots(used)?,
+        quota: few(quota, MAX_QUOTA)?,
+        places: few(places, MAX_PLACES as u8)?,
+        used: few(used, MAX_QUOTA)?,
         up: is_up(state)?,
     })
 }
@@ -129,12 +131,12 @@ fn name_of(text: &[u8]) -> Option<Name> {
     }
 }
 
-/// The number of slots that is all of a text.
-fn slots(text: &[u8]) -> Option<u8>
-    ensures { IfSome result (λ count. count ≤ MAX_QUOTA) }
+/// The number of slots or of places that is all of a text, up to the most.
+fn few(text: &[u8], most: u8) -> Option<u8>
+    ensures { IfSome result (λ count. count ≤ most) }
 {
     match number(text) {
-        Some(count) if count <= u64::from(MAX_QUOTA) => Some(count as u8),
+        Some(count) if count <= u64::from(most) => Some(count as u8),
         _ => None,
     }
 }

@@ -5,7 +5,7 @@ use Rattle.std.proofs.lemmas.Fmt.{length-decimal-le}
 pub words_width : (n : ℕ) → n ≤ 4096 → length (decimal n) ≤ 4
 words_width n h = length-decimal-le 4 n (omega arith) (omega arith) (omega arith)
 
-pub slots_width : (n : ℕ) → n ≤ 32 → length (decimal n) ≤ 2
+pub slots_width : (n : ℕ) → n ≤ 64 → length (decimal n) ≤ 2
 slots_width n h = length-decimal-le 2 n (omega arith) (omega arith) (omega arith)
 
 pub pool_width : (n : ℕ) → n ≤ 256 → length (decimal n) ≤ 3

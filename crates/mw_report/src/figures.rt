@@ -12,6 +12,9 @@ pub struct TenantFigures {
     pub words: u16,
     /// How many slots it may use at a time, at most [`mw_words::MAX_QUOTA`].
     pub quota: u8,
+    /// How many record places its file has, at most [`mw_words::MAX_PLACES`]; 0 where its file didn't
+    /// open or doesn't fit its line.
+    pub places: u8,
     /// How many slots it uses, at most [`mw_words::MAX_QUOTA`].
     pub used: u8,
     /// Whether its file takes changes: it has opened and hasn't failed since.

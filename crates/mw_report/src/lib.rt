@@ -2,8 +2,8 @@
 //! pool are free.
 //!
 //! ```text
-//! t                   2  1  0 up
-//! u                4096 32  3 down
+//! t                   2  1  2  0 up
+//! u                4096 32 64  3 down
 //! free 30
 //! ```
 #![tactic(auto)]

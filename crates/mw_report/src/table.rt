@@ -17,11 +17,11 @@ const NAME_WIDTH: usize = MAX_NAME;
 /// The width of a tenant's number of words.
 const WORDS_WIDTH: usize = 4;
 
-/// The width of a number of slots.
+/// The width of a number of slots, and of one of record places.
 const SLOTS_WIDTH: usize = 2;
 
-/// The most bytes of a tenant's line: five columns, a space before each but the first, a line feed.
-const MAX_TENANT_LINE: usize = 33;
+/// The most bytes of a tenant's line: six columns, a space before each but the first, a line feed.
+const MAX_TENANT_LINE: usize = 36;
 
 /// A report under way.
 type Text = ArrayVec<u8, MAX_REPORT>;
@@ -56,6 +56,8 @@ fn put_tenant(text: &mut Text, tenant: &TenantFigures)
     put_right(text, tenant.words, WORDS_WIDTH);
     put(text, b" ");
     put_right(text, u16::from(tenant.quota), SLOTS_WIDTH);
+    put(text, b" ");
+    put_right(text, u16::from(tenant.places), SLOTS_WIDTH);
     put(text, b" ");
     put_right(text, u16::from(tenant.used), SLOTS_WIDTH);
     put(text, b" ");

@@ -4,10 +4,10 @@ use Rattle.std.proofs.lemmas.List.Elements.{All-nil, All-cons}
 use Rattle.mw_report.specs.declared.figures.TenantFigures.{TenantFigures}
 use Rattle.mw_report.specs.Table.{AreWithinLimits, IsWithinLimits}
 
-pub one_within : (ts : List TenantFigures) (t : TenantFigures) (free : ℕ) → ts ≡ t ∷ [] → t.words ≤ 4096 → t.quota ≤ 32 → t.used ≤ 32 → free ≤ 256 → AreWithinLimits ts free
-one_within ts t free is words quota used h =
+pub one_within : (ts : List TenantFigures) (t : TenantFigures) (free : ℕ) → ts ≡ t ∷ [] → t.words ≤ 4096 → t.quota ≤ 64 → t.places ≤ 64 → t.used ≤ 64 → free ≤ 256 → AreWithinLimits ts free
+one_within ts t free is words quota places used h =
     subst (λ l. AreWithinLimits l free) (sym is)
-    (record { few = lit≤ tt; each = All-cons IsWithinLimits t [] (record { words = words; quota = quota; used = used }) (All-nil IsWithinLimits); free = h })
+    (record { few = lit≤ tt; each = All-cons IsWithinLimits t [] (record { words = words; quota = quota; places = places; used = used }) (All-nil IsWithinLimits); free = h })
 
 pub none_within : (ts : List TenantFigures) (free : ℕ) → ts ≡ [] → free ≤ 256 → AreWithinLimits ts free
 none_within ts free is h = subst (λ l. AreWithinLimits l free) (sym is) (record { few = lit≤ tt; each = All-nil IsWithinLimits; free = h })

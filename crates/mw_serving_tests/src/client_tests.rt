@@ -1,9 +1,13 @@
-//! Clients of a server that is a text.
+//! Clients of a server that is a text, and one who comes by a socket.
+use crate::test_serving::{Shop, serves_right};
 use arrayvec::ArrayVec;
-use mw_client::{Administrator, Client, Failure, Outcome, read_reply};
+use mw_client::{Administrator, Client, Failure, Outcome, connect_administrator, read_reply};
 use mw_report::Figures;
 use mw_words::{Entries, Entry, Name};
 use std::alloc::Global;
+use std::io;
+use std::net::{Net, TcpStream};
+use std::test::Fail;
 use std::time::{Clock, Duration};
 
 /// How long the clients ask again where they may, in seconds.
@@ -113,7 +117,7 @@ fn value_at(seen: &Entries, place: usize) -> u64 {
 /// What the server says to the administrator, and then as a report of two tenants, of which one is named as its last
 /// line begins.
 const REPORTED: &[u8] =
-    b"OK ADMIN\nfree                2  1  0 up\nu                4096 32  3 down\nfree 30\n";
+    b"OK ADMIN\nfree                2  1  2  0 up\nu                4096 64 64  3 down\nfree 30\n";
 
 /// Whether these are the figures of that report.
 fn are_reported(figures: &Figures) -> bool {
@@ -122,8 +126,9 @@ fn are_reported(figures: &Figures) -> bool {
             let names = first.name.as_slice() == b"free".as_slice()
                 && second.name.as_slice() == b"u".as_slice();
             let words = first.words == 2 && second.words == 4096;
-            let slots = (first.quota, first.used, second.quota, second.used) == (1, 0, 32, 3);
-            names && words && slots && first.up && !second.up && figures.pool_free == 30
+            let slots = (first.quota, first.used, second.quota, second.used) == (1, 0, 64, 3);
+            let places = first.places == 2 && second.places == 64;
+            names && words && slots && places && first.up && !second.up && figures.pool_free == 30
         }
         _ => false,
     }
@@ -157,8 +162,9 @@ fn has_no_report(alloc: Global, said: &[u8]) -> bool {
 #[test]
 fn what_is_no_report(rt: HostRuntime) {
     let texts =
-        b"OK ADMIN\nfree 030\n|OK ADMIN\nfree 257\n|OK ADMIN\nfree 30|OK ADMIN\nt 2 1 0 up\nfree 30\n|\
-OK ADMIN\nt                   2  1  0 off\nfree 30\n|OK ADMIN\nERR 10\n|OK ADMIN\nt                4097  1  0 up\nfree 30\n";
+        b"OK ADMIN\nfree 030\n|OK ADMIN\nfree 257\n|OK ADMIN\nfree 30|OK ADMIN\nt 2 1 2 0 up\nfree 30\n|\
+OK ADMIN\nt                   2  1  2  0 off\nfree 30\n|OK ADMIN\nERR 10\n|OK ADMIN\nt                4097  1  2  0 up\nfree 30\n|\
+OK ADMIN\nt                   2  1  0 up\nfree 30\n|OK ADMIN\nt                   2  1 65  0 up\nfree 30\n";
     assert!(rt;
         texts
             .split(|byte| *byte == b'|')
@@ -166,4 +172,47 @@ OK ADMIN\nt                   2  1  0 off\nfree 30\n|OK ADMIN\nERR 10\n|OK ADMIN
     );
     let refused = Administrator::begin(b"ERR 4\n".as_slice(), Vec::new(rt.alloc()));
     assert!(rt; matches!(refused, Err(Failure::Refused(_))));
+}
+
+/// Whether the administrator who comes to this port by a socket is told of the one tenant there, that its file has two
+/// places and that it is up.
+fn is_told_by_a_socket<R: Net<Stream = TcpStream>>(
+    rt: &R,
+    alloc: Global,
+    port: u16,
+) -> io::Result<bool> {
+    let address = format!(in alloc; "127.0.0.1:{port}")?;
+    let patience = Duration::from_secs(PATIENCE);
+    let Ok(mut client) = connect_administrator(rt, alloc, address.as_str(), patience) else {
+        return Ok(false);
+    };
+    Ok(match client.report() {
+        Ok(figures) => is_of_the_shelf(&figures),
+        Err(_) => false,
+    })
+}
+
+/// Whether these are the figures that the server of the tests tells.
+fn is_of_the_shelf(figures: &Figures) -> bool {
+    match figures.tenants.as_slice() {
+        [only] => only.places == 2 && only.up && figures.pool_free == 256,
+        _ => false,
+    }
+}
+
+#[test]
+fn the_administrator_connects_and_asks(rt: HostRuntime) -> Result<(), Fail> {
+    let shop = Shop {
+        words: 2,
+        workers: 1,
+        connections: 1,
+    };
+    let told = serves_right(
+        &rt,
+        shop,
+        None,
+        |port| is_told_by_a_socket(&rt, rt.alloc(), port),
+    )?;
+    assert!(rt; told);
+    Ok(())
 }

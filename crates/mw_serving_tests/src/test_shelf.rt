@@ -88,6 +88,7 @@ impl Service for Shelf {
             name: Name::try_from(b"t".as_slice()).unwrap_or_default(),
             words: 2,
             quota: 1,
+            places: 2,
             used: 0,
             up: true,
         };
@@ -126,11 +127,7 @@ impl<'a, R: Wait> Service for Clerk<'a, R> {
         self.shelf.lock(self.rt).ask(tenant, job)
     }
 
-    #[tactic(auto, using(crate::proofs::Figured::none_within))]
     fn figures(&mut self) -> Figures {
-        Figures {
-            tenants: ArrayVec::new(),
-            pool_free: 0,
-        }
+        self.shelf.lock(self.rt).figures()
     }
 }

@@ -2,18 +2,20 @@ ghost use Rattle.std.specs.Prelude.{◌≤◌};
 ghost use Rattle.mw_report.specs.Table.{IsWithinLimits};
 
 use mw_report::*;
-use mw_words::{MAX_QUOTA, MAX_WORDS, Name};
+use mw_words::{MAX_PLACES, MAX_QUOTA, MAX_WORDS, Name};
 
 /// A tenant with no slot in use.
-fn tenant(name: &[u8], words: u16, quota: u8) -> TenantFigures
+fn tenant(name: &[u8], words: u16, quota: u8, places: u8) -> TenantFigures
     requires words { words ≤ MAX_WORDS }
     requires quota { quota ≤ MAX_QUOTA }
+    requires places { places ≤ MAX_PLACES }
     ensures { IsWithinLimits result }
 {
     TenantFigures {
         name: Name::try_from(name).unwrap_or_default(),
         words,
         quota,
+        places,
         used: 0,
         up: true,
     }
@@ -22,16 +24,16 @@ fn tenant(name: &[u8], words: u16, quota: u8) -> TenantFigures
 #[test]
 #[tactic(auto, using(crate::proofs::Within::within))]
 fn report_one_tenant(rt: HostRuntime) {
-    let text = report_text(&[tenant(b"t", 2, 1)], 256);
-    let wanted = b"t                   2  1  0 up\nfree 256\n";
+    let text = report_text(&[tenant(b"t", 2, 1, 2)], 256);
+    let wanted = b"t                   2  1  2  0 up\nfree 256\n";
     assert!(rt; text.as_slice() == wanted.as_slice());
 }
 
 #[test]
 #[tactic(auto, using(crate::proofs::Within::within))]
 fn report_two_tenants(rt: HostRuntime) {
-    let text = report_text(&[tenant(b"t", 2, 1), tenant(b"u", 4096, 32)], 33);
-    let wanted = b"t                   2  1  0 up\nu                4096 32  0 up\nfree 33\n";
+    let text = report_text(&[tenant(b"t", 2, 1, 2), tenant(b"u", 4096, 32, 64)], 33);
+    let wanted = b"t                   2  1  2  0 up\nu                4096 32 64  0 up\nfree 33\n";
     assert!(rt; text.as_slice() == wanted.as_slice());
 }
 
@@ -39,10 +41,21 @@ fn report_two_tenants(rt: HostRuntime) {
 #[tactic(auto, using(crate::proofs::Within::within))]
 fn widest_figures(rt: HostRuntime) {
     let widest = TenantFigures {
-        used: 31,
+        used: 63,
         up: false,
-        ..tenant(b"abcdefghijklmno-", 4096, 32)
+        ..tenant(b"abcdefghijklmno-", 4096, 64, 64)
     };
-    let wanted = b"abcdefghijklmno- 4096 32 31 down\nfree 0\n";
+    let wanted = b"abcdefghijklmno- 4096 64 64 63 down\nfree 0\n";
     assert!(rt; report_text(&[widest], 0).as_slice() == wanted.as_slice());
+}
+
+#[test]
+#[tactic(auto, using(crate::proofs::Within::within))]
+fn a_tenant_without_a_file(rt: HostRuntime) {
+    let unopened = TenantFigures {
+        up: false,
+        ..tenant(b"t", 2, 1, 0)
+    };
+    let wanted = b"t                   2  1  0  0 down\nfree 255\n";
+    assert!(rt; report_text(&[unopened], 255).as_slice() == wanted.as_slice());
 }

@@ -6,5 +6,5 @@ use Rattle.mw_report.proofs.table.report_text.Given as goal
 abbrev pub invariant-loop-tenant : goal.invariant-loop-tenant
 invariant-loop-tenant l = record {
   lines : l.text.items ++ flat_map tenant_line (drop l.tenant-index l.tenants) ≡ flat_map tenant_line l.tenants;
-  room : length l.text.items ≤ 33 * l.tenant-index;
+  room : length l.text.items ≤ 36 * l.tenant-index;
 }
