@@ -1,13 +1,14 @@
 -- What of an engine needs no lock, and what stays of the engine, say the same of passes and requests.
-use Rattle.std.specs.Prelude.{ℕ, ◌≡◌, ◌<◌, List}
+use Rattle.std.specs.Prelude.{ℕ, ◌≡◌, ◌<◌, List, map}
 use Rattle.std.proofs.Common.{sym, ap, subst, ◌∙◌}
 use Rattle.mw_words.specs.declared.jobs.Job.{Job}
 use Rattle.mw_actor.specs.Acting.{Acting, first}
 use Rattle.mw_world.specs.declared.config.Config.{Config}
 use Rattle.mw_core.specs.FromTable.{Pass, config_of, openings_of}
 use Rattle.mw_engine.specs.declared.front.Front.{Front}
+use Rattle.mw_engine.specs.Agreeing.{places_told}
 use Rattle.mw_engine.specs.Branding.{Identity, identity_on}
-use Rattle.mw_engine.specs.Fronts.{HasPass, IsRequestOfFront, lines_told, request}
+use Rattle.mw_engine.specs.Fronts.{HasPass, IsRequestOfFront, lines_told, places_kept, request}
 use Rattle.mw_engine.specs.Identity.{IsFor, Line, quota_told}
 use Rattle.mw_engine.specs.Passes.{IsPassOf}
 use Rattle.mw_engine.specs.Requests.{IsRequest, request_of}
@@ -21,6 +22,10 @@ module _ {H : Type 0} (front : Front H) (identity : Identity) (same : identity_o
 
   same_openings : openings_of front.core.shared.table.shared.key ≡ identity.openings
   same_openings = ap (λ (one : Identity). one.openings) same
+
+  -- so many places for changes of each file
+  pub same_places : places_kept front ≡ map places_told identity.openings
+  same_places = front.places_are ∙ ap (map places_told) same_openings
 
   same_table : front.core.shared.table.shared.table_id ≡ identity.table
   same_table = ap (λ (one : Identity). one.table) same

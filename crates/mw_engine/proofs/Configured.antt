@@ -47,8 +47,8 @@ configured config lines pool workers tenants is_pool is_workers is_seq pools som
           (All-map (λ (tenant : Tenant). (1 ≤ tenant.words) × (tenant.words ≤ MAX_WORDS)) tenant_read lines permitted.words);
       quotas = subst (λ (all : List Tenant). All (λ (tenant : Tenant). (1 ≤ tenant.quota) × (tenant.quota ≤ MAX_QUOTA)) all) (sym tenants)
           (All-map (λ (tenant : Tenant). (1 ≤ tenant.quota) × (tenant.quota ≤ MAX_QUOTA)) tenant_read lines permitted.quotas);
-      old = subst (λ (all : List Tenant). All (λ (tenant : Tenant). IsTrue (may_be_old tenant.words tenant.old)) all) (sym tenants)
-          (All-map (λ (tenant : Tenant). IsTrue (may_be_old tenant.words tenant.old)) tenant_read lines (λ i line low. refl));
+      old = subst (λ (all : List Tenant). All (λ (tenant : Tenant). IsTrue (may_be_old tenant.words tenant.quota tenant.old)) all) (sym tenants)
+          (All-map (λ (tenant : Tenant). IsTrue (may_be_old tenant.words tenant.quota tenant.old)) tenant_read lines (λ i line low. refl));
       slots = subst (λ (all : List Tenant). sum_by (λ (tenant : Tenant). tenant.quota) all ≤ config.pool) (sym tenants)
           (let slots = permitted.slots in let same = quotas_so lines in omega (arith, slots, same, is_pool));
     }
@@ -68,6 +68,17 @@ module _ {D : Type 0} (facts : D → Facts) where
   quota_at (line ∷ lines) [] tenant fit all low = absurd fit
   quota_at (line ∷ lines) (file ∷ files) zero fit all low = subst (λ (n : ℕ). (1 ≤ n) × (n ≤ MAX_QUOTA)) (sym (quota_one line file)) (all 0 line (omega arith))
   quota_at (line ∷ lines) (file ∷ files) (suc tenant) fit all low = quota_at lines files tenant fit.1 (λ i d there. all (suc i) d (omega (arith, there))) (omega (arith, low))
+
+  room_one : (line : TenantLine) (file : Option (TenantFile D × Vec ℕ Global)) → FitsLine facts line file → (opening_read line file).quota ≤ (opening_read line file).places
+  room_one line None fits = omega arith
+  room_one line (Some opened) fits = fits.room
+
+  room_at : (lines : List TenantLine) (files : List (Option (TenantFile D × Vec ℕ Global))) (tenant : ℕ) → FitLines facts lines files → tenant < length lines
+      → (opening_at (openings_read lines files) tenant).quota ≤ (opening_at (openings_read lines files) tenant).places
+  room_at [] files tenant fit low = absurd (omega (arith, low))
+  room_at (line ∷ lines) [] tenant fit low = absurd fit
+  room_at (line ∷ lines) (file ∷ files) zero fit low = room_one line file fit.0
+  room_at (line ∷ lines) (file ∷ files) (suc tenant) fit low = room_at lines files tenant fit.1 (omega (arith, low))
 
   long_at : (lines : List TenantLine) (files : List (Option (TenantFile D × Vec ℕ Global))) (tenant : ℕ) → FitLines facts lines files → tenant < length lines
       → length (opening_at (openings_read lines files) tenant).words ≡ (slice_index_or (map tenant_read lines) tenant no_tenant).words
@@ -104,6 +115,7 @@ module _ {D : Type 0} (facts : D → Facts) where
       record {
         quotas = record {
           each = λ tenant low. quota_at lines files tenant fit permitted.quotas (omega (arith, low, count));
+          room = λ tenant low. room_at lines files tenant fit (omega (arith, low, count));
           together = subst (λ (n : ℕ). quotas_together (λ k. (opening_at (openings_read lines files) k).quota) n ≤ config.pool) (sym count)
               (let same = together_so lines files fit in let slots = permitted.slots in omega (arith, same, slots, is_pool));
         };

@@ -1,38 +1,73 @@
 -- The disks at the end of an engine.
-use Rattle.std.specs.Prelude.{◌≡◌, ◌<◌, ℕ, zero, suc, true, Bool, is_some, List, length, replicate, slice_get, slice_set, Option, Some, None}
-use Rattle.std.proofs.Common.{refl, sym, ap, subst, ◌∙◌, inl, inr}
-use Rattle.std.proofs.lemmas.Bool.{cases_eq}
+use Rattle.std.specs.Prelude.{◌≡◌, ℕ, zero, suc, true, false, Bool, is_some, List, [], ◌∷◌, ◌++◌, length, slice_get, Option, Some, None, IsTrue}
+use Rattle.std.proofs.Common.{refl, sym, ap, subst, ◌∙◌}
+use Rattle.mw_disk.specs.Facts.{Facts}
+use Rattle.mw_record.specs.Layout.{pairs_of}
 use Rattle.mw_file.specs.declared.tenant_file.TenantFile.{TenantFile}
-use Rattle.mw_book.specs.Held.{disk_in}
-use Rattle.mw_file.proofs.Places.{get_others, get_written}
-use Rattle.mw_world.specs.Definition.State.{Opening}
-use Rattle.mw_core.specs.FromTable.{opening_at}
-use Rattle.mw_engine.specs.Kept.{AreOfOpened}
+use Rattle.mw_file.specs.File.{disk_of}
+use Rattle.mw_file.specs.Keeps.{Keeps}
+use Rattle.mw_words.specs.declared.jobs.Entry.{Entry}
+use Rattle.mw_book.specs.declared.kept.Book.{Book}
+use Rattle.mw_book.specs.Held.{StandsFor, disk_in}
+use Rattle.mw_core.specs.FromTable.{FileRight, IsSoOfWorld, file_kept, file_told, opening_at}
+use Rattle.mw_engine.specs.Branding.{Identity}
+use Rattle.mw_engine.specs.Ending.{EachIsGiven, GivenAs}
+use Rattle.mw_engine.specs.Kept.{IsKept}
+use Rattle.mw_engine.proofs.Once.{agrees_of}
 
-module _ {D : Type 0} (openings : List Opening) where
-  -- where there is none yet
-  none_at : (count tenant : ℕ) (disk : D) → slice_get (replicate count None) tenant ≡ Some (Some disk) → ⊥
-  none_at zero tenant disk is = cc
-  none_at (suc count) zero disk is = cc
-  none_at (suc count) (suc tenant) disk is = none_at count tenant disk is
+-- what is so of each of a list, by number, is so with one more
+abbrev some_in : {A : Type 0} → A → Option A → A
+some_in other None = other
+some_in other (Some one) = one
 
-  pub none_yet : (count : ℕ) (disks : List (Option D)) → disks ≡ replicate count None → AreOfOpened openings disks
-  none_yet count disks is = subst (λ (all : List (Option D)). AreOfOpened openings all) (sym is) (λ tenant disk there. absurd (none_at count tenant disk there))
+by_number : {A : Type 0} (P : ℕ → A → Type 0) (old : List A) (one : A) → ((k : ℕ) (x : A) → slice_get old k ≡ Some x → P k x) → P (length old) one
+    → (k : ℕ) (x : A) → slice_get (old ++ one ∷ []) k ≡ Some x → P k x
+by_number P [] one all so zero x is = subst (P 0) (ap (some_in one) is) so
+by_number P [] one all so (suc k) x is = absurd (cc)
+by_number P (first ∷ rest) one all so zero x is = all zero x is
+by_number P (first ∷ rest) one all so (suc k) x is = by_number (λ j. P (suc j)) rest one (λ j. all (suc j)) so k x is
 
-  there_so : (found : Option D) (disk : D) (up : Bool) → Some found ≡ Some (Some disk) → is_some found ≡ up → up ≡ true
-  there_so None disk up is so = absurd (cc)
-  there_so (Some one) disk up is so = sym so
+module _ {D : Type 0} (facts : D → Facts) (identity : Identity) where
+  nothing : EachIsGiven facts identity []
+  nothing tenant found is = absurd (cc)
 
-  -- where one more was found
-  pub one_more : (disks : List (Option D)) (place : ℕ) (found : Option D) → place < length disks → is_some found ≡ (opening_at openings place).is_up → AreOfOpened openings disks
-      → AreOfOpened openings (slice_set disks place found)
-  one_more disks place found low so before = λ tenant disk there. elim (cases_eq tenant place) [
-    | inl at ↦ subst (λ (n : ℕ). (opening_at openings n).is_up ≡ true) (sym at)
-        (there_so found disk (opening_at openings place).is_up (sym (get_written disks place found low) ∙ (ap (slice_get (slice_set disks place found)) (sym at) ∙ there)) so)
-    | inr apart ↦ before tenant disk (sym (get_others disks place tenant found apart) ∙ there)
-  ]
+  pub none_given : (disks : List (Option D)) → disks ≡ [] → EachIsGiven facts identity disks
+  none_given disks none = subst (EachIsGiven facts identity) (sym none) nothing
 
--- a disk is there where a file is
-pub disk_there : {D : Type 0} (held : Option (TenantFile D)) → is_some (disk_in held) ≡ is_some held
-disk_there None = refl
-disk_there (Some file) = refl
+  pub one_more : (old new : List (Option D)) (one : Option D) (tenant : ℕ) → new ≡ old ++ one ∷ [] → length old ≡ tenant
+      → EachIsGiven facts identity old → GivenAs facts identity tenant one → EachIsGiven facts identity new
+  one_more old new one tenant is many all so =
+      subst (EachIsGiven facts identity) (sym is)
+      (by_number (GivenAs facts identity) old one all (subst (λ (n : ℕ). GivenAs facts identity n one) (sym many) so))
+
+  -- where there is a file, it stands for the words that it has in the world
+  stands_so : (tenant : ℕ) (right : FileRight) (so : IsSoOfWorld identity.config identity.openings tenant (file_kept right)) (file : TenantFile D)
+      → StandsFor facts (Some file) (file_told (file_kept right)).contents (pairs_of (file_told (file_kept right)).doubt)
+      → IsTrue (facts (disk_of file)).honest → Keeps facts file (so.state.accounts tenant).file.contents (pairs_of (so.state.accounts tenant).file.doubt)
+  stands_so tenant right so file stands honest =
+      subst (λ (words : List ℕ). Keeps facts file words (pairs_of (so.state.accounts tenant).file.doubt)) (sym so.tells.contents)
+      (subst (λ (change : List Entry). Keeps facts file (file_kept right).contents (pairs_of change)) (sym so.tells.doubt) (stands honest))
+
+  -- what is given of the book that was kept for a tenant
+  pub given_as : (book : Book D) (right : FileRight) (tenant : ℕ) (result : Option D) → result ≡ disk_in book.held → IsKept facts identity book right → right.tenant ≡ tenant
+      → IsSoOfWorld identity.config identity.openings right.tenant (file_kept right) → GivenAs facts identity tenant result
+  given_as book right tenant result is kept its so = subst (GivenAs facts identity tenant) (sym is) (by book.held refl)
+    where
+      here : IsSoOfWorld identity.config identity.openings tenant (file_kept right)
+      here = subst (λ (n : ℕ). IsSoOfWorld identity.config identity.openings n (file_kept right)) its so
+
+      by : (held : Option (TenantFile D)) → book.held ≡ held → GivenAs facts identity tenant (disk_in held)
+      by None none = sym (ap (λ (one : Option (TenantFile D)). is_some one) (sym none) ∙ (kept.opened ∙ ap (λ (n : ℕ). (opening_at identity.openings n).is_up) its))
+      by (Some file) there = record {
+        book = book;
+        right = right;
+        file = file;
+        kept = kept;
+        its = its;
+        held = there;
+        on = refl;
+        so = here;
+        stands = stands_so tenant right here file
+            (subst (λ (one : Option (TenantFile D)). StandsFor facts one (file_told (file_kept right)).contents (pairs_of (file_told (file_kept right)).doubt)) there
+            (agrees_of facts book (file_kept right) (opening_at identity.openings right.tenant).quota identity.config.pool kept.agrees).shows.stands);
+      }

@@ -7,7 +7,7 @@ use Rattle.mw_book.specs.declared.kept.Book.{Book}
 use Rattle.mw_book.specs.Crashes.{LeavesEither}
 use Rattle.mw_book.specs.Held.{OnDisk, disk_in}
 use Rattle.mw_actor.specs.Acting.{Acting}
-use Rattle.mw_core.specs.FromTable.{FileRight, FileRights, IsRightOf, Pass, Shared, config_of, file_kept, opening_at, openings_of}
+use Rattle.mw_core.specs.FromTable.{FileRight, FileRights, IsRightOf, IsSoOfWorld, Pass, Shared, config_of, file_kept, opening_at, openings_of}
 use Rattle.mw_core.specs.Filing.{FilesOnce, stake_by}
 use Rattle.mw_core.specs.Books.{AgreesThere}
 use Rattle.mw_engine.specs.Branding.{Identity, identity_on}
@@ -17,7 +17,11 @@ use Rattle.mw_engine.proofs.Once.{agrees_of, agrees_once}
 module _ {D : Type 0} (facts : D → Facts) (shared : Shared) (identity : Identity) (same : identity_on shared identity.lines ≡ identity) where
   -- it is a right of the table, and the book agrees with it
   pub right_of : (book : Book D) (right : FileRight) → IsKept facts identity book right → IsRightOf shared right
-  right_of book right kept = kept.own ∙ sym (ap (λ (one : Identity). one.table) same)
+  right_of book right kept = record {
+    table = kept.own ∙ sym (ap (λ (one : Identity). one.table) same);
+    config = kept.config ∙ sym (ap (λ (one : Identity). one.config) same);
+    openings = kept.openings ∙ sym (ap (λ (one : Identity). one.openings) same);
+  }
 
   pub there_of : (book : Book D) (right : FileRight) → IsKept facts identity book right → AgreesThere facts shared book right
   there_of book right kept =
@@ -27,11 +31,18 @@ module _ {D : Type 0} (facts : D → Facts) (shared : Shared) (identity : Identi
   pub kept_of : (book : Book D) (right : FileRight) → IsRightOf shared right → is_some book.held ≡ (opening_at identity.openings right.tenant).is_up → AgreesThere facts shared book right
       → IsKept facts identity book right
   kept_of book right own opened agrees = record {
-    own = own ∙ ap (λ (one : Identity). one.table) same;
+    own = own.table ∙ ap (λ (one : Identity). one.table) same;
+    config = own.config ∙ ap (λ (one : Identity). one.config) same;
+    openings = own.openings ∙ ap (λ (one : Identity). one.openings) same;
     opened = opened;
     agrees = subst (λ (one : Identity). AgreesOnce facts book (file_kept right) (opening_at one.openings right.tenant).quota one.config.pool) same
         (agrees_once facts book (file_kept right) (opening_at (openings_of shared.table.shared.key) right.tenant).quota (config_of shared.table.shared.key).pool agrees);
   }
+
+-- What a right tells is so of the engine's world.
+pub so_there : (shared : Shared) (identity : Identity) (tenant : ℕ) (rights : FileRights) → identity_on shared identity.lines ≡ identity
+    → IsSoOfWorld (config_of shared.table.shared.key) (openings_of shared.table.shared.key) tenant rights → IsSoOfWorld identity.config identity.openings tenant rights
+so_there shared identity tenant rights same so = subst (λ (one : Identity). IsSoOfWorld one.config one.openings tenant rights) same so
 
 module _ {D : Type 0} (facts : D → Facts) (identity : Identity) where
   -- a lock that has just this right
@@ -58,12 +69,6 @@ module _ {D : Type 0} (facts : D → Facts) (identity : Identity) where
       → ArePaired left others
   rest_kept book right books left rights others at also kept =
       λ tenant one other is its. kept (suc tenant) one other (ap (λ all. slice_get all (suc tenant)) at ∙ is) (ap (λ all. slice_get all (suc tenant)) also ∙ its)
-
--- the book of a lock holds a file if its tenant's opened
-module _ {D : Type 0} (facts : D → Facts) (identity : Identity) where
-  pub opened_by : (book : Book D) (right : Option FileRight) (tenant : ℕ) → KeepsFor facts identity book right tenant → is_some book.held ≡ (opening_at identity.openings tenant).is_up
-  opened_by book None tenant keeps = absurd (let there = keeps.there in cc)
-  opened_by book (Some right) tenant keeps = (keeps.kept right refl).opened ∙ ap (λ (n : ℕ). (opening_at identity.openings n).is_up) (keeps.its right refl)
 
 -- what became of a disk that is there is there
 still_on : {D : Type 0} (facts : D → Facts) (becomes : Facts → Facts → Type 0) (old new : Option (TenantFile D)) → OnDisk facts becomes (disk_in old) (disk_in new) → is_some new ≡ is_some old

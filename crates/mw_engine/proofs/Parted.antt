@@ -13,15 +13,15 @@ use Rattle.mw_book.specs.declared.kept.Book.{Book}
 use Rattle.mw_core.specs.FromTable.{AreOpened, Basis, FileOpening, FileRight, FileRights, IsDealt, Pass, Shared, View, basis_of, basis_of_start, config_of, file_among, file_kept, numbers, opening_at, openings_given, openings_of, rights_opened}
 use Rattle.mw_core.specs.Books.{Agrees}
 use Rattle.mw_engine.specs.declared.listed.Listed.{Listed}
-use Rattle.mw_engine.specs.Agreeing.{Agrees as AgreesWithWorld, line_given}
+use Rattle.mw_engine.specs.Agreeing.{Agrees as AgreesWithWorld, line_given, places_told}
 use Rattle.mw_engine.specs.Branding.{identity_on}
 use Rattle.mw_engine.specs.Kept.{AreKept}
-use Rattle.mw_engine.specs.Lines.{line_of}
-use Rattle.mw_engine.specs.Opened.{AreMadeOf, FitLines, line_read, openings_read, tenant_read}
+use Rattle.mw_engine.specs.Lines.{line_of, places_of}
+use Rattle.mw_engine.specs.Opened.{AreMadeOf, FitLines, line_read, openings_read, places_found, tenant_read}
 use Rattle.mw_engine.specs.Passes.{IsNew}
 use Rattle.mw_engine.proofs.Configured.{line_is}
 use Rattle.mw_engine.proofs.Once.{agrees_once}
-use Rattle.mw_engine.proofs.Started.{AgreesWith, agrees_at, given_all, made_counts}
+use Rattle.mw_engine.proofs.Started.{AgreesWith, agrees_at, given_all, made_counts, places_all}
 
 -- the number of the first of these workers' next attempt
 abbrev second_of : List (ℕ × ℕ) → ℕ
@@ -40,6 +40,10 @@ module _ {D : Type 0} (facts : D → Facts) (shared : Shared) (config : Config) 
   -- what the start gave
   pub openings_are : openings_of shared.table.shared.key ≡ openings_read lines files
   openings_are = ap (λ (b : Basis). b.openings) basis ∙ given_is
+
+  -- as many places are kept of each file as the start gave
+  pub places_agree : map places_of kept ≡ map places_found openings → map places_of kept ≡ map places_told (openings_of shared.table.shared.key)
+  places_agree kept_so = kept_so ∙ (places_all facts lines files openings books made ∙ ap (map places_told) (sym openings_are))
 
   as_many : length kept ≡ length lines
   as_many = sym (length-map kept line_of) ∙ (ap length listed ∙ length-map lines line_read)
@@ -97,7 +101,9 @@ module _ {D : Type 0} (facts : D → Facts) (shared : Shared) (config : Config) 
         ∙ ap (λ (given : List Opening). rights_opened tenant (opening_at given tenant).quota config.pool (opening_at given tenant).words (not (opening_at given tenant).is_up)) given_is in (
           one.whose,
           record {
-            own = one.own;
+            own = one.own.table;
+            config = one.own.config;
+            openings = one.own.openings;
             opened = both.1 ∙ (λ i. (opening_at (sym openings_are i) (sym one.whose i)).is_up);
             agrees = agrees_once facts book (file_kept right) (opening_at (openings_of shared.table.shared.key) right.tenant).quota (config_of shared.table.shared.key).pool (subst (λ (rights : FileRights). Agrees facts book rights (opening_at (openings_of shared.table.shared.key) right.tenant).quota (config_of shared.table.shared.key).pool) (sym told)
                 (subst (λ (n : ℕ). Agrees facts book (rights_opened tenant (opening_at os tenant).quota config.pool (opening_at os tenant).words (not (opening_at os tenant).is_up))

@@ -1,18 +1,20 @@
 -- Figures under way: one look more.
-use Rattle.std.specs.Prelude.{ℕ, zero, suc, ◌≡◌, ◌<◌, ◌+◌, ◌⊎◌, Bool, true, false, not, cond, List, [], ◌∷◌, ◌++◌, length, map, slice_get, take, Some}
-use Rattle.std.proofs.Common.{refl, sym, ap, subst, ◌∙◌, inl, inr, get_or, length-append, arith}
+use Rattle.std.specs.Prelude.{ℕ, suc, ◌≡◌, ◌<◌, ◌+◌, Bool, true, false, not, cond, List, [], ◌∷◌, ◌++◌, length, map, take}
+use Rattle.std.proofs.Common.{refl, sym, ap, subst, ◌∙◌, get_or, length-append, arith}
 use Rattle.std.proofs.lemmas.List.{length-map, map-append}
 use Rattle.std.proofs.lemmas.List.Sums.{sum_by_push}
 use Rattle.std.proofs.Math.Seq.{take-suc}
 use Rattle.mw_words.specs.declared.doors.Door.{Door}
 use Rattle.mw_words.specs.declared.gates.Gate.{Gate}
+use Rattle.mw_words.specs.declared.places.At.{At}
+use Rattle.mw_words.specs.declared.places.At.TheVariants.{Door as AtDoor, Gate as AtGate}
+use Rattle.mw_words.specs.Patterns.{unpacked_door, unpacked_gate}
 use Rattle.mw_report.specs.declared.figures.TenantFigures.{TenantFigures}
-use Rattle.mw_core.specs.FromTable.{Keeps, Pass, View}
+use Rattle.mw_core.specs.FromTable.{Looked, Pass, View, index_of}
 use Rattle.mw_core.proofs.FromTable.{keeps_all, keeps_on}
 use Rattle.mw_engine.specs.declared.listed.Listed.{Listed}
-use Rattle.mw_engine.specs.Figures.{AreDoors, FoundDoor, FoundGate, HasLooked, TellsFree, TellTenants, door_shown, is_free, line_shown}
-use Rattle.mw_engine.specs.Identity.{Line}
-use Rattle.mw_engine.specs.Lines.{line_of}
+use Rattle.mw_engine.specs.Figures.{FoundDoor, FoundGate, HasLooked, Loads, TellsFree, TellTenants, door_shown, door_told, each_at, gate_told, is_free, line_shown, places_shown}
+use Rattle.mw_engine.specs.Lines.{line_of, places_of}
 
 -- what is told of a door is the door
 not_not : (test : Bool) → not (not test) ≡ test
@@ -44,85 +46,63 @@ looked_on old between new one more = record {
   same_mine = more.same_mine ∙ one.same_mine;
 }
 
--- the last of a list that became longer, or one that stood there before
-last_or : {A : Type 0} (all : List A) (last one : A) (index : ℕ) → slice_get (all ++ last ∷ []) index ≡ Some one → (slice_get all index ≡ Some one) ⊎ ((index ≡ length all) × (last ≡ one))
-last_or [] last one zero is = inr (refl, cc)
-last_or [] last one (suc index) is = absurd (cc)
-last_or (first ∷ rest) last one zero is = inl is
-last_or (first ∷ rest) last one (suc index) is = elim (last_or rest last one index is) [
-  | inl at ↦ inl at
-  | inr at ↦ inr (ap suc at.0, at.1)
-]
+-- bits at one place more
+pub each_more : (place : ℕ → At) (first : ℕ) (bits : List ℕ) (last at : ℕ) → at ≡ first + length bits → each_at place first (bits ++ last ∷ []) ≡ each_at place first bits ++ (place at, last) ∷ []
+each_more place first [] last at is = let same : first ≡ at = omega (arith, is) in ap (λ (n : ℕ). (place n, last) ∷ []) same
+each_more place first (one ∷ bits) last at is =
+    let next : at ≡ suc first + length bits = omega (arith, is) in ap (λ (all : List (At × ℕ)). (place first, one) ∷ all) (each_more place (suc first) bits last at next)
 
-module _ (pool : ℕ) (old between new : View) where
-  door_later : (tenant : ℕ) (door : Door) → Keeps between new → FoundDoor pool tenant door old between → FoundDoor pool tenant door old new
-  door_later tenant door kept it = record {
-    bits = it.bits;
-    found = record { before = it.found.before; after = it.found.after; earlier = it.found.earlier; looked = it.found.looked; later = keeps_on it.found.after between new it.found.later kept };
-    unpacked = it.unpacked;
-  }
+module _ (pool : ℕ) where
+  -- one load more
+  loads_more : (loads : List (At × ℕ)) (at : At) (bits : ℕ) (old between new : View) → Loads pool loads old between → Looked (index_of pool at) bits between new → Loads pool (loads ++ (at, bits) ∷ []) old new
+  loads_more [] at bits old between new same looked = (new, subst (λ (view : View). Looked (index_of pool at) bits view new) same looked, refl)
+  loads_more (one ∷ loads) at bits old between new before looked = (before.0, before.1, loads_more loads at bits before.0 between new before.2 looked)
 
-  door_now : (tenant : ℕ) (door : Door) → Keeps old between → FoundDoor pool tenant door between new → FoundDoor pool tenant door old new
-  door_now tenant door kept it = record {
-    bits = it.bits;
-    found = record { before = it.found.before; after = it.found.after; earlier = keeps_on old between it.found.before kept it.found.earlier; looked = it.found.looked; later = it.found.later };
-    unpacked = it.unpacked;
-  }
+  loads_at : (place : ℕ → At) (bits : List ℕ) (last at : ℕ) (old between new : View) → length bits ≡ at → Loads pool (each_at place 0 bits) old between → Looked (index_of pool (place at)) last between new
+      → Loads pool (each_at place 0 (bits ++ last ∷ [])) old new
+  loads_at place bits last at old between new many before looked =
+      let is : at ≡ 0 + length bits = omega (arith, many) in
+      subst (λ (loads : List (At × ℕ)). Loads pool loads old new) (sym (each_more place 0 bits last at is)) (loads_more (each_at place 0 bits) (place at) last old between new before looked)
 
-  doors_more : (doors : List Door) (door : Door) → Keeps old between → Keeps between new → AreDoors pool doors old between → FoundDoor pool (length doors) door between new
-      → AreDoors pool (doors ++ door ∷ []) old new
-  doors_more doors door before after all found = λ tenant one is. elim (last_or doors door one tenant is) [
-    | inl at ↦ door_later tenant one after (all tenant one at)
-    | inr at ↦ subst (λ (d : Door). FoundDoor pool tenant d old new) at.1 (subst (λ (n : ℕ). FoundDoor pool n door old new) (sym at.0) (door_now (length doors) door before found))
-  ]
+  -- nothing was looked at yet
+  pub no_tenants : (view : View) → TellTenants pool [] [] [] view view
+  no_tenants view = record { lines_are = refl; places_are = refl; bits = []; loads = refl; doors = refl }
 
-  gate_later : (slot : ℕ) (gate : Gate) → Keeps between new → FoundGate pool slot gate old between → FoundGate pool slot gate old new
-  gate_later slot gate kept it = record {
-    bits = it.bits;
-    found = record { before = it.found.before; after = it.found.after; earlier = it.found.earlier; looked = it.found.looked; later = keeps_on it.found.after between new it.found.later kept };
-    unpacked = it.unpacked;
-  }
+  pub no_slots : (view : View) → TellsFree pool 0 0 view view
+  no_slots view = record { gates = []; count = refl; bits = []; loads = refl; unpacked = refl; free_are = refl }
 
-  gate_now : (slot : ℕ) (gate : Gate) → Keeps old between → FoundGate pool slot gate between new → FoundGate pool slot gate old new
-  gate_now slot gate kept it = record {
-    bits = it.bits;
-    found = record { before = it.found.before; after = it.found.after; earlier = keeps_on old between it.found.before kept it.found.earlier; looked = it.found.looked; later = it.found.later };
-    unpacked = it.unpacked;
-  }
-
-  -- what was found stays found
-  pub tenants_later : (lines : List Line) (shown : List TenantFigures) → Keeps between new → TellTenants pool lines shown old between → TellTenants pool lines shown old new
-  tenants_later lines shown kept tells = record { lines_are = tells.lines_are; doors = λ tenant one is. door_later tenant one kept (tells.doors tenant one is) }
-
-  pub free_now : (slots free : ℕ) → Keeps old between → TellsFree pool slots free between new → TellsFree pool slots free old new
-  free_now slots free kept tells = record { gates = tells.gates; count = tells.count; found = λ slot one is. gate_now slot one kept (tells.found slot one is); free_are = tells.free_are }
+  as_many : {A B : Type 0} (f : A → B) (g : ℕ → B) (xs : List A) (bits : List ℕ) → map g bits ≡ map f xs → length bits ≡ length xs
+  as_many f g xs bits same = sym (length-map bits g) ∙ (ap length same ∙ length-map xs f)
 
   -- one slot more was looked at
-  pub free_more : (slot free more : ℕ) (gate : Gate) → Keeps old between → Keeps between new → TellsFree pool slot free old between → FoundGate pool slot gate between new → more ≡ free + cond (is_free gate) 1 0
+  pub free_more : (old between new : View) (slot free more : ℕ) (gate : Gate) → TellsFree pool slot free old between → FoundGate pool slot gate between new → more ≡ free + cond (is_free gate) 1 0
       → TellsFree pool (slot + 1) more old new
-  free_more slot free more gate before after tells found is = record {
+  free_more old between new slot free more gate tells found is = record {
     gates = tells.gates ++ gate ∷ [];
     count = length-append tells.gates (gate ∷ []) ∙ ap (λ (n : ℕ). n + 1) tells.count;
-    found = λ at one there. elim (last_or tells.gates gate one at there) [
-      | inl earlier ↦ gate_later at one after (tells.found at one earlier)
-      | inr last ↦ subst (λ (g : Gate). FoundGate pool at g old new) last.1
-          (subst (λ (n : ℕ). FoundGate pool n gate old new) (sym (last.0 ∙ tells.count)) (gate_now slot gate before found))
-    ];
+    bits = tells.bits ++ found.bits ∷ [];
+    loads = loads_at AtGate tells.bits found.bits slot old between new (as_many gate_told unpacked_gate tells.gates tells.bits tells.unpacked ∙ tells.count) tells.loads found.looked;
+    unpacked = map-append unpacked_gate tells.bits (found.bits ∷ [])
+        ∙ ((λ i. tells.unpacked i ++ found.unpacked i ∷ []) ∙ sym (map-append gate_told tells.gates (gate ∷ [])));
     free_are = is ∙ (ap (λ (n : ℕ). n + cond (is_free gate) 1 0) tells.free_are ∙ sym (sum_by_push (λ (one : Gate). cond (is_free one) 1 0) tells.gates gate));
   }
 
   -- one tenant more was looked at
-  pub tenants_more : (kept : List Listed) (tenant : ℕ) (item : Listed) (shown : List TenantFigures) (one : TenantFigures) → Keeps old between → Keeps between new → tenant < length kept
-      → item ≡ get_or kept tenant item → length shown ≡ tenant → TellTenants pool (map line_of (take tenant kept)) shown old between → line_shown one ≡ line_of item
-      → FoundDoor pool tenant (door_shown one) between new → TellTenants pool (map line_of (take (tenant + 1) kept)) (shown ++ one ∷ []) old new
-  tenants_more kept tenant item shown one before after low here many tells line found =
+  pub tenants_more : (old between new : View) (kept : List Listed) (tenant : ℕ) (item : Listed) (shown : List TenantFigures) (one : TenantFigures) → tenant < length kept
+      → item ≡ get_or kept tenant item → length shown ≡ tenant → TellTenants pool (map line_of (take tenant kept)) (map places_of (take tenant kept)) shown old between → line_shown one ≡ line_of item
+      → places_shown one ≡ places_of item → FoundDoor pool tenant (door_shown one) between new
+      → TellTenants pool (map line_of (take (tenant + 1) kept)) (map places_of (take (tenant + 1) kept)) (shown ++ one ∷ []) old new
+  tenants_more old between new kept tenant item shown one low here many tells line places found =
       let next : suc tenant ≡ tenant + 1 = omega arith in
       let longer : take (tenant + 1) kept ≡ take tenant kept ++ item ∷ [] =
       ap (λ (n : ℕ). take n kept) (sym next) ∙ (take-suc kept tenant item low ∙ ap (λ (l : Listed). take tenant kept ++ l ∷ []) (sym here)) in
       record {
         lines_are = map-append line_shown shown (one ∷ [])
             ∙ ((λ i. tells.lines_are i ++ line i ∷ []) ∙ (sym (map-append line_of (take tenant kept) (item ∷ [])) ∙ ap (map line_of) (sym longer)));
-        doors = subst (λ (all : List Door). AreDoors pool all old new) (sym (map-append door_shown shown (one ∷ [])))
-            (doors_more (map door_shown shown) (door_shown one) before after tells.doors
-            (subst (λ (n : ℕ). FoundDoor pool n (door_shown one) between new) (sym (length-map shown door_shown ∙ many)) found));
+        places_are = map-append places_shown shown (one ∷ [])
+            ∙ ((λ i. tells.places_are i ++ places i ∷ []) ∙ (sym (map-append places_of (take tenant kept) (item ∷ [])) ∙ ap (map places_of) (sym longer)));
+        bits = tells.bits ++ found.bits ∷ [];
+        loads = loads_at AtDoor tells.bits found.bits tenant old between new (as_many door_told unpacked_door shown tells.bits tells.doors ∙ many) tells.loads found.looked;
+        doors = map-append unpacked_door tells.bits (found.bits ∷ [])
+            ∙ ((λ i. tells.doors i ++ found.unpacked i ∷ []) ∙ sym (map-append door_told shown (one ∷ [])));
       }

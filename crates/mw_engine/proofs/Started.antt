@@ -1,10 +1,11 @@
 -- An engine's parts are made of lines and files.
-use Rattle.std.specs.Prelude.{◌≡◌, ◌<◌, ◌+◌, ℕ, zero, suc, not, is_some, List, [], ◌∷◌, ◌++◌, drop, length, map, replicate, slice_get, Option, Some, None, Vec}
+use Rattle.std.specs.Prelude.{◌≡◌, ◌≤◌, ◌<◌, ◌+◌, ℕ, zero, suc, not, is_some, List, [], ◌∷◌, ◌++◌, drop, length, map, replicate, slice_get, Option, Some, None, Vec}
 use Rattle.std.specs.declared.alloc.Global.{Global}
-use Rattle.std.proofs.Common.{refl, sym, ap, subst, ◌∙◌, add-one, append_assoc, get_or, inl, inr}
+use Rattle.std.proofs.Common.{refl, sym, ap, subst, ◌∙◌, arith, add-one, append_assoc, get_or, inl, inr}
 use Rattle.std.proofs.Math.Seq.{drop-cons}
 use Rattle.std.proofs.lemmas.Bool.{cases_lt}
 use Rattle.std.proofs.lemmas.List.{drop_all}
+use Rattle.mw_words.specs.declared.limits.TheConstants.{MAX_PLACES}
 use Rattle.mw_disk.specs.Facts.{Facts}
 use Rattle.mw_file.specs.declared.tenant_file.TenantFile.{TenantFile}
 use Rattle.mw_config.specs.declared.lines.TenantLine.{TenantLine}
@@ -13,7 +14,8 @@ use Rattle.mw_book.specs.declared.kept.Book.{Book}
 use Rattle.mw_core.specs.FromTable.{FileOpening, opening_at, opening_given, openings_given, rights_opened}
 use Rattle.mw_core.specs.Books.{Agrees}
 use Rattle.mw_core.proofs.Agreeing.{opened_books_agree, unopened_books_agree}
-use Rattle.mw_engine.specs.Opened.{AreMadeOf, FitLines, FitsLine, IsMadeOf, book_file, held_read, opening_of, opening_read, openings_read, tenant_read}
+use Rattle.mw_engine.specs.Agreeing.{places_told}
+use Rattle.mw_engine.specs.Opened.{AreMadeOf, FitLines, FitsLine, HaveFewPlaces, IsMadeOf, book_file, held_read, opening_of, opening_read, openings_read, places_found, tenant_read}
 
 module _ {D : Type 0} (facts : D → Facts) where
   -- the line and the file that are next, and what is left behind them
@@ -84,6 +86,46 @@ module _ {D : Type 0} (facts : D → Facts) where
   files_are (line ∷ lines) [] openings books made = absurd made
   files_are (line ∷ lines) (file ∷ files) [] books made = absurd made
   files_are (line ∷ lines) (file ∷ files) (opening ∷ openings) [] made = absurd made
+
+  -- as many places for changes are told of a file as the start gave
+  place_one : (line : TenantLine) (file : Option (TenantFile D × Vec ℕ Global)) → places_found (opening_of line file) ≡ places_told (opening_read line file)
+  place_one line None = refl
+  place_one line (Some opened) = refl
+
+  pub places_all : (lines : List TenantLine) (files : List (Option (TenantFile D × Vec ℕ Global))) (openings : List FileOpening) (books : List (Book D)) → AreMadeOf facts lines files openings books
+      → map places_found openings ≡ map places_told (openings_read lines files)
+  places_all [] [] [] [] made = refl
+  places_all (line ∷ lines) (file ∷ files) (opening ∷ openings) (book ∷ books) made =
+      let first : places_found opening ≡ places_told (opening_read line file) = ap places_found made.0.opening_is ∙ place_one line file in
+      let rest = places_all lines files openings books made.1 in
+      λ i. first i ∷ rest i
+  places_all [] [] [] (book ∷ books) made = absurd made
+  places_all [] [] (opening ∷ openings) books made = absurd made
+  places_all [] (file ∷ files) openings books made = absurd made
+  places_all (line ∷ lines) [] openings books made = absurd made
+  places_all (line ∷ lines) (file ∷ files) [] books made = absurd made
+  places_all (line ∷ lines) (file ∷ files) (opening ∷ openings) [] made = absurd made
+
+  -- and no more than a file may have
+  few_of : (line : TenantLine) (file : Option (TenantFile D × Vec ℕ Global)) → places_found (opening_of line file) ≤ MAX_PLACES
+  few_of line None = omega arith
+  few_of line (Some opened) = opened.0.few
+
+  few_in : (lines : List TenantLine) (files : List (Option (TenantFile D × Vec ℕ Global))) (openings : List FileOpening) (books : List (Book D)) → AreMadeOf facts lines files openings books
+      → (index : ℕ) (other : FileOpening) → index < length openings → places_found (get_or openings index other) ≤ MAX_PLACES
+  few_in [] [] [] [] made index other low = absurd (omega (arith, low))
+  few_in (line ∷ lines) (file ∷ files) (opening ∷ openings) (book ∷ books) made zero other low = subst (λ (one : FileOpening). places_found one ≤ MAX_PLACES) (sym made.0.opening_is) (few_of line file)
+  few_in (line ∷ lines) (file ∷ files) (opening ∷ openings) (book ∷ books) made (suc index) other low = few_in lines files openings books made.1 index other (omega (arith, low))
+  few_in [] [] [] (book ∷ books) made index other low = absurd made
+  few_in [] [] (opening ∷ openings) books made index other low = absurd made
+  few_in [] (file ∷ files) openings books made index other low = absurd made
+  few_in (line ∷ lines) [] openings books made index other low = absurd made
+  few_in (line ∷ lines) (file ∷ files) [] books made index other low = absurd made
+  few_in (line ∷ lines) (file ∷ files) (opening ∷ openings) [] made index other low = absurd made
+
+  pub few_all : (lines : List TenantLine) (files : List (Option (TenantFile D × Vec ℕ Global))) (openings : List FileOpening) (books : List (Book D)) → AreMadeOf facts lines files openings books
+      → HaveFewPlaces openings
+  few_all lines files openings books made = λ index other low. few_in lines files openings books made index other low
 
   -- what the table takes of the files is what the start gives
   given_one : (line : TenantLine) (file : Option (TenantFile D × Vec ℕ Global)) → opening_given (tenant_read line) (opening_of line file) ≡ opening_read line file

@@ -1,5 +1,5 @@
--- What figures tell. Each number is of the bits that one load found, which is no step of a request; two loads needn't be of one moment.
-use Rattle.std.specs.Prelude.{ℕ, ◌≡◌, ◌&&◌, Bool, true, not, cond, nat_lt, List, length, map, slice_get, sum_by, Some}
+-- What figures tell: just what loads found that were made for them, one of each tenant's door and one of each slot's gate. No load is a step of a request, and each has a moment of its own.
+use Rattle.std.specs.Prelude.{ℕ, suc, ◌≡◌, ◌&&◌, Bool, true, not, cond, nat_lt, List, [], ◌∷◌, length, map, sum_by, Option, Some}
 use Rattle.mw_words.specs.declared.doors.Door.{Door}
 use Rattle.mw_words.specs.declared.gates.Gate.{Gate}
 use Rattle.mw_words.specs.declared.limits.TheConstants.{WORN_NUMBER}
@@ -10,31 +10,27 @@ use Rattle.mw_report.specs.declared.figures.TenantFigures.{TenantFigures}
 use Rattle.mw_core.specs.FromTable.{Keeps, Looked, Pass, View, index_of}
 use Rattle.mw_engine.specs.Identity.{Line}
 
--- Bits that stand at a place in some world after a run, as a load between these two moments may have found them.
-pub record IsFoundAt (pool : ℕ) (at : At) (bits : ℕ) (old new : View) : Type 0 where
-  pub before : View
-  pub after : View
-  pub earlier : Keeps old before
-  pub looked : Looked (index_of pool at) bits before after
-  pub later : Keeps after new
+-- Of each of these places its word was loaded, one after the other, and these bits were found; besides these loads nothing was done on the shared words. Each found what stood there in a world after some run in which no less
+-- was sealed than the pass had seen by then.
+abbrev pub Loads : ℕ → List (At × ℕ) → View → View → Type 0
+Loads pool [] old new = new ≡ old
+Loads pool (one ∷ rest) old new = (between : View) × Looked (index_of pool one.0) one.1 old between × Loads pool rest between new
 
--- So a tenant's door was found, and a slot's gate.
+-- these bits at places of one kind, from a number on
+abbrev pub each_at : (ℕ → At) → ℕ → List ℕ → List (At × ℕ)
+each_at place first [] = []
+each_at place first (bits ∷ rest) = (place first, bits) ∷ each_at place (suc first) rest
+
+-- A tenant's door was loaded, and a slot's gate.
 pub record FoundDoor (pool tenant : ℕ) (door : Door) (old new : View) : Type 0 where
   pub bits : ℕ
-  pub found : IsFoundAt pool (AtDoor tenant) bits old new
+  pub looked : Looked (index_of pool (AtDoor tenant)) bits old new
   pub unpacked : unpacked_door bits ≡ Some door
 
 pub record FoundGate (pool slot : ℕ) (gate : Gate) (old new : View) : Type 0 where
   pub bits : ℕ
-  pub found : IsFoundAt pool (AtGate slot) bits old new
+  pub looked : Looked (index_of pool (AtGate slot)) bits old new
   pub unpacked : unpacked_gate bits ≡ Some gate
-
--- the doors of all tenants, and the gates of all slots, by number
-abbrev pub AreDoors : ℕ → List Door → View → View → Type 0
-AreDoors pool doors old new = (tenant : ℕ) (door : Door) → slice_get doors tenant ≡ Some door → FoundDoor pool tenant door old new
-
-abbrev pub AreGates : ℕ → List Gate → View → View → Type 0
-AreGates pool gates old new = (slot : ℕ) (gate : Gate) → slice_get gates slot ≡ Some gate → FoundGate pool slot gate old new
 
 -- what a tenant's figures tell of its line, and of its door: up to now its file has had no fault, and so many slots are in use
 abbrev pub line_shown : TenantFigures → Line
@@ -43,10 +39,23 @@ line_shown figures = record { name = figures.name.items; words = figures.words; 
 abbrev pub door_shown : TenantFigures → Door
 door_shown figures = record { fault = not figures.up; used = figures.used }
 
--- The figures tell these lines, and doors that were found between these two moments.
-pub record TellTenants (pool : ℕ) (lines : List Line) (figures : List TenantFigures) (old new : View) : Type 0 where
+abbrev pub door_told : TenantFigures → Option Door
+door_told figures = Some (door_shown figures)
+
+abbrev pub gate_told : Gate → Option Gate
+gate_told gate = Some gate
+
+-- how many places its file has
+abbrev pub places_shown : TenantFigures → ℕ
+places_shown figures = figures.places
+
+-- The figures tell these lines, these numbers of places for changes of the tenants' files, and the doors that were found by a load of each, in the tenants' order.
+pub record TellTenants (pool : ℕ) (lines : List Line) (places : List ℕ) (figures : List TenantFigures) (old new : View) : Type 0 where
   pub lines_are : map line_shown figures ≡ lines
-  pub doors : AreDoors pool (map door_shown figures) old new
+  pub places_are : map places_shown figures ≡ places
+  pub bits : List ℕ
+  pub loads : Loads pool (each_at AtDoor 0 bits) old new
+  pub doors : map unpacked_door bits ≡ map door_told figures
 
 -- a slot is free that isn't taken, and isn't worn
 abbrev pub is_free : Gate → Bool
@@ -55,12 +64,20 @@ is_free gate = not gate.taken && nat_lt gate.seq WORN_NUMBER
 abbrev pub free_among : List Gate → ℕ
 free_among gates = sum_by (λ gate. cond (is_free gate) 1 0) gates
 
--- So many of the slots are free, by gates that were found between these two moments.
+-- So many of the slots are free, by the gates that were found by a load of each, in the slots' order.
 pub record TellsFree (pool slots free : ℕ) (old new : View) : Type 0 where
   pub gates : List Gate
   pub count : length gates ≡ slots
-  pub found : AreGates pool gates old new
+  pub bits : List ℕ
+  pub loads : Loads pool (each_at AtGate 0 bits) old new
+  pub unpacked : map unpacked_gate bits ≡ map gate_told gates
   pub free_are : free ≡ free_among gates
+
+-- Both are told: first the doors were loaded, then the gates, and nothing else.
+pub record TellAll (pool slots : ℕ) (lines : List Line) (places : List ℕ) (figures : List TenantFigures) (free : ℕ) (old new : View) : Type 0 where
+  pub between : View
+  pub tenants : TellTenants pool lines places figures old between
+  pub slots_free : TellsFree pool slots free between new
 
 -- The pass looked, and made no step: it is the same worker's and idle, what it saw goes on, and no request is noted.
 pub record HasLooked (old new : Pass) : Type 0 where

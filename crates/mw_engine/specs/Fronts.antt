@@ -6,13 +6,17 @@ use Rattle.mw_actor.specs.Acting.{Acting, first}
 use Rattle.mw_core.specs.FromTable.{Pass}
 use Rattle.mw_engine.specs.declared.front.Front.{Front}
 use Rattle.mw_engine.specs.Identity.{IsFor, Line, quota_told}
-use Rattle.mw_engine.specs.Lines.{line_of}
+use Rattle.mw_engine.specs.Lines.{line_of, places_of}
 use Rattle.mw_engine.specs.Passes.{IsOneOf}
 
 module _ {H : Type 0} where
   -- the tenants' lines
   abbrev pub lines_told : Front H → List Line
   lines_told engine = map line_of engine.lines.items
+
+  -- how many places for changes each tenant's file has
+  abbrev pub places_kept : Front H → List ℕ
+  places_kept engine = map places_of engine.lines.items
 
   -- the pass is one of its table's
   abbrev pub HasPass : Front H → Pass → Type 0

@@ -13,7 +13,6 @@ use Rattle.mw_file.specs.File.{at_of, disk_of, words_of, states_of, has_failed}
 use Rattle.mw_file.specs.Keeps.{IsEither, IsFile}
 use Rattle.mw_file.specs.PlaceStates.{stage_of, writes_of_place}
 use Rattle.mw_file.specs.Stores.{IsWritten}
-use Rattle.mw_world.specs.Definition.State.{Opening}
 use Rattle.mw_book.specs.declared.kept.Book.{Book}
 use Rattle.mw_book.specs.Held.{states_in}
 use Rattle.mw_book.specs.Shown.{ArePlaced}
@@ -50,9 +49,11 @@ module _ {D : Type 0} (facts : D → Facts) where
     pub of_slots : length rights.place_of ≡ slots
 
   module _ (identity : Identity) where
-    -- The right is of the engine's table, and book and right tell of one file, of as many places as its tenant may use slots. The book holds a file if the tenant's opened.
+    -- The right is of the engine's table, and whoever has it knows what its world is made of, and what the latest start gave; book and right tell of one file, of as many places as its tenant may use slots. The book holds a file if the tenant's opened.
     pub record IsKept (book : Book D) (right : FileRight) : Type 0 where
       pub own : right.seat.table_id ≡ identity.table
+      pub config : right.seat.me.0.config ≡ identity.config
+      pub openings : right.seat.me.0.openings ≡ identity.openings
       pub opened : is_some book.held ≡ (opening_at identity.openings right.tenant).is_up
       pub agrees : AgreesOnce book (file_kept right) (opening_at identity.openings right.tenant).quota identity.config.pool
 
@@ -65,7 +66,3 @@ module _ {D : Type 0} (facts : D → Facts) where
       pub there : is_some right ≡ true
       pub kept : (one : FileRight) → right ≡ Some one → IsKept book one
       pub its : (one : FileRight) → right ≡ Some one → one.tenant ≡ tenant
-
--- There is no disk but at tenants whose file opened.
-abbrev pub AreOfOpened : {D : Type 0} → List Opening → List (Option D) → Type 0
-AreOfOpened {D} openings disks = (tenant : ℕ) (disk : D) → slice_get disks tenant ≡ Some (Some disk) → (opening_at openings tenant).is_up ≡ true

@@ -1,5 +1,6 @@
 pub mod Agreeing
 pub mod Branding
+pub mod Ending
 pub mod Figures
 pub mod Filing
 pub mod FromBelow

@@ -1,7 +1,8 @@
 -- What an engine is made of: the tenants' lines, and their files as they opened.
-use Rattle.std.specs.Prelude.{◌≡◌, ◌≤◌, ℕ, true, false, List, [], ◌∷◌, length, replicate, Option, Some, None, Vec, IsTrue}
+use Rattle.std.specs.Prelude.{◌≡◌, ◌≤◌, ℕ, true, false, All, List, [], ◌∷◌, length, replicate, if◌then◌else◌, is_some, Option, Some, None, Vec, IsTrue}
 use Rattle.std.specs.declared.alloc.Global.{Global}
 use Rattle.mw_words.specs.Change.{AreWords}
+use Rattle.mw_words.specs.declared.limits.TheConstants.{MAX_PLACES}
 use Rattle.mw_disk.specs.Facts.{Facts}
 use Rattle.mw_file.specs.declared.tenant_file.TenantFile.{TenantFile}
 use Rattle.mw_file.specs.File.{disk_of, words_of, states_of, has_failed}
@@ -23,11 +24,20 @@ line_read line = record { name = line.name.items; words = line.words; quota = li
 abbrev pub tenant_read : TenantLine → Tenant
 tenant_read line = record { name = line.name; words = line.words; quota = line.quota; old = None }
 
+-- how many places for changes an engine tells of the file
+abbrev pub places_found : FileOpening → ℕ
+places_found found = if is_some found.words then found.places else 0
+
+-- no file has more of them than a file may have
+abbrev pub HaveFewPlaces : List FileOpening → Type 0
+HaveFewPlaces openings = All (λ found. places_found found ≤ MAX_PLACES) openings
+
 module _ {D : Type 0} where
-  -- What the start gives a tenant, by its line and its file with the words that were read: none where the file didn't open, or isn't as the line says. Then zeros stand for its words, of which nobody is told.
+  -- What the start gives a tenant, by its line and its file with the words that were read: none where the file didn't open, or isn't as the line says. Then zeros stand for its words, of which nobody is told, and for its
+  -- places as many as the quota, none of which is ever used.
   abbrev pub opening_read : TenantLine → Option (TenantFile D × Vec ℕ Global) → Opening
-  opening_read line None = record { quota = line.quota; words = replicate line.words 0; is_up = false }
-  opening_read line (Some opened) = record { quota = line.quota; words = opened.1.items; is_up = true }
+  opening_read line None = record { quota = line.quota; places = line.quota; words = replicate line.words 0; is_up = false }
+  opening_read line (Some opened) = record { quota = line.quota; places = length (states_of opened.0); words = opened.1.items; is_up = true }
 
   -- the same by tenant
   abbrev pub openings_read : List TenantLine → List (Option (TenantFile D × Vec ℕ Global)) → List Opening
@@ -45,8 +55,8 @@ module _ {D : Type 0} where
 
   -- what a table takes of it, and the file that the tenant's book shows
   abbrev pub opening_of : TenantLine → Option (TenantFile D × Vec ℕ Global) → FileOpening
-  opening_of line None = record { quota = line.quota; words = None }
-  opening_of line (Some opened) = record { quota = line.quota; words = Some opened.1 }
+  opening_of line None = record { quota = line.quota; places = line.quota; words = None }
+  opening_of line (Some opened) = record { quota = line.quota; places = length (states_of opened.0); words = Some opened.1 }
 
   abbrev pub file_read : TenantLine → Option (TenantFile D × Vec ℕ Global) → File
   file_read line None = unopened (replicate line.words 0)

@@ -1,7 +1,8 @@
 //! What of an engine needs no lock.
-ghost use Rattle.std.specs.Prelude.{map};
-ghost use Rattle.mw_engine.specs.Agreeing.{Agrees};
-ghost use Rattle.mw_engine.specs.Lines.{line_of};
+ghost use Rattle.std.specs.Prelude.{◌≡◌, map};
+ghost use Rattle.mw_core.specs.FromTable.{openings_of};
+ghost use Rattle.mw_engine.specs.Agreeing.{Agrees, places_told};
+ghost use Rattle.mw_engine.specs.Lines.{HasFewPlaces, line_of, places_of};
 
 use crate::listed::Listed;
 use arrayvec::ArrayVec;
@@ -17,4 +18,6 @@ pub struct Front<H> {
     pub(crate) pool: u16,
     pub(crate) hold: H,
     ghost agrees: { Agrees core.shared.table.shared.key (map line_of lines.items) pool },
+    ghost places_are: { map places_of lines.items ≡ map places_told (openings_of core.shared.table.shared.key) },
+    ghost few_places: { HasFewPlaces lines.items },
 }

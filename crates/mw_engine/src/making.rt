@@ -3,8 +3,8 @@ ghost use Rattle.std.specs.Prelude.{◌≡◌, ◌≤◌, All, length, map, IfOk
 ghost use Rattle.mw_config.specs.Limits.{ArePermitted};
 ghost use Rattle.mw_core.specs.FromTable.{AreInOrder};
 ghost use Rattle.mw_words.specs.declared.limits.TheConstants.{MAX_POOL, MAX_TENANTS, MAX_WORKERS};
-ghost use Rattle.mw_engine.specs.Lines.{line_of};
-ghost use Rattle.mw_engine.specs.Opened.{AreMadeOf, FitLines, FitsLine, IsMadeOf, book_file, held_read, line_read, openings_read, tenant_read};
+ghost use Rattle.mw_engine.specs.Lines.{HasFewPlaces, line_of, places_of};
+ghost use Rattle.mw_engine.specs.Opened.{AreMadeOf, FitLines, FitsLine, HaveFewPlaces, IsMadeOf, book_file, held_read, line_read, openings_read, places_found, tenant_read};
 ghost use Rattle.mw_engine.specs.Passes.{IsNew};
 ghost use Rattle.mw_engine.specs.Starting.{identity_of, world_read};
 
@@ -24,9 +24,9 @@ use std::alloc::{AllocError, Global};
 impl<D: Disk + Drop, H: Drop> EngineParts<D, H> {
     /// The parts of an engine of the tenants with these lines, each over its file and the words that it
     /// was opened with, and a pass for each of so many workers, in order of number. A tenant whose file
-    /// didn't open, or isn't as its line says, has faulted from the start. The tenants share a pool of
-    /// so many slots, each used first under the number 0. The engine tells the hold the points that a
-    /// worker comes to.
+    /// didn't open, or isn't as its line says, has faulted from the start; no file is as its line says that has
+    /// fewer places than the quota. The tenants share a pool of so many slots, each used first under the number 0.
+    /// The engine tells the hold the points that a worker comes to.
     ///
     /// # Errors
     ///
@@ -56,7 +56,7 @@ impl<D: Disk + Drop, H: Drop> EngineParts<D, H> {
         let (shared, passes, rights) = Shared::new(alloc, &config, &openings)?;
         let front = Front {
             core: Core::new(shared),
-            lines: listed(lines),
+            lines: listed(lines, &openings),
             pool,
             hold,
         };
@@ -94,20 +94,36 @@ fn config_of(lines: &[TenantLine], pool: u16, workers: u8) -> Config
     }
 }
 
-/// What an engine keeps of these lines.
-fn listed(lines: &[TenantLine]) -> ArrayVec<Listed, MAX_TENANTS>
+/// What an engine keeps of these lines, and of what the tenants' files gave.
+fn listed(lines: &[TenantLine], openings: &[FileOpening]) -> ArrayVec<Listed, MAX_TENANTS>
     requires few { length lines.now ≤ MAX_TENANTS }
-    ensures { map line_of result.items ≡ map line_read lines.now }
+    requires one_each { length openings.now ≡ length lines.now }
+    requires few_places { HaveFewPlaces openings.now }
+    ensures lines { map line_of result.items ≡ map line_read lines.now }
+    ensures places { map places_of result.items ≡ map places_found openings.now }
+    ensures few_places { HasFewPlaces result.items }
 {
     let mut kept = ArrayVec::new();
-    for line in lines {
+    for (tenant, line) in lines.iter().enumerate() {
         kept.push(Listed {
             name: copy_of_name(&line.name),
             words: line.words,
             quota: line.quota,
+            places: places_in(&openings[tenant]),
         });
     }
     kept
+}
+
+/// How many places for changes the file has that gave this. 0 where it didn't open.
+fn places_in(opening: &FileOpening) -> u8
+    ensures { result ≡ places_found opening.now }
+{
+    if opening.words.is_some() {
+        opening.places
+    } else {
+        0
+    }
 }
 
 /// What the tenants' files gave, and a book of each file.
@@ -141,6 +157,7 @@ fn opened_one<D: Disk>(
         Some((file, words)) => {
             let opening = FileOpening {
                 quota: line.quota,
+                places: file.places() as u8,
                 words: Some(words),
             };
             (opening, Book::new(file, u16::from(line.quota)))
@@ -148,6 +165,7 @@ fn opened_one<D: Disk>(
         None => {
             let opening = FileOpening {
                 quota: line.quota,
+                places: line.quota,
                 words: None,
             };
             let book = Book::unopened(line.words, u16::from(line.quota));

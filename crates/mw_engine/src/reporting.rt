@@ -2,10 +2,10 @@
 ghost use Rattle.std.specs.Prelude.{◌≡◌, ◌≤◌, ◌<◌, All, true, length};
 ghost use Rattle.mw_report.specs.Table.{AreWithinLimits, IsWithinLimits};
 ghost use Rattle.mw_words.specs.declared.limits.TheConstants.{MAX_QUOTA};
-ghost use Rattle.mw_engine.specs.Figures.{FoundDoor, FoundGate, HasLooked, TellTenants, TellsFree};
+ghost use Rattle.mw_engine.specs.Figures.{FoundDoor, FoundGate, HasLooked, TellAll, TellTenants, TellsFree};
 ghost use Rattle.mw_engine.specs.Figures as figures;
 ghost use Rattle.mw_engine.specs.Identity.{quota_told};
-ghost use Rattle.mw_engine.specs.Fronts.{HasPass, lines_told};
+ghost use Rattle.mw_engine.specs.Fronts.{HasPass, lines_told, places_kept};
 
 use crate::front::Front;
 use arrayvec::ArrayVec;
@@ -14,16 +14,16 @@ use mw_report::{Figures, TenantFigures};
 use mw_words::{At, Door, Gate, MAX_TENANTS, WORN_NUMBER, copy_of_name};
 
 impl<H> Front<H> {
-    /// The figures of all tenants, and how many slots are neither taken nor worn. Each figure is what its word held
-    /// when it was loaded; two of them needn't be of one moment.
+    /// The figures of all tenants, and how many slots are neither taken nor worn: what a load of each tenant's door
+    /// and then of each slot's gate found. Two of them needn't be of one moment. How many places a tenant's file has
+    /// was found when it opened: 0 where it didn't.
     pub fn figures(&self, pass: &mut Pass) -> Figures
         requires own { HasPass self.now pass.old }
         requires idle { pass.old.idle ≡ true }
         ensures own { HasPass self.now pass.new }
         ensures looked { HasLooked pass.old pass.new }
         ensures limits { AreWithinLimits result.tenants.items result.pool_free }
-        ensures tenants { TellTenants self.now.core.shared.pool (lines_told self.now) result.tenants.items pass.old.seat.me.0 pass.new.seat.me.0 }
-        ensures free { TellsFree self.now.core.shared.pool self.now.pool result.pool_free pass.old.seat.me.0 pass.new.seat.me.0 }
+        ensures tells { TellAll self.now.core.shared.pool self.now.pool (lines_told self.now) (places_kept self.now) result.tenants.items result.pool_free pass.old.seat.me.0 pass.new.seat.me.0 }
     {
         let tenants = self.tenant_figures(pass);
         let pool_free = self.free_slots(pass);
@@ -37,7 +37,7 @@ impl<H> Front<H> {
         ensures own { HasPass self.now pass.new }
         ensures looked { HasLooked pass.old pass.new }
         ensures limits { All IsWithinLimits result.items }
-        ensures tells { TellTenants self.now.core.shared.pool (lines_told self.now) result.items pass.old.seat.me.0 pass.new.seat.me.0 }
+        ensures tells { TellTenants self.now.core.shared.pool (lines_told self.now) (places_kept self.now) result.items pass.old.seat.me.0 pass.new.seat.me.0 }
     {
         let mut figures = ArrayVec::new();
         for (tenant, line) in self.lines.iter().enumerate() {
@@ -46,6 +46,7 @@ impl<H> Front<H> {
                 name: copy_of_name(&line.name),
                 words: line.words,
                 quota: line.quota,
+                places: line.places,
                 used: door.used as u8,
                 up: !door.fault,
             });

@@ -1,5 +1,5 @@
 //! The calls of an engine that take no lock.
-ghost use Rattle.std.specs.Prelude.{◌≡◌, true, false, IfOk, is_some, length, IfSome, MatchOption};
+ghost use Rattle.std.specs.Prelude.{◌≡◌, true, false, IfOk, is_some, length, map, IfSome, MatchOption};
 ghost use Rattle.mw_words.specs.declared.jobs.Job.TheVariants.{Get};
 ghost use Rattle.mw_actor.specs.Acting.{Acting};
 ghost use Rattle.mw_actor.specs.Program.{replied};
@@ -7,7 +7,8 @@ ghost use Rattle.mw_core.specs.declared.calls.Advance.TheVariants.{NeedsFile};
 ghost use Rattle.mw_core.specs.Looking.{Looks, is_over};
 ghost use Rattle.mw_report.specs.Table.{AreWithinLimits};
 ghost use Rattle.mw_core.specs.FromTable.{HaveMet, IsCarried, IsOfSameWorker, IsSamePass, Met, View as Knowledge};
-ghost use Rattle.mw_engine.specs.Figures.{HasLooked, TellTenants, TellsFree};
+ghost use Rattle.mw_engine.specs.Agreeing.{places_told};
+ghost use Rattle.mw_engine.specs.Figures.{HasLooked, TellAll};
 ghost use Rattle.mw_engine.specs.History.{IsAnswered, IsSince, ReadStands, Stands};
 ghost use Rattle.mw_engine.specs.Identity.{HasNone, HasWords, IsFirst, IsFor};
 ghost use Rattle.mw_engine.specs.Passes.{IsPassOf};
@@ -34,16 +35,16 @@ impl<J: EngineBrand, D: Disk, H> Engine<J, D, H> {
         self.front.find(name)
     }
 
-    /// The figures of all tenants, and how many slots are neither taken nor worn. Each figure is what its word held
-    /// when it was loaded; two of them needn't be of one moment.
+    /// The figures of all tenants, and how many slots are neither taken nor worn: what a load of each tenant's door
+    /// and then of each slot's gate found. Two of them needn't be of one moment. How many places a tenant's file has
+    /// was found when it opened: 0 where it didn't.
     pub fn figures(&self, pass: &mut Pass) -> Figures
         requires own { IsPassOf J.identity pass.old }
         requires idle { pass.old.idle ≡ true }
         ensures own { IsPassOf J.identity pass.new }
         ensures looked { HasLooked pass.old pass.new }
         ensures limits { AreWithinLimits result.tenants.items result.pool_free }
-        ensures tenants { TellTenants J.identity.config.pool J.identity.lines result.tenants.items pass.old.seat.me.0 pass.new.seat.me.0 }
-        ensures free { TellsFree J.identity.config.pool J.identity.config.pool result.pool_free pass.old.seat.me.0 pass.new.seat.me.0 }
+        ensures tells { TellAll J.identity.config.pool J.identity.config.pool J.identity.lines (map places_told J.identity.openings) result.tenants.items result.pool_free pass.old.seat.me.0 pass.new.seat.me.0 }
     {
         self.front.figures(pass)
     }

@@ -7,9 +7,10 @@ ghost use Rattle.mw_engine.specs.Starting.{identity_of};
 
 use crate::disks::{have_words, new_disks};
 use crate::latch::{ByLatch, Latch, LatchedDisk, Place};
+use crate::peers::Peer;
 use crate::races::{Race, is_run};
 use crate::starts::{Started, start};
-use crate::talks::{Story, Talk, are_told, is_played};
+use crate::talks::{Story, Talk, are_served, are_told, is_played};
 use crate::workers::{Worker, workers_of};
 use arrayvec::ArrayVec;
 use mw_config::{TenantLine, read_tenants};
@@ -39,6 +40,8 @@ pub(crate) enum Device {
 pub(crate) enum Play<'c> {
     /// Each has its session, one after the other.
     Talks(&'c [Talk]),
+    /// The same, with peers that say and take single bytes.
+    Peers(&'c [Peer<'c>]),
     /// They have their sessions at once, while one of them is held.
     Story(Story<'c>),
     /// They count up words at once.
@@ -125,6 +128,7 @@ fn is_done<J: EngineBrand + Send + Sync, R: Threads + Wait + Sync>(
 ) -> bool {
     match play {
         Play::Talks(talks) => are_told(alloc, workers, talks),
+        Play::Peers(peers) => are_served(alloc, workers, peers),
         Play::Story(story) => is_played(rt, alloc, workers, story, latch),
         Play::Race(race) => is_run(rt, workers, *race),
     }

@@ -11,6 +11,8 @@ mod held_tests;
 #[cfg(test)]
 mod latch;
 #[cfg(test)]
+mod peers;
+#[cfg(test)]
 mod race_tests;
 #[cfg(test)]
 mod races;
@@ -20,6 +22,8 @@ mod session_tests;
 mod socket_tests;
 #[cfg(test)]
 mod starts;
+#[cfg(test)]
+mod sweep_tests;
 #[cfg(test)]
 mod talks;
 #[cfg(test)]

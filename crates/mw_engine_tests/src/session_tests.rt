@@ -94,14 +94,14 @@ fn two_sessions(rt: HostRuntime) {
 }
 
 #[test]
-fn report_two_tenants(rt: HostRuntime) {
+fn report_places(rt: HostRuntime) {
     let case = Case {
         tenants: b"t 2 1 t.mw\nu 4096 32 u.mw\n",
         pool: 33,
         devices: &[Device::Sound, Device::Sound],
         play: Play::Talks(&[Talk {
             says: b"ADMIN\nREPORT\n",
-            told: b"OK ADMIN\nt                   2  1  0 up\nu                4096 32  0 up\nfree 33\n",
+            told: b"OK ADMIN\nt                   2  1  2  0 up\nu                4096 32 64  0 up\nfree 33\n",
         }]),
         words: &[&[0, 0], &[0]],
     };
@@ -126,7 +126,7 @@ fn endless_serve(rt: HostRuntime) {
             },
             Talk {
                 says: b"ADMIN\nREPORT\n",
-                told: b"OK ADMIN\nt                   2  2  0 up\nu                   1  1  0 down\nfree 3\n",
+                told: b"OK ADMIN\nt                   2  2  4  0 up\nu                   1  1  0  0 down\nfree 3\n",
             },
         ]),
         words: &[&[5, 4], &[]],
@@ -185,8 +185,8 @@ fn each_device_call_fails(rt: HostRuntime) {
     }
 }
 
-/// More bytes than are ever not synced.
-const ZEROS: &[u8] = &[0; 256];
+/// More bytes than are ever not synced: a place of a file that is prepared has 263.
+const ZEROS: &[u8] = &[0; 300];
 
 /// What `t` is told whose device stops after so many calls.
 fn told_before_stop(calls: u64) -> &'static [u8] {

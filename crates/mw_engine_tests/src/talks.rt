@@ -1,5 +1,6 @@
 //! What sessions say and are told, one after the other, or while one of them is held.
 use crate::latch::{Latch, Place};
+use crate::peers::Peer;
 use crate::workers::Worker;
 use mw_engine::EngineBrand;
 use std::alloc::Global;
@@ -35,6 +36,23 @@ pub(crate) fn are_told<J: EngineBrand, R: Wait>(
     let mut workers = workers;
     for worker in &mut workers {
         if !is_told(alloc, worker, talks) {
+            return false;
+        }
+    }
+    true
+}
+
+/// Whether a session of each worker with the peer of its number, one after the other, goes as it is to.
+pub(crate) fn are_served<J: EngineBrand, R: Wait>(
+    alloc: Global,
+    workers: Vec<Worker<'_, '_, J, R>>,
+    peers: &[Peer<'_>],
+) -> bool {
+    let mut workers = workers;
+    for worker in &mut workers {
+        if let Some(peer) = peers.get(worker.number())
+            && !worker.serves(alloc, peer)
+        {
             return false;
         }
     }

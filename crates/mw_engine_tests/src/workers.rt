@@ -3,6 +3,7 @@ ghost use Rattle.std.specs.Prelude.{◌≡◌, true, All};
 ghost use Rattle.mw_engine.specs.Passes.{IsNew, IsPassOf};
 
 use crate::latch::{ByLatch, LatchedDisk};
+use crate::peers::{Page, Peer, Sender};
 use mw_engine::{Engine, EngineBrand, Pass};
 use mw_report::Figures;
 use mw_session::{Service, Session};
@@ -70,6 +71,15 @@ impl<'a, 'l, J: EngineBrand, R: Wait> Worker<'a, 'l, J, R> {
         let rt = self.rt;
         Session::run(alloc, rt, &mut says, &mut told, self);
         told
+    }
+
+    /// Whether a session of this worker with this peer goes as it is to.
+    pub(crate) fn serves(&mut self, alloc: Global, peer: &Peer<'_>) -> bool {
+        let mut sender = Sender::new(peer);
+        let mut page = Page::new(peer);
+        let rt = self.rt;
+        let ended = Session::run(alloc, rt, &mut sender, &mut page, self);
+        ended == peer.ended && page.is_of(peer)
     }
 }
 

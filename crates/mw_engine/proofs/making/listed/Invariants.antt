@@ -1,8 +1,12 @@
-use Rattle.std.proofs.Common.{◌≡◌, take, map}
-use Rattle.mw_engine.specs.Lines.{line_of}
-use Rattle.mw_engine.specs.Opened.{line_read}
+use Rattle.std.proofs.Common.{◌≡◌, take, map, length}
+use Rattle.mw_engine.specs.Lines.{HasFewPlaces, line_of, places_of}
+use Rattle.mw_engine.specs.Opened.{line_read, places_found}
 use Rattle.mw_engine.proofs.making.listed.Given as goal
 
--- the lines so far
-abbrev pub invariant-loop-line : goal.invariant-loop-line
-invariant-loop-line l = map line_of l.kept.items ≡ map line_read (take l.line-index l.lines)
+-- the lines so far, and the places
+abbrev pub invariant-loop-tenant : goal.invariant-loop-tenant
+invariant-loop-tenant l = record {
+  lines : map line_of l.kept.items ≡ map line_read (take l.tenant l.lines);
+  places : map places_of l.kept.items ≡ map places_found (take l.tenant l.openings);
+  few : HasFewPlaces l.kept.items;
+}

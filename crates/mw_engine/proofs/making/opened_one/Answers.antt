@@ -8,5 +8,5 @@ pub returns-in-None : goal.returns-in-None
 returns-in-None g c =
     let line = c.args.line.now in
     let book = c.unopened-book.result in
-    subst (λ file. IsMadeOf g.D.Disk.facts line file (record { quota = line.quota; words = None }) book) (sym c.in-None.is)
+    subst (λ file. IsMadeOf g.D.Disk.facts line file (record { quota = line.quota; places = line.quota; words = None }) book) (sym c.in-None.is)
     (record { opening_is = refl; held = c.unopened-book.ensures.held; places = c.unopened-book.ensures.places ∙ c.from-in-None.ensures; shows = c.unopened-book.ensures.shows (replicate line.words 0) (length-replicate line.words 0) })

@@ -1,10 +1,11 @@
-use Rattle.std.specs.Prelude.{◌≡◌, length}
-use Rattle.mw_engine.specs.Kept.{AreOfOpened}
+use Rattle.std.specs.Prelude.{◌≡◌, ◌+◌, length}
+use Rattle.std.specs.Vec.Iter.{into_iter_items}
+use Rattle.mw_engine.specs.Ending.{EachIsGiven}
 use Rattle.mw_engine.proofs.engine.Engine.into_disks.Given as goal
 
--- a place for each tenant, and a disk at none whose file didn't open
+-- a disk, or none, for each tenant so far
 abbrev pub invariant-loop-book : goal.invariant-loop-book
 invariant-loop-book g l = record {
-  many : length l.disks.items ≡ length l.fn.self.books.items;
-  opened : AreOfOpened g.J.EngineBrand.identity.openings l.disks.items;
+  all : length l.disks.items + length (into_iter_items l.book-iterator) ≡ length l.fn.self.books.items;
+  each : EachIsGiven g.D.Disk.facts g.J.EngineBrand.identity l.disks.items;
 }

@@ -1,9 +1,14 @@
 use Rattle.std.specs.Prelude.{◌≡◌, ◌+◌, cond}
 use Rattle.std.proofs.Common.{sym, ◌∙◌, arith}
 use Rattle.mw_engine.specs.Figures.{is_free}
-use Rattle.mw_engine.proofs.Shown.{counted, free_more, looked_on, not_counted}
+use Rattle.mw_engine.proofs.Shown.{counted, free_more, looked_on, no_slots, not_counted, not_looked}
 use Rattle.mw_engine.proofs.front.Front.free_slots.Goals.{then-is_free, else-is_free}
 use Rattle.mw_engine.proofs.front.Front.free_slots.Goals as goal
+
+pub loop-slot-init : goal.loop-slot-init
+loop-slot-init g c =
+    let pass = c.args.pass.now in
+    record { own = c.requires.own; looked = not_looked pass c.requires.idle; few = omega arith; tells = no_slots c.args.self.now.core.shared.pool pass.seat.me.0 }
 
 pub loop-slot-preserved : goal.loop-slot-preserved
 loop-slot-preserved g c =
@@ -24,6 +29,5 @@ loop-slot-preserved g c =
         | then-is_free w ↦ let is = w.free-is in let few = inv.few in omega (arith, is, few)
         | else-is_free w ↦ let is = w.free-is in let few = inv.few in omega (arith, is, few)
       ];
-      tells = free_more c.args.self.now.core.shared.pool old.seat.me.0 between.seat.me.0 new.seat.me.0 c.loop-slot.slot free c.if-is_free.free gate inv.looked.keeps c.gate-gate.ensures.looked.keeps
-          inv.tells c.gate-gate.ensures.found more;
+      tells = free_more c.args.self.now.core.shared.pool old.seat.me.0 between.seat.me.0 new.seat.me.0 c.loop-slot.slot free c.if-is_free.free gate inv.tells c.gate-gate.ensures.found more;
     }

@@ -1,7 +1,7 @@
 use Rattle.std.specs.Prelude.{◌≡◌, All, length, map, take}
 use Rattle.mw_report.specs.Table.{IsWithinLimits}
 use Rattle.mw_engine.specs.Figures.{HasLooked, TellTenants}
-use Rattle.mw_engine.specs.Lines.{line_of}
+use Rattle.mw_engine.specs.Lines.{line_of, places_of}
 use Rattle.mw_engine.specs.Fronts.{HasPass}
 use Rattle.mw_engine.proofs.front.Front.tenant_figures.Given as goal
 
@@ -12,5 +12,5 @@ invariant-loop-tenant g l = record {
   looked : HasLooked l.fn.pass l.pass;
   many : length l.figures.items ≡ l.tenant;
   limits : All IsWithinLimits l.figures.items;
-  tells : TellTenants l.self.core.shared.pool (map line_of (take l.tenant l.self.lines.items)) l.figures.items l.fn.pass.seat.me.0 l.pass.seat.me.0;
+  tells : TellTenants l.self.core.shared.pool (map line_of (take l.tenant l.self.lines.items)) (map places_of (take l.tenant l.self.lines.items)) l.figures.items l.fn.pass.seat.me.0 l.pass.seat.me.0;
 }

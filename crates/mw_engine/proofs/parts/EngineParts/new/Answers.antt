@@ -1,13 +1,13 @@
-use Rattle.std.specs.Prelude.{All, List, length}
+use Rattle.std.specs.Prelude.{All, List, length, map}
 use Rattle.std.proofs.Common.{sym, ap, subst, ◌∙◌}
 use Rattle.std.proofs.lemmas.List.{length-map}
 use Rattle.mw_world.specs.declared.config.Tenant.{Tenant}
 use Rattle.mw_world.specs.Definition.State.{IsStart, Opening}
 use Rattle.mw_core.specs.FromTable.{AreOpened, IsDealt, Shared, basis_of, basis_of_start, opening_at, openings_given}
-use Rattle.mw_engine.specs.Opened.{tenant_read}
+use Rattle.mw_engine.specs.Opened.{HaveFewPlaces, places_found, tenant_read}
 use Rattle.mw_engine.proofs.Configured.{configured, starts_so, world_is}
-use Rattle.mw_engine.proofs.Parted.{a_book_each, a_right_each, books_agree, config_is, lines_agree, new_passes, openings_are}
-use Rattle.mw_engine.proofs.Started.{files_are, given_all, made_counts}
+use Rattle.mw_engine.proofs.Parted.{a_book_each, a_right_each, books_agree, config_is, lines_agree, new_passes, openings_are, places_agree}
+use Rattle.mw_engine.proofs.Started.{few_all, files_are, given_all, made_counts}
 use Rattle.mw_engine.proofs.parts.EngineParts.new.Goals as goal
 
 pub new-requires-clause-config : goal.new-requires-clause-config
@@ -34,6 +34,16 @@ new-requires-clause-start g c =
     subst (λ (all : List Opening). IsStart config.result (opening_at all)) (sym given)
     (starts_so g.D.Disk.facts config.result lines files c.args.pool config.ensures.tenants config.ensures.pool c.requires.fit c.requires.permitted)
 
+pub listed-requires : goal.listed-requires
+listed-requires g c =
+    let lines = c.args.lines.now in
+    let openings = c.in_ok-openings.openings.items in
+    record {
+      few = c.requires.permitted.count;
+      one_each = ap length c.deref.ensures.value ∙ (made_counts g.D.Disk.facts lines c.args.files.items openings c.in_ok-openings.books.items c.in_ok-openings.ensures).0;
+      few_places = subst HaveFewPlaces (sym c.deref.ensures.value) (few_all g.D.Disk.facts lines c.args.files.items openings c.in_ok-openings.books.items c.in_ok-openings.ensures);
+    }
+
 pub invariant_of-front : goal.invariant_of-front
 invariant_of-front g c =
     let lines = c.args.lines.now in
@@ -43,7 +53,11 @@ invariant_of-front g c =
     let basis = ap (λ (one : Shared). basis_of one.table.shared.key) c.new-2.ensures ∙ c.in_ok-shared.ensures.table in
     record {
       agrees = lines_agree g.D.Disk.facts shared config.result lines c.args.files.items openings c.in_ok-openings.books.items c.listed.result.items c.args.pool basis config.ensures.tenants config.ensures.pool
-          c.requires.fit c.in_ok-openings.ensures c.listed.ensures;
+          c.requires.fit c.in_ok-openings.ensures c.listed.ensures.lines;
+      places_are = places_agree g.D.Disk.facts shared config.result lines c.args.files.items openings c.in_ok-openings.books.items c.listed.result.items c.args.pool basis config.ensures.tenants config.ensures.pool
+          c.requires.fit c.in_ok-openings.ensures c.listed.ensures.lines
+          (c.listed.ensures.places ∙ ap (map places_found) c.deref.ensures.value);
+      few_places = c.listed.ensures.few_places;
     }
 
 pub invariant_of-parts : goal.invariant_of-parts
@@ -58,11 +72,11 @@ invariant_of-parts g c =
     let opened = subst (λ (one : Shared). AreOpened one (basis_of_start config.result openings) rights) (sym c.new-2.ensures) c.in_ok-shared.ensures.rights in
     record {
       kept = books_agree g.D.Disk.facts shared config.result lines c.args.files.items openings books c.listed.result.items c.args.pool basis config.ensures.tenants config.ensures.pool
-          c.requires.fit c.in_ok-openings.ensures c.listed.ensures rights opened;
+          c.requires.fit c.in_ok-openings.ensures c.listed.ensures.lines rights opened;
       a_book_each = a_book_each g.D.Disk.facts shared config.result lines c.args.files.items openings books c.listed.result.items c.args.pool basis config.ensures.tenants config.ensures.pool
-          c.requires.fit c.in_ok-openings.ensures c.listed.ensures;
+          c.requires.fit c.in_ok-openings.ensures c.listed.ensures.lines;
       a_right_each = a_right_each g.D.Disk.facts shared config.result lines c.args.files.items openings books c.listed.result.items c.args.pool basis config.ensures.tenants config.ensures.pool
-          c.requires.fit c.in_ok-openings.ensures c.listed.ensures rights opened;
+          c.requires.fit c.in_ok-openings.ensures c.listed.ensures.lines rights opened;
     }
 
 pub returns-clause-start : goal.returns-clause-start
@@ -71,7 +85,7 @@ returns-clause-start g c =
     let config = c.config_of-config in
     let basis = ap (λ (one : Shared). basis_of one.table.shared.key) c.new-2.ensures ∙ c.in_ok-shared.ensures.table in
     openings_are g.D.Disk.facts c.new-2.result.shared config.result lines c.args.files.items c.in_ok-openings.openings.items c.in_ok-openings.books.items c.listed.result.items c.args.pool basis
-    config.ensures.tenants config.ensures.pool c.requires.fit c.in_ok-openings.ensures c.listed.ensures
+    config.ensures.tenants config.ensures.pool c.requires.fit c.in_ok-openings.ensures c.listed.ensures.lines
 
 pub returns-clause-passes : goal.returns-clause-passes
 returns-clause-passes g c =
@@ -80,7 +94,7 @@ returns-clause-passes g c =
     let openings = c.in_ok-openings.openings.items in
     let basis = ap (λ (one : Shared). basis_of one.table.shared.key) c.new-2.ensures ∙ c.in_ok-shared.ensures.table in
     new_passes g.D.Disk.facts c.new-2.result.shared config.result lines c.args.files.items openings c.in_ok-openings.books.items c.listed.result.items c.args.pool basis
-    config.ensures.tenants config.ensures.pool c.requires.fit c.in_ok-openings.ensures c.listed.ensures c.in_ok-shared.passes.items
+    config.ensures.tenants config.ensures.pool c.requires.fit c.in_ok-openings.ensures c.listed.ensures.lines c.in_ok-shared.passes.items
     (subst (λ (one : Shared). All (IsDealt one (basis_of_start config.result openings)) c.in_ok-shared.passes.items) (sym c.new-2.ensures) c.in_ok-shared.ensures.passes)
 
 pub returns-clause-config : goal.returns-clause-config
@@ -89,7 +103,7 @@ returns-clause-config g c =
     let config = c.config_of-config in
     let basis = ap (λ (one : Shared). basis_of one.table.shared.key) c.new-2.ensures ∙ c.in_ok-shared.ensures.table in
     config_is g.D.Disk.facts c.new-2.result.shared config.result lines c.args.files.items c.in_ok-openings.openings.items c.in_ok-openings.books.items c.listed.result.items c.args.pool basis
-    config.ensures.tenants config.ensures.pool c.requires.fit c.in_ok-openings.ensures c.listed.ensures
+    config.ensures.tenants config.ensures.pool c.requires.fit c.in_ok-openings.ensures c.listed.ensures.lines
     ∙ world_is config.result lines c.args.pool c.args.workers config.ensures.tenants config.ensures.pool config.ensures.workers config.ensures.seq
 
 pub returns-clause-files : goal.returns-clause-files
