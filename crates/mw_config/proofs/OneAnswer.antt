@@ -9,6 +9,7 @@ use Rattle.std.proofs.Math.Seq.{get_or-append_seam}
 use Rattle.std.proofs.lemmas.List.Folds.{list_all_at}
 use Rattle.std.proofs.lemmas.List.Sums.{list_all-from_AllPass}
 use Rattle.std.proofs.lemmas.Slice.Eq.{bytes_eq-Decides}
+use Rattle.mw_words.specs.declared.limits.TheConstants.{MAX_QUOTA}
 use Rattle.mw_config.specs.declared.refusals.Refusal.{Refusal}
 use Rattle.mw_config.specs.declared.refusals.Refusal.TheVariants as refusal
 use Rattle.mw_config.specs.Spelling.{Line, IsLine, HasNoLine, spelling}
@@ -169,7 +170,7 @@ not_outside most n h (inr large) = absurd (omega arith)
 
 not_refused : (ls more : List Line) (m : Line) (why : Refusal) → AreFine (ls ++ (m ∷ more)) → IsRefused ls m why → ⊥
 not_refused ls more m (refusal.Words n) fine h = not_outside 4096 m.words (of_all HasWords ls more m fine.words) h
-not_refused ls more m (refusal.Quota n) fine h = not_outside 32 m.quota (of_all HasQuota ls more m fine.quotas) h.1
+not_refused ls more m (refusal.Quota n) fine h = not_outside MAX_QUOTA m.quota (of_all HasQuota ls more m fine.quotas) h.1
 not_refused ls more m (refusal.Twice n) fine h = no_twice ls more m fine.differ h.2
 not_refused ls more m (refusal.Many n) fine h = absurd (omega (arith, h.3, fine.count, length-append ls (m ∷ more)))
 not_refused ls more m (refusal.Form n) fine h = h
@@ -240,7 +241,7 @@ twice_test ls line (inr c) =
 abbrev line_verdict : List Line → Line → Result (List Line) Refusal
 line_verdict ls line =
     cond (is_within 4096 line.words)
-    (cond (is_within 32 line.quota)
+    (cond (is_within MAX_QUOTA line.quota)
     (cond (list_all (λ e. differ e line) ls) (Err (refusal.Many (length ls + 1))) (Err (refusal.Twice (length ls + 1))))
     (Err (refusal.Quota (length ls + 1))))
     (Err (refusal.Words (length ls + 1)))
@@ -271,9 +272,9 @@ pool_is pool (l ∷ ls) more = rw (lt-ltb pool (quota_sum (l ∷ ls)) more) refl
 
 line_verdict_is : (ls : List Line) (line : Line) (why : Refusal) → IsAtLine (length ls + 1) why → IsRefused ls line why → Err why ≡ line_verdict ls line
 line_verdict_is ls line (refusal.Words n) at h = rw (at, outside_test 4096 line.words h) refl
-line_verdict_is ls line (refusal.Quota n) at h = rw (at, inside_test 4096 line.words h.0, outside_test 32 line.quota h.1) refl
-line_verdict_is ls line (refusal.Twice n) at h = rw (at, inside_test 4096 line.words h.0, inside_test 32 line.quota h.1, twice_test ls line h.2) refl
-line_verdict_is ls line (refusal.Many n) at h = rw (at, inside_test 4096 line.words h.0, inside_test 32 line.quota h.1, new_test ls line h.2) refl
+line_verdict_is ls line (refusal.Quota n) at h = rw (at, inside_test 4096 line.words h.0, outside_test MAX_QUOTA line.quota h.1) refl
+line_verdict_is ls line (refusal.Twice n) at h = rw (at, inside_test 4096 line.words h.0, inside_test MAX_QUOTA line.quota h.1, twice_test ls line h.2) refl
+line_verdict_is ls line (refusal.Many n) at h = rw (at, inside_test 4096 line.words h.0, inside_test MAX_QUOTA line.quota h.1, new_test ls line h.2) refl
 line_verdict_is ls line (refusal.Form n) at h = absurd h
 line_verdict_is ls line refusal.File at h = absurd h
 line_verdict_is ls line refusal.None at h = absurd h

@@ -12,6 +12,7 @@ use Rattle.std.proofs.lemmas.List.Quantifiers.{all_pairs_push}
 use Rattle.std.proofs.lemmas.Grind.{flat_map-append}
 use Rattle.std.proofs.lemmas.Slice.Eq.{bytes_eq-Decides}
 use Rattle.mw_line.specs.Reading.{narrow}
+use Rattle.mw_words.specs.declared.limits.TheConstants.{MAX_QUOTA}
 use Rattle.mw_config.specs.declared.lines.TenantLine.{TenantLine}
 use Rattle.mw_config.specs.declared.refusals.Refusal.TheVariants as refusal
 use Rattle.mw_config.specs.Spelling.{Line, IsLine, spelling, is_path_byte, line_of, lines_of}
@@ -147,7 +148,7 @@ refused_words lines text told after n e h =
     let f = found text told after e in
     record { line = f.line; after = after; formed = f.formed; spelled = f.spelled; wrong = is_outside 4096 f.line.words told.words (omega arith) f.words h }
 
-pub refused_quota : (lines : List Line) (text : List ℕ) (told : Line) (after : List ℕ) (n : ℕ) → line_at narrow.addr text ≡ Some (told, after) → is_within 4096 told.words ≡ true → is_within 32 told.quota ≡ false → HasLineRefused lines text (refusal.Quota n)
+pub refused_quota : (lines : List Line) (text : List ℕ) (told : Line) (after : List ℕ) (n : ℕ) → line_at narrow.addr text ≡ Some (told, after) → is_within 4096 told.words ≡ true → is_within MAX_QUOTA told.quota ≡ false → HasLineRefused lines text (refusal.Quota n)
 refused_quota lines text told after n e words h =
     let f = found text told after e in
     record {
@@ -155,10 +156,10 @@ refused_quota lines text told after n e words h =
       after = after;
       formed = f.formed;
       spelled = f.spelled;
-      wrong = (is_inside 4096 f.line.words told.words (omega arith) f.words words, is_outside 32 f.line.quota told.quota (omega arith) f.quota h);
+      wrong = (is_inside 4096 f.line.words told.words (omega arith) f.words words, is_outside MAX_QUOTA f.line.quota told.quota (omega arith) f.quota h);
     }
 
-pub refused_twice : (tenants : List TenantLine) (text : List ℕ) (told : Line) (after : List ℕ) (n : ℕ) → line_at narrow.addr text ≡ Some (told, after) → is_within 4096 told.words ≡ true → is_within 32 told.quota ≡ true → list_all (λ t. differ (line_of t) told) tenants ≡ false → HasLineRefused (lines_of tenants) text (refusal.Twice n)
+pub refused_twice : (tenants : List TenantLine) (text : List ℕ) (told : Line) (after : List ℕ) (n : ℕ) → line_at narrow.addr text ≡ Some (told, after) → is_within 4096 told.words ≡ true → is_within MAX_QUOTA told.quota ≡ true → list_all (λ t. differ (line_of t) told) tenants ≡ false → HasLineRefused (lines_of tenants) text (refusal.Twice n)
 refused_twice tenants text told after n e words quota h =
     let f = found text told after e in
     record {
@@ -166,10 +167,10 @@ refused_twice tenants text told after n e words quota h =
       after = after;
       formed = f.formed;
       spelled = f.spelled;
-      wrong = (is_inside 4096 f.line.words told.words (omega arith) f.words words, is_inside 32 f.line.quota told.quota (omega arith) f.quota quota, is_twice (lines_of tenants) f.line (tested tenants told f.line false f.name f.path h));
+      wrong = (is_inside 4096 f.line.words told.words (omega arith) f.words words, is_inside MAX_QUOTA f.line.quota told.quota (omega arith) f.quota quota, is_twice (lines_of tenants) f.line (tested tenants told f.line false f.name f.path h));
     }
 
-pub refused_many : (tenants : List TenantLine) (text : List ℕ) (told : Line) (after : List ℕ) (n : ℕ) → line_at narrow.addr text ≡ Some (told, after) → is_within 4096 told.words ≡ true → is_within 32 told.quota ≡ true → list_all (λ t. differ (line_of t) told) tenants ≡ true → length tenants ≡ 16 → HasLineRefused (lines_of tenants) text (refusal.Many n)
+pub refused_many : (tenants : List TenantLine) (text : List ℕ) (told : Line) (after : List ℕ) (n : ℕ) → line_at narrow.addr text ≡ Some (told, after) → is_within 4096 told.words ≡ true → is_within MAX_QUOTA told.quota ≡ true → list_all (λ t. differ (line_of t) told) tenants ≡ true → length tenants ≡ 16 → HasLineRefused (lines_of tenants) text (refusal.Many n)
 refused_many tenants text told after n e words quota h full =
     let f = found text told after e in
     record {
@@ -177,7 +178,7 @@ refused_many tenants text told after n e words quota h full =
       after = after;
       formed = f.formed;
       spelled = f.spelled;
-      wrong = (is_inside 4096 f.line.words told.words (omega arith) f.words words, is_inside 32 f.line.quota told.quota (omega arith) f.quota quota, is_new (lines_of tenants) f.line (tested tenants told f.line true f.name f.path h), length-map tenants line_of ∙ full);
+      wrong = (is_inside 4096 f.line.words told.words (omega arith) f.words words, is_inside MAX_QUOTA f.line.quota told.quota (omega arith) f.quota quota, is_new (lines_of tenants) f.line (tested tenants told f.line true f.name f.path h), length-map tenants line_of ∙ full);
     }
 
 abbrev made : List ℕ → ℕ → ℕ → List ℕ → Line
@@ -189,15 +190,15 @@ as_told line told name words quota path =
     let parts : made line.name line.words line.quota line.path ≡ made told.name told.words told.quota told.path = rw (name, words, quota, path) refl in
     parts
 
-pub taken : (tenants : List TenantLine) (text : List ℕ) (told : Line) (after : List ℕ) → line_at narrow.addr text ≡ Some (told, after) → is_within 4096 told.words ≡ true → is_within 32 told.quota ≡ true → list_all (λ t. differ (line_of t) told) tenants ≡ true → length tenants < 16 → Continues (lines_of tenants) text told after
+pub taken : (tenants : List TenantLine) (text : List ℕ) (told : Line) (after : List ℕ) → line_at narrow.addr text ≡ Some (told, after) → is_within 4096 told.words ≡ true → is_within MAX_QUOTA told.quota ≡ true → list_all (λ t. differ (line_of t) told) tenants ≡ true → length tenants < 16 → Continues (lines_of tenants) text told after
 taken tenants text told after e words quota h room =
     let f = found text told after e in
-    let is : f.line ≡ told = as_told f.line told f.name (seen_whole 4096 f.line.words told.words (omega arith) f.words words) (seen_whole 32 f.line.quota told.quota (omega arith) f.quota quota) f.path in
+    let is : f.line ≡ told = as_told f.line told f.name (seen_whole 4096 f.line.words told.words (omega arith) f.words words) (seen_whole MAX_QUOTA f.line.quota told.quota (omega arith) f.quota quota) f.path in
     let continues : Continues (lines_of tenants) text f.line after = record {
       formed = f.formed;
       spelled = f.spelled;
       words = is_inside 4096 f.line.words told.words (omega arith) f.words words;
-      quota = is_inside 32 f.line.quota told.quota (omega arith) f.quota quota;
+      quota = is_inside MAX_QUOTA f.line.quota told.quota (omega arith) f.quota quota;
       new = is_new (lines_of tenants) f.line (tested tenants told f.line true f.name f.path h);
       room = omega (arith, length-map tenants line_of);
     } in

@@ -1,14 +1,15 @@
 -- The slots that tenants use, and their figures.
 use Rattle.std.proofs.Common.{◌≡◌, ℕ, zero, suc, ◌-◌, ◌≤◌, List, [], ◌∷◌, take, map, length, arith, sym, ap, subst, ◌∙◌}
-use Rattle.std.specs.Prelude.{All}
+use Rattle.std.specs.Prelude.{All, Option, Some, None}
 use Rattle.std.proofs.lemmas.List.{length-map}
 use Rattle.std.proofs.lemmas.List.Sums.{sum_by-cons}
 use Rattle.std.proofs.lemmas.List.Elements.{All-nil, All-cons}
-use Rattle.mw_words.specs.declared.limits.TheConstants.{MAX_POOL, MAX_TENANTS}
+use Rattle.mw_words.specs.declared.limits.TheConstants.{MAX_PLACES, MAX_POOL, MAX_TENANTS}
 use Rattle.mw_report.specs.declared.figures.TenantFigures.{TenantFigures}
 use Rattle.mw_report.specs.Table.{IsWithinLimits, AreWithinLimits}
+use Rattle.mw_plain.specs.declared.book.Book.{Book}
 use Rattle.mw_plain.specs.declared.part.Part.{Part}
-use Rattle.mw_plain.specs.Books.{used_in}
+use Rattle.mw_plain.specs.Books.{used_in, places_in}
 use Rattle.mw_plain.specs.Quotas.{quotas_of, used_by}
 use Rattle.mw_plain.specs.Report.{figures_of}
 
@@ -22,10 +23,15 @@ used_first {D} (suc n) (p ∷ parts) =
     let quotas = sum_by-cons (λ (p : Part D). p.quota) p parts in
     omega (arith, rest, p.within, used, quotas)
 
+-- a tenant's file has no more places than a file may have
+few_places : {D : Type 0} (book : Option (Book D)) → places_in 0 book ≤ MAX_PLACES
+few_places None = omega arith
+few_places (Some book) = book.file.few
+
 each_within : {D : Type 0} (parts : List (Part D)) → All IsWithinLimits (map figures_of parts)
 each_within [] = All-nil IsWithinLimits
 each_within (p ∷ parts) =
-    All-cons IsWithinLimits (figures_of p) (map figures_of parts) (record { words = p.few_words; quota = p.few_slots; used = omega (arith, p.within, p.few_slots) }) (each_within parts)
+    All-cons IsWithinLimits (figures_of p) (map figures_of parts) (record { words = p.few_words; quota = p.few_slots; places = few_places p.book; used = omega (arith, p.within, p.few_slots) }) (each_within parts)
 
 -- the figures of all tenants keep the limits
 pub within_limits : {D : Type 0} (pool used : ℕ) (parts : List (Part D)) (told : List TenantFigures) → told ≡ map figures_of parts → length parts ≤ MAX_TENANTS → pool ≤ MAX_POOL

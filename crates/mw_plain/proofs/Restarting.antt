@@ -1,6 +1,6 @@
 -- A start of the store alone from what a crash left.
-use Rattle.std.proofs.Common.{◌≡◌, ℕ, true, false, not, List, [], ◌∷◌, Option, Some, None, Result, Ok, Err, IsTrue, refl, sym, ap, subst, ◌∙◌, inl, inr}
-use Rattle.std.specs.Prelude.{Vec, if◌then◌else◌}
+use Rattle.std.proofs.Common.{◌≡◌, ℕ, true, false, not, arith, List, [], ◌∷◌, Option, Some, None, Result, Ok, Err, IsTrue, refl, sym, ap, subst, ◌∙◌, inl, inr}
+use Rattle.std.specs.Prelude.{◌&&◌, Vec}
 use Rattle.std.proofs.lemmas.Bool.{cases_Bool}
 use Rattle.std.proofs.lemmas.Option.{same_Some}
 use Rattle.std.specs.declared.alloc.Global.{Global}
@@ -18,11 +18,11 @@ use Rattle.mw_file.specs.declared.opening.OpenFault.TheVariants.{Damage, Disk, M
 use Rattle.mw_file.specs.Again.{Holds, NotDamaged}
 use Rattle.mw_file.specs.Keeps.{IsFile, IsEither}
 use Rattle.mw_file.specs.Opening.{Opens, Fails, OpensSafely, SameFile}
-use Rattle.mw_lone.specs.Store.{Store, request, entries_of, is_empty, store_after_start}
+use Rattle.mw_lone.specs.Store.{Store, request, entries_of, is_empty, is_quota, store_after_start}
 use Rattle.mw_lone.proofs.SoundStores.{length-put}
 use Rattle.mw_plain.specs.Cases.{CanChange, under_way}
 use Rattle.mw_plain.specs.Restarts.{MayStartWith, RestartGoesOn}
-use Rattle.mw_plain.proofs.Runs.{may-stop}
+use Rattle.mw_plain.proofs.Runs.{both, when, may-stop}
 
 nothing : (es : List Entry) → is_empty es ≡ true → es ≡ []
 nothing [] is = refl
@@ -30,19 +30,19 @@ nothing (e ∷ es) is = absurd (cc)
 
 -- a start may find nothing of a change in doubt
 without : (s : Store) → MayStartWith s None s.words
-without s = record { take = false; legal = λ opened. refl; count = refl }
+without s = record { take = false; legal = λ opened quota may. when (is_quota quota) _ may; count = refl }
 
 -- or all of it; where there is none it is the same
 with_doubt : (s : Store) → MayStartWith s None (put s.words s.in_doubt)
 with_doubt s = elim (cases_Bool (is_empty s.in_doubt)) [
   | inl is ↦ record {
     take = false;
-    legal = λ opened. ap (λ es. Some (store_after_start s (put s.words es) opened)) (sym (nothing s.in_doubt is));
+    legal = λ opened quota may. when (is_quota quota) _ may ∙ ap (λ es. Some (store_after_start s (put s.words es) opened quota)) (sym (nothing s.in_doubt is));
     count = length-put s.words s.in_doubt;
   }
   | inr other ↦ record {
     take = true;
-    legal = λ opened. ap (λ b. if not b then Some (store_after_start s (put s.words s.in_doubt) opened) else None) other;
+    legal = λ opened quota may. when (not (is_empty s.in_doubt) && is_quota quota) _ (both _ _ (ap not other) may);
     count = length-put s.words s.in_doubt;
   }
 ]
@@ -50,8 +50,8 @@ with_doubt s = elim (cases_Bool (is_empty s.in_doubt)) [
 -- nothing of a change that was interrupted, or all of it
 stopped : (s : Store) (n : ℕ) (job : Job) → request s n ≡ Some (under_way job) → CanChange s job → MayStartWith s (Some n) s.words × MayStartWith s (Some n) (put s.words (entries_of job))
 stopped s n job at can = (
-  record { take = false; legal = λ opened. may-stop s n job false opened at can; count = refl },
-  record { take = true; legal = λ opened. may-stop s n job true opened at can; count = length-put s.words (entries_of job) },
+  record { take = false; legal = λ opened quota may. may-stop s n job false opened quota at can may; count = refl },
+  record { take = true; legal = λ opened quota may. may-stop s n job true opened quota at can may; count = length-put s.words (entries_of job) },
 )
 
 -- these bytes are a file of words that the store may start with
@@ -92,10 +92,19 @@ module _ {D : Type 0} (facts : D → Facts) where
   goes_on s interrupted places contents change disk (Ok opened) found honest rest opens holds =
       let read : found.words ≡ opened.1.items = same_Some _ _ (sym found.file.words_are ∙ opens.whole honest) in
       let keeps = opens.keeps honest rest in
+      let start = subst (MayStartWith s interrupted) read found.start in
+      let same_places = sym (keeps.read opens.sound).places_are ∙ (opens.unchanged honest rest).read.places ∙ found.file.places_are in
       record {
-        start = subst (MayStartWith s interrupted) read found.start;
+        start = start;
         keeps = keeps;
-        places_are = sym (keeps.read opens.sound).places_are ∙ (opens.unchanged honest rest).read.places ∙ found.file.places_are;
+        places_are = same_places;
+        fits = λ line count room. record {
+          count = opens.count ∙ start.count ∙ sym count;
+          read = sym opens.count;
+          room = omega (arith, room, same_places);
+          free = opens.free;
+          sound = opens.sound;
+        };
       }
   goes_on s interrupted places contents change disk (Err failed) found honest rest opens holds = record {
     sound = not_damaged contents change failed.0 holds s.words;

@@ -16,7 +16,7 @@ use Rattle.mw_words.specs.declared.replies.Reply.{Reply}
 use Rattle.mw_words.specs.declared.replies.Reply.TheVariants.{Val, Yes, No, Busy as SaysBusy, Fault}
 use Rattle.mw_words.specs.Change.{word_at, fits, put, is_well_formed}
 use Rattle.mw_lone.proofs.SoundStores.{Requests, get-insert_same, get-insert_other}
-use Rattle.mw_lone.specs.Store.{Store, RequestState, step, run, outgoing, replies_from, request, with_request, asked, admit, refuse_busy, look_at, miss_at, seal, fail_seal, give_up, retire, hand_out, due_reply, may_seal, may_be_interrupted, entries_in_doubt, store_after_start, entries_of, is_cas}
+use Rattle.mw_lone.specs.Store.{Store, RequestState, step, run, outgoing, replies_from, request, with_request, asked, admit, refuse_busy, look_at, miss_at, seal, fail_seal, give_up, retire, hand_out, due_reply, may_seal, may_be_interrupted, entries_in_doubt, store_after_start, is_quota, entries_of, is_cas}
 use Rattle.mw_lone.specs.declared.marks.Mark.{Mark}
 use Rattle.mw_lone.specs.declared.marks.Mark.TheVariants.{Ask, Admit, Busy, Look, Miss, Seal, SealFail, FileFail, GiveUp, Retire, Reply as HandOut}
 use Rattle.mw_plain.specs.Cases.{StartCase, FinishCase, AskCase, Faulted, Looked, Full, Unprepared, Prepared, GaveUp, Missed, Unsealed, Unsettled, Changed, AtStart, AtFinish, CanChange, StartFits, FinishFits, start_marks, finish_marks, ask_marks, start_reply, finish_reply, after_start, after_finish, after_ask, request_after_start, under_way, ended, gives_back, refusal, after_served, after_all, marks_of_all, replies_to_all}
@@ -55,7 +55,7 @@ meets s n r f = ap (option_and_then f) (get-insert_same s.requests n n r refl)
 abbrev placed : RequestState → Reply → RequestState
 placed r reply = record r { placed = Some reply }
 
-both : (a b : Bool) → a ≡ true → b ≡ true → a && b ≡ true
+pub both : (a b : Bool) → a ≡ true → b ≡ true → a && b ≡ true
 both true b e f = f
 both false b e f = absurd (cc)
 
@@ -63,7 +63,7 @@ unless : (b : Bool) (o : Option Store) → b ≡ false → (if b then None else 
 unless true o e = absurd (cc)
 unless false o e = refl
 
-when : (b : Bool) (o : Option Store) → b ≡ true → (if b then o else None) ≡ o
+pub when : (b : Bool) (o : Option Store) → b ≡ true → (if b then o else None) ≡ o
 when true o e = refl
 when false o e = absurd (cc)
 
@@ -294,7 +294,8 @@ in_doubt : (s : Store) (n : ℕ) (job : Job) → request s n ≡ Some (under_way
 in_doubt s n job at = ap (λ (o : Option RequestState). option_map_or (λ r. entries_of r.job) o []) at
 
 pub may-stop : MayStop
-may-stop s n job true opened at can =
-    when (may_be_interrupted s (Some n) && true) _ (both (may_be_interrupted s (Some n)) true (may_be s n job at can) refl)
-    ∙ ap (λ (es : List Entry). Some (store_after_start s (put s.words es) opened)) (in_doubt s n job at)
-may-stop s n job false opened at can = when (may_be_interrupted s (Some n) && true) _ (both (may_be_interrupted s (Some n)) true (may_be s n job at can) refl)
+may-stop s n job true opened quota at can may =
+    when (may_be_interrupted s (Some n) && true && is_quota quota) _ (both _ _ (both (may_be_interrupted s (Some n)) true (may_be s n job at can) refl) may)
+    ∙ ap (λ (es : List Entry). Some (store_after_start s (put s.words es) opened quota)) (in_doubt s n job at)
+may-stop s n job false opened quota at can may =
+    when (may_be_interrupted s (Some n) && true && is_quota quota) _ (both _ _ (both (may_be_interrupted s (Some n)) true (may_be s n job at can) refl) may)

@@ -6,7 +6,7 @@ use Rattle.mw_words.specs.declared.jobs.Job.{Job}
 use Rattle.mw_words.specs.declared.replies.Reply.{Reply}
 use Rattle.mw_words.specs.Change.{is_well_formed, put}
 use Rattle.mw_lone.specs.declared.marks.Mark.{Mark}
-use Rattle.mw_lone.specs.Store.{Store, RequestState, step, run, replies_from, request, store_after_start, entries_of}
+use Rattle.mw_lone.specs.Store.{Store, RequestState, step, run, replies_from, request, store_after_start, is_quota, entries_of}
 use Rattle.mw_lone.specs.declared.marks.Mark.TheVariants.{Restart}
 use Rattle.mw_plain.specs.Cases.{StartCase, FinishCase, AskCase, StartFits, FinishFits, AskFits, CanChange, start_marks, finish_marks, ask_marks, start_reply, finish_reply, ask_reply, after_start, after_finish, after_ask, request_after_start, under_way, ended, gives_back, Served, ServedFits, AllFit, after_served, after_all, marks_of_all, replies_to_all}
 
@@ -56,9 +56,11 @@ AllGo = (s : Store) (all : List Served) → AllFit s all → Goes s (marks_of_al
 abbrev pub OneMoreFits : Type 0
 OneMoreFits = (s : Store) (all : List Served) (last : Served) → AllFit s all → ServedFits (after_all s all) last → AllFit s (all ++ last ∷ []) × (after_all s (all ++ last ∷ []) ≡ after_served (after_all s all) last)
 
--- All may stop while such a change is sealed: the start after it is legal, whether it finds all of the change or nothing.
+-- All may stop while such a change is sealed: the start after it is legal, whether it finds all of the change or nothing, with every quota
+-- that a tenant may have.
 abbrev pub MayStop : Type 0
-MayStop = (s : Store) (n : ℕ) (job : Job) (take opened : Bool) → request s n ≡ Some (under_way job) → CanChange s job → step s (Restart (Some n) take opened) ≡ Some (store_after_start s (if take then put s.words (entries_of job) else s.words) opened)
+MayStop = (s : Store) (n : ℕ) (job : Job) (take opened : Bool) (quota : ℕ) → request s n ≡ Some (under_way job) → CanChange s job → IsTrue (is_quota quota)
+    → step s (Restart (Some n) take opened quota) ≡ Some (store_after_start s (if take then put s.words (entries_of job) else s.words) opened quota)
 
 -- the store after one list of marks and then another is what the other makes of the store after the one
 abbrev pub RunsJoin : Type 0

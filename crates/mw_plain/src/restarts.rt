@@ -22,8 +22,9 @@ use mw_file::crash_of_a_file;
 
 /// What a crash leaves of a tenant's file, opened on an honest disk at rest, is what a start of the
 /// tenant's store alone goes on from: with the change in doubt, all of it, or without; and with the
-/// change that was being sealed or settled when the crash came, all of it, or without. An opening that
-/// fails leaves it so.
+/// change that was being sealed or settled when the crash came, all of it, or without. That start may
+/// tell every quota that a tenant may have; the file that opened fits a line with the tenant's number
+/// of words and any quota that is no more than the file's places. An opening that fails leaves it so.
 pub fn a_restart_goes_on<D: Disk, E: Disk>()
     ensures in_use { (plain : Plain D) (tenant : ℕ) (book : Book D) (s : Store) (disk : E) (opened : Result (File E × Vec ℕ Global) (OpenFault × E))
         → book_at plain tenant ≡ Some book → FileKeeps D.facts plain tenant s → IsTrue (D.facts (disk_of book.file)).honest

@@ -1,7 +1,7 @@
 //! The calls of one tenant.
 ghost use Rattle.std.specs.Prelude.{◌≡◌, not, IsTrue};
 ghost use Rattle.mw_words.specs.Change.{is_change, is_well_formed};
-ghost use Rattle.mw_plain.specs.Books.{used_in, faulted_in, IsPrepared};
+ghost use Rattle.mw_plain.specs.Books.{used_in, faulted_in, places_in, IsPrepared};
 ghost use Rattle.mw_plain.specs.Cases.{StartCase, FinishCase};
 ghost use Rattle.mw_plain.specs.Serving.{StartEnds, FinishEnds};
 
@@ -26,6 +26,16 @@ impl<D: Disk> Part<D> {
         }
     }
 
+    /// How many places its file has; 0 where there is none that opened and fits the line.
+    pub(crate) fn places(&self) -> u8
+        ensures { result ≡ places_in 0 self.now.book }
+    {
+        match &self.book {
+            Some(book) => book.file.places() as u8,
+            None => 0,
+        }
+    }
+
     /// Whether its file takes changes.
     pub(crate) fn is_up(&self) -> bool
         ensures { result ≡ not (faulted_in self.now.book) }
@@ -44,6 +54,7 @@ impl<D: Disk> Part<D> {
             name: copy_of_name(&self.name),
             words: self.words,
             quota: self.quota,
+            places: self.places(),
             used: self.used(),
             up: self.is_up(),
         }

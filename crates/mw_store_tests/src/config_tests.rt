@@ -24,7 +24,7 @@ fn is_line(line: &TenantLine, name: &[u8], sizes: (u16, u8), path: &str) -> bool
 fn are_two_lines(lines: &[TenantLine]) -> bool {
     match lines {
         [first, second] => {
-            is_line(first, b"t-0", (4096, 32), "./a.mw") && is_line(second, b"u", (1, 1), "~!")
+            is_line(first, b"t-0", (4096, 64), "./a.mw") && is_line(second, b"u", (1, 1), "~!")
         }
         _ => false,
     }
@@ -32,7 +32,7 @@ fn are_two_lines(lines: &[TenantLine]) -> bool {
 
 #[test]
 fn lines_are_told(rt: HostRuntime) {
-    let lines = read_tenants(b"t-0 4096 32 ./a.mw\nu 1 1 ~!\n", 33);
+    let lines = read_tenants(b"t-0 4096 64 ./a.mw\nu 1 1 ~!\n", 65);
     assert!(rt; matches!(&lines, Ok(lines) if are_two_lines(lines.as_slice())));
 }
 
@@ -65,7 +65,10 @@ t -1 1 a/
 t 1 1 é/",
     ),
     (Refusal::Words(1), "t 0 1 a/\nt 4097 1 a/\nt 65537 1 a/"),
-    (Refusal::Quota(1), "t 1 0 a/\nt 1 33 a/\nt 1 257 a/"),
+    (
+        Refusal::Quota(1),
+        "t 1 0 a/\nt 1 65 a/\nt 2 65 t.mw/\nt 1 257 a/",
+    ),
 ];
 
 /// A text whose lines end where `/` stands.
@@ -92,7 +95,7 @@ fn one_line_that_is_refused(rt: HostRuntime) {
 fn the_first_refusal_is_the_answer(rt: HostRuntime) {
     let cases: [(&[u8], u16, Refusal); 11] = [
         (b"t 0 0 a", 256, Refusal::Form(1)),
-        (b"t 0 33 a\n", 256, Refusal::Words(1)),
+        (b"t 0 65 a\n", 256, Refusal::Words(1)),
         (
             b"t 99999999999999999999999999 0 a\n",
             256,
@@ -104,13 +107,13 @@ fn the_first_refusal_is_the_answer(rt: HostRuntime) {
         (b"t 2 1 a.mw\nt 2 1 b.mw\n", 256, Refusal::Twice(2)),
         (b"t 2 1 a.mw\nu 2 1 a.mw\nv\n", 256, Refusal::Twice(2)),
         (b"t 1 1 a\n\n", 0, Refusal::Form(2)),
-        (b"t 1 1 a\nu 1 32 b\n", 32, Refusal::Pool),
+        (b"t 1 1 a\nu 1 64 b\n", 64, Refusal::Pool),
         (b"t 1 1 a\n", 0, Refusal::Pool),
     ];
     for (text, pool, refusal) in cases {
         same(&rt, &count(text, pool), &Err(refusal));
     }
-    same(&rt, &count(b"t 1 1 a\nu 1 32 b\n", 33), &Ok(2));
+    same(&rt, &count(b"t 1 1 a\nu 1 64 b\n", 65), &Ok(2));
 }
 
 /// What is read of two lines of eleven bytes each that are cut to so many.
@@ -154,7 +157,7 @@ fn a_seventeenth_line(rt: HostRuntime) {
         (b"q 1 1", Refusal::Form(17)),
         (b"q 1 1 q", Refusal::Form(17)),
         (b"a 0 0 a\n", Refusal::Words(17)),
-        (b"a 1 33 a\n", Refusal::Quota(17)),
+        (b"a 1 65 a\n", Refusal::Quota(17)),
         (b"p 1 1 q\n", Refusal::Twice(17)),
         (b"q 1 1 a\n", Refusal::Twice(17)),
         (b"q 1 1 q\n", Refusal::Many(17)),

@@ -30,11 +30,23 @@ fn change_both(first: (u64, u64), second: (u64, u64)) -> Job {
     Job::Cas(entries)
 }
 
+/// A start that tells the quota of 1.
 fn restart(interrupted: Option<u64>, take: bool) -> Mark {
     Mark::Restart {
         interrupted,
         take,
         opened: true,
+        quota: 1,
+    }
+}
+
+/// A start that tells this quota, and finds no change in doubt.
+fn restart_with(quota: u8) -> Mark {
+    Mark::Restart {
+        interrupted: None,
+        take: false,
+        opened: true,
+        quota,
     }
 }
 
@@ -124,7 +136,7 @@ fn replies_as_the_marks_say(rt: HostRuntime) {
 }
 
 /// Marks that can't happen where request 0 is admitted, and no other one came.
-fn illegal() -> [Mark; 15] {
+fn illegal() -> [Mark; 18] {
     [
         Mark::Ask(0, Job::Get(0)),
         Mark::Ask(2, Job::Get(0)),
@@ -141,6 +153,9 @@ fn illegal() -> [Mark; 15] {
         Mark::Reply(0),
         restart(None, true),
         restart(Some(1), false),
+        restart_with(0),
+        restart_with(65),
+        restart_with(255),
     ]
 }
 
@@ -159,4 +174,51 @@ fn refuses_what_cannot_happen(rt: HostRuntime) {
     let marks = Vec::from_array(rt.alloc(), illegal()).expect(&rt, MEMORY);
     refuses(&rt, &mut lone, marks);
     same(&rt, &lone.mark(Mark::Seal(0)), &Ok(None));
+}
+
+/// Starts that tell the greatest quota, and then 2; and as many changes as that, one of them still to be
+/// admitted.
+fn raised() -> [Told; 5] {
+    [
+        (restart_with(64), None),
+        (restart_with(2), None),
+        (Mark::Ask(0, change(0, 10, 11)), None),
+        (Mark::Admit(0), None),
+        (Mark::Ask(1, change(1, 20, 21)), None),
+    ]
+}
+
+/// The second change is admitted, and the one after it is refused by the quota of 2.
+fn filled() -> [Told; 4] {
+    [
+        (Mark::Admit(1), None),
+        (Mark::Ask(2, change(0, 10, 12)), None),
+        (Mark::Busy(2), None),
+        (Mark::Reply(2), Some(Reply::Busy)),
+    ]
+}
+
+/// A start that tells the quota of 1, by which the second change is refused.
+fn lowered() -> [Told; 6] {
+    [
+        (restart_with(1), None),
+        (Mark::Ask(3, change(0, 10, 13)), None),
+        (Mark::Admit(3), None),
+        (Mark::Ask(4, change(1, 20, 22)), None),
+        (Mark::Busy(4), None),
+        (Mark::Reply(4), Some(Reply::Busy)),
+    ]
+}
+
+#[test]
+fn a_start_tells_the_quota(rt: HostRuntime) {
+    let mut lone = new_store(&rt);
+    let marks = Vec::from_array(rt.alloc(), raised()).expect(&rt, MEMORY);
+    tells(&rt, &mut lone, marks);
+    same(&rt, &lone.mark(Mark::Busy(1)), &Err(LoneFault::Illegal));
+    let marks = Vec::from_array(rt.alloc(), filled()).expect(&rt, MEMORY);
+    tells(&rt, &mut lone, marks);
+    let marks = Vec::from_array(rt.alloc(), lowered()).expect(&rt, MEMORY);
+    tells(&rt, &mut lone, marks);
+    same(&rt, &lone.mark(Mark::Admit(4)), &Err(LoneFault::Illegal));
 }

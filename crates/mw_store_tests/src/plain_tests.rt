@@ -1,4 +1,4 @@
-ghost use Rattle.std.specs.Prelude.{◌≡◌, ◌<◌, IfOk, IsTrue};
+ghost use Rattle.std.specs.Prelude.{◌≡◌, ◌<◌, ◌≤◌, IfOk, IsTrue};
 ghost use Rattle.mw_words.specs.Change.{is_well_formed};
 ghost use Rattle.mw_plain.specs.Lines.{FitsLine};
 ghost use Rattle.mw_plain.specs.Parts.{tenants, words_at};
@@ -13,15 +13,15 @@ use mw_words::{Entries, Entry, Job, Reply};
 use std::alloc::{AllocError, Global};
 use std::process::Abort;
 
-/// A line of a tenant with this name of one letter, two words and a quota of one.
-fn line(name: u8) -> TenantLine
+/// A line of a tenant with this name of one letter, two words and this quota.
+fn line(name: u8, quota: u8) -> TenantLine
     ensures words { result.words ≡ 2 }
-    ensures quota { result.quota ≡ 1 }
+    ensures quota { result.quota ≡ quota }
 {
     let mut line = TenantLine::default();
     let _ = line.name.try_push(name);
     line.words = 2;
-    line.quota = 1;
+    line.quota = quota;
     line
 }
 
@@ -58,17 +58,32 @@ fn file_of(
     }
 }
 
-/// The store of two tenants, t and u, over these disks.
+/// The store of two tenants over these disks: t with this quota, and u with a quota of one.
+fn store_of(
+    alloc: Global,
+    quota: u8,
+    first: MemDisk,
+    second: MemDisk,
+) -> Result<Plain<MemDisk>, AllocError>
+    requires { quota ≤ 3 }
+    ensures count { IfOk result (λ plain. tenants plain ≡ 2) }
+    ensures first { IfOk result (λ plain. words_at plain 0 ≡ 2) }
+    ensures second { IfOk result (λ plain. words_at plain 1 ≡ 2) }
+{
+    let lines = [line(b't', quota), line(b'u', 1)];
+    let mut files = Vec::with_capacity(alloc, 2)?;
+    files.push(file_of(alloc, &lines[0], first))?;
+    files.push(file_of(alloc, &lines[1], second))?;
+    Plain::new(alloc, &lines, files, u16::from(quota) + 1)
+}
+
+/// The store of two tenants, t and u, over these disks, each with a quota of one.
 fn store(alloc: Global, first: MemDisk, second: MemDisk) -> Result<Plain<MemDisk>, AllocError>
     ensures count { IfOk result (λ plain. tenants plain ≡ 2) }
     ensures first { IfOk result (λ plain. words_at plain 0 ≡ 2) }
     ensures second { IfOk result (λ plain. words_at plain 1 ≡ 2) }
 {
-    let lines = [line(b't'), line(b'u')];
-    let mut files = Vec::with_capacity(alloc, 2)?;
-    files.push(file_of(alloc, &lines[0], first))?;
-    files.push(file_of(alloc, &lines[1], second))?;
-    Plain::new(alloc, &lines, files, 2)
+    store_of(alloc, 1, first, second)
 }
 
 /// The store of two tenants, t and u, over new disks.
@@ -240,4 +255,63 @@ fn each_device_call_fails(rt: HostRuntime) {
         let found = (calls, (reply, words_of_opened(&rt, bytes)));
         same(&rt, &found, &(calls, wanted_after(calls)));
     }
+}
+
+/// What a crash leaves of t's disk after a change of its word 1, the quota being one.
+fn left_after_a_change<R: Abort + AllocGlobal>(rt: &R) -> Vec<u8> {
+    let mut store = new_store(rt);
+    let _ = ask(&mut store, 0, &change(1));
+    let disks = store.into_disks(rt.alloc()).expect(rt, MEMORY);
+    left_of_first(rt, &disks)
+}
+
+/// The reply to a change of a word of t's, if its start is the end of it.
+fn begun(store: &mut Plain<MemDisk>, job: &Job) -> Option<Reply> {
+    if store.len() == 0 || !job.is_well_formed(store.words_of(0) as usize) {
+        return None;
+    }
+    match store.start(0, job) {
+        Start::Done(reply) => Some(reply),
+        Start::Open(_) => None,
+    }
+}
+
+/// The quota of the first tenant and the places of its file, as they are reported.
+fn told_of_first(store: &Plain<MemDisk>) -> (u8, u8) {
+    match store.figures().tenants.first() {
+        Some(figures) => (figures.quota, figures.places),
+        None => (0, 0),
+    }
+}
+
+/// Where t is started again with this quota: its word 1, the replies to three changes of which none is
+/// finished, and what is reported of its quota and places.
+type Started = (Option<Reply>, [Option<Reply>; 3], (u8, u8));
+
+fn started_with<R: Abort + AllocGlobal>(rt: &R, quota: u8) -> Started
+    requires { quota ≤ 3 }
+{
+    let left = disk_with(rt, left_after_a_change(rt));
+    let mut store = store_of(rt.alloc(), quota, left, new_disk(rt)).expect(rt, MEMORY);
+    let word = ask(&mut store, 0, &Job::Get(1));
+    let replies = [
+        begun(&mut store, &change(0)),
+        begun(&mut store, &change(0)),
+        begun(&mut store, &change(0)),
+    ];
+    (word, replies, told_of_first(&store))
+}
+
+/// A file that was made with one place has two once it was opened: a start may tell a quota of one or two,
+/// and with three it is not served.
+#[test]
+fn a_start_tells_the_quota(rt: HostRuntime) {
+    let busy = Some(Reply::Busy);
+    let fault = Some(Reply::Fault);
+    let one = (val(1), [None, busy, busy], (1, 2));
+    same(&rt, &started_with(&rt, 1), &one);
+    let two = (val(1), [None, None, busy], (2, 2));
+    same(&rt, &started_with(&rt, 2), &two);
+    let three = (fault, [fault; 3], (3, 0));
+    same(&rt, &started_with(&rt, 3), &three);
 }
