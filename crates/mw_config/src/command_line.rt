@@ -2,10 +2,10 @@
 ghost use Rattle.std.specs.Prelude.{◌≤◌, IfOk, IfSome};
 ghost use Rattle.mw_config.specs.CommandLine.{ArePermittedArgs, IsPermittedMode, IsUpTo};
 
-use crate::version::VERSION;
 use clap::builder::ValueParser;
 use clap::error::ErrorKind;
 use clap::{Arg, ArgAction, ArgMatches, Command};
+use mw_version::VERSION;
 use mw_words::{MAX_CONNECTIONS, MAX_POOL, MAX_WORKERS};
 use std::alloc::{AllocError, Global};
 use thiserror::Error;

@@ -1,4 +1,4 @@
-//! What a server is started with: the tenants file and the command line. The version too.
+//! What a server is started with: the tenants file and the command line.
 #![tactic(auto)]
 
 mod command_line;
@@ -7,7 +7,6 @@ mod laws;
 mod lines;
 mod refusals;
 mod tenants;
-mod version;
 
 pub use command_line::{ArgFault, Args, Listening, MAX_IDLE, MAX_SOCKET_MODE, Mode, read_args};
 pub use forms::{FormRule, broken_rule};
@@ -15,4 +14,3 @@ pub use laws::one_answer;
 pub use lines::TenantLine;
 pub use refusals::Refusal;
 pub use tenants::read_tenants;
-pub use version::VERSION;

@@ -2,6 +2,7 @@
 use arrayvec::ArrayVec;
 use clap::builder::ValueParser;
 use clap::{Arg, ArgAction, ArgMatches, Command};
+use mw_version::VERSION;
 use mw_words::{MAX_ENTRIES, Name};
 use std::alloc::{AllocError, Global};
 
@@ -64,7 +65,7 @@ fn number_of(matches: &ArgMatches<'_>, name: &str) -> u16 {
 
 fn command<'a>(alloc: Global) -> Result<Command<'a>, AllocError> {
     let command = Command::new(alloc, "mwbench")
-        .version("0.1.0")
+        .version(VERSION)
         .about("Loads a server and measures how long its replies take.");
     add_switches(alloc, add_sizes(alloc, add_places(alloc, command)?)?)
 }

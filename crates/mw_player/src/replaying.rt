@@ -9,6 +9,7 @@ use crate::player::{Halt, Player};
 use clap::error::ErrorKind;
 use clap::{Arg, ArgAction, Command};
 use mw_schedule::{Schedule, ScheduleFault, ScheduleLine, read_schedule};
+use mw_version::VERSION;
 use std::alloc::{AllocError, Global};
 use std::fs::File;
 use std::io::{self, Read, Write};
@@ -18,7 +19,7 @@ use thiserror::Error;
 /// Why a schedule was not played to its end.
 #[derive(Debug, Drop, Error)]
 enum ReplayFault {
-    /// The command line is wrong, or asks for help.
+    /// The command line is wrong, or asks for help or the version.
     #[error("{0}")]
     Args(clap::Error),
     /// The schedule can't be read.
@@ -106,12 +107,13 @@ impl From<io::Error> for ReplayFault {
 }
 
 /// Plays the schedule in the file that the command line `args` names, by [`replay_file`]. The program's
-/// own name comes first: `mwreplay [--trace] FILE`. Where help is asked for, `out` gets its text.
+/// own name comes first: `mwreplay [--trace] FILE`. Where help or the version is asked for, `out` gets
+/// its text.
 ///
 /// Gives the exit status: that of [`replay_file`]; 2 for a wrong command line; 1 where memory was
-/// refused before the file was opened. For help it is 0, or 1 where `out` failed. What went wrong is
-/// written to `err`. What is played of a file is in the contract of [`replay_file`]; which command line
-/// asks for what is in none.
+/// refused before the file was opened. For help and the version it is 0, or 1 where `out` failed. What
+/// went wrong is written to `err`. What is played of a file is in the contract of [`replay_file`]; which
+/// command line asks for what is in none.
 pub fn replay_args<R: Files + AllocGlobal, O: Write, E: Write>(
     rt: &R,
     args: &[String],
@@ -224,9 +226,9 @@ fn ask<'a>(alloc: Global, args: &'a [String]) -> Result<Asked<'a>, ReplayFault> 
 }
 
 fn command<'a>(alloc: Global) -> Result<Command<'a>, clap::Error> {
-    let command = Command::new(alloc, "mwreplay").about(
-        "Plays a schedule, and prints the replies.",
-    );
+    let command = Command::new(alloc, "mwreplay")
+        .version(VERSION)
+        .about("Plays a schedule, and prints the replies.");
     let command = command.arg(trace_option(alloc))?;
     Ok(command.arg(schedule_path(alloc))?)
 }

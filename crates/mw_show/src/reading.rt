@@ -13,7 +13,7 @@ use thiserror::Error;
 /// Why a file was not shown.
 #[derive(Debug, Drop, Error)]
 pub enum ShowFault {
-    /// The command line is wrong, or asks for help.
+    /// The command line is wrong, or asks for help or the version.
     #[error("{0}")]
     Args(clap::Error),
     /// The file isn't there, may not be read, or a call of the system on it failed.

@@ -6,17 +6,18 @@ ghost use Rattle.mw_show.specs.Text.{IsShown};
 use crate::lines::show;
 use crate::reading::{ShowFault, read_file};
 use clap::{Arg, ArgAction, Command};
+use mw_version::VERSION;
 use std::alloc::Global;
 use std::fs::File;
 use std::io::Write;
 use std::rt::Files;
 
 /// Shows the file that the command line `args` names, by [`show_file`]. The program's own name comes
-/// first: `mwshow [--words] FILE`. Where help is asked for, `out` gets its text.
+/// first: `mwshow [--words] FILE`. Where help or the version is asked for, `out` gets its text.
 ///
 /// Gives the exit status: that of [`show_file`]; 2 for a wrong command line; 1 where memory was refused
-/// before the file was looked at. For help it is 0, or 1 where `out` failed. What went wrong is written
-/// to `err`.
+/// before the file was looked at. For help and the version it is 0, or 1 where `out` failed. What went
+/// wrong is written to `err`.
 pub fn show_args<R: Files<File = File> + AllocGlobal, O: Write, E: Write>(
     rt: &R,
     args: &[String],
@@ -100,7 +101,9 @@ fn ask<'a>(alloc: Global, args: &'a [String]) -> Result<Asked<'a>, ShowFault> {
 }
 
 fn command<'a>(alloc: Global) -> Result<Command<'a>, clap::Error> {
-    let command = Command::new(alloc, "mwshow").about("Shows what a tenant's file says.");
+    let command = Command::new(alloc, "mwshow")
+        .version(VERSION)
+        .about("Shows what a tenant's file says.");
     let command = command.arg(words_option(alloc))?;
     Ok(command.arg(file_path(alloc))?)
 }
