@@ -131,7 +131,7 @@ mwinit DIR/t.mw 2 1
 write tenants t 2 1 DIR/t.mw;
 write script ADMIN;GET 0;REPORT;ADMIN;
 serve
-gives 0 OK ADMIN;ERR 10;t                   2  1  0 up;free 256;ERR 4;|",
+gives 0 OK ADMIN;ERR 10;t                   2  1  2  0 up;free 256;ERR 4;|",
     )
 }
 
@@ -180,7 +180,7 @@ mwinit DIR/u.mw 4096 32
 write tenants t 2 1 DIR/t.mw;u 4096 32 DIR/u.mw;
 write script ADMIN;REPORT;
 serve --pool 33
-gives 0 OK ADMIN;t                   2  1  0 up;u                4096 32  0 up;free 33;|
+gives 0 OK ADMIN;t                   2  1  2  0 up;u                4096 32 64  0 up;free 33;|
 serve --pool 32
 gives 2 |mwserve: refused 9 pool;",
     )
@@ -203,12 +203,66 @@ gives 2 |mwserve: refused 3 form line 1;
 write tenants t 4097 1 DIR/t.mw;
 serve
 gives 2 |mwserve: refused 4 words line 1;
-write tenants t 2 33 DIR/t.mw;
+write tenants t 2 65 DIR/t.mw;
 serve
 gives 2 |mwserve: refused 5 quota line 1;
 write tenants t 2 1 DIR/t.mw;t 2 1 DIR/u.mw;
 serve
 gives 2 |mwserve: refused 6 twice line 2;",
+    )
+}
+
+/// A file that was made with one place has two, so its tenant's quota is 1 or 2.
+#[test]
+fn quota_limits(rt: HostRuntime) -> Result<(), Fail> {
+    play(
+        &rt,
+        new_folder(&rt, "quota-limits")?.as_str(),
+        "\
+mwinit DIR/t.mw 2 1
+write script TENANT t;GET 0;
+write tenants t 2 65 DIR/t.mw;
+serve
+gives 2 |mwserve: refused 5 quota line 1;
+new t.mw
+write tenants t 2 3 DIR/t.mw;
+serve
+gives 0 OK 2;FAULT;|tenant t: misfit;
+write tenants t 2 2 DIR/t.mw;
+serve
+gives 0 OK 2;VAL 0;|
+mwinit DIR/u.mw 4096 32
+write tenants t 4096 64 DIR/u.mw;
+serve
+gives 0 OK 4096;VAL 0;|",
+    )
+}
+
+/// A quota is raised at one start and lowered at the next, and the words stay. The report tells both quotas.
+#[test]
+fn quotas_of_three_starts(rt: HostRuntime) -> Result<(), Fail> {
+    play(
+        &rt,
+        new_folder(&rt, "three-starts")?.as_str(),
+        "\
+mwinit DIR/t.mw 2 1
+write tenants t 2 1 DIR/t.mw;
+write script TENANT t;CAS 0:0:1 1:0:2;
+serve
+gives 0 OK 2;YES;|
+write tenants t 2 2 DIR/t.mw;
+write script ADMIN;REPORT;
+serve --pool 2
+gives 0 OK ADMIN;t                   2  2  2  0 up;free 2;|
+write tenants t 2 3 DIR/t.mw;
+serve
+gives 0 OK ADMIN;t                   2  3  0  0 down;free 256;|tenant t: misfit;
+write tenants t 2 1 DIR/t.mw;
+serve --pool 1
+gives 0 OK ADMIN;t                   2  1  2  0 up;free 1;|
+write script TENANT t;CAS 0:1:3 1:2:4;GET 1;
+serve
+gives 0 OK 2;YES;VAL 4;|",
     )
 }
 
@@ -332,6 +386,6 @@ serve
 gives 0 OK 2;YES;VAL 1;BYE;|tenant t: disk;tenant u: disk;
 write script ADMIN;REPORT;
 serve
-gives 0 OK ADMIN;t                   3  1  0 down;u                   2  2  0 down;v                   2  2  0 up;free 256;|tenant t: disk;tenant u: disk;",
+gives 0 OK ADMIN;t                   3  1  0  0 down;u                   2  2  0  0 down;v                   2  2  4  0 up;free 256;|tenant t: disk;tenant u: disk;",
     )
 }

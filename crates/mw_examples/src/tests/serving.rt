@@ -147,7 +147,7 @@ fn call_both<R: Net<Listener = TcpListener, Stream = TcpStream> + Clock>(
     let bound = client.asks(b"TENANT t\n", b"OK 2\n");
     let report = administrator.asks(
         b"ADMIN\nREPORT\nQUIT\n",
-        b"OK ADMIN\nt                   2  1  0 up\nfree 256\nBYE\n",
+        b"OK ADMIN\nt                   2  1  2  0 up\nfree 256\nBYE\n",
     );
     let ended = administrator.hears_the_end();
     Ok(bound && report && ended && client.hears_the_end())
