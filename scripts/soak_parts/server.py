@@ -150,10 +150,12 @@ class Server:
         greeting, *lines, free, goodbye = self.ask("ADMIN\nREPORT\nQUIT\n").splitlines()
         told = [(line[:16].rstrip(), int(line[17:21]), int(line[22:24])) for line in lines]
         wanted = [(tenant.name, tenant.words, tenant.quota) for tenant in tenants]
-        if greeting != "OK ADMIN" or told != wanted or free[:5] != "free " or goodbye != "BYE":
+        # An opened file has twice the places that it was made with; of one that didn't open 0 are told.
+        fits = told == wanted and all(int(line[25:27]) in (0, 2 * tenant.places) for line, tenant in zip(lines, tenants))
+        if greeting != "OK ADMIN" or not fits or free[:5] != "free " or goodbye != "BYE":
             raise Wrong(f"a report that doesn't fit: {[greeting, *lines, free, goodbye]}")
-        under_way = {line[:16].rstrip(): int(line[25:27]) for line in lines}
-        return Report(under_way, [line[:16].rstrip() for line in lines if line[28:] == "up"], int(free[5:]))
+        under_way = {line[:16].rstrip(): int(line[28:30]) for line in lines}
+        return Report(under_way, [line[:16].rstrip() for line in lines if line[31:] == "up"], int(free[5:]))
 
     def ask(self, lines: str) -> str:
         """What a session of these lines is told."""
