@@ -5,7 +5,7 @@ use crate::larger::pins::{frees, pins_held, waits};
 use crate::larger::seen::Seen;
 use crate::shares::can_be;
 use mw_actor::Slot;
-use mw_words::Gate;
+use mw_words::{Gate, MAX_POOL};
 
 /// A gate counts the pins that are held or were left behind, and a slot that is taken and has no pin is to be
 /// freed by one request; a door counts the slots that are taken for its tenant and the requests that wait, no
@@ -17,7 +17,11 @@ pub(super) fn counts(seen: &Seen) -> bool {
 /// The quotas fit: each is within its limits and at most the places of its tenant's file, and together they
 /// are at most the pool.
 pub(super) fn limits(seen: &Seen) -> bool {
-    can_be(&seen.shares, seen.slots.len() as u16)
+    let slots = seen.slots.len();
+    if slots > usize::from(MAX_POOL) {
+        return false;
+    }
+    can_be(&seen.shares, slots as u16)
 }
 
 fn are_gates(seen: &Seen) -> bool {
