@@ -74,8 +74,8 @@ fn happens_always<R: Threads + Wait + Sync>(
 /// A change of both words that is held, and who reads and changes word 0 meanwhile and is told this.
 fn change_beside(told: &'static [u8]) -> Meanwhile<'static> {
     let held = Talk {
-        says: b"TENANT t\nCAS 0:0:1 1:0:1\n",
-        told: b"OK 2\nYES\n",
+        says: b"TENANT t\nCAS 0:0:1 1:0:1\nGET 1\n",
+        told: b"OK 2\nYES\nVAL 1\n",
     };
     let beside = Talk {
         says: b"TENANT t\nGET 0\nCAS 0:1:2\nGET 0\n",

@@ -135,7 +135,7 @@ fn endless_serve(rt: HostRuntime) {
 }
 
 /// Whether `t`, on this device, is told this at a change of two words and a read, and has these words in its file
-/// afterwards, and its neighbour is served all the same.
+/// afterwards, and its neighbour, with as many words, is served all the same.
 fn goes_on<R: Threads + Wait + Sync>(
     rt: &R,
     alloc: Global,
@@ -150,13 +150,13 @@ fn goes_on<R: Threads + Wait + Sync>(
         },
         Talk {
             says: b"TENANT u\nCAS 0:0:1\nGET 0\n",
-            told: b"OK 1\nYES\nVAL 1\n",
+            told: b"OK 2\nYES\nVAL 1\n",
         },
     ];
     let devices = [device, Device::Sound];
-    let words: [&[u64]; 2] = [left, &[1]];
+    let words: [&[u64]; 2] = [left, &[1, 0]];
     let case = Case {
-        tenants: b"t 2 1 t.mw\nu 1 1 u.mw\n",
+        tenants: b"t 2 1 t.mw\nu 2 1 u.mw\n",
         pool: 2,
         devices: &devices,
         play: Play::Talks(&talks),

@@ -13,6 +13,8 @@ mod memory_tests;
 #[cfg(test)]
 mod opening_tests;
 #[cfg(test)]
+mod power_tests;
+#[cfg(test)]
 mod record_tests;
 #[cfg(test)]
 mod same;

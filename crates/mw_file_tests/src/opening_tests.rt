@@ -257,7 +257,7 @@ fn opening_sweep(rt: HostRuntime) {
 }
 
 /// A file in its first layout, of two words and one place whose record is open and sets word 0 to 5.
-fn old_file<R: Abort + AllocGlobal>(rt: &R) -> Vec<u8> {
+pub(crate) fn old_file<R: Abort + AllocGlobal>(rt: &R) -> Vec<u8> {
     let mut bytes = new_bytes(rt, 2, 1);
     set_bytes(&mut bytes, &[(48, 0xa5), (49, 1), (64, 5)]);
     bytes

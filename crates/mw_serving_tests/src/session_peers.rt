@@ -96,6 +96,74 @@ impl Write for Page {
     }
 }
 
+/// A reader of one line, so many times over.
+#[derive(Drop)]
+pub struct Chatter<'a> {
+    line: &'a [u8],
+    rest: &'a [u8],
+    times: u32,
+}
+
+impl<'a> Chatter<'a> {
+    pub fn new(line: &'a [u8], times: u32) -> Self {
+        Chatter {
+            line,
+            rest: b"",
+            times,
+        }
+    }
+}
+
+impl<'a> Read for Chatter<'a> {
+    fn read(&mut self, buf: &mut [u8]) -> io::Result<usize> {
+        if self.rest.is_empty() && self.times > 0 {
+            self.times -= 1;
+            self.rest = self.line;
+        }
+        let count = self.rest.len().min(buf.len());
+        buf[..count].copy_from_slice(&self.rest[..count]);
+        self.rest = &self.rest[count..];
+        Ok(count)
+    }
+}
+
+/// A writer that takes one line over and over, and fails where another comes. It keeps how often it took it whole.
+#[derive(Drop)]
+pub struct Listener<'a> {
+    line: &'a [u8],
+    rest: &'a [u8],
+    pub times: u32,
+}
+
+impl<'a> Listener<'a> {
+    pub fn new(line: &'a [u8]) -> Self {
+        Listener {
+            line,
+            rest: line,
+            times: 0,
+        }
+    }
+}
+
+impl<'a> Write for Listener<'a> {
+    fn write(&mut self, buf: &[u8]) -> io::Result<usize> {
+        let count = self.rest.len().min(buf.len());
+        if buf[..count] != self.rest[..count] {
+            return Err(io::Error::from(ErrorKind::InvalidData));
+        }
+        self.rest = &self.rest[count..];
+        if self.rest.is_empty() {
+            self.rest = self.line;
+            self.times = self.times.saturating_add(1);
+        }
+        Ok(count)
+    }
+
+    fn flush(&mut self) -> io::Result<()> {
+        Ok(())
+    }
+}
+
 /// A job that a notebook was asked for.
 #[derive(Drop)]
 pub struct Note {

@@ -1,4 +1,4 @@
-use crate::session_peers::{Failure, Notebook, Page, Sender};
+use crate::session_peers::{Chatter, Failure, Listener, Notebook, Page, Sender};
 use crate::test_shelf::Shelf;
 use arrayvec::ArrayVec;
 use mw_session::{Ended, Service, Session};
@@ -238,4 +238,16 @@ fn jobs_that_are_asked_for(rt: HostRuntime) {
     let sender = Sender::new(says, ALL, Failure::Nothing);
     assert!(rt; is_told(&rt, &mut notebook, sender, told, Ended::Quit));
     assert!(rt; notebook.was_asked_for(&[1, 0]));
+}
+
+/// How many lines a long session has: their replies have over 100,000 bytes.
+const MANY: u32 = 20_000;
+
+#[test]
+fn a_long_session(rt: HostRuntime) {
+    let mut chatter = Chatter::new(b"GET 0\n", MANY);
+    let mut listener = Listener::new(b"ERR 3\n");
+    let mut shelf = Shelf::new(2);
+    let ended = Session::run(rt.alloc(), &rt, &mut chatter, &mut listener, &mut shelf);
+    assert!(rt; ended == Ended::PeerEnd && listener.times == MANY);
 }

@@ -1,0 +1,147 @@
+//! The power goes: of a write that wasn't synced a file keeps any part, torn at any byte.
+
+use crate::file_tests::{
+    MEMORY, TORN, Trouble, Words, answers, left, opening, over_and_over, troubled, troubled_file,
+    words_of,
+};
+use crate::opening_tests::old_file;
+use crate::same::{same, same_at};
+use mw_disk::Disk;
+use std::process::Abort;
+
+/// The second of these bytes from one index up to another, and the first elsewhere.
+fn torn<R: Abort + AllocGlobal>(
+    rt: &R,
+    kept: &[u8],
+    taken: &[u8],
+    from: usize,
+    to: usize,
+) -> Vec<u8> {
+    let mut bytes = Vec::new(rt.alloc());
+    for (index, (kept, taken)) in kept.iter().zip(taken).enumerate() {
+        let byte = if from <= index && index < to {
+            taken
+        } else {
+            kept
+        };
+        bytes.push(*byte).expect(rt, MEMORY);
+    }
+    bytes
+}
+
+/// Whether a file with these bytes opens with one of these lists of words.
+fn opens_with<R: Abort + AllocGlobal>(rt: &R, image: &[u8], may: &[Words]) -> bool {
+    match words_of(rt, image) {
+        Some(words) => may.contains(&words),
+        None => false,
+    }
+}
+
+/// Three files torn at one byte open with one of these lists of words: of the bytes taken one has those
+/// before, one those from there on, one the byte alone.
+fn torn_at<R: Abort + AllocGlobal>(rt: &R, kept: &[u8], taken: &[u8], cut: usize, may: &[Words]) {
+    let parts = [(0, cut), (cut, taken.len()), (cut, cut.saturating_add(1))];
+    for (from, to) in parts {
+        let image = torn(rt, kept, taken, from, to);
+        same_at(rt, cut as u64, &opens_with(rt, &image, may), &true);
+    }
+}
+
+/// Files torn at each byte that differs open with one of these lists of words. How many files these were.
+fn torn_anywhere<R: Abort + AllocGlobal>(rt: &R, kept: &[u8], taken: &[u8], may: &[Words]) -> u64 {
+    let mut images: u64 = 0;
+    for (cut, (before, after)) in kept.iter().zip(taken).enumerate() {
+        if before != after {
+            torn_at(rt, kept, taken, cut, may);
+            images = images.saturating_add(3);
+        }
+    }
+    images
+}
+
+/// What a crash leaves of a file whose device stopped after so many calls of a change, with these torn
+/// bytes.
+fn left_of_change<R: Abort + AllocGlobal>(rt: &R, calls: u8, torn: &[u8]) -> Vec<u8> {
+    let mut file = troubled_file(rt, calls, Trouble::Stop);
+    let _ = answers(&mut file);
+    left(rt, &file, &over_and_over(rt, torn))
+}
+
+/// The calls of a change behind which something is not synced: how many were made, after how many of these
+/// all was, and what words there may be then. Its nine calls are the record and a sync, the commit byte and
+/// a sync, two words and a sync, the commit byte and a sync.
+const UNSYNCED: [(u8, u8, &[Words]); 5] = [
+    (1, 0, &[[0, 0]]),
+    (3, 2, &[[0, 0], [1, 2]]),
+    (5, 4, &[[1, 2]]),
+    (6, 4, &[[1, 2]]),
+    (8, 7, &[[1, 2]]),
+];
+
+/// Where the power goes after so many calls of a change, with so many synced, the file keeps any part of the
+/// bytes since, and has one of these lists of words. How many files were tried.
+fn torn_change<R: Abort + AllocGlobal>(rt: &R, calls: u8, synced: u8, may: &[Words]) -> u64 {
+    let written = left_of_change(rt, calls, TORN[0]);
+    let before = left_of_change(rt, synced, TORN[0]);
+    let zeros = left_of_change(rt, calls, TORN[1]);
+    let ones = left_of_change(rt, calls, TORN[2]);
+    let mut images: u64 = 0;
+    for other in [&before, &zeros, &ones] {
+        images = images.saturating_add(torn_anywhere(rt, other, &written, may));
+    }
+    images
+}
+
+#[test]
+fn the_power_goes_in_a_change(rt: HostRuntime) {
+    let mut images: u64 = 0;
+    for (calls, synced, may) in UNSYNCED {
+        images = images.saturating_add(torn_change(&rt, calls, synced, may));
+    }
+    same(&rt, &images, &918);
+}
+
+/// What a crash leaves of an old file whose opening was stopped after so many calls, with these torn bytes.
+fn left_of_opening<R: Abort + AllocGlobal>(rt: &R, calls: u8, torn: &[u8]) -> Vec<u8> {
+    let (_, disk) = opening(
+        rt.alloc(),
+        troubled(rt, &old_file(rt), calls, Trouble::Stop),
+    );
+    disk.crash(&over_and_over(rt, torn)).expect(rt, MEMORY)
+}
+
+/// Where the power goes after so many calls of the opening of an old file, the file keeps any part of the
+/// bytes since the last sync, and has the words that it had. How many files were tried.
+fn torn_opening<R: Abort + AllocGlobal>(rt: &R, calls: u8) -> u64 {
+    let written = left_of_opening(rt, calls, TORN[0]);
+    let zeros = left_of_opening(rt, calls, TORN[1]);
+    let ones = left_of_opening(rt, calls, TORN[2]);
+    let mut images: u64 = 0;
+    for other in [&zeros, &ones] {
+        images = images.saturating_add(torn_anywhere(rt, other, &written, &[[5, 0]]));
+    }
+    images
+}
+
+/// Where the power goes before the second layout is synced, the old file has any length from its own one on.
+/// How many files were tried.
+fn cut_short<R: Abort + AllocGlobal>(rt: &R) -> u64 {
+    let written = left_of_opening(rt, 3, TORN[0]);
+    let mut images: u64 = 0;
+    for end in old_file(rt).len()..written.len() {
+        let mut image = written.to_vec(rt.alloc()).expect(rt, MEMORY);
+        image.truncate(end);
+        same_at(rt, end as u64, &words_of(rt, &image), &Some([5, 0]));
+        images = images.saturating_add(1);
+    }
+    images
+}
+
+#[test]
+fn the_power_goes_in_a_migration(rt: HostRuntime) {
+    let mut images: u64 = 0;
+    for calls in [3, 4, 6] {
+        images = images.saturating_add(torn_opening(&rt, calls));
+    }
+    same(&rt, &(images, cut_short(&rt)), &(3_555, 576));
+}
