@@ -7,7 +7,8 @@ use crate::line_tests::{
 };
 use crate::mistake_tests::of_mistakes;
 use crate::schedule_tests::{
-    CLAIM_LOST, OLD_FILE, SLOT_RECYCLED, of_files, of_late_workers, of_requests,
+    CLAIM_LOST, OLD_FILE, SLOT_RECYCLED, of_files, of_late_workers, of_requests, of_settles,
+    of_stale_references,
 };
 use mw_look::Kind;
 use mw_player::{Halt, Player, replay, replay_args, replay_schedule};
@@ -125,7 +126,8 @@ fn schedules_of_requests(rt: HostRuntime) -> Result<(), Fail> {
 
 #[test]
 fn schedules_of_files(rt: HostRuntime) -> Result<(), Fail> {
-    play_each(&rt, &of_files())
+    play_each(&rt, &of_files())?;
+    play_each(&rt, &of_settles())
 }
 
 #[test]
@@ -138,6 +140,7 @@ fn old_file_schedule(rt: HostRuntime) -> Result<(), Fail> {
 #[test]
 fn schedules_of_late_workers(rt: HostRuntime) -> Result<(), Fail> {
     play_each(&rt, &of_late_workers())?;
+    play_each(&rt, &of_stale_references())?;
     play_each(&rt, &of_mistakes())
 }
 

@@ -483,8 +483,8 @@ pub fn of_requests() -> [Schedule; 6] {
     ]
 }
 
-/// Schedules of files that stop or fail, each with its name and what is printed.
-pub fn of_files() -> [Schedule; 9] {
+/// Schedules of files that stop, or fail in a seal, each with its name and what is printed.
+pub fn of_files() -> [Schedule; 7] {
     [
         ("torn-gate", TORN_GATE, "0 t VAL 1\n0 t VAL 2\n"),
         (
@@ -517,6 +517,12 @@ pub fn of_files() -> [Schedule; 9] {
             FAILED_SEAL_NOT_SYNCED,
             "0 t FAULT\n0 t VAL 1\n",
         ),
+    ]
+}
+
+/// Schedules of files that fail in a settle, each with its name and what is printed.
+pub fn of_settles() -> [Schedule; 2] {
+    [
         (
             "settle-failure",
             SETTLE_FAILURE,
@@ -531,7 +537,7 @@ pub fn of_files() -> [Schedule; 9] {
 }
 
 /// Schedules of workers that go on late, each with its name and what is printed.
-pub fn of_late_workers() -> [Schedule; 8] {
+pub fn of_late_workers() -> [Schedule; 4] {
     [
         (
             "late-finisher-under-done-no",
@@ -548,6 +554,17 @@ pub fn of_late_workers() -> [Schedule; 8] {
             LATE_PLANT_AFTER_DONE_YES,
             "0 t YES\n2 t VAL 0\n1 t NO 0 1\n2 t VAL 0\n",
         ),
+        (
+            "lost-release-under-done-yes",
+            LOST_RELEASE_UNDER_DONE_YES,
+            "0 t YES\n1 t YES\n",
+        ),
+    ]
+}
+
+/// Schedules of workers that meet late what named a slot before, each with its name and what is printed.
+pub fn of_stale_references() -> [Schedule; 4] {
+    [
         (
             "late-stale-dirty",
             LATE_STALE_DIRTY,
@@ -567,11 +584,6 @@ pub fn of_late_workers() -> [Schedule; 8] {
             "late-stale-row-of-neighbour",
             LATE_STALE_ROW_OF_NEIGHBOUR,
             "0 t YES\n1 t NO 0 1\n0 u YES\n0 u VAL 7\n",
-        ),
-        (
-            "lost-release-under-done-yes",
-            LOST_RELEASE_UNDER_DONE_YES,
-            "0 t YES\n1 t YES\n",
         ),
     ]
 }
