@@ -1,35 +1,47 @@
-//! Three thousand trials.
+//! Fifty thousand trials, and some that are longer.
 
-use crate::trial::play;
+use crate::trial::{Tally, play};
+use std::process::Abort;
 
-/// How many trials there are.
-const TRIALS: u64 = 3_000;
+/// How many trials there are, and how many events each has.
+const TRIALS: u64 = 50_000;
 
-/// How many events a trial has.
 const EVENTS: u64 = 300;
 
-#[test]
-fn worlds_agree_with_stores(rt: HostRuntime) {
-    let mut starts: u64 = 0;
-    let mut failures: u64 = 0;
-    let mut refusals: u64 = 0;
-    let mut gifts: u64 = 0;
-    for seed in 0..TRIALS {
-        match play(rt.alloc(), seed, EVENTS) {
-            Ok(tally) => {
-                starts = starts.saturating_add(tally.interruptions);
-                failures = failures.saturating_add(tally.failures);
-                refusals = refusals.saturating_add(tally.refusals);
-                gifts = gifts.saturating_add(tally.gifts);
-            }
+/// How many longer trials there are, and how many events each of these has.
+const LONG_TRIALS: u64 = 500;
+
+const MANY_EVENTS: u64 = 5_000;
+
+/// What happened in so many trials of so many events, which all go well.
+fn play_all<R: Abort + AllocGlobal>(rt: &R, trials: u64, events: u64) -> Tally {
+    let mut sum = Tally::default();
+    for seed in 0..trials {
+        match play(rt.alloc(), seed, events) {
+            Ok(tally) => sum.add(&tally),
             Err(fault) => {
                 let wrong = fault.told();
                 assert!(rt; false, "seed {seed}: {wrong}");
             }
         }
     }
-    assert!(rt; starts > TRIALS / 4);
-    assert!(rt; failures > TRIALS / 8);
-    assert!(rt; refusals > TRIALS / 4);
-    assert!(rt; gifts > TRIALS / 4);
+    sum
+}
+
+/// Much happened in each of so many trials.
+fn has_much<R: Abort>(rt: &R, sum: &Tally, trials: u64) {
+    assert!(rt; sum.interruptions > trials / 4);
+    assert!(rt; sum.failures > trials / 8);
+    assert!(rt; sum.refusals > trials / 4);
+    assert!(rt; sum.gifts > trials / 4);
+}
+
+#[test]
+fn worlds_agree_with_stores(rt: HostRuntime) {
+    has_much(&rt, &play_all(&rt, TRIALS, EVENTS), TRIALS);
+}
+
+#[test]
+fn long_runs_agree_with_stores(rt: HostRuntime) {
+    has_much(&rt, &play_all(&rt, LONG_TRIALS, MANY_EVENTS), LONG_TRIALS);
 }

@@ -25,6 +25,16 @@ pub struct Tally {
     pub gifts: u64,
 }
 
+impl Tally {
+    /// Counts what happened in another trial too.
+    pub fn add(&mut self, other: &Tally) {
+        self.failures = self.failures.saturating_add(other.failures);
+        self.interruptions = self.interruptions.saturating_add(other.interruptions);
+        self.refusals = self.refusals.saturating_add(other.refusals);
+        self.gifts = self.gifts.saturating_add(other.gifts);
+    }
+}
+
 /// A world, and what it has handed out.
 #[derive(Drop)]
 struct Trial {
