@@ -30,10 +30,10 @@ class Told:
     cut: int
     judged: Dict[Tuple[int, ...], Verdict] = field(default_factory=dict)
 
-    def verdict(self, tenant: str, words: Tuple[int, ...]) -> Verdict:
+    def verdict(self, tenant: Tenant, words: Tuple[int, ...]) -> Verdict:
         """Whether these words may be found then."""
         if words not in self.judged:
-            self.judged[words] = judge(Epoch(tenant, self.first, self.requests, words))
+            self.judged[words] = judge(Epoch(tenant.name, self.first, self.requests, words, tenant.quota))
         return self.judged[words]
 
 
@@ -210,7 +210,7 @@ class Power:
                                               f"{one.data.hex()}")
             self.opened.openings_cut += 1
         else:
-            verdict = one.known.verdict(name, words)
+            verdict = one.known.verdict(one.tenant, words)
             self.opened.undecided_found += verdict.found > 0
             self.opened.complaints += [f"{text}\n    found {words}: {one.data.hex()}" for text in verdict.complaints]
 
