@@ -10,12 +10,12 @@ seen was seen behind the change that wrote it and before the next one of its wor
 these are all the conditions, so there is a serial order just where they have no circle.
 """
 import heapq
-from bisect import bisect_left, bisect_right
 from collections import deque
 from dataclasses import dataclass, field
 from typing import Deque, Dict, Iterator, List, NamedTuple, Optional, Sequence, Set, Tuple
 
 from .history import UNDECIDED, Answer, Entry, Epoch, Request
+from .slots import wrongly_busy
 
 Place = Tuple[int, int]
 """An address, and a value that its word had for a time."""
@@ -85,14 +85,9 @@ class Judge:
                 self.complain("WORN long before numbers are used up", request.text())
 
     def look_at_busy(self) -> None:
-        """BUSY needs another request of the tenant that was under way meanwhile."""
-        starts = sorted(request.sent for request in self.epoch.requests)
-        ends = sorted(request.until for request in self.epoch.requests)
-        for request in self.epoch.requests:
-            if request.reply.answer is Answer.BUSY:
-                beside = bisect_right(starts, request.until) - bisect_left(ends, request.sent) - 1
-                if beside < 1:
-                    self.complain("BUSY though no other request of the tenant was under way", request.text())
+        """BUSY needs as many slots that may have been taken as the tenant's quota."""
+        for request in wrongly_busy(self.epoch.requests, self.epoch.quota):
+            self.complain(f"BUSY though fewer than {self.epoch.quota} slots can have been taken", request.text())
 
     def nodes(self) -> List[Node]:
         """Every request that has a place in the order: replies that tell words, and the changes that were made."""

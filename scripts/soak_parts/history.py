@@ -90,8 +90,9 @@ class Epoch:
     """What was asked of one tenant between two moments at which its words were read while nobody changed them.
 
     `first` are the words at the beginning, `last` those at the end, or None where they were not read. `requests` are in
-    the order in which they were sent."""
+    the order in which they were sent. `quota` is how many changes the tenant may have under way."""
     tenant: str
     first: Tuple[int, ...]
     requests: List[Request]
     last: Optional[Tuple[int, ...]] = None
+    quota: int = 1

@@ -71,7 +71,7 @@ class Lives:
         self.found = Found()
         values = itertools.count(1)
         self.views = {tenant: View(tenant, values, [0] * tenant.words) for tenant in TENANTS}
-        self.epochs = {tenant: Epoch(tenant.name, (0,) * tenant.words, []) for tenant in TENANTS}
+        self.epochs = {tenant: Epoch(tenant.name, (0,) * tenant.words, [], quota=tenant.quota) for tenant in TENANTS}
         self.down: List[Tenant] = []
         make_files(programs, folder, TENANTS)
 
@@ -153,7 +153,7 @@ class Lives:
         self.found.judged += 1
         self.found.made += verdict.made - verdict.found
         self.found.undecided_found += verdict.found
-        self.epochs[tenant] = Epoch(tenant.name, words, [])
+        self.epochs[tenant] = Epoch(tenant.name, words, [], quota=tenant.quota)
         self.views[tenant].words = list(words)
 
     def keep(self, epoch: Epoch) -> None:

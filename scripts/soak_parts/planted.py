@@ -11,15 +11,17 @@ MICROSECOND = 1000
 
 class Case(NamedTuple):
     """A history by hand. Of each line: session, when it was sent, when it was over, what was asked, what was told; `-` where
-    no reply came. `fault` is a part of the complaint that has to come; None where there may be none."""
+    no reply came. `fault` is a part of the complaint that has to come; None where there may be none. `quota` is the tenant's."""
     name: str
     first: Tuple[int, ...]
     lines: str
     last: Optional[Tuple[int, ...]]
     fault: Optional[str] = None
+    quota: int = 1
 
 
 NO_ORDER = "no serial order"
+BUSY_THOUGH = "BUSY though"
 CASES = (
     Case("nothing at all", (0, 0), "", (0, 0)),
     Case("a change and a read behind it", (0,), "1 0 5 CAS 0:0:1 = YES; 1 6 9 GET 0 = VAL 1", (1,)),
@@ -32,6 +34,15 @@ CASES = (
     Case("changes that only compare", (3, 4), "1 0 5 CAS 0:3:3 1:4:4 = YES; 2 1 3 CAS 0:3:9 = YES", (9, 4)),
     Case("a refusal on the way", (0, 0), "1 0 9 CAS 0:0:1 1:0:2 = YES; 2 1 8 CAS 0:7:8 1:0:9 = NO 0 0", (1, 2)),
     Case("busy beside another", (0,), "1 0 9 CAS 0:0:1 = YES; 2 1 2 CAS 0:0:5 = BUSY", (1,)),
+    Case("busy beside as many as the quota", (0, 0),
+         "1 0 9 CAS 0:0:1 = YES; 2 0 9 CAS 1:0:2 = YES; 3 1 2 CAS 0:0:5 = BUSY", (1, 2), quota=2),
+    Case("busy beside a read that looks at a change behind its answer", (0,),
+         "1 0 2 CAS 0:0:1 = YES; 2 1 9 GET 0 = VAL 0; 3 4 5 CAS 0:1:5 = BUSY", (1,)),
+    Case("busy beside a read that met such a read", (0,),
+         "1 0 2 CAS 0:0:1 = YES; 2 1 6 GET 0 = VAL 0; 4 5 20 GET 0 = VAL 1; 3 8 9 CAS 0:1:5 = BUSY", (1,)),
+    Case("busy beside a change that turns from one to another behind their answers", (0, 0, 0),
+         "1 0 3 CAS 0:0:1 = YES; 2 0 3 CAS 1:0:2 = YES; 3 1 20 CAS 2:0:3 = YES; 4 10 11 CAS 0:1:5 = BUSY", (1, 2, 3), quota=3),
+    Case("busy beside a change whose client has broken off", (0,), "1 0 50 CAS 0:0:1 = -; 2 10 11 CAS 0:0:5 = BUSY", (0,)),
     Case("sessions in order", (0,), "1 0 9 CAS 0:0:1 = YES; 1 0 9 GET 0 = VAL 1; 1 0 9 CAS 0:1:2 = -", (2,)),
     Case("a lost YES", (0,), "1 0 5 CAS 0:0:1 = YES", (0,), NO_ORDER),
     Case("a lost YES among others", (0, 0),
@@ -62,7 +73,21 @@ CASES = (
     Case("a session out of order", (0,), "1 0 9 GET 0 = VAL 1; 1 0 9 CAS 0:0:1 = YES", (1,), NO_ORDER),
     Case("an unanswered change that comes when its server has ended", (0,),
          "1 0 5 CAS 0:0:1 = -; 2 6 7 GET 0 = VAL 0", (1,), NO_ORDER),
-    Case("busy alone", (0,), "1 0 2 CAS 0:0:1 = YES; 2 3 4 CAS 0:1:5 = BUSY", (1,), "BUSY though"),
+    Case("busy alone", (0,), "1 0 2 CAS 0:0:1 = YES; 2 3 4 CAS 0:1:5 = BUSY", (1,), BUSY_THOUGH),
+    Case("busy beside one other, where two may be under way", (0,),
+         "1 0 9 CAS 0:0:1 = YES; 2 1 2 CAS 0:0:5 = BUSY", (1,), BUSY_THOUGH, quota=2),
+    Case("busy beside two, one behind the other, where two may be under way", (0,),
+         "1 0 3 CAS 0:0:1 = YES; 2 1 9 CAS 0:0:5 = BUSY; 1 5 8 CAS 0:1:2 = YES", (2,), BUSY_THOUGH, quota=2),
+    Case("busy beside its own session alone", (0,), "1 0 9 CAS 0:0:1 = YES; 1 0 9 CAS 0:1:5 = BUSY", (1,), BUSY_THOUGH),
+    Case("busy beside another that is busy", (0,), "1 0 9 CAS 0:0:1 = BUSY; 2 0 9 CAS 0:0:2 = BUSY", (0,), BUSY_THOUGH),
+    Case("busy beside a read that came when all was over", (0,),
+         "1 0 2 CAS 0:0:1 = YES; 2 4 9 GET 0 = VAL 1; 3 5 6 CAS 0:1:5 = BUSY", (1,), BUSY_THOUGH),
+    Case("busy beside a read, which holds one slot and not two", (0, 0),
+         "1 0 3 CAS 0:0:1 = YES; 2 0 4 CAS 1:0:2 = YES; 3 1 20 GET 0 = VAL 0; 4 10 11 CAS 0:1:5 = BUSY", (1, 2), BUSY_THOUGH, quota=2),
+    Case("busy beside a change, which holds three slots and not four", (0, 0, 0, 0),
+         "1 0 3 CAS 0:0:1 = YES; 2 0 3 CAS 1:0:2 = YES; 3 0 3 CAS 2:0:3 = YES; 4 1 20 CAS 3:0:4 = YES; 5 10 11 CAS 0:1:5 = BUSY",
+         (1, 2, 3, 4), BUSY_THOUGH, quota=4),
+    Case("busy when the server of the other has ended", (0,), "1 0 5 CAS 0:0:1 = -; 2 6 7 CAS 0:0:5 = BUSY", (1,), BUSY_THOUGH),
     Case("a read that is busy", (0,), "1 0 9 CAS 0:0:1 = YES; 2 3 4 GET 0 = BUSY", (1,), "can't have"),
     Case("worn", (0,), "1 0 9 CAS 0:0:1 = WORN", (0,), "WORN"),
 )
@@ -207,7 +232,7 @@ def try_cases() -> List[str]:
     """The cases by hand."""
     wrong = []
     for case in CASES:
-        epoch = Epoch("t", case.first, read_requests(case.lines), case.last)
+        epoch = Epoch("t", case.first, read_requests(case.lines), case.last, case.quota)
         wrong += refuse(judge(epoch).complaints, case.name, case.fault)
     for case in FAULT_CASES:
         failed_at = FAILED_AT * MICROSECOND

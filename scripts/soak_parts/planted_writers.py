@@ -93,7 +93,7 @@ def tried(writer: Writer, dice: random.Random) -> Tuple[int, int]:
         for one in map(moment.image, images_of(moment.disk, dice)):
             contents = read_file(one.data)
             count += 1
-            refused += contents.damage is not None or bool(one.known.verdict(TENANT.name, contents.words).complaints)
+            refused += contents.damage is not None or bool(one.known.verdict(TENANT, contents.words).complaints)
     return count, refused
 
 

@@ -17,7 +17,6 @@ CLIENTS = {"alone": 1, "pair": 2, "four": 4}
 WORKERS = 20
 SHORTEST_RECORDING, LONGEST_RECORDING = 0.01, 0.05
 SHARE_OF_FAILURES = 0.4
-IMAGES_A_RECORDING = 600
 SLOTS = 16
 """How many images a server opens at once: as many as it may have tenants."""
 
@@ -30,10 +29,10 @@ class Told:
     cut: int
     judged: Dict[Tuple[int, ...], Verdict] = field(default_factory=dict)
 
-    def verdict(self, tenant: str, words: Tuple[int, ...]) -> Verdict:
+    def verdict(self, tenant: Tenant, words: Tuple[int, ...]) -> Verdict:
         """Whether these words may be found then."""
         if words not in self.judged:
-            self.judged[words] = judge(Epoch(tenant, self.first, self.requests, words))
+            self.judged[words] = judge(Epoch(tenant.name, self.first, self.requests, words, tenant.quota))
         return self.judged[words]
 
 
@@ -60,8 +59,9 @@ class Opened:
 
     def lines(self) -> List[str]:
         """What to print."""
-        return [f"{self.images} images of power cuts, at {self.moments_tried} of {self.moments} moments between the calls on "
-                f"files of {self.recordings} runs, in {self.failures} of which a call failed",
+        return [f"{self.images} images of power cuts in {self.recordings} runs, in {self.failures} of which a call failed: at "
+                f"{self.moments_tried} of {self.moments} moments between calls on files all that was not synced lost, and all of it "
+                "there; the others torn",
                 f"{self.unfinished} with changes to finish, {self.openings_cut} cut off while that was done; in "
                 f"{self.undecided_found} changes were found, wholly, that were not answered then"]
 
@@ -100,14 +100,10 @@ def moments_of(tenant: Tenant, durable: bytes, log: FileLog, requests: Sequence[
     return [Moment(tenant, (0,) * tenant.words, requests, time, disk) for time, disk in cuts(durable, log)]
 
 
-def some_of(moments: Sequence[Moment], most: int, dice: random.Random) -> List[Image]:
-    """So many images: of each moment, or of some if that is too many, the two plain ones; all others of any moments."""
-    if not moments:
-        return []
-    plain = dice.sample(moments, min(len(moments), most // 4))
-    images = [moment.image(data) for moment in plain for data in plain_images(moment.disk)]
-    torn = [dice.choice(moments) for _ in range(most - len(images))]
-    return images + [moment.image(random_image(moment.disk, dice)) for moment in torn]
+def plain_of(moment: Moment) -> List[Image]:
+    """What a cut leaves then where all that was not synced is lost, and where all of it is there; one image where that is the
+    same."""
+    return [moment.image(data) for data in dict.fromkeys(plain_images(moment.disk))]
 
 
 class Power:
@@ -119,16 +115,30 @@ class Power:
         self.rounds = itertools.count(1)
 
     def run(self, most: int) -> None:
-        """Opens so many images. It ends at the first complaint."""
+        """Opens so many images: half of them plain ones, of every moment of a few runs, and then torn ones of any of these. It
+        ends at the first complaint."""
+        moments: List[Moment] = []
         try:
+            while 2 * self.opened.images < most and not self.opened.complaints:
+                moments += self.try_moments(most)
             while self.opened.images < most and not self.opened.complaints:
-                moments = self.record()
-                room = min(IMAGES_A_RECORDING, most - self.opened.images)
-                self.open_all(some_of(moments, room, self.dice), most)
-                self.opened.moments += len(moments)
-                self.opened.moments_tried += sum(1 for moment in moments if moment.told is not None)
+                torn = [self.dice.choice(moments) for _ in range(most - self.opened.images)]
+                self.open_all([moment.image(random_image(moment.disk, self.dice)) for moment in torn], most)
         except (Wrong, OSError) as wrong:
             self.opened.complaints.append(str(wrong))
+
+    def try_moments(self, most: int) -> List[Moment]:
+        """Records a run and opens the plain images of each of its moments, or of as many as there is room for. The moments."""
+        moments = self.record()
+        images: List[Image] = []
+        for moment in self.dice.sample(moments, len(moments)):
+            if self.opened.images + len(images) >= most:
+                break
+            images += plain_of(moment)
+            self.opened.moments_tried += 1
+        self.opened.moments += len(moments)
+        self.open_all(images, most)
+        return moments
 
     def new_folder(self) -> Path:
         """A folder for a next step, beside the earlier ones."""
@@ -210,7 +220,7 @@ class Power:
                                               f"{one.data.hex()}")
             self.opened.openings_cut += 1
         else:
-            verdict = one.known.verdict(name, words)
+            verdict = one.known.verdict(one.tenant, words)
             self.opened.undecided_found += verdict.found > 0
             self.opened.complaints += [f"{text}\n    found {words}: {one.data.hex()}" for text in verdict.complaints]
 

@@ -1,6 +1,7 @@
 """The built mwserve over a folder of tenants: started with the recorder or without it, asked for all words, killed."""
 import os
 import random
+import select
 import signal
 import socket
 import subprocess
@@ -13,7 +14,7 @@ from .recording import FileLog, read_log
 
 HOST = "127.0.0.1"
 PATIENCE = 60.0
-"""For how many seconds an answer is waited for. A server that needs longer hangs."""
+"""For how many seconds an answer, or an opening, is waited for. What needs longer hangs."""
 SHARE_OF_NARROW_LIVES = 0.3
 POOL = 256
 KNOWN_NOTES = ("failed", "disk")
@@ -88,11 +89,22 @@ class Server:
             os.sched_setaffinity(self.process.pid, {min(os.sched_getaffinity(0))})
 
     def wait_until_ready(self) -> None:
-        """Until it listens; Wrong where it doesn't."""
-        said = self.process.stdout.readline().decode()
-        if not said.startswith("ready "):
-            raise Wrong(f"the server did not start: {said!r}, {self.notes()}")
+        """Until it listens; Wrong where it doesn't, or needs too long."""
+        said = self.first_line()
+        if not said.startswith("ready ") or not said.endswith("\n"):
+            raise Wrong(f"the server did not start within {PATIENCE:.0f} seconds: {said!r}, {self.notes()}")
         self.port = int(said[len("ready "):])
+
+    def first_line(self) -> str:
+        """What it says first, with the line feed at its end; the part that came where it ends or is silent for too long."""
+        said, end = b"", time.monotonic() + PATIENCE
+        while not said.endswith(b"\n"):
+            has_come, _, _ = select.select([self.process.stdout], [], [], max(0.0, end - time.monotonic()))
+            piece = os.read(self.process.stdout.fileno(), 4096) if has_come else b""
+            if not piece:
+                break
+            said += piece
+        return said.decode()
 
     def environment(self, programs: Programs, tenants: Sequence[Tenant], plan: Plan) -> Dict[str, str]:
         """Its environment: with the recorder, if there is one."""
