@@ -213,7 +213,9 @@ class Report:
 
 
 def _seconds(name: str, seconds: float, zero_allowed: bool) -> float:
-    """These seconds, if they are in range. Else ValueError, which says of what they are."""
+    """These seconds, if they are in range. Else ValueError or TypeError, which says of what they are."""
+    if not isinstance(seconds, (int, float)):
+        raise TypeError(f"{name} has to be a number of seconds, not {seconds!r}")
     if not (0 < seconds <= _MAX_SECONDS or zero_allowed and seconds == 0):
         raise ValueError(f"{name} has to be from 0 to {_MAX_SECONDS:.0f} seconds{'' if zero_allowed else ', above 0'}")
     return float(seconds)
@@ -261,6 +263,8 @@ def _at_local_socket(path: str, timeout: float) -> socket.socket:
 
 def _way_to(server: str) -> Callable[[float], socket.socket]:
     """How to connect to this server, within some seconds. ValueError where the text names no place."""
+    if not isinstance(server, str):
+        raise TypeError(f"where a server listens is told by a text, not {server!r}")
     if server.startswith("unix:"):
         path = server[len("unix:"):]
         if not 1 <= len(os.fsencode(path)) <= _MAX_PATH or "\0" in path:
@@ -452,7 +456,9 @@ class Client(_Session):
         0, for not at all, up to 1,000,000.
         `within`: for how many seconds to try again where nobody listens yet, as `reconnect` does.
 
-        Raises ValueError or TypeError, with nothing sent; Lost; Refused with number 5 where no tenant has the name."""
+        Raises ValueError or TypeError, with nothing sent; Lost; Refused, with number 5, where no tenant has the name."""
+        if not isinstance(tenant, str):
+            raise TypeError(f"a tenant's name is a text, not {tenant!r}")
         if not re.fullmatch("[a-z][a-z0-9-]{0,15}", tenant):
             raise ValueError('a tenant has a name of a to z, then up to 15 of a to z, 0 to 9 and "-"')
         self._patience = _seconds("patience", patience, True)
