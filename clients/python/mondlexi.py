@@ -15,6 +15,7 @@ equal, writes a new value to each: durably, and wholly or not at all.
 `Client` speaks for one tenant, `Administrator` asks how all tenants are. Both are told where the server listens: at a host
 and a port, as "127.0.0.1:7000", "localhost:7000" or "[::1]:7000"; or, on this machine, at a local socket, as
 "unix:/run/mondlexi/socket", which is a file that this process has to be allowed to write. Whoever runs the server knows.
+`Counted` makes changes over a client, of which it finds out whether they were made where a reply is lost.
 
 `help(mondlexi.Client)` has the calls. What `help` shows of the exceptions is mostly what all have: the table below says more.
 
@@ -38,34 +39,29 @@ anything is sent. All other failures are kinds of `Error`:
 
 A constructor that raises leaves nothing open. After Lost from `get`, `read` or `report` call `reconnect`, then the same again.
 
-*Undecided*: it was made, or it wasn't, wholly or not at all. After Unknown the server may also make it later, as long as
-it still works on the line that it got: words with their old values don't show yet that the change won't come. Who has to
-know gives each change an entry for a word that this process alone writes, a count of its changes: from `count` to
-`count + 2`. After Unknown, and after Fault or Worn once the server was started again, this function then says whether the
-change was made; where it wasn't, it never will be:
+*Undecided*: it was made, or it wasn't, wholly or not at all; or it is still to be made, as long as the server works on the line
+that it got. Words with their old values don't show that it won't come, and one that is sent again may be made twice.
 
-    def was_made(client, address, count):                     # the count's address, and its value before the change
-        while True:
-            client.reconnect(30)                              # Lost, after 30 seconds without a server: still undecided,
-            try:                                              # so call was_made again
-                outcome = client.cas([(address, count, count + 1)])
-                return outcome.value == count + 2             # None or count + 1: it wasn't, and the count is count + 1
-            except (mondlexi.Unknown, mondlexi.Busy):
-                pass                                          # no Lost comes here: nobody else closes this client
+`Counted` finds out, by a *count*: a word that one thread of one process alone writes, and that each of its changes moves:
 
-Go on with the count at `count + 2` if it says True, else at `count + 1`. Where a `cas` is answered by another value at the
-count's address, another process writes that word, or an undecided change wasn't settled so: then go on from that value, and
-read the other words anew. A process that may die notes `count` and the change durably before `cas`, and after its start
-calls `was_made` first, since an old change may still come.
+    own = mondlexi.Counted(client, 7)                         # word 7 is the count
+    money, mine = client.get(0), client.get(8)
+    if own.cas([(0, money, money - 5), (8, mine, mine + 5)]):
+        ...                                                   # made, once; otherwise it wasn't, and never will be
 
-What is filled by steps, each of which moves a word that says how far they came, may be begun again after any exception,
-once the client is connected:
+A process that may die needs no note elsewhere, if its changes write what the next one has to know into words of its own, as
+word 8 is here. Once the next one has made its `Counted`, an old change was made or never will be, and `get` tells which.
+
+No count is needed for a word of one owner whose values only grow. A change that moves it is made once at most, so it may be
+asked for again after any exception, once the client is connected, until `get` gives the new value:
 
     def fill(client, values):                                 # the words 1, 2 .. of a new tenant; word 0: how many are filled
-        while client.get(0) < len(values):
-            done = client.get(0)
+        while (done := client.get(0)) < len(values):
             last = min(done + 15, len(values))
             client.cas([(0, done, last)] + [(1 + k, 0, values[k]) for k in range(done, last)])
+
+A change of an owner that died may still come. So a new owner that wants another one first moves the word by a change of its
+own, until one is told as made.
 
 Of a closed client each further call raises Lost and sends nothing, until `reconnect` connects it anew. An exception from
 outside that interrupts a call, such as KeyboardInterrupt, closes the client too, and a change under way is undecided.
@@ -83,7 +79,7 @@ from types import TracebackType
 from typing import Callable, Dict, Iterable, List, Optional, Tuple, Type, TypeVar
 
 __all__ = [
-    "Administrator", "Busy", "Client", "Entry", "Error", "Fault", "Lost", "MAX_ENTRIES", "MAX_VALUE", "MAX_WORDS",
+    "Administrator", "Busy", "Client", "Counted", "Entry", "Error", "Fault", "Lost", "MAX_ENTRIES", "MAX_VALUE", "MAX_WORDS",
     "Outcome", "Refused", "Report", "TenantReport", "Unknown", "Worn",
 ]
 
@@ -545,6 +541,66 @@ class Client(_Session):
                 return self._ask(line, gone, read)
             except Busy as error:
                 pause = _paused(pause, deadline, error)
+
+
+class Counted:
+    """Changes of which it is found out whether they were made, where replies are lost and servers end.
+
+    Each also moves a count by 2: a word, of any value at first, that nothing else writes. While it is undecided a change of
+    the count alone, by 1, is asked for until that is answered: either that is made, and the other never can be, or the count
+    tells that the other was. One thread of one process at a time has a count, and one `Counted` of it; several of these may
+    share a client, each with a count of its own."""
+
+    def __init__(self, client: Client, address: int, wait: float = 30.0) -> None:
+        """`address`: the count's. `wait`: for how many seconds to connect `client` anew and ask again, 0 to 1,000,000.
+
+        Moves the count: from then on no change of an earlier `Counted` of it is made any more. Raises what `cas` does."""
+        self._client, self._address, self._wait = client, address, _seconds("wait", wait, True)
+        count = 0
+        while (value := self._moved(count)) is not None:
+            count = value
+        self._known = (count + 1, False, False)    # the count; is the last change undecided; was it, or may it be, made
+
+    def cas(self, entries: Iterable[Entry]) -> Outcome:
+        """As `Client.cas`, of up to fifteen entries; but after Lost or Unknown it connects `client` anew and finds out. What it
+        tells as not made never will be; where a reply was lost it tells no word then. Raises Lost and Unknown only after `wait`
+        seconds, and RuntimeError where something else has moved the count. After whatever it raises `settle` tells."""
+        self._known = (self._known[0], self._known[1], False)
+        self.settle()
+        count = self._known[0]
+        self._known = (count, True, True)
+        try:
+            outcome = self._client.cas([*entries, (self._address, count, count + 2)])
+        except (Lost, Unknown):
+            return Outcome(self.settle())
+        except (ValueError, TypeError, Busy, Refused):
+            self._known = (count, False, False)
+            raise
+        self._known = (count + 2 * outcome.made, False, outcome.made)
+        if outcome.address == self._address:
+            raise RuntimeError(f"something else has moved the count at {self._address}")
+        return outcome
+
+    def settle(self) -> bool:
+        """Whether the last change was made, whatever its `cas` raised; if not, it never will be. False before the first one.
+        Raises what `cas` does as long as it can't tell: Fault or Worn until the server was started again."""
+        count, undecided, made = self._known
+        if undecided:
+            value = self._moved(count) or count + 1
+            if not count < value <= count + 2:
+                raise RuntimeError(f"something else has moved the count at {self._address}")
+            self._known = (value, False, made and value == count + 2)
+        return self._known[2]
+
+    def _moved(self, count: int) -> Optional[int]:
+        """Moves the count from this value, by 1: None; or the other value that it has."""
+        pause, end = _FIRST_PAUSE, time.monotonic() + self._wait
+        while True:
+            try:
+                return self._client.cas([(self._address, count, count + 1)]).value
+            except (Lost, Unknown) as error:
+                pause = _paused(pause, end, error)
+                self._client.reconnect(max(0.0, end - time.monotonic()))
 
 
 class Administrator(_Session):
