@@ -19,11 +19,9 @@ and a port, as "127.0.0.1:7000", "localhost:7000" or "[::1]:7000"; or, on this m
 
 `help(mondlexi.Client)` has the calls. What `help` shows of the exceptions is mostly what all have: the table below says more.
 
-Each has one connection, and holds one of the server's workers until it is closed: a server serves as many clients at once
-as it has workers, and lets others wait.
-
-Each call is made by one thread at a time, behind a lock of the client, so threads may share one. Processes may not: a
-process that was forked makes a client of its own.
+A client has one connection, and holds one of the server's workers until it is closed: a server serves as many clients at
+once as it has workers, and lets others wait. Threads may share a client, with what closes it or connects it anew: a lock lets
+one of them call at a time. Processes may not: one that was forked makes a client of its own.
 
 **What goes wrong.** An argument out of its range is a ValueError and one of a wrong type a TypeError, both before
 anything is sent. All other failures are kinds of `Error`:
@@ -127,7 +125,7 @@ class Lost(Error):
 
     From a constructor or `reconnect`: nobody listens there, the host has no such name, the local socket isn't there or this
     process may not write it, or there was no reply within `timeout`, as where all workers of the server are taken. From
-    `cas`: the client was closed before."""
+    `cas`: the client was closed before, so `reconnect`, and call it again."""
 
 
 class Unknown(Error):
@@ -145,19 +143,22 @@ class Busy(Error):
 class Fault(Error):
     """The tenant's file has failed or did not open: all calls are answered so until the server is started again.
 
-    A `cas` that raised this was made or not, wholly or not at all; other calls changed nothing."""
+    A `cas` that raised this was made or not, wholly or not at all, as the next start finds; other calls changed nothing.
+    Until then `reconnect` goes well, and to ask again does no harm."""
 
 
 class Worn(Error):
-    """A number of the server has come to its end: the server is to be started again.
+    """A number of the server has come to its end, 2^48 - 1: it is to be started again, and begins at 0 then.
 
-    A `cas` that raised this was made or not, wholly or not at all; other calls changed nothing."""
+    Each place for a change under way numbers its changes, and each worker its attempts to hold a word: for nine years, at a
+    million a second. A `cas` that raised this is undecided, a `read` changed nothing, and `get` works as before."""
 
 
 class Refused(Error):
-    """The server refuses the `line` and has done nothing: `number` is that of its `ERR`, `meaning` what it stands for.
+    """The server refuses a line and has done nothing.
 
-    This client checks all else before it sends, so the usual number is 5: no tenant has the name."""
+    `line`: what was sent; `number`: that of its `ERR`; `meaning`: what this stands for, a text. This client checks all else
+    before it sends, so the usual number is 5: no tenant has the name."""
 
     def __init__(self, line: str, number: int) -> None:
         super().__init__(line, number)
@@ -175,7 +176,7 @@ class Outcome:
     """How a change ended. An outcome counts as true just where the change was made.
 
     `made`: all words had their expected values; the new ones are written, durably. Then `address` and `value` are None.
-    Otherwise nothing was changed: the word at `address`, one of those asked for, had `value`, not the one expected."""
+    Otherwise nothing was changed: the word at `address` had `value`, not the one expected. Where several differ it is any."""
     made: bool
     address: Optional[int] = None
     value: Optional[int] = None
@@ -319,13 +320,13 @@ class _Session:
                 self._drop()
 
     def reconnect(self, within: float = 0.0) -> None:
-        """Connects anew, as the constructor did, after Lost or Unknown. A connection that still stands is closed first.
+        """Connects anew, as the constructor did: after Lost or Unknown. A connection that still stands is closed first.
 
-        `within`: for how many seconds to try again, with growing pauses, where that fails; 0, for a single try, up to
-        1,000,000. A try that has begun is waited for, up to `timeout`. Use it also when a server that answered Fault or
-        Worn has been started again.
+        `within`: for how many seconds to try again, with growing pauses, where that fails, as where nobody listens or no
+        reply comes; 0, for a single try, up to 1,000,000. A try that has begun is waited for, up to `timeout`.
 
-        Raises ValueError; Lost where no try went well, Refused; the client is closed then."""
+        Raises ValueError or TypeError, with nothing done; Lost where no try went well; Refused at once. The client is closed
+        after these two."""
         end = time.monotonic() + _seconds("within", within, True)
         self.close()
         self._begin_until(end)
@@ -450,7 +451,7 @@ class Client(_Session):
         `timeout`: for how many seconds to wait for a connection, and then for each reply; above 0, up to 1,000,000.
         `patience`: for how many seconds a `cas` or a `read` asks again, with growing pauses, where the server is busy;
         0, for not at all, up to 1,000,000.
-        `within`: for how many seconds to try again where nobody listens yet, as `reconnect` does.
+        `within`: for how many seconds to try again where that fails, as `reconnect` does.
 
         Raises ValueError or TypeError, with nothing sent; Lost; Refused, with number 5, where no tenant has the name."""
         if not isinstance(tenant, str):
@@ -467,11 +468,14 @@ class Client(_Session):
 
     @property
     def words(self) -> int:
-        """How many words the tenant has, 1 to 4096, as the server said when it was connected. It asks nobody."""
+        """How many words the tenant has, 1 to 4096, up or down, as the server said when it was connected. It asks nobody."""
         return self._words
 
     def get(self, address: int) -> int:
         """The value of the word at `address`, 0 to `words` - 1: from 0 to 2^48 - 1, and durable. It costs no disk access.
+
+        It is no older than what this connection was told before, nor than a change that any client was told as made before
+        this call. (Both are proved of the server's core; of its threads the first is proved, and the second tested.)
 
         Raises ValueError for an address that the tenant doesn't have, TypeError for what is no integer; Lost (then
         `reconnect`, and call it again); Fault."""
@@ -480,13 +484,19 @@ class Client(_Session):
     def read(self, addresses: Iterable[int]) -> List[int]:
         """The values of several words, all as they were at one moment, in the order in which `addresses` names them.
 
-        One to sixteen different addresses, in any order; one may come again. More can't be read of one moment while others
-        change them. A single word is read by `get`. Several are guessed one by one, then confirmed by a change that writes
-        to each the value that it has. So it costs the disk as much as a change of them, and as a change can be busy.
-        Guesses that have gone stale are mended.
+        One to sixteen different addresses, in any order; one may come again. A single word is read by `get`. Several are
+        guessed one by one, then confirmed by a change that writes to each the value that it has. So it costs the disk as
+        much as a change of them, and as a change can be busy. Guesses that have gone stale are mended; where others change
+        the words all the time it may end as Busy, since nothing gives it a turn. More words are read of one moment, and with
+        no disk access, where each change of them also moves a word that only grows, here word 0:
+
+            while True:                                       # after Lost `reconnect`, and all of it again
+                version, values = client.get(0), [client.get(address) for address in addresses]
+                if client.get(0) == version:
+                    return values
 
         Raises ValueError or TypeError, with nothing sent; Lost; Fault; Worn; Busy where the server was busy, or the words
-        kept changing, for `patience` seconds. No exception leaves a word changed."""
+        kept changing, for `patience` seconds. No exception leaves a word changed by it, then or later."""
         asked = [self._address(address) for address in addresses]
         if not 1 <= len(set(asked)) <= MAX_ENTRIES:
             raise ValueError(f"one to {MAX_ENTRIES} different words are read at a time")
@@ -509,9 +519,10 @@ class Client(_Session):
 
         Returns an `Outcome`: made, durably; or a word that had another value. While the server is busy it asks again,
         for `patience` seconds. The server syncs its file four times for a change that is made, once for one that isn't.
+        Changes with a word in common, be it compared only, are made one after the other; this by itself makes none busy.
 
-        Raises ValueError or TypeError, with nothing sent; Lost, Busy, Refused: not made. Unknown, Fault, Worn: made or not,
-        wholly or not at all. The module's text says how to go on after Unknown."""
+        Raises ValueError or TypeError, with nothing sent; Lost, Busy, Refused: not made. Unknown, Fault, Worn: undecided,
+        and the module's text says how to go on."""
         checked = sorted((self._address(address), _value(expected), _value(new)) for address, expected, new in entries)
         if not 1 <= len(checked) <= MAX_ENTRIES:
             raise ValueError(f"a change has one to {MAX_ENTRIES} entries")
