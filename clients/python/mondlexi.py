@@ -15,14 +15,13 @@ equal, writes a new value to each: durably, and wholly or not at all.
 `Client` speaks for one tenant, `Administrator` asks how all tenants are. Both are told where the server listens: at a host
 and a port, as "127.0.0.1:7000", "localhost:7000" or "[::1]:7000"; or, on this machine, at a local socket, as
 "unix:/run/mondlexi/socket", which is a file that this process has to be allowed to write. Whoever runs the server knows.
+`Counted` makes changes over a client, of which it finds out whether they were made where a reply is lost.
 
 `help(mondlexi.Client)` has the calls. What `help` shows of the exceptions is mostly what all have: the table below says more.
 
-Each has one connection, and holds one of the server's workers until it is closed: a server serves as many clients at once
-as it has workers, and lets others wait.
-
-Each call is made by one thread at a time, behind a lock of the client, so threads may share one. Processes may not: a
-process that was forked makes a client of its own.
+A client has one connection, and holds one of the server's workers until it is closed: a server serves as many clients at
+once as it has workers, and lets others wait. Threads may share a client, with what closes it or connects it anew: a lock lets
+one of them call at a time. Processes may not: one that was forked makes a client of its own.
 
 **What goes wrong.** An argument out of its range is a ValueError and one of a wrong type a TypeError, both before
 anything is sent. All other failures are kinds of `Error`:
@@ -38,34 +37,29 @@ anything is sent. All other failures are kinds of `Error`:
 
 A constructor that raises leaves nothing open. After Lost from `get`, `read` or `report` call `reconnect`, then the same again.
 
-*Undecided*: it was made, or it wasn't, wholly or not at all. After Unknown the server may also make it later, as long as
-it still works on the line that it got: words with their old values don't show yet that the change won't come. Who has to
-know gives each change an entry for a word that this process alone writes, a count of its changes: from `count` to
-`count + 2`. After Unknown, and after Fault or Worn once the server was started again, this function then says whether the
-change was made; where it wasn't, it never will be:
+*Undecided*: it was made, or it wasn't, wholly or not at all; or it is still to be made, as long as the server works on the line
+that it got. Words with their old values don't show that it won't come, and one that is sent again may be made twice.
 
-    def was_made(client, address, count):                     # the count's address, and its value before the change
-        while True:
-            client.reconnect(30)                              # Lost, after 30 seconds without a server: still undecided,
-            try:                                              # so call was_made again
-                outcome = client.cas([(address, count, count + 1)])
-                return outcome.value == count + 2             # None or count + 1: it wasn't, and the count is count + 1
-            except (mondlexi.Unknown, mondlexi.Busy):
-                pass                                          # no Lost comes here: nobody else closes this client
+`Counted` finds out, by a *count*: a word that one thread of one process alone writes, and that each of its changes moves:
 
-Go on with the count at `count + 2` if it says True, else at `count + 1`. Where a `cas` is answered by another value at the
-count's address, another process writes that word, or an undecided change wasn't settled so: then go on from that value, and
-read the other words anew. A process that may die notes `count` and the change durably before `cas`, and after its start
-calls `was_made` first, since an old change may still come.
+    own = mondlexi.Counted(client, 7)                         # word 7 is the count
+    money, mine = client.get(0), client.get(8)
+    if own.cas([(0, money, money - 5), (8, mine, mine + 5)]):
+        ...                                                   # made, once; otherwise it wasn't, and never will be
 
-What is filled by steps, each of which moves a word that says how far they came, may be begun again after any exception,
-once the client is connected:
+A process that may die needs no note elsewhere, if its changes write what the next one has to know into words of its own, as
+word 8 is here. Once the next one has made its `Counted`, an old change was made or never will be, and `get` tells which.
+
+No count is needed for a word of one owner whose values only grow. A change that moves it is made once at most, so it may be
+asked for again after any exception, once the client is connected, until `get` gives the new value:
 
     def fill(client, values):                                 # the words 1, 2 .. of a new tenant; word 0: how many are filled
-        while client.get(0) < len(values):
-            done = client.get(0)
+        while (done := client.get(0)) < len(values):
             last = min(done + 15, len(values))
             client.cas([(0, done, last)] + [(1 + k, 0, values[k]) for k in range(done, last)])
+
+A change of an owner that died may still come. So a new owner that wants another one first moves the word by a change of its
+own, until one is told as made.
 
 Of a closed client each further call raises Lost and sends nothing, until `reconnect` connects it anew. An exception from
 outside that interrupts a call, such as KeyboardInterrupt, closes the client too, and a change under way is undecided.
@@ -83,7 +77,7 @@ from types import TracebackType
 from typing import Callable, Dict, Iterable, List, Optional, Tuple, Type, TypeVar
 
 __all__ = [
-    "Administrator", "Busy", "Client", "Entry", "Error", "Fault", "Lost", "MAX_ENTRIES", "MAX_VALUE", "MAX_WORDS",
+    "Administrator", "Busy", "Client", "Counted", "Entry", "Error", "Fault", "Lost", "MAX_ENTRIES", "MAX_VALUE", "MAX_WORDS",
     "Outcome", "Refused", "Report", "TenantReport", "Unknown", "Worn",
 ]
 
@@ -131,7 +125,7 @@ class Lost(Error):
 
     From a constructor or `reconnect`: nobody listens there, the host has no such name, the local socket isn't there or this
     process may not write it, or there was no reply within `timeout`, as where all workers of the server are taken. From
-    `cas`: the client was closed before."""
+    `cas`: the client was closed before, so `reconnect`, and call it again."""
 
 
 class Unknown(Error):
@@ -149,19 +143,22 @@ class Busy(Error):
 class Fault(Error):
     """The tenant's file has failed or did not open: all calls are answered so until the server is started again.
 
-    A `cas` that raised this was made or not, wholly or not at all; other calls changed nothing."""
+    A `cas` that raised this was made or not, wholly or not at all, as the next start finds; other calls changed nothing.
+    Until then `reconnect` goes well, and to ask again does no harm."""
 
 
 class Worn(Error):
-    """A number of the server has come to its end: the server is to be started again.
+    """A number of the server has come to its end, 2^48 - 1: it is to be started again, and begins at 0 then.
 
-    A `cas` that raised this was made or not, wholly or not at all; other calls changed nothing."""
+    Each place for a change under way numbers its changes, and each worker its attempts to hold a word: for nine years, at a
+    million a second. A `cas` that raised this is undecided, a `read` changed nothing, and `get` works as before."""
 
 
 class Refused(Error):
-    """The server refuses the `line` and has done nothing: `number` is that of its `ERR`, `meaning` what it stands for.
+    """The server refuses a line and has done nothing.
 
-    This client checks all else before it sends, so the usual number is 5: no tenant has the name."""
+    `line`: what was sent; `number`: that of its `ERR`; `meaning`: what this stands for, a text. This client checks all else
+    before it sends, so the usual number is 5: no tenant has the name."""
 
     def __init__(self, line: str, number: int) -> None:
         super().__init__(line, number)
@@ -179,7 +176,7 @@ class Outcome:
     """How a change ended. An outcome counts as true just where the change was made.
 
     `made`: all words had their expected values; the new ones are written, durably. Then `address` and `value` are None.
-    Otherwise nothing was changed: the word at `address`, one of those asked for, had `value`, not the one expected."""
+    Otherwise nothing was changed: the word at `address` had `value`, not the one expected. Where several differ it is any."""
     made: bool
     address: Optional[int] = None
     value: Optional[int] = None
@@ -213,7 +210,9 @@ class Report:
 
 
 def _seconds(name: str, seconds: float, zero_allowed: bool) -> float:
-    """These seconds, if they are in range. Else ValueError, which says of what they are."""
+    """These seconds, if they are in range. Else ValueError or TypeError, which says of what they are."""
+    if not isinstance(seconds, (int, float)):
+        raise TypeError(f"{name} has to be a number of seconds, not {seconds!r}")
     if not (0 < seconds <= _MAX_SECONDS or zero_allowed and seconds == 0):
         raise ValueError(f"{name} has to be from 0 to {_MAX_SECONDS:.0f} seconds{'' if zero_allowed else ', above 0'}")
     return float(seconds)
@@ -261,6 +260,8 @@ def _at_local_socket(path: str, timeout: float) -> socket.socket:
 
 def _way_to(server: str) -> Callable[[float], socket.socket]:
     """How to connect to this server, within some seconds. ValueError where the text names no place."""
+    if not isinstance(server, str):
+        raise TypeError(f"where a server listens is told by a text, not {server!r}")
     if server.startswith("unix:"):
         path = server[len("unix:"):]
         if not 1 <= len(os.fsencode(path)) <= _MAX_PATH or "\0" in path:
@@ -319,13 +320,13 @@ class _Session:
                 self._drop()
 
     def reconnect(self, within: float = 0.0) -> None:
-        """Connects anew, as the constructor did, after Lost or Unknown. A connection that still stands is closed first.
+        """Connects anew, as the constructor did: after Lost or Unknown. A connection that still stands is closed first.
 
-        `within`: for how many seconds to try again, with growing pauses, where that fails; 0, for a single try, up to
-        1,000,000. A try that has begun is waited for, up to `timeout`. Use it also when a server that answered Fault or
-        Worn has been started again.
+        `within`: for how many seconds to try again, with growing pauses, where that fails, as where nobody listens or no
+        reply comes; 0, for a single try, up to 1,000,000. A try that has begun is waited for, up to `timeout`.
 
-        Raises ValueError; Lost where no try went well, Refused; the client is closed then."""
+        Raises ValueError or TypeError, with nothing done; Lost where no try went well; Refused at once. The client is closed
+        after these two."""
         end = time.monotonic() + _seconds("within", within, True)
         self.close()
         self._begin_until(end)
@@ -450,9 +451,11 @@ class Client(_Session):
         `timeout`: for how many seconds to wait for a connection, and then for each reply; above 0, up to 1,000,000.
         `patience`: for how many seconds a `cas` or a `read` asks again, with growing pauses, where the server is busy;
         0, for not at all, up to 1,000,000.
-        `within`: for how many seconds to try again where nobody listens yet, as `reconnect` does.
+        `within`: for how many seconds to try again where that fails, as `reconnect` does.
 
-        Raises ValueError or TypeError, with nothing sent; Lost; Refused with number 5 where no tenant has the name."""
+        Raises ValueError or TypeError, with nothing sent; Lost; Refused, with number 5, where no tenant has the name."""
+        if not isinstance(tenant, str):
+            raise TypeError(f"a tenant's name is a text, not {tenant!r}")
         if not re.fullmatch("[a-z][a-z0-9-]{0,15}", tenant):
             raise ValueError('a tenant has a name of a to z, then up to 15 of a to z, 0 to 9 and "-"')
         self._patience = _seconds("patience", patience, True)
@@ -465,11 +468,14 @@ class Client(_Session):
 
     @property
     def words(self) -> int:
-        """How many words the tenant has, 1 to 4096, as the server said when it was connected. It asks nobody."""
+        """How many words the tenant has, 1 to 4096, up or down, as the server said when it was connected. It asks nobody."""
         return self._words
 
     def get(self, address: int) -> int:
         """The value of the word at `address`, 0 to `words` - 1: from 0 to 2^48 - 1, and durable. It costs no disk access.
+
+        It is no older than what this connection was told before, nor than a change that any client was told as made before
+        this call. (Both are proved of the server's core; of its threads the first is proved, and the second tested.)
 
         Raises ValueError for an address that the tenant doesn't have, TypeError for what is no integer; Lost (then
         `reconnect`, and call it again); Fault."""
@@ -478,13 +484,19 @@ class Client(_Session):
     def read(self, addresses: Iterable[int]) -> List[int]:
         """The values of several words, all as they were at one moment, in the order in which `addresses` names them.
 
-        One to sixteen different addresses, in any order; one may come again. More can't be read of one moment while others
-        change them. A single word is read by `get`. Several are guessed one by one, then confirmed by a change that writes
-        to each the value that it has. So it costs the disk as much as a change of them, and as a change can be busy.
-        Guesses that have gone stale are mended.
+        One to sixteen different addresses, in any order; one may come again. A single word is read by `get`. Several are
+        guessed one by one, then confirmed by a change that writes to each the value that it has. So it costs the disk as
+        much as a change of them, and as a change can be busy. Guesses that have gone stale are mended; where others change
+        the words all the time it may end as Busy, since nothing gives it a turn. More words are read of one moment, and with
+        no disk access, where each change of them also moves a word that only grows, here word 0:
+
+            while True:                                       # after Lost `reconnect`, and all of it again
+                version, values = client.get(0), [client.get(address) for address in addresses]
+                if client.get(0) == version:
+                    return values
 
         Raises ValueError or TypeError, with nothing sent; Lost; Fault; Worn; Busy where the server was busy, or the words
-        kept changing, for `patience` seconds. No exception leaves a word changed."""
+        kept changing, for `patience` seconds. No exception leaves a word changed by it, then or later."""
         asked = [self._address(address) for address in addresses]
         if not 1 <= len(set(asked)) <= MAX_ENTRIES:
             raise ValueError(f"one to {MAX_ENTRIES} different words are read at a time")
@@ -507,9 +519,10 @@ class Client(_Session):
 
         Returns an `Outcome`: made, durably; or a word that had another value. While the server is busy it asks again,
         for `patience` seconds. The server syncs its file four times for a change that is made, once for one that isn't.
+        Changes with a word in common, be it compared only, are made one after the other; this by itself makes none busy.
 
-        Raises ValueError or TypeError, with nothing sent; Lost, Busy, Refused: not made. Unknown, Fault, Worn: made or not,
-        wholly or not at all. The module's text says how to go on after Unknown."""
+        Raises ValueError or TypeError, with nothing sent; Lost, Busy, Refused: not made. Unknown, Fault, Worn: undecided,
+        and the module's text says how to go on."""
         checked = sorted((self._address(address), _value(expected), _value(new)) for address, expected, new in entries)
         if not 1 <= len(checked) <= MAX_ENTRIES:
             raise ValueError(f"a change has one to {MAX_ENTRIES} entries")
@@ -539,6 +552,66 @@ class Client(_Session):
                 return self._ask(line, gone, read)
             except Busy as error:
                 pause = _paused(pause, deadline, error)
+
+
+class Counted:
+    """Changes of which it is found out whether they were made, where replies are lost and servers end.
+
+    Each also moves a count by 2: a word, of any value at first, that nothing else writes. While it is undecided a change of
+    the count alone, by 1, is asked for until that is answered: either that is made, and the other never can be, or the count
+    tells that the other was. One thread of one process at a time has a count, and one `Counted` of it; several of these may
+    share a client, each with a count of its own."""
+
+    def __init__(self, client: Client, address: int, wait: float = 30.0) -> None:
+        """`address`: the count's. `wait`: for how many seconds to connect `client` anew and ask again, 0 to 1,000,000.
+
+        Moves the count: from then on no change of an earlier `Counted` of it is made any more. Raises what `cas` does."""
+        self._client, self._address, self._wait = client, address, _seconds("wait", wait, True)
+        count = 0
+        while (value := self._moved(count)) is not None:
+            count = value
+        self._known = (count + 1, False, False)    # the count; is the last change undecided; was it, or may it be, made
+
+    def cas(self, entries: Iterable[Entry]) -> Outcome:
+        """As `Client.cas`, of up to fifteen entries; but after Lost or Unknown it connects `client` anew and finds out. What it
+        tells as not made never will be; where a reply was lost it tells no word then. Raises Lost and Unknown only after `wait`
+        seconds, and RuntimeError where something else has moved the count. After whatever it raises `settle` tells."""
+        self._known = (self._known[0], self._known[1], False)
+        self.settle()
+        count = self._known[0]
+        self._known = (count, True, True)
+        try:
+            outcome = self._client.cas([*entries, (self._address, count, count + 2)])
+        except (Lost, Unknown):
+            return Outcome(self.settle())
+        except (ValueError, TypeError, Busy, Refused):
+            self._known = (count, False, False)
+            raise
+        self._known = (count + 2 * outcome.made, False, outcome.made)
+        if outcome.address == self._address:
+            raise RuntimeError(f"something else has moved the count at {self._address}")
+        return outcome
+
+    def settle(self) -> bool:
+        """Whether the last change was made, whatever its `cas` raised; if not, it never will be. False before the first one.
+        Raises what `cas` does as long as it can't tell: Fault or Worn until the server was started again."""
+        count, undecided, made = self._known
+        if undecided:
+            value = self._moved(count) or count + 1
+            if not count < value <= count + 2:
+                raise RuntimeError(f"something else has moved the count at {self._address}")
+            self._known = (value, False, made and value == count + 2)
+        return self._known[2]
+
+    def _moved(self, count: int) -> Optional[int]:
+        """Moves the count from this value, by 1: None; or the other value that it has."""
+        pause, end = _FIRST_PAUSE, time.monotonic() + self._wait
+        while True:
+            try:
+                return self._client.cas([(self._address, count, count + 1)]).value
+            except (Lost, Unknown) as error:
+                pause = _paused(pause, end, error)
+                self._client.reconnect(max(0.0, end - time.monotonic()))
 
 
 class Administrator(_Session):

@@ -2,10 +2,8 @@
 
 Word 0 is the first block of the free list, 0 if that is empty; word 1 says how many blocks were ever used. Block b, from 1
 on, has word 1 + b: while it is free the next free block, and USED + its owner while it is used. After these each owner, 0
-and up, has a word of its own that counts its changes. A new tenant, all of 0, has all its blocks free.
-
-Each change moves its owner's count as well, from c to c + 2. Where its reply is lost, a change of the count alone, from c to
-c + 1, settles it: either it is made, and then the other never can be, or the count tells that the other was made before.
+and up, has a word of its own that counts its changes, by which `mondlexi.Counted` finds out whether one was made whose reply
+was lost. A new tenant, all of 0, has all its blocks free.
 """
 import sys
 from pathlib import Path
@@ -22,10 +20,8 @@ class Allocator:
 
     def __init__(self, client: mondlexi.Client, blocks: int, owner: int, wait: float = 30.0) -> None:
         """`client`: its owner closes it; `wait`: for how many seconds to connect it anew before mondlexi.Lost is raised."""
-        self._client, self._wait = client, wait
-        self._blocks, self._used, self._own = blocks, USED + owner, 2 + blocks + owner
-        self._count = self._get(self._own)
-        self._fence()
+        self._client, self._blocks, self._used, self._wait = client, blocks, USED + owner, wait
+        self._own = mondlexi.Counted(client, 2 + blocks + owner, wait)
 
     def mine(self) -> List[int]:
         """This owner's blocks, those too that an earlier process of this owner has left."""
@@ -41,35 +37,16 @@ class Allocator:
             after = self._get(1 + block) if block else 0
             found = (0, block, after) if block else (1, ever, ever + 1)
             block = block or ever + 1
-            if self._change([found, (1 + block, after, self._used)]):
+            if self._own.cas([found, (1 + block, after, self._used)]):
                 return block
 
     def free(self, block: int) -> None:
         """Gives a block of this owner back. ValueError for another one, which stays as it is."""
         while self._get(1 + block) == self._used:
             first = self._get(0)
-            if self._change([(0, first, block), (1 + block, self._used, first)]):
+            if self._own.cas([(0, first, block), (1 + block, self._used, first)]):
                 return
         raise ValueError(f"block {block} is another's")
-
-    def _change(self, entries: List[mondlexi.Entry]) -> bool:
-        """Whether it was made; where it wasn't, it won't be."""
-        try:
-            made = self._client.cas(entries + [(self._own, self._count, self._count + 2)]).made
-        except (mondlexi.Unknown, mondlexi.Lost):
-            return self._fence()
-        self._count += 2 if made else 0
-        return made
-
-    def _fence(self) -> bool:
-        """Sees to it that nothing under way with this count can still be made; whether a change with it was."""
-        while True:
-            try:
-                outcome = self._client.cas([(self._own, self._count, self._count + 1)])
-                before, self._count = self._count, outcome.value or self._count + 1
-                return self._count == before + 2
-            except (mondlexi.Unknown, mondlexi.Lost, mondlexi.Busy):
-                self._client.reconnect(self._wait)
 
     def _get(self, address: int) -> int:
         while True:
