@@ -597,7 +597,8 @@ class Counted:
         Raises what `cas` does as long as it can't tell: Fault or Worn until the server was started again."""
         count, undecided, made = self._known
         if undecided:
-            value = self._moved(count) or count + 1
+            moved = self._moved(count)
+            value = count + 1 if moved is None else moved
             if not count < value <= count + 2:
                 raise RuntimeError(f"something else has moved the count at {self._address}")
             self._known = (value, False, made and value == count + 2)
