@@ -3,6 +3,7 @@ pub mod Coming
 pub mod Crashes
 pub mod Entering
 pub mod FirstWorlds
+pub mod Following
 pub mod Frames
 pub mod FromMemory
 pub mod GoingOn

@@ -4,7 +4,7 @@ ghost use Rattle.mw_world.specs.Definition.History.{History};
 ghost use Rattle.mw_world.specs.Definition.Noting.{late_unless, marked, more, more_unless};
 ghost use Rattle.mw_world.specs.Definition.State.{marks_in};
 ghost use Rattle.mw_world_memory.specs.Claims.{Recalls};
-ghost use Rattle.mw_world_memory.specs.Lines.{HasRoomForLine, SameLines};
+ghost use Rattle.mw_world_memory.specs.Lines.{HasRoomForLine, OneHasRoom, SameLines, has_room_for};
 ghost use Rattle.mw_world_memory.specs.Seats.{seat_of};
 
 use crate::claims::Claims;
@@ -12,6 +12,7 @@ use crate::seats::Seat;
 use mw_lone::Mark;
 use mw_world::Note;
 use std::alloc::{AllocError, Global};
+use std::mem;
 
 /// What happened to a tenant: the marks up to and with the last start, and those since, some of which are
 /// places that were kept and hold none.
@@ -129,22 +130,47 @@ impl Lines {
         Ok(marks)
     }
 
-    /// The marks so far, and this one.
-    pub fn closed_with(&self, alloc: Global, last: Mark) -> Result<Vec<Mark>, AllocError>
-        ensures { IfOk result (λ marks. marks.items ≡ self.now.closed.items ++ marks_in self.now.lines.items ++ last ∷ []) }
+    /// Lines whose closed marks are those since the last start, and this one; they have no others. Either these
+    /// lines have room for those closed marks too, or those lines have it for the closed marks of these.
+    pub fn since(&self, alloc: Global, last: Mark) -> Result<Lines, AllocError>
+        ensures closed { IfOk result (λ since. since.closed.items ≡ marks_in self.now.lines.items ++ last ∷ []) }
+        ensures lines { IfOk result (λ since. since.lines.items ≡ []) }
+        ensures room { IfOk result (OneHasRoom self.now) }
     {
-        let mut marks = self.marks(alloc)?;
-        marks.push(last)?;
-        Ok(marks)
+        let mut closed = Vec::new(alloc);
+        copy_lines(&self.lines, &mut closed)?;
+        closed.push(last)?;
+        if !self.has_room(closed.len()) {
+            closed.reserve(self.closed.len().saturating_mul(2))?;
+        }
+        Ok(Lines {
+            closed,
+            lines: Vec::new(alloc),
+        })
     }
 
-    /// All stopped and started again: these are the marks up to and with that start.
-    pub fn reopen(&mut self, closed: Vec<Mark>)
-        ensures closed { self.new.closed ≡ closed }
-        ensures lines { self.new.lines.items ≡ [] }
+    /// Takes over the closed marks of these lines, in front of its own. One of the two has room for all, so that
+    /// it can't fail.
+    pub fn follow(&mut self, before: &mut Lines)
+        requires { OneHasRoom before.old self.old }
+        ensures closed { self.new.closed.items ≡ before.old.closed.items ++ self.old.closed.items }
+        ensures lines { self.new.lines ≡ self.old.lines }
     {
-        self.closed = closed;
-        self.lines.clear();
+        let own = self.closed.len();
+        if before.has_room(own) {
+            let _ = before.closed.append(&mut self.closed);
+            mem::swap(&mut self.closed, &mut before.closed);
+        } else {
+            let _ = self.closed.append(&mut before.closed);
+            self.closed.rotate_left(own);
+        }
+    }
+
+    // Whether there is room for so many closed marks more.
+    fn has_room(&self, count: usize) -> bool
+        ensures { result ≡ has_room_for self.now count }
+    {
+        self.closed.capacity() - self.closed.len() >= count
     }
 }
 

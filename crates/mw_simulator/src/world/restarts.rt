@@ -10,7 +10,8 @@ ghost use Rattle.mw_simulator.specs.Running as spec;
 ghost use Rattle.mw_simulator.specs.Running.{Restarts};
 ghost use Rattle.mw_simulator.specs.Shows.{Shows};
 ghost use Rattle.mw_simulator.specs.Staying.{IsUnchanged};
-ghost use Rattle.mw_simulator.specs.Stops.{AllReopen, Reopens};
+ghost use Rattle.mw_simulator.specs.Stops.{AllFollow, AllReopen, EachHasRoom, Follows, Reopens, SameBooksIn};
+ghost use Rattle.mw_world_memory.specs.Lines.{OneHasRoom};
 ghost use Rattle.mw_world_memory.specs.TenantBooks.{AreSound};
 
 use crate::faults::WorldFault;
@@ -20,7 +21,7 @@ use mw_lone::Mark;
 use mw_words::{MAX_QUOTA, MAX_TENANTS};
 use mw_world::{Interrupted, Stop};
 use mw_world_file::BookFault;
-use mw_world_memory::{Account, Lines};
+use mw_world_memory::Account;
 
 impl World {
     /// All stops, and starts again.
@@ -35,7 +36,7 @@ impl World {
         if !self.may_give(stops) {
             return Err(WorldFault::NotEnabled);
         }
-        let accounts = match self.all_reopened(stops) {
+        let mut accounts = match self.all_reopened(stops) {
             Ok(accounts) => accounts,
             Err(fault) => return Err(WorldFault::from(fault)),
         };
@@ -45,6 +46,7 @@ impl World {
         let Ok(seats) = idle_seats(self.alloc, self.config.workers) else {
             return Err(WorldFault::Memory);
         };
+        follow(&mut self.accounts, &mut accounts);
         self.accounts = accounts;
         self.cells = cells;
         self.seats = seats;
@@ -65,11 +67,13 @@ impl World {
         all_together(&self.accounts, stops) <= self.config.pool
     }
 
-    /// The tenants after the start, which can give them the quotas that are told.
+    /// The tenants after the start, which can give them the quotas that are told. Each has only its marks since the
+    /// last start, and is to take over those before.
     fn all_reopened(&self, stops: &[Stop]) -> Result<Vec<Account>, BookFault>
         requires room { HaveRoom self.now.accounts.items stops.now }
         ensures reopen { AllReopen self.now stops.now result }
         ensures sound { IfOk result (λ accounts. AreSound self.now.config accounts.items) }
+        ensures lines { IfOk result (λ accounts. EachHasRoom self.now.accounts.items accounts.items) }
     {
         let Ok(mut accounts) = Vec::with_capacity(self.alloc, self.accounts.len()) else {
             return Err(BookFault::Memory);
@@ -87,7 +91,7 @@ impl World {
         Ok(accounts)
     }
 
-    /// A tenant after the start.
+    /// A tenant after the start, with only its marks since the last one.
     fn stopped(
         &self,
         tenant: usize,
@@ -97,6 +101,7 @@ impl World {
         requires there { slice_get self.now.accounts.items tenant ≡ Some account.now }
         requires room { quota_after (spec.outage_of stops.now tenant).quota account.now ≤ places_of_file account.now.book }
         ensures sound { IfOk result (λ new. HasSound (tenant_at self.now.config tenant).words new.book) }
+        ensures lines { IfOk result (λ new. OneHasRoom account.now.lines new.lines) }
         ensures reopens { (state : State) → Shows self.now state
             → Reopens self.now state tenant account.now (spec.outage_of stops.now tenant) result }
     {
@@ -114,7 +119,8 @@ impl World {
     }
 
     /// A tenant after the start, by the call on its file that was under way, by the bytes that stand where
-    /// bytes weren't synced, by the device call of the opening that fails, and by the quota that is told.
+    /// bytes weren't synced, by the device call of the opening that fails, and by the quota that is told. It has
+    /// only its marks since the last start.
     fn reopened(
         &self,
         tenant: usize,
@@ -127,6 +133,7 @@ impl World {
         requires there { slice_get self.now.accounts.items tenant ≡ Some account.now }
         requires room { quota_after told account.now ≤ places_of_file account.now.book }
         ensures sound { IfOk result (λ new. HasSound (tenant_at self.now.config tenant).words new.book) }
+        ensures lines { IfOk result (λ new. OneHasRoom account.now.lines new.lines) }
         ensures reopens { (state : State) → Shows self.now state → Reopens self.now state tenant account.now (record { interrupted = interrupted; torn = torn.now; fails_at = fails_at; quota = told }) result }
     {
         let Some(halt) = self.halt(tenant, account, interrupted) else {
@@ -146,11 +153,9 @@ impl World {
             opened: fails_at.is_none(),
             quota,
         };
-        let Ok(closed) = account.lines.closed_with(self.alloc, mark) else {
+        let Ok(lines) = account.lines.since(self.alloc, mark) else {
             return Err(BookFault::Memory);
         };
-        let mut lines = Lines::new(self.alloc);
-        lines.reopen(closed);
         Ok(Account {
             book,
             quota,
@@ -158,6 +163,27 @@ impl World {
             asked: account.asked,
         })
     }
+}
+
+/// The tenants after a start take over the marks up to the last one, each from the tenant that it was.
+fn follow(before: &mut Vec<Account>, accounts: &mut Vec<Account>)
+    requires count { length accounts.old.items ≡ length before.old.items }
+    requires lines { EachHasRoom before.old.items accounts.old.items }
+    ensures count { length accounts.new.items ≡ length accounts.old.items }
+    ensures books { SameBooksIn accounts.old.items accounts.new.items }
+    ensures follow { AllFollow before.old.items accounts.old.items accounts.new.items }
+{
+    for tenant in 0..accounts.len() {
+        take_over(&mut before[tenant], &mut accounts[tenant]);
+    }
+}
+
+/// A tenant after a start takes over the marks up to the last one from the tenant that it was.
+fn take_over(before: &mut Account, account: &mut Account)
+    requires { OneHasRoom before.old.lines account.old.lines }
+    ensures { Follows before.old account.old account.new }
+{
+    account.lines.follow(&mut before.lines);
 }
 
 /// Whether each tenant's quota after the start is 1 to `MAX_QUOTA`, and at most the places of its file.

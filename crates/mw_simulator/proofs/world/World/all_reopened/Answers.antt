@@ -5,7 +5,8 @@ use Rattle.mw_world.specs.Definition.State.{State, tenant_at}
 use Rattle.mw_world_memory.specs.declared.accounts.Account.{Account}
 use Rattle.mw_simulator.specs.Running.{outage_of}
 use Rattle.mw_simulator.specs.Shows.{Shows}
-use Rattle.mw_simulator.specs.Stops.{AreReopened, IsReopened}
+use Rattle.mw_simulator.specs.Stops.{AreReopening, EachHasRoom, IsReopening}
+use Rattle.mw_world_memory.specs.Lines.{OneHasRoom}
 use Rattle.mw_world_memory.specs.TenantBooks.{AreSound}
 use Rattle.mw_simulator.proofs.Reopened.{one_refused}
 use Rattle.mw_simulator.proofs.FirstWorlds.{each_more, each_none, each_of_more}
@@ -14,7 +15,8 @@ use Rattle.mw_simulator.proofs.world.World.all_reopened.Goals as goal
 pub loop-tenant-init : goal.loop-tenant-init
 loop-tenant-init c = record {
   count = ap length c.in-Ok.ensures.items;
-  each = subst (AreReopened c.args.self.now c.args.stops.now) (sym c.in-Ok.ensures.items) (each_none _);
+  each = subst (AreReopening c.args.self.now c.args.stops.now) (sym c.in-Ok.ensures.items) (each_none _);
+  lines = subst (EachHasRoom c.args.self.now.accounts.items) (sym c.in-Ok.ensures.items) (each_none _);
   sound = subst (AreSound c.args.self.now.config) (sym c.in-Ok.ensures.items) (each_none _);
 }
 
@@ -27,12 +29,14 @@ loop-tenant-preserved c =
     let new = c.in-Ok-stopped.reopened in
     let old = c.account-item.result in
     let R : ℕ → Account → Account → Type 0 = λ k a b. (state : State) → Shows world state
-    → IsReopened world.config state k (outage_of stops k) a b in
+    → IsReopening world.config state k (outage_of stops k) a b in
     let read = subst (λ all. old ≡ get_or all tenant old) c.deref-account-items.ensures.value c.account-item.is in
     record {
       count = ap length c.in-Ok-push.ensures.items ∙ length_push before new ∙ ap (λ n. n + 1) c.loop-tenant.invariant.count;
-      each = subst (AreReopened world stops) (sym c.in-Ok-push.ensures.items)
+      each = subst (AreReopening world stops) (sym c.in-Ok-push.ensures.items)
           (each_of_more R world.accounts.items before tenant old new c.loop-tenant.invariant.count read c.in-Ok-stopped.ensures.reopens c.loop-tenant.invariant.each);
+      lines = subst (EachHasRoom world.accounts.items) (sym c.in-Ok-push.ensures.items)
+          (each_of_more (λ k (a b : Account). OneHasRoom a.lines b.lines) world.accounts.items before tenant old new c.loop-tenant.invariant.count read c.in-Ok-stopped.ensures.lines c.loop-tenant.invariant.lines);
       sound = subst (AreSound world.config) (sym c.in-Ok-push.ensures.items)
           (each_more (λ k (one : Account). HasSound (tenant_at world.config k).words one.book) before new c.loop-tenant.invariant.sound
           (subst (λ k. HasSound (tenant_at world.config k).words new.book) (sym c.loop-tenant.invariant.count) c.in-Ok-stopped.ensures.sound));

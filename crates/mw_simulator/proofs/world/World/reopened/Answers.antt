@@ -1,6 +1,11 @@
-use Rattle.std.proofs.Common.{refl, ap, ◌∙◌}
+use Rattle.std.specs.Prelude.{[], ◌∷◌, ◌++◌}
+use Rattle.std.proofs.Common.{refl, sym, ap, subst, ◌∙◌}
+use Rattle.std.proofs.lemmas.List.{append_assoc}
+use Rattle.mw_lone.specs.declared.marks.Mark.TheVariants.{Restart as IsRestart}
+use Rattle.mw_world_file.specs.Reopening.{IsRestarted}
 use Rattle.mw_world_file.proofs.SoundBooks.{sound_again}
-use Rattle.mw_world.specs.Definition.State.{tenant_at}
+use Rattle.mw_world.specs.Definition.State.{marks_in, tenant_at}
+use Rattle.mw_simulator.specs.Running.{Outage}
 use Rattle.mw_simulator.proofs.Reopened.{is_reopened, not_reopened}
 use Rattle.mw_simulator.proofs.Restarted.{none_is}
 use Rattle.mw_simulator.proofs.world.World.reopened.Goals as goal
@@ -17,11 +22,20 @@ returns-clause-sound c =
     (c.args.self.now.books c.args.tenant shown c.requires.there) c.in-Ok.ensures
 
 pub returns-clause-reopens : goal.returns-clause-reopens
-returns-clause-reopens c state shows =
+returns-clause-reopens c state shows new follows =
     let world = c.args.self.now in
     let tenant = c.args.tenant in
     let shown = c.args.account.now in
+    let outage : Outage = record { interrupted = c.args.interrupted; torn = c.args.torn.now; fails_at = c.args.fails_at; quota = c.args.told } in
+    let halt = c.in-Some.halt in
+    let told = c.quota_of-quota.result in
+    let took = c.in-Ok.restarted.1 in
     let shown_so = shows.accounts tenant shown c.requires.there in
-    is_reopened world.config state tenant shown (record { interrupted = c.args.interrupted; torn = c.args.torn.now; fails_at = c.args.fails_at; quota = c.args.told }) c.in-Some.halt (tenant_at world.config tenant).words shown_so
-    (c.in-Some.ensures.shown state shows) c.in-Ok.restarted.1 c.is_none.result c.quota_of-quota.result _ c.quota_of-quota.ensures (c.in-Ok.ensures (state.accounts tenant).file shown_so.book)
-    (none_is c.args.fails_at c.is_none.result c.is_none.ensures) refl refl c.reopen.ensures.lines (ap (λ closed. closed.items) c.reopen.ensures.closed ∙ c.in-Ok-closed_with.ensures) refl
+    let started = c.in-Ok.ensures (state.accounts tenant).file shown_so.book in
+    is_reopened world.config state tenant shown outage halt (tenant_at world.config tenant).words shown_so
+    (c.in-Some.ensures.shown state shows) took c.is_none.result told new c.quota_of-quota.ensures
+    (subst (λ book. IsRestarted shown.book (state.accounts tenant).file halt.cut outage.torn outage.fails_at told book took) (sym follows.book) started)
+    (none_is c.args.fails_at c.is_none.result c.is_none.ensures) follows.quota follows.asked
+    (ap (λ lines. lines.items) follows.lines ∙ c.in-Ok-since.ensures.lines)
+    (follows.closed ∙ ap (λ own. shown.lines.closed.items ++ own) c.in-Ok-since.ensures.closed
+    ∙ sym (append_assoc shown.lines.closed.items (marks_in shown.lines.lines.items) (IsRestart halt.sealing took c.is_none.result told ∷ []))) refl
