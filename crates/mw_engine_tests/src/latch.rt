@@ -6,8 +6,9 @@ use mw_engine::{Hold, Point};
 use std::sync::atomic::{AtomicBool, AtomicU64, Ordering};
 use std::thread;
 
-/// How often who waits looks again.
-const MOST_TURNS: u32 = 1_000_000;
+/// How often who waits looks again: for ten seconds or more, since the machine's host may take a processor away for
+/// longer than the others' requests last.
+const MOST_TURNS: u32 = 30_000_000;
 
 /// Where a worker comes to the latch.
 #[derive(Clone, Copy, PartialEq, Eq)]

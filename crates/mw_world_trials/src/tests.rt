@@ -1,15 +1,15 @@
-//! Fifty thousand trials, and some that are longer.
+//! Twenty thousand trials, and some that are longer.
 
 use crate::trial::{Tally, play};
 use std::process::Abort;
 
 /// How many trials there are, and how many events each has.
-const TRIALS: u64 = 50_000;
+const TRIALS: u64 = 20_000;
 
 const EVENTS: u64 = 300;
 
 /// How many longer trials there are, and how many events each of these has.
-const LONG_TRIALS: u64 = 500;
+const LONG_TRIALS: u64 = 200;
 
 const MANY_EVENTS: u64 = 5_000;
 

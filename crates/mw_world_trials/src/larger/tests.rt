@@ -19,7 +19,7 @@ use mw_world::Phase;
 use std::alloc::Global;
 
 /// How many runs there are, and how many events each has.
-const RUNS: u64 = 10_000;
+const RUNS: u64 = 2_000;
 
 const EVENTS: u64 = 250;
 
