@@ -475,7 +475,7 @@ class Client(_Session):
         """The value of the word at `address`, 0 to `words` - 1: from 0 to 2^48 - 1, and durable. It costs no disk access.
 
         It is no older than what this connection was told before, nor than a change that any client was told as made before
-        this call. (Both are proved of the server's core; of its threads the first is proved, and the second tested.)
+        this call. (Of the server's core both follow from what is proved; of its threads the first does, and the second is tested.)
 
         Raises ValueError for an address that the tenant doesn't have, TypeError for what is no integer; Lost (then
         `reconnect`, and call it again); Fault."""
