@@ -74,7 +74,7 @@ import threading
 import time
 from dataclasses import dataclass
 from types import TracebackType
-from typing import Callable, Dict, Iterable, List, Optional, Tuple, Type, TypeVar
+from typing import Callable, Dict, Iterable, List, NamedTuple, Optional, Tuple, Type, TypeVar
 
 __all__ = [
     "Administrator", "Busy", "Client", "Counted", "Entry", "Error", "Fault", "Lost", "MAX_ENTRIES", "MAX_VALUE", "MAX_WORDS",
@@ -554,6 +554,14 @@ class Client(_Session):
                 pause = _paused(pause, deadline, error)
 
 
+class _Known(NamedTuple):
+    """What is known of a count, and of the last change that went with it: `made` too where it is undecided and may be made."""
+
+    count: int
+    undecided: bool
+    made: bool
+
+
 class Counted:
     """Changes of which it is found out whether they were made, where replies are lost and servers end.
 
@@ -570,24 +578,24 @@ class Counted:
         count = 0
         while (value := self._moved(count)) is not None:
             count = value
-        self._known = (count + 1, False, False)    # the count; is the last change undecided; was it, or may it be, made
+        self._known = _Known(count + 1, undecided=False, made=False)
 
     def cas(self, entries: Iterable[Entry]) -> Outcome:
         """As `Client.cas`, of up to fifteen entries; but after Lost or Unknown it connects `client` anew and finds out. What it
         tells as not made never will be; where a reply was lost it tells no word then. Raises Lost and Unknown only after `wait`
         seconds, and RuntimeError where something else has moved the count. After whatever it raises `settle` tells."""
-        self._known = (self._known[0], self._known[1], False)
+        self._known = self._known._replace(made=False)
         self.settle()
-        count = self._known[0]
-        self._known = (count, True, True)
+        count = self._known.count
+        self._known = _Known(count, undecided=True, made=True)
         try:
             outcome = self._client.cas([*entries, (self._address, count, count + 2)])
         except (Lost, Unknown):
             return Outcome(self.settle())
         except (ValueError, TypeError, Busy, Refused):
-            self._known = (count, False, False)
+            self._known = _Known(count, undecided=False, made=False)
             raise
-        self._known = (count + 2 * outcome.made, False, outcome.made)
+        self._known = _Known(count + 2 * outcome.made, undecided=False, made=outcome.made)
         if outcome.address == self._address:
             raise RuntimeError(f"something else has moved the count at {self._address}")
         return outcome
@@ -601,8 +609,8 @@ class Counted:
             value = count + 1 if moved is None else moved
             if not count < value <= count + 2:
                 raise RuntimeError(f"something else has moved the count at {self._address}")
-            self._known = (value, False, made and value == count + 2)
-        return self._known[2]
+            self._known = _Known(value, undecided=False, made=made and value == count + 2)
+        return self._known.made
 
     def _moved(self, count: int) -> Optional[int]:
         """Moves the count from this value, by 1: None; or the other value that it has."""

@@ -152,7 +152,7 @@ module _ {D : Type 0} (facts : D → Facts) (shared : Shared) (old taken : Pass)
       event_lent : IsOneEvent taken.worker made.end made.status (file_among taken.seat.me.0.files) old.seat.me.0 last.seat.me.0
       event_lent = record {
         lent = event_since.lent;
-        keeps = record { same_config = event_since.keeps.same_config; same_openings = event_since.keeps.same_openings; seen = event_since.keeps.seen };
+        keeps = record { same_config = event_since.keeps.same_config; same_openings = event_since.keeps.same_openings; seen = event_since.keeps.seen; course = event_since.keeps.course };
         same_reins = event_since.same_reins;
         same_mine = event_since.same_mine;
         has = event_since.has;

@@ -9,7 +9,7 @@ use Rattle.mw_world.specs.declared.config.Config.{Config}
 use Rattle.mw_world.specs.Definition.Calls.{Called as CallOn, called_at}
 use Rattle.mw_world.specs.Definition.State.{tenants_of}
 use Rattle.mw_table.specs.FromRule.{FileRights, GoesOn, Held, LeavesRest, Reins, Serves, Starts, View, Went, after_call, bereft, borrows, entrusted, first_held, other_held, seen_at, went as went_of}
-use Rattle.mw_table.proofs.FromRule.{begins_on, bereft_right, calls_borrow, calls_file, calls_give_back}
+use Rattle.mw_table.proofs.FromRule.{begins_on, bereft_right, calls_borrow, calls_file, calls_give_back, on_again}
 use Rattle.mw_core.specs.Filing.{HasFiled}
 
 -- what goes on goes on from before
@@ -23,6 +23,8 @@ goes_on_on first between last one two =
       same_told = two.same_told ∙ one.same_told;
       seen = λ tenant low. begins_on (seen_at first.seen tenant) (seen_at between.seen tenant) (seen_at last.seen tenant) (one.seen tenant low) (two.seen tenant (there tenant low));
       told = λ tenant low. begins_on (seen_at first.told tenant) (seen_at between.seen tenant) (seen_at last.seen tenant) (one.told tenant low) (two.seen tenant (there tenant low));
+      course = on_again first.course between.course last.course one.course two.course;
+      told_course = on_again first.told_course between.course last.course one.told_course two.course;
     }
 
 files_on : (first between last : View) → LeavesRest first between → LeavesRest between last → LeavesRest first last
@@ -58,6 +60,8 @@ module _ (old its last : View) (held found : Held) (well : Bool) (after : FileRi
         same_told = made.files.goes_on.same_told;
         seen = made.files.goes_on.seen;
         told = made.files.goes_on.told;
+        course = made.files.goes_on.course;
+        told_course = made.files.goes_on.told_course;
       };
       right = bereft_right last made.files.right;
       same_mine = made.files.same_mine;

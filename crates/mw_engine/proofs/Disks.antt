@@ -41,7 +41,7 @@ module _ {D : Type 0} (facts : D → Facts) (identity : Identity) where
       (by_number (GivenAs facts identity) old one all (subst (λ (n : ℕ). GivenAs facts identity n one) (sym many) so))
 
   -- where there is a file, it stands for the words that it has in the world
-  stands_so : (tenant : ℕ) (right : FileRight) (so : IsSoOfWorld identity.config identity.openings tenant (file_kept right)) (file : TenantFile D)
+  stands_so : (tenant : ℕ) (right : FileRight) (so : IsSoOfWorld identity.config identity.openings right.seat.me.0.course tenant (file_kept right)) (file : TenantFile D)
       → StandsFor facts (Some file) (file_told (file_kept right)).contents (pairs_of (file_told (file_kept right)).doubt)
       → IsTrue (facts (disk_of file)).honest → Keeps facts file (so.state.accounts tenant).file.contents (pairs_of (so.state.accounts tenant).file.doubt)
   stands_so tenant right so file stands honest =
@@ -50,11 +50,11 @@ module _ {D : Type 0} (facts : D → Facts) (identity : Identity) where
 
   -- what is given of the book that was kept for a tenant
   pub given_as : (book : Book D) (right : FileRight) (tenant : ℕ) (result : Option D) → result ≡ disk_in book.held → IsKept facts identity book right → right.tenant ≡ tenant
-      → IsSoOfWorld identity.config identity.openings right.tenant (file_kept right) → GivenAs facts identity tenant result
+      → IsSoOfWorld identity.config identity.openings right.seat.me.0.course right.tenant (file_kept right) → GivenAs facts identity tenant result
   given_as book right tenant result is kept its so = subst (GivenAs facts identity tenant) (sym is) (by book.held refl)
     where
-      here : IsSoOfWorld identity.config identity.openings tenant (file_kept right)
-      here = subst (λ (n : ℕ). IsSoOfWorld identity.config identity.openings n (file_kept right)) its so
+      here : IsSoOfWorld identity.config identity.openings right.seat.me.0.course tenant (file_kept right)
+      here = subst (λ (n : ℕ). IsSoOfWorld identity.config identity.openings right.seat.me.0.course n (file_kept right)) its so
 
       by : (held : Option (TenantFile D)) → book.held ≡ held → GivenAs facts identity tenant (disk_in held)
       by None none = sym (ap (λ (one : Option (TenantFile D)). is_some one) (sym none) ∙ (kept.opened ∙ ap (λ (n : ℕ). (opening_at identity.openings n).is_up) its))

@@ -40,9 +40,10 @@ module _ {D : Type 0} (facts : D → Facts) (shared : Shared) (identity : Identi
   }
 
 -- What a right tells is so of the engine's world.
-pub so_there : (shared : Shared) (identity : Identity) (tenant : ℕ) (rights : FileRights) → identity_on shared identity.lines ≡ identity
-    → IsSoOfWorld (config_of shared.table.shared.key) (openings_of shared.table.shared.key) tenant rights → IsSoOfWorld identity.config identity.openings tenant rights
-so_there shared identity tenant rights same so = subst (λ (one : Identity). IsSoOfWorld one.config one.openings tenant rights) same so
+pub so_there : (shared : Shared) (identity : Identity) (right : FileRight) → identity_on shared identity.lines ≡ identity
+    → IsSoOfWorld (config_of shared.table.shared.key) (openings_of shared.table.shared.key) right.seat.me.0.course right.tenant (file_kept right)
+    → IsSoOfWorld identity.config identity.openings right.seat.me.0.course right.tenant (file_kept right)
+so_there shared identity right same so = subst (λ (one : Identity). IsSoOfWorld one.config one.openings right.seat.me.0.course right.tenant (file_kept right)) same so
 
 module _ {D : Type 0} (facts : D → Facts) (identity : Identity) where
   -- a lock that has just this right

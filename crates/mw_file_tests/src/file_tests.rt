@@ -11,12 +11,21 @@ use mw_words::{Entries, Entry, is_change};
 use std::alloc::Global;
 use std::process::Abort;
 
-/// Four bytes that a crash leaves, over and over, in what was not synced: none are given, all are
-/// zero, all are ones, and a mixture that begins with a clear commit byte or with a set one.
+/// A crash leaves what was written, also where it was not synced.
+pub(crate) const WRITTEN: &[u8] = &[];
+
+/// A crash leaves zeros in what was not synced.
+pub(crate) const ZEROS: &[u8] = &[0x00, 0x00, 0x00, 0x00];
+
+/// A crash leaves ones there.
+pub(crate) const ONES: &[u8] = &[0xff, 0xff, 0xff, 0xff];
+
+/// Bytes that a crash leaves, over and over, in what was not synced: these, and a mixture that begins with a
+/// clear commit byte or with a set one.
 pub(crate) const TORN: [&[u8]; 5] = [
-    &[],
-    &[0x00, 0x00, 0x00, 0x00],
-    &[0xff, 0xff, 0xff, 0xff],
+    WRITTEN,
+    ZEROS,
+    ONES,
     &[0x00, 0xa5, 0xff, 0x5a],
     &[0xa5, 0xff, 0x5a, 0x00],
 ];

@@ -1,8 +1,8 @@
 //! The power goes: of a write that wasn't synced a file keeps any part, torn at any byte.
 
 use crate::file_tests::{
-    MEMORY, TORN, Trouble, Words, answers, left, opening, over_and_over, troubled, troubled_file,
-    words_of,
+    MEMORY, ONES, Trouble, WRITTEN, Words, ZEROS, answers, left, opening, over_and_over, troubled,
+    troubled_file, words_of,
 };
 use crate::opening_tests::old_file;
 use crate::same::{same, same_at};
@@ -81,10 +81,10 @@ const UNSYNCED: [(u8, u8, &[Words]); 5] = [
 /// Where the power goes after so many calls of a change, with so many synced, the file keeps any part of the
 /// bytes since, and has one of these lists of words. How many files were tried.
 fn torn_change<R: Abort + AllocGlobal>(rt: &R, calls: u8, synced: u8, may: &[Words]) -> u64 {
-    let written = left_of_change(rt, calls, TORN[0]);
-    let before = left_of_change(rt, synced, TORN[0]);
-    let zeros = left_of_change(rt, calls, TORN[1]);
-    let ones = left_of_change(rt, calls, TORN[2]);
+    let written = left_of_change(rt, calls, WRITTEN);
+    let before = left_of_change(rt, synced, WRITTEN);
+    let zeros = left_of_change(rt, calls, ZEROS);
+    let ones = left_of_change(rt, calls, ONES);
     let mut images: u64 = 0;
     for other in [&before, &zeros, &ones] {
         images = images.saturating_add(torn_anywhere(rt, other, &written, may));
@@ -113,9 +113,9 @@ fn left_of_opening<R: Abort + AllocGlobal>(rt: &R, calls: u8, torn: &[u8]) -> Ve
 /// Where the power goes after so many calls of the opening of an old file, the file keeps any part of the
 /// bytes since the last sync, and has the words that it had. How many files were tried.
 fn torn_opening<R: Abort + AllocGlobal>(rt: &R, calls: u8) -> u64 {
-    let written = left_of_opening(rt, calls, TORN[0]);
-    let zeros = left_of_opening(rt, calls, TORN[1]);
-    let ones = left_of_opening(rt, calls, TORN[2]);
+    let written = left_of_opening(rt, calls, WRITTEN);
+    let zeros = left_of_opening(rt, calls, ZEROS);
+    let ones = left_of_opening(rt, calls, ONES);
     let mut images: u64 = 0;
     for other in [&zeros, &ones] {
         images = images.saturating_add(torn_anywhere(rt, other, &written, &[[5, 0]]));
@@ -126,7 +126,7 @@ fn torn_opening<R: Abort + AllocGlobal>(rt: &R, calls: u8) -> u64 {
 /// Where the power goes before the second layout is synced, the old file has any length from its own one on.
 /// How many files were tried.
 fn cut_short<R: Abort + AllocGlobal>(rt: &R) -> u64 {
-    let written = left_of_opening(rt, 3, TORN[0]);
+    let written = left_of_opening(rt, 3, WRITTEN);
     let mut images: u64 = 0;
     for end in old_file(rt).len()..written.len() {
         let mut image = written.to_vec(rt.alloc()).expect(rt, MEMORY);

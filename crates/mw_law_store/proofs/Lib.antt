@@ -1,5 +1,6 @@
 pub mod Acknowledging
 pub mod Aside
+pub mod Attempts
 pub mod Beginnings
 pub mod Beside
 pub mod Calling

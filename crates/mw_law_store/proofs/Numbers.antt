@@ -1,37 +1,32 @@
 -- Where numbers are left no request comes to be on the way to WORN.
-use Rattle.std.specs.Prelude.{ℕ, ◌≡◌, ◌≢◌, ◌<◌, ◌≤◌, ◌⊎◌, ◌==◌, ◌&&◌, Bool, true, false, not, cond, is_some, List, [], Option, Some, None}
+use Rattle.std.specs.Prelude.{ℕ, ◌≡◌, ◌≢◌, ◌<◌, ◌⊎◌, ◌==◌, ◌&&◌, Bool, true, false, not, is_some, [], Option, Some, None}
 use Rattle.std.proofs.Common.{refl, sym, ap, subst, ◌∙◌, append-nil, inl, inr, arith}
 use Rattle.std.proofs.lemmas.Bool.Decides.{nat_tests}
 use Rattle.mw_words.specs.declared.gates.Gate.{Gate}
-use Rattle.mw_words.specs.declared.jobs.Entry.{Entry}
 use Rattle.mw_words.specs.declared.jobs.Job.{Job}
 use Rattle.mw_words.specs.declared.jobs.Job.TheVariants.{Get, Cas}
 use Rattle.mw_words.specs.declared.limits.TheConstants.{WORN_NUMBER}
 use Rattle.mw_words.specs.declared.places.At.TheVariants.{Gate as AtGate}
 use Rattle.mw_words.specs.declared.replies.Reply.{Reply}
 use Rattle.mw_look.specs.declared.news.News.{News}
-use Rattle.mw_look.specs.declared.news.News.TheVariants.{SawGate, Won, Lost}
-use Rattle.mw_look.specs.Places.{pack}
-use Rattle.mw_look.specs.Steps.{Step, Load, Change, File as FileStep}
+use Rattle.mw_look.specs.declared.news.News.TheVariants.{SawGate}
+use Rattle.mw_look.specs.Steps.{Step, Load}
 use Rattle.mw_actor.specs.declared.points.Point.{Point}
-use Rattle.mw_actor.specs.declared.points.Point.TheVariants.{Plant, ScanGate}
+use Rattle.mw_actor.specs.declared.points.Point.TheVariants.{ScanGate}
 use Rattle.mw_actor.specs.Acting.{Acting, first_point}
 use Rattle.mw_actor.specs.Admitting.{is_worn}
 use Rattle.mw_actor.specs.Asks.{asks, asks_at}
 use Rattle.mw_actor.specs.Program.{replied}
-use Rattle.mw_actor.specs.Ranges.{IsPointInRange}
 use Rattle.mw_world_file.specs.declared.outcomes.Outcome.{Outcome}
 use Rattle.mw_world.specs.declared.config.Config.{Config}
 use Rattle.mw_world.specs.Claim.Headline.{HasNumbers}
-use Rattle.mw_world.specs.Definition.Calls.{Called, call, call_if, called_at, calling, moved_if}
-use Rattle.mw_world.specs.Definition.Cells.{Cells, read, write}
-use Rattle.mw_world.specs.Definition.Changes.{Shape, Exchange, Store, Fetch, changed, done, shape_of}
-use Rattle.mw_world.specs.Definition.Extent.{has_slot}
+use Rattle.mw_world.specs.Definition.Calls.{Called, call, call_if, called_at}
+use Rattle.mw_world.specs.Definition.Cells.{read}
 use Rattle.mw_world.specs.Definition.Happenings.{Happening, Come, Step as StepEvent, File as FileEvent, Hand, Restart}
 use Rattle.mw_world.specs.Definition.Requests.{came, gave}
 use Rattle.mw_world.specs.Definition.Restarts.{restarted}
 use Rattle.mw_world.specs.Definition.State.{State, Seat}
-use Rattle.mw_world.specs.Definition.Turns.{Made, turn, turned, may_make, moved, made_of, next_attempt}
+use Rattle.mw_world.specs.Definition.Turns.{turn, turned, may_make}
 use Rattle.mw_world.specs.Definition.World.{come, hand, handed, may_come, step}
 use Rattle.mw_law_counts.proofs.Startable.{may_start}
 use Rattle.mw_law_moves.proofs.Stepping.{comes_leave, hands_leave}
@@ -43,9 +38,10 @@ use Rattle.mw_law_runs.proofs.Filing as filing
 use Rattle.mw_law_runs.proofs.Numbers.{same_or_other}
 use Rattle.mw_law_runs.proofs.Owed.Pins.{none_some, some_same}
 use Rattle.mw_law_runs.proofs.Running.{runs_are_sound}
-use Rattle.mw_law_runs.proofs.Tests.{guarded, if_slot, second_holds}
+use Rattle.mw_law_runs.proofs.Tests.{guarded, second_holds}
 use Rattle.mw_law_runs.proofs.Turning as turning
 use Rattle.mw_law_store.specs.Worn.{NoneIsWorn, RunsAreNotWorn}
+use Rattle.mw_law_store.proofs.Attempts.{call_low, stays_low, turn_low}
 use Rattle.mw_law_store.proofs.Beginnings.{run_by_events}
 use Rattle.mw_law_store.proofs.Wearing.{IsFresh, goes_fresh}
 
@@ -75,41 +71,6 @@ scan_seen config state actor news numbers may ends slot saw_worn gate at sees =
 no_scan : (point : Point) (called : Called) (slot : ℕ) (saw_worn : Bool) → called_at point ≡ Some called → point ≡ ScanGate slot saw_worn → ⊥
 no_scan point called slot saw_worn at is = none_some called (sym (ap called_at is) ∙ at)
 
--- The numbers of attempts.
-
-next_low : (others : List Entry) (point : Point) (attempt : ℕ) → IsPointInRange others point → attempt ≤ WORN_NUMBER → next_attempt point attempt ≤ WORN_NUMBER
-next_low others (Plant task entry number) attempt in_range low = let below = in_range.1 in omega (arith, below)
-next_low others point attempt in_range low = low
-
-abbrev AreLow : State → Type 0
-AreLow state = (worker : ℕ) → (state.seats worker).attempt ≤ WORN_NUMBER
-
--- what holds of all that may follow a step holds of what follows it
-follows : (P : State → Type 0) (gives : Cells → News → State) → ((cells : Cells) (news : News) → P (gives cells news)) → (asked : Step) (cells : Cells) → P (done asked cells gives)
-follows P gives all (Load at) cells = all _ _
-follows P gives all (FileStep called slot) cells = all _ _
-follows P gives all (Change kind at from to) cells = by_shape (shape_of kind)
-  where
-    by_test : (test : Bool) → P (cond test (gives (write cells at to) Won) (gives cells Lost))
-    by_test true = all _ _
-    by_test false = all _ _
-
-    by_shape : (shape : Shape) → P (changed shape kind at from to cells gives)
-    by_shape Exchange = by_test (pack at (read cells at) == pack at from)
-    by_shape Store = all _ _
-    by_shape Fetch = all _ _
-
-moved_low : (state : State) (worker : ℕ) (actor : Acting) (made : Made) → next_attempt actor.point (state.seats worker).attempt ≤ WORN_NUMBER → AreLow state → AreLow (moved state worker actor made)
-moved_low state worker actor made low all other = by_worker (same_or_other other worker)
-  where
-    by_worker : (other ≡ worker) ⊎ (other ≢ worker) → ((moved state worker actor made).seats other).attempt ≤ WORN_NUMBER
-    by_worker (inl here) = subst (λ n. n ≤ WORN_NUMBER) (sym (ap (λ n. ((moved state worker actor made).seats n).attempt) here ∙ ap (λ (seat : Seat). seat.attempt) (upd_here state.seats worker _))) low
-    by_worker (inr apart) = subst (λ n. n ≤ WORN_NUMBER) (sym (ap (λ (seat : Seat). seat.attempt) (upd_else state.seats worker other _ apart))) (all other)
-
-moved_so : (P : State → Type 0) (state next : State) (worker : ℕ) (actor : Acting) (made : Option Made) → ((one : Made) → P (moved state worker actor one)) → moved_if state worker actor made ≡ Some next → P next
-moved_so P state next worker actor None all is = absurd (none_some next is)
-moved_so P state next worker actor (Some made) all is = subst P (some_same (moved state worker actor made) next is) (all made)
-
 -- Points.
 
 -- one request goes on, and all others stay where they are
@@ -130,9 +91,6 @@ module _ (config : Config) (state next : State) (sound : IsSound config state) (
       let low = none.attempts actor.worker in
       omega (arith, apart, low)
 
-  low_after : (actor : Acting) → (state.seats actor.worker).actor ≡ Some actor → next_attempt actor.point (state.seats actor.worker).attempt ≤ WORN_NUMBER
-  low_after actor sits = next_low actor.others actor.point (state.seats actor.worker).attempt (sound.requests actor.worker actor sits).in_range.point (none.attempts actor.worker)
-
   turn_fresh : (actor : Acting) → (state.seats actor.worker).actor ≡ Some actor → turn config state actor.worker (Some actor) ≡ Some next → NoneIsWorn next
   turn_fresh actor sits is =
       let ended = turning.ended config state next actor sound sits is in
@@ -141,9 +99,7 @@ module _ (config : Config) (state next : State) (sound : IsSound config state) (
       record {
         points = one_goes state next actor.worker _ ended.stepped
             (goes_fresh actor (state.seats actor.worker).attempt actor.point ended.news (is_left actor sits) (scan_seen config state actor ended.news numbers may ended.ends) (none.points actor.worker actor sits)) none;
-        attempts = guarded AreLow test (turned state actor.worker actor) next
-            (λ both. follows AreLow (λ cells news. moved state actor.worker actor (made_of state actor.worker actor cells news))
-            (λ cells news. moved_low state actor.worker actor (made_of state actor.worker actor cells news) (low_after actor sits) none.attempts) (asks actor) state.cells) is;
+        attempts = turn_low config state next sound none.attempts actor sits is;
       }
 
   turn_by : (worker : ℕ) (found : Option Acting) → (state.seats worker).actor ≡ found → turn config state worker found ≡ Some next → NoneIsWorn next
@@ -158,9 +114,7 @@ module _ (config : Config) (state next : State) (sound : IsSound config state) (
   call_fresh actor outcome (Some called) sits at is = record {
     points = one_goes state next actor.worker _ (filing.stepped config state next actor called outcome sound sits at is)
         (goes_fresh actor (state.seats actor.worker).attempt actor.point _ (is_left actor sits) (λ slot saw_worn gate here sees. absurd (no_scan actor.point called slot saw_worn at here)) (none.points actor.worker actor sits)) none;
-    attempts = moved_so AreLow state next actor.worker actor (calling config state actor called outcome) (λ made. moved_low state actor.worker actor made (low_after actor sits) none.attempts)
-        (if_slot (has_slot config called.change.slot) (moved_if state actor.worker actor (calling config state actor called outcome)) next
-        (subst (λ (found : Option Called). call_if config state actor.worker actor found outcome ≡ Some next) at is));
+    attempts = call_low config state next sound none.attempts actor outcome (Some called) sits at is;
   }
 
   call_by : (worker : ℕ) (found : Option Acting) (outcome : Outcome) → (state.seats worker).actor ≡ found → call config state worker found outcome ≡ Some next → NoneIsWorn next
@@ -174,10 +128,6 @@ module _ (config : Config) (state next : State) (sound : IsSound config state) (
 first_fresh : (tenant : ℕ) (job : Job) → IsFresh (first_point tenant job)
 first_fresh tenant (Get address) = refl
 first_fresh tenant (Cas entries) = refl
-
--- the number of an attempt that stays
-stays_low : (attempt was : ℕ) → attempt ≡ was → was ≤ WORN_NUMBER → attempt ≤ WORN_NUMBER
-stays_low attempt was same low = subst (λ n. n ≤ WORN_NUMBER) (sym same) low
 
 came_fresh : (config : Config) (state : State) (worker tenant : ℕ) (job : Job) → NoneIsWorn state → come config state worker tenant job ≡ Some (came config state worker tenant job) → NoneIsWorn (came config state worker tenant job)
 came_fresh config state worker tenant job none is = record {

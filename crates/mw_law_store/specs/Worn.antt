@@ -1,4 +1,4 @@
--- Where numbers are left no request comes to say WORN.
+-- Where numbers are left no request comes to say WORN; and what holds of numbers also where they are used up.
 use Rattle.std.specs.Prelude.{ℕ, ◌≡◌, ◌≤◌, Bool, true, false, List, Some}
 use Rattle.mw_words.specs.declared.limits.TheConstants.{WORN_NUMBER}
 use Rattle.mw_words.specs.declared.replies.Reply.{Reply}
@@ -11,7 +11,7 @@ use Rattle.mw_actor.specs.declared.points.Point.{Point}
 use Rattle.mw_actor.specs.declared.points.Point.TheVariants.{Read, ScanGate, Claim, Unpin, FreeSlot, LowerDoor, GiveUp, Replied}
 use Rattle.mw_actor.specs.Acting.{Acting}
 use Rattle.mw_world.specs.declared.config.Config.{Config}
-use Rattle.mw_world.specs.Claim.Headline.{IsRun}
+use Rattle.mw_world.specs.Claim.Headline.{IsPlayed, IsRun}
 use Rattle.mw_world.specs.Definition.Happenings.{Happening}
 use Rattle.mw_world.specs.Definition.State.{State, Opening}
 
@@ -46,3 +46,7 @@ pub record NoneIsWorn (state : State) : Type 0 where
 
 abbrev pub RunsAreNotWorn : Type 0
 RunsAreNotWorn = (config : Config) (openings : ℕ → Opening) (events : List Happening) (state : State) → IsRun config openings events state → NoneIsWorn state
+
+-- In every run no worker's next attempt has a number past the last one.
+abbrev pub AttemptsAreNumbers : Type 0
+AttemptsAreNumbers = (config : Config) (openings : ℕ → Opening) (events : List Happening) (state : State) → IsPlayed config openings events state → (worker : ℕ) → (state.seats worker).attempt ≤ WORN_NUMBER

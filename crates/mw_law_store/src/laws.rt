@@ -8,7 +8,7 @@ ghost use Rattle.mw_law_store.specs.Own.{FaultsAreCounted, FaultsAreOwn, MarksAr
 ghost use Rattle.mw_law_store.specs.Quotas.{EventsTellQuotas, QuotasAreTold, QuotasMayStay, QuotasStayWithinThePool};
 ghost use Rattle.mw_law_store.specs.Laws.{DecidedChangesFit, EventsAreFollowed, EventsKeepGrounds, LateMarksLeaveReplies, LinesAreMoments, RunsAreFollowed, RunsHaveGrounds, SayingsAreRecalled, WordsAreOfMarks};
 ghost use Rattle.mw_law_store.specs.TurningBack.{ReadsFindTheirWay, ReadsTurnBackForThreeReasons};
-ghost use Rattle.mw_law_store.specs.Worn.{RunsAreNotWorn};
+ghost use Rattle.mw_law_store.specs.Worn.{AttemptsAreNumbers, RunsAreNotWorn};
 
 /// After every run of the store alone its words are the first ones, with the changes of all seals put over
 /// them and of all starts that took one, in the order of the marks.
@@ -54,6 +54,12 @@ pub fn changes_fit()
 /// Where numbers are left no request comes to say WORN.
 pub fn runs_are_not_worn()
     ensures { RunsAreNotWorn }
+{}
+
+/// In every run, also where numbers are used up, the number of a worker's next attempt is one that an attempt can have,
+/// or the next after these, which none has.
+pub fn attempts_are_numbers()
+    ensures { AttemptsAreNumbers }
 {}
 
 /// A read begins again for three reasons alone, in every run, also where numbers are used up: the word was

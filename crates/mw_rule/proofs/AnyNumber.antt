@@ -11,7 +11,7 @@ use Rattle.mw_world_file.specs.Files.{File, entries_at}
 use Rattle.mw_world.specs.declared.config.Config.{Config}
 use Rattle.mw_world.specs.Definition.Calls.{Called, breaks, called_at, device_calls, is_made, place_for, starts_from}
 use Rattle.mw_world.specs.Definition.Happenings.{Happening, File as FileEvent}
-use Rattle.mw_world.specs.Definition.State.{State, world_at}
+use Rattle.mw_world.specs.Definition.State.{State, tenants_of, world_at}
 use Rattle.mw_world.specs.Definition.Turns.{moved}
 use Rattle.mw_world.specs.Definition.World.{run, step}
 use Rattle.mw_world.proofs.RunsExtend.{run-extends}
@@ -23,9 +23,11 @@ use Rattle.mw_law_calls.proofs.Telling.{rights_tell_calls}
 use Rattle.mw_rule.specs.declared.views.Held.{Held}
 use Rattle.mw_rule.specs.declared.views.Reins.{Reins}
 use Rattle.mw_rule.specs.declared.views.View.{View}
+use Rattle.mw_rule.specs.Courses.{given_to}
 use Rattle.mw_rule.specs.Filing.{Calls, fails, place_held, places_held}
 use Rattle.mw_rule.specs.Moves.{WentOn}
 use Rattle.mw_rule.specs.Rule.{Each, Fits, Holds, HoldsFile, Waits, WaitsIf, made_by}
+use Rattle.mw_rule.proofs.Courses.{plain_fails}
 use Rattle.mw_rule.proofs.Leading.{made_on}
 use Rattle.mw_rule.proofs.Totals.{each_on}
 
@@ -155,6 +157,8 @@ module _ (old new : View) (worker : ℕ) (actor : Acting) (called : Called) (hel
     played = went.played;
     goes_on = record { made = went.goes_on.made; starts = went.goes_on.starts; runs = runs_so other (fails_so other is_other ∙ sym (fails_so one is_one)) };
     no_starts = went.no_starts;
+    follows = went.follows;
+    course = went.course ∙ ap (λ (events : List Happening). Some (record { openings = given_to went.openings (tenants_of config); before = went.before; events = events })) (plain_fails went.events worker one other);
     knew = went.knew;
     knows = knows_so other;
   }

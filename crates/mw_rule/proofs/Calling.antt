@@ -19,6 +19,7 @@ use Rattle.mw_rule.specs.Dealing.{bereft, borrows, other_held, reins_of}
 use Rattle.mw_rule.specs.Filing.{after_call, went}
 use Rattle.mw_rule.specs.Rule.{Each, IsFinished}
 use Rattle.mw_rule.specs.Seen.{seen_at}
+use Rattle.mw_rule.proofs.Courses.{on_again, stays}
 use Rattle.mw_rule.proofs.Leading.{begins_itself, begins_on}
 use Rattle.mw_rule.proofs.Righting.{bereft_right, borrows_right}
 
@@ -30,18 +31,19 @@ keeps_on first between last one two =
       same_config = two.same_config ∙ one.same_config;
       same_openings = two.same_openings ∙ one.same_openings;
       seen = λ tenant low. begins_on (seen_at first.seen tenant) (seen_at between.seen tenant) (seen_at last.seen tenant) (one.seen tenant low) (two.seen tenant (there tenant low));
+      course = on_again first.course between.course last.course one.course two.course;
     }
 
 -- what goes on keeps
 pub keeps_so : (old new : View) → GoesOn old new → Keeps old new
-keeps_so old new on = record { same_config = on.same_config; same_openings = on.same_openings; seen = on.seen }
+keeps_so old new on = record { same_config = on.same_config; same_openings = on.same_openings; seen = on.seen; course = on.course }
 
 pub keeps_all : (view : View) → Keeps view view
-keeps_all view = record { same_config = refl; same_openings = refl; seen = λ tenant low. begins_itself (seen_at view.seen tenant) }
+keeps_all view = record { same_config = refl; same_openings = refl; seen = λ tenant low. begins_itself (seen_at view.seen tenant); course = stays view.course }
 
 -- whatever files it may call
 keeps_files : (view : View) (files : List Held) → Keeps view (record view { files = files })
-keeps_files view files = record { same_config = refl; same_openings = refl; seen = λ tenant low. begins_itself (seen_at view.seen tenant) }
+keeps_files view files = record { same_config = refl; same_openings = refl; seen = λ tenant low. begins_itself (seen_at view.seen tenant); course = stays view.course }
 
 -- A place that is no smaller than one number is no smaller than a lower one.
 notes_from : (reins : Reins) (tenant begun lower : ℕ) (job : Job) (reply : Option Reply) (old new : List Finished) → lower ≤ begun → NotesAs reins tenant begun job reply old new → NotesAs reins tenant lower job reply old new
@@ -126,7 +128,7 @@ calls_start first old new reins worker actor called held status serves starts =
     calls_meet first old new reins actor serves (record { keeps = keeps_so old new files.goes_on; right = files.right; same_reins = starts.same_reins; same_mine = files.same_mine })
 
 pub calls_dealt : CallsDealt
-calls_dealt config openings worker seat actor carries running right =
+calls_dealt config openings course worker seat actor carries running right =
     let reins = reins_of worker seat in
     record {
       only = ap (λ (one : Option Acting). record reins { actor = one } ∷ []) carries ∙ ap (λ (one : Reins). one ∷ []) (sym (running_so reins actor running));

@@ -38,7 +38,7 @@ use Rattle.mw_rule.specs.Continuing.{FileCallsEndOn, FileCallsFindFaultsOn, File
 use Rattle.mw_rule.specs.Filing.{Calls, LoadedAs, Went, broken_so, fails, filed_so, place_held, places_held, went}
 use Rattle.mw_rule.specs.Laws.{FileCallsEndWell, FileCallsFindFaults, FileCallsLoad, FileCallsMeetFaults}
 use Rattle.mw_rule.specs.Layout.{index_of}
-use Rattle.mw_rule.specs.Rule.{Continues, Each, HoldsFile, Tied}
+use Rattle.mw_rule.specs.Rule.{Each, HoldsFile, Tied, WentOnFor}
 use Rattle.mw_rule.specs.Ways.{made_of_bits}
 use Rattle.mw_rule.proofs.Filed.{call_moves}
 use Rattle.mw_rule.proofs.Known.{at_call, held_after, held_file, own_file, same_quota, same_right, starts_so, status_is, tells, tells_call, words}
@@ -63,13 +63,13 @@ went_of config begun s tied more id index bits old went_well held after moved = 
 -- What a load of a status leaves, of which the thread is told so.
 record LoadsSo (config : Config) (begun : (ℕ → Opening) → List Happening → Type 0) (s : Table Acting View) (tied : Tied config begun s) (more : List Happening) (id index bits : ℕ) (Tells : View → Type 0) : Type 0 where
   pub view : View
-  pub run : Continues config begun s tied more (record { words = slice_set s.words index bits; homes = s.homes; views = slice_set s.views id view })
+  pub run : WentOnFor config begun s tied more (record { words = slice_set s.words index bits; homes = s.homes; views = slice_set s.views id view }) view
   pub told : Tells view
 
 -- A worker is told by the reins of the thread.
-run_of : (config : Config) (begun : (ℕ → Opening) → List Happening → Type 0) (s next : Table Acting View) (tied : Tied config begun s) (one worker : ℕ) (outcome : Outcome) → one ≡ worker
-    → Continues config begun s tied (FileEvent one outcome ∷ []) next → Continues config begun s tied (FileEvent worker outcome ∷ []) next
-run_of config begun s next tied one worker outcome same run = subst (λ (its : ℕ). Continues config begun s tied (FileEvent its outcome ∷ []) next) same run
+run_of : (config : Config) (begun : (ℕ → Opening) → List Happening → Type 0) (s next : Table Acting View) (tied : Tied config begun s) (one worker : ℕ) (outcome : Outcome) (view : View) → one ≡ worker
+    → WentOnFor config begun s tied (FileEvent one outcome ∷ []) next view → WentOnFor config begun s tied (FileEvent worker outcome ∷ []) next view
+run_of config begun s next tied one worker outcome view same run = subst (λ (its : ℕ). WentOnFor config begun s tied (FileEvent its outcome ∷ []) next view) same run
 
 -- a right stays that of its tenant
 rights_tenant : (call : Call) (rights : FileRights) (slot place : ℕ) (entries : List Entry) → (rights_filed call rights slot place entries).tenant ≡ rights.tenant
@@ -210,7 +210,7 @@ module _ (config : Config) (begun : (ℕ → Opening) → List Happening → Typ
       let index = index_of config.pool (AtStatus called.change.slot) in
       record {
         view = moved.view;
-        run = run_of config begun s _ tied by.reins.worker worker Good by.has.own moved.run;
+        run = run_of config begun s _ tied by.reins.worker worker Good moved.view by.has.own moved.run;
         told = went_of config begun s tied (FileEvent by.reins.worker Good ∷ []) id index (make (slice_index s.words index)) old true held held.file moved;
       }
   loads_so true is make makes =
@@ -254,12 +254,12 @@ module _ (config : Config) (begun : (ℕ → Opening) → List Happening → Typ
           bits,
           went_of config begun s tied (FileEvent by.reins.worker Good ∷ []) id index (make (slice_index s.words index)) view true held (filed_so view actor called held) moved,
         );
-        run = run_of config begun s _ tied by.reins.worker worker Good by.has.own moved.run;
+        run = run_of config begun s _ tied by.reins.worker worker Good moved.view by.has.own moved.run;
       }
 
   pub calls_end : FileCallsEndWell config begun
   calls_end slots id worker me actor called held status make by found sound makes s tied homes at low =
-      let on = calls_end_on id worker me.0 actor called held status make by found sound makes s tied at in (on.new, keeps, tt, on.run.after, on.is_told)
+      let on = calls_end_on id worker me.0 actor called held status make by found sound makes s tied at in (on.new, keeps, tt, on.run.on.after, on.is_told)
 
   pub calls_meet_faults_on : FileCallsMeetFaultsOn config begun
   calls_meet_faults_on id worker number view actor called held status make by found sound is_one makes s tied at =
@@ -268,12 +268,12 @@ module _ (config : Config) (begun : (ℕ → Opening) → List Happening → Typ
       record {
         new = moved.view;
         is_told = went_of config begun s tied (FileEvent by.reins.worker (Fail number) ∷ []) id index (make (slice_index s.words index)) view false held (broken_so view called held) moved;
-        run = run_of config begun s _ tied by.reins.worker worker (Fail number) by.has.own moved.run;
+        run = run_of config begun s _ tied by.reins.worker worker (Fail number) moved.view by.has.own moved.run;
       }
 
   pub calls_break : FileCallsMeetFaults config begun
   calls_break slots id worker number me actor called held status make by found sound is_one makes s tied homes at low =
-      let on = calls_meet_faults_on id worker number me.0 actor called held status make by found sound is_one makes s tied at in (on.new, keeps, tt, on.run.after, on.is_told)
+      let on = calls_meet_faults_on id worker number me.0 actor called held status make by found sound is_one makes s tied at in (on.new, keeps, tt, on.run.on.after, on.is_told)
 
   pub calls_find_faults_on : FileCallsFindFaultsOn config begun
   calls_find_faults_on id worker view actor called held status make by found failed makes s tied at =
@@ -282,12 +282,12 @@ module _ (config : Config) (begun : (ℕ → Opening) → List Happening → Typ
       record {
         new = moved.view;
         is_told = went_of config begun s tied (FileEvent by.reins.worker Good ∷ []) id index (make (slice_index s.words index)) view false held held.file moved;
-        run = run_of config begun s _ tied by.reins.worker worker Good by.has.own moved.run;
+        run = run_of config begun s _ tied by.reins.worker worker Good moved.view by.has.own moved.run;
       }
 
   pub calls_fail : FileCallsFindFaults config begun
   calls_fail slots id worker me actor called held status make by found failed makes s tied homes at low =
-      let on = calls_find_faults_on id worker me.0 actor called held status make by found failed makes s tied at in (on.new, keeps, tt, on.run.after, on.is_told)
+      let on = calls_find_faults_on id worker me.0 actor called held status make by found failed makes s tied at in (on.new, keeps, tt, on.run.on.after, on.is_told)
 
   pub calls_load_on : FileCallsLoadOn config begun
   calls_load_on id worker view actor called held make by makes s tied at =
@@ -306,10 +306,10 @@ module _ (config : Config) (begun : (ℕ → Opening) → List Happening → Typ
           read = read;
           loaded = loads.told;
         };
-        run = subst (λ (starts : Bool). Continues config begun s tied (events_loaded starts worker) (record { words = slice_set s.words index (make found); homes = s.homes; views = slice_set s.views id loads.view }))
+        run = subst (λ (starts : Bool). WentOnFor config begun s tied (events_loaded starts worker) (record { words = slice_set s.words index (make found); homes = s.homes; views = slice_set s.views id loads.view }) loads.view)
             (sym (ap (starts_by called.call) read)) loads.run;
       }
 
   pub calls_load : FileCallsLoad config begun
   calls_load slots id worker me actor called held make by makes s tied homes at low =
-      let on = calls_load_on id worker me.0 actor called held make by makes s tied at in (on.new, keeps, tt, on.run.after, on.is_told)
+      let on = calls_load_on id worker me.0 actor called held make by makes s tied at in (on.new, keeps, tt, on.run.on.after, on.is_told)

@@ -5,6 +5,7 @@ use Rattle.std.proofs.Common.{refl, ap, subst, ◌∙◌, inl, inr, arith}
 use Rattle.std.proofs.lemmas.Option.{none-some, same_Some}
 use Rattle.mw_words.specs.declared.doors.Door.{Door}
 use Rattle.mw_words.specs.declared.gates.Gate.{Gate}
+use Rattle.mw_words.specs.declared.limits.TheConstants.{WORN_NUMBER}
 use Rattle.mw_words.specs.declared.places.At.TheVariants.{Door as AtDoor, Gate as AtGate, Status as AtStatus}
 use Rattle.mw_words.specs.declared.replies.Reply.{Reply}
 use Rattle.mw_words.specs.declared.replies.Reply.TheVariants.{Busy as SaysBusy, Fault as SaysFault, Worn as SaysWorn}
@@ -29,7 +30,7 @@ use Rattle.mw_actor.specs.Acting.{Acting}
 use Rattle.mw_actor.specs.Asks.{asks_at}
 use Rattle.mw_actor.specs.Program.{goes, reply_at}
 use Rattle.mw_rule.specs.declared.views.Finding.{Finding}
-use Rattle.mw_rule.specs.Grounds.{FoundDoor, FoundGate, FoundWorn, HasGround, HasGroundAfter, HasGroundAt, HasGroundOfRead, MetFault}
+use Rattle.mw_rule.specs.Grounds.{FoundDoor, FoundGate, FoundWorn, HasGround, HasGroundAfter, HasGroundAt, HasGroundBy, HasGroundOfRead, MetFault}
 use Rattle.mw_rule.proofs.GroundsOfReads.{IfDoor, IsToldOfRead}
 use Rattle.mw_rule.proofs.GroundsOn.{IfFiled, IfGate, IsTold, goes_so}
 
@@ -58,7 +59,7 @@ module _ (found more : List Finding) (attempt next tenant quota : ℕ) (later : 
         worn = worn.worn;
       }
 
-  ground_stays : (reply : Reply) → HasGround found attempt tenant quota reply → HasGround (found ++ more) next tenant quota reply
+  ground_stays : (reply : Reply) → HasGroundBy found attempt tenant quota reply → HasGroundBy (found ++ more) next tenant quota reply
   ground_stays SaysBusy ground = record { door = ground.door; there = door_stays ground.door ground.there; no_fault = ground.no_fault; full = ground.full }
   ground_stays SaysFault ground = elim ground [
     | inl fault ↦ inl (record { door = fault.door; there = door_stays fault.door fault.there; fault = fault.fault })
@@ -187,12 +188,20 @@ module _ (found : List Finding) (me : Acting) (got : Got) where
 
 -- A reply that stands has its ground.
 read_ground_of : (found : List Finding) (attempt tenant quota : ℕ) (point : ReadPoint) (reply : Reply) → read_reply_at point ≡ Some reply → HasGroundOfRead found attempt tenant quota point
-    → HasGround found attempt tenant quota reply
-read_ground_of found attempt tenant quota (RepliedOfRead other) reply stands ground = subst (HasGround found attempt tenant quota) (same_Some other reply stands) ground
+    → HasGroundBy found attempt tenant quota reply
+read_ground_of found attempt tenant quota (RepliedOfRead other) reply stands ground = subst (HasGroundBy found attempt tenant quota) (same_Some other reply stands) ground
 read_ground_of found attempt tenant quota point reply stands ground = absurd (none-some reply stands)
 
 pub ground_of : (found : List Finding) (attempt tenant quota : ℕ) (point : Point) (reply : Reply) → reply_at point ≡ Some reply → HasGroundAt found attempt tenant quota point
-    → HasGround found attempt tenant quota reply
+    → HasGroundBy found attempt tenant quota reply
 ground_of found attempt tenant quota (Read look) reply stands ground = read_ground_of found attempt tenant quota look.point reply stands ground
-ground_of found attempt tenant quota (Replied other) reply stands ground = subst (HasGround found attempt tenant quota) (same_Some other reply stands) ground
+ground_of found attempt tenant quota (Replied other) reply stands ground = subst (HasGroundBy found attempt tenant quota) (same_Some other reply stands) ground
 ground_of found attempt tenant quota point reply stands ground = absurd (none-some reply stands)
+
+-- No attempt has a number past the last one.
+pub whole_ground : (found : List Finding) (attempt tenant quota : ℕ) (reply : Reply) → attempt ≤ WORN_NUMBER → HasGroundBy found attempt tenant quota reply → HasGround found attempt tenant quota reply
+whole_ground found attempt tenant quota SaysWorn low ground = elim ground [
+  | inl worn ↦ inl worn
+  | inr last ↦ inr (omega (arith, low, last))
+]
+whole_ground found attempt tenant quota reply low ground = ground

@@ -32,7 +32,7 @@ use Rattle.mw_actor.specs.Inspecting.{status_read, next_word, attempts, dirty_se
 use Rattle.mw_actor.specs.Program.{goes}
 use Rattle.mw_actor.specs.Sweeping.{filed, sweep_over, next_sweep, swept, sweep_confirmed}
 use Rattle.mw_rule.specs.declared.views.Finding.{Finding}
-use Rattle.mw_rule.specs.Grounds.{FoundDoor, FoundGate, FoundWorn, HasGround, HasGroundAfter, HasGroundAt, MetFault}
+use Rattle.mw_rule.specs.Grounds.{FoundDoor, FoundGate, FoundWorn, HasGroundAfter, HasGroundAt, HasGroundBy, MetFault}
 use Rattle.mw_rule.proofs.GroundsOfReads.{IfDoor, IsToldOfRead, read_so}
 
 no_lower : (n m : ℕ) → nat_lt n m ≡ false → m ≤ n
@@ -110,10 +110,10 @@ module _ (found : List Finding) (next : ℕ) (me : Acting) where
   unpinned_so : (slot : Slot) (onward : After) (gate : Gate) → HasGroundAfter found next me.tenant me.quota onward → HasIt (unpinned slot onward gate)
   unpinned_so slot onward gate fresh = either_way HasIt (gate.pins == 1) (FreeSlot slot onward) (resumed onward) (λ e. fresh) (λ e. resumed_so onward fresh)
 
-  gives_up_so : (task : Task) (undecided : Reply) → HasGround found next me.tenant me.quota undecided → HasIt (gives_up task undecided)
+  gives_up_so : (task : Task) (undecided : Reply) → HasGroundBy found next me.tenant me.quota undecided → HasIt (gives_up task undecided)
   gives_up_so task undecided fresh = either_way HasIt (is_alone task) (GiveUp task.own undecided) (Unpin task.target (ThenGiveUp task.own undecided)) (λ e. fresh) (λ e. fresh)
 
-  gave_up_so : (actor : Acting) (undecided : Reply) (status : Status) → HasGround found next me.tenant me.quota undecided → HasGround found next me.tenant me.quota (gave_up actor undecided status)
+  gave_up_so : (actor : Acting) (undecided : Reply) (status : Status) → HasGroundBy found next me.tenant me.quota undecided → HasGroundBy found next me.tenant me.quota (gave_up actor undecided status)
   gave_up_so actor undecided Draft fresh = fresh
   gave_up_so actor undecided Open fresh = fresh
   gave_up_so actor undecided YesDirty fresh = fresh
@@ -122,7 +122,7 @@ module _ (found : List Finding) (next : ℕ) (me : Acting) where
   gave_up_so actor undecided (No entry value) fresh = tt
   gave_up_so actor undecided (DoneNo entry value) fresh = tt
 
-  finishes_so : (task : Task) (reply : Reply) → HasGround found next me.tenant me.quota reply → HasIt (finishes task reply)
+  finishes_so : (task : Task) (reply : Reply) → HasGroundBy found next me.tenant me.quota reply → HasIt (finishes task reply)
   finishes_so task reply fresh = either_way HasIt (is_alone task) (Unpin task.own (ThenReply reply)) (Unpin task.target (Work (alone task.own))) (λ e. fresh) (λ e. tt)
 
   -- How it works on its own change and on others'.

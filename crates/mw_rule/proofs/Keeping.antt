@@ -1,5 +1,5 @@
 -- Whatever a thread's step is, if it is a stretch of events of its own worker, the rule is kept.
-use Rattle.std.specs.Prelude.{ℕ, ◌+◌, ◌≡◌, ◌≢◌, ◌≤◌, ◌<◌, true, List, ◌++◌, length, slice_index, slice_set}
+use Rattle.std.specs.Prelude.{ℕ, ◌+◌, ◌≡◌, ◌≢◌, ◌≤◌, ◌<◌, true, List, ◌++◌, length, slice_index, slice_set, Option, Some}
 use Rattle.std.proofs.Common.{refl, sym, ap, subst, ◌∙◌, ◌⊎◌, inl, inr, arith}
 use Rattle.std.proofs.lemmas.List.{length-set, get_or-set_same, get_or-set_other}
 use mathlib.Core.Option.{some}
@@ -17,8 +17,10 @@ use Rattle.mw_world.specs.Definition.State.{State, Opening, IsConfig}
 use Rattle.mw_law_calls.proofs.FromLaws.{same_or_other}
 use Rattle.mw_law_calls.specs.Beside.{AreBesideFile}
 use Rattle.mw_rule.specs.declared.views.View.{View}
+use Rattle.mw_rule.specs.Courses.{Course, IsOnFrom, course_of}
 use Rattle.mw_rule.specs.Layout.{index_of, words_of}
-use Rattle.mw_rule.specs.Rule.{Continues, Fits, Tied, Ties, has, holds_of, notes_of, total}
+use Rattle.mw_rule.specs.Rule.{Fits, IsRunOf, Tied, Ties, WentOnFor, has, holds_of, notes_of, total}
+use Rattle.mw_rule.proofs.Courses.{run_with_more, stays}
 use Rattle.mw_rule.proofs.Layouts.{index_injective, places_within, places_in_table}
 use Rattle.mw_rule.proofs.Holding.{all_held_on}
 use Rattle.mw_rule.proofs.Leading.{Leads, others_fit, past_on}
@@ -44,9 +46,21 @@ pub keep : (config : Config) (begun : (ℕ → Opening) → List Happening → T
     → Fits config tied.past.openings after (tied.events ++ more) new → Ties config after.cells (slice_set s.words index bits)
     → ((tenant request : ℕ) → total (notes_of tenant request) s.views + notes_of tenant request new ≤ 1 + notes_of tenant request old)
     → ((tenant : ℕ) → AreBesideFile config tenant tied.state more ⊎ (1 ≤ holds_of tenant old)) → ((tenant : ℕ) → holds_of tenant new ≡ holds_of tenant old)
-    → Continues config begun s tied more (record { words = slice_set s.words index bits; homes = s.homes; views = slice_set s.views id new })
-keep config begun s tied id index bits worker old new after more at own same leads fits ties few beside same_files = record { after = kept; same_openings = refl; same_before = refl; events = refl }
+    → new.course ≡ Some (course_of config tied.past.openings tied.past.before (tied.events ++ more)) → new.told_course ≡ old.told_course
+    → WentOnFor config begun s tied more (record { words = slice_set s.words index bits; homes = s.homes; views = slice_set s.views id new }) new
+keep config begun s tied id index bits worker old new after more at own same leads fits ties few beside same_files course same_told =
+    record { on = record { after = kept; same_openings = refl; same_before = refl; events = refl }; course = course }
   where
+    on_so : (other : ℕ) (view : View) → get_elem? s.views other ≡ some view → IsRunOf config tied.past.openings tied.past.before (tied.events ++ more) view
+    on_so other view is = run_with_more config tied.past.openings tied.past.before tied.events more view (tied.known other view is)
+
+    own_so : IsRunOf config tied.past.openings tied.past.before (tied.events ++ more) new
+    own_so = record {
+      known = subst (λ (known : Option Course). IsOnFrom known (Some (course_of config tied.past.openings tied.past.before (tied.events ++ more)))) (sym course)
+          (stays (Some (course_of config tied.past.openings tied.past.before (tied.events ++ more))));
+      told = subst (λ (told : Option Course). IsOnFrom told (Some (course_of config tied.past.openings tied.past.before (tied.events ++ more)))) (sym same_told) (on_so id old at).told;
+    }
+
     kept : Tied config begun (record { words = slice_set s.words index bits; homes = s.homes; views = slice_set s.views id new })
     kept = record {
       state = after;
@@ -70,6 +84,10 @@ keep config begun s tied id index bits worker old new after more at own same lea
                     absurd (omega (arith, both, one, here, few_held))
               ]) fit.files) fit)
         ]
+      ];
+      known = λ other view is. elim (at_set s.views id other new view is) [
+        | inl here ↦ subst (IsRunOf config tied.past.openings tied.past.before (tied.events ++ more)) here.1 own_so
+        | inr else ↦ on_so other view else.1
       ];
       alone = λ one. let sums = total_set (has one) s.views id old new at in let all = tied.alone one in let even = same one in omega (arith, sums, all, even);
       once = λ tenant request. let sums = total_set (notes_of tenant request) s.views id old new at in let all = few tenant request in omega (arith, sums, all);

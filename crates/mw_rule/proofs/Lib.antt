@@ -1,6 +1,7 @@
 pub mod AnyNumber
 pub mod Apart
 pub mod Calling
+pub mod Courses
 pub mod Events
 pub mod FileCalls
 pub mod Filed

@@ -1,5 +1,5 @@
 -- Whatever a thread may do keeps the rule, by a step by which the run goes on.
-use Rattle.std.specs.Prelude.{ℕ, zero, suc, ◌<◌, Bool, true, false, ◌≡◌, List, [], ◌∷◌, ◌++◌, length, map, slice_index, slice_set}
+use Rattle.std.specs.Prelude.{ℕ, zero, suc, ◌<◌, Bool, true, false, ◌≡◌, List, [], ◌∷◌, ◌++◌, length, map, slice_index, slice_set, Some}
 use Rattle.std.proofs.Common.{refl, sym, ap, subst, ◌∙◌, inl, inr}
 use Rattle.std.proofs.lemmas.List.{get_or-set_same}
 use mathlib.Core.Option.{some, some-ne-none}
@@ -18,10 +18,11 @@ use Rattle.mw_rule.specs.declared.views.Held.{Held}
 use Rattle.mw_rule.specs.declared.views.Reins.{Reins}
 use Rattle.mw_rule.specs.declared.views.View.{View}
 use Rattle.mw_rule.specs.Carrying.{Looked, comes, told}
+use Rattle.mw_rule.specs.Courses.{course_of}
 use Rattle.mw_rule.specs.Filing.{LoadedAs, went}
 use Rattle.mw_rule.specs.Layout.{index_of, words_of}
 use Rattle.mw_rule.specs.Moves.{Breaks, Comes, Exchanges, FindsFault, Loads, Looks, Move, MovesAreAllowed, MovesChangeWords, MovesGoOn, StandsAt, Steps, WentOnAt, events_by, index_by, made_by, told_by}
-use Rattle.mw_rule.specs.Rule.{Continues, Fits, IsLive, Tied, Ties}
+use Rattle.mw_rule.specs.Rule.{Fits, IsLive, IsRunOf, Tied, Ties, WentOnFor}
 use Rattle.mw_rule.specs.Ways.{finds}
 use Rattle.mw_rule.proofs.Layouts.{places_in_table}
 use Rattle.mw_rule.proofs.FileCalls.{calls_end_on, calls_find_faults_on, calls_load_on, calls_meet_faults_on}
@@ -101,8 +102,9 @@ set_stands config its state words index bits same is_config long ties at there i
 
 module _ (config : Config) (begun : (ℕ → Opening) → List Happening → Type 0) where
   went_on : (s : Table Acting View) (tied : Tied config begun s) (id index bits : ℕ) (old new : View) (more : List Happening) → get_elem? s.views id ≡ some old → IsLive old → IsLive new
-      → Continues config begun s tied more (record { words = slice_set s.words index bits; homes = s.homes; views = slice_set s.views id new }) → WentOnAt index (slice_index s.words index) bits more old new
-  went_on s tied id index bits old new more at live live_on run =
+      → WentOnFor config begun s tied more (record { words = slice_set s.words index bits; homes = s.homes; views = slice_set s.views id new }) new → WentOnAt index (slice_index s.words index) bits more old new
+  went_on s tied id index bits old new more at live live_on went =
+      let run = went.on in
       let past = tied.past in
       let after = run.after in
       let fits = live_fits config past.openings tied.state tied.events old live (tied.fits id old at) in
@@ -116,6 +118,8 @@ module _ (config : Config) (begun : (ℕ → Opening) → List Happening → Typ
           state = tied.state;
           next = after.state;
           no_starts = past.no_starts;
+          follows = subst (λ (c : Config). IsRunOf c past.openings past.before tied.events old) same (tied.known id old at);
+          course = went.course ∙ (λ i. Some (course_of (same i) (run.same_openings i) (run.same_before i) (run.events i)));
           played = played_so config old.config past.openings past.openings tied.state (past.before ++ tied.events) (past.before ++ tied.events) same refl refl past.played;
           goes_on = played_so config old.config after.past.openings past.openings after.state (after.past.before ++ after.events) (past.before ++ (tied.events ++ more)) same run.same_openings
               (λ i. run.same_before i ++ run.events i) after.past.played;
@@ -144,7 +148,7 @@ module _ (config : Config) (begun : (ℕ → Opening) → List Happening → Typ
       let bits = slice_index s.words index in
       let on = moves_go_on id me.0 move make makes s tied at in
       let went = went_on s tied id index (make bits) me.0 on.new (events_by me.0 move bits) at (lives me.0 move) (lives_on me.0 move bits on.new on.is_told) on.run in
-      (on.new, keeps, tt, on.run.after, (on.is_told, subst (λ (left : ℕ). WentOnAt index bits left (events_by me.0 move bits) me.0 on.new) (makes bits) went))
+      (on.new, keeps, tt, on.run.on.after, (on.is_told, subst (λ (left : ℕ). WentOnAt index bits left (events_by me.0 move bits) me.0 on.new) (makes bits) went))
 
   pub moves_are_allowed : MovesAreAllowed config begun
   moves_are_allowed slots id me move make makes s tied homes at low =

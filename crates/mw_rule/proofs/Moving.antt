@@ -41,7 +41,7 @@ use Rattle.mw_rule.specs.Carrying.{FindsWayAt, IsFound, Notes, NotesAs, Took, co
 use Rattle.mw_rule.specs.Continuing.{FirstStepsGoOn, StepsGoOn, events_of}
 use Rattle.mw_rule.specs.Laws.{FirstStepsKeepTheRule, StepsKeepTheRule}
 use Rattle.mw_rule.specs.Layout.{index_of}
-use Rattle.mw_rule.specs.Rule.{Continues, Each, Fits, Holds, Tied, Ties}
+use Rattle.mw_rule.specs.Rule.{Each, Fits, Holds, Tied, Ties, WentOnFor}
 use Rattle.mw_rule.specs.Seen.{seen_at}
 use Rattle.mw_rule.specs.Ways.{finds, made_of_bits}
 use Rattle.mw_rule.proofs.Holding.{all_held_on, come_beside, step_beside}
@@ -172,13 +172,13 @@ steps_on config begun id worker view op make drives makes s tied at =
             (step_found config begun s tied id view at drives.reins drives.has.only drives.actor drives.carries drives.running drives.no_call make
             (subst (λ (one : Op). (bits : ℕ) → make bits ≡ made_of_bits one bits) (sym drives.is) makes) index is);
       });
-      run = subst (λ (more : List Happening). Continues config begun s tied more (record { words = slice_set s.words index (make found); homes = s.homes; views = slice_set s.views id moved.view }))
+      run = subst (λ (more : List Happening). WentOnFor config begun s tied more (record { words = slice_set s.words index (make found); homes = s.homes; views = slice_set s.views id moved.view }) moved.view)
           (λ i. events_of (drives.has.own i) (finds (drives.is i) found) drives.reins.attempt drives.actor) moved.run;
     }
 
 pub steps_keep : (config : Config) (begun : (ℕ → Opening) → List Happening → Type 0) → StepsKeepTheRule config begun
 steps_keep config begun slots id worker me op make drives makes s tied homes at low =
-    let on = steps_on config begun id worker me.0 op make drives makes s tied at in (on.new, keeps, tt, on.run.after, on.is_told)
+    let on = steps_on config begun id worker me.0 op make drives makes s tied at in (on.new, keeps, tt, on.run.on.after, on.is_told)
 
 -- A request begins with a load of its tenant's door.
 first_runs : (worker tenant quota pool : ℕ) (job : Job) → replied (first worker tenant quota pool job) ≡ None
@@ -312,10 +312,10 @@ first_steps_on config begun id worker view actor make may makes s tied at =
             (notes_behind (stepped (Bits bits) (comes actor number many may.reins) actor) actor.tenant many actor.job (replied (told_of (Bits bits) may.reins.attempt actor)) view.mine moved.noted moved.ends));
         found = first_found config begun s tied id view at may.reins may.has.only may.idle actor.tenant actor.job there asks_well make makes actor is;
       };
-      run = subst (λ (n : ℕ). Continues config begun s tied (Come n actor.tenant actor.job ∷ events_of n (Bits bits) may.reins.attempt actor)
-          (record { words = slice_set s.words index (make bits); homes = s.homes; views = slice_set s.views id moved.view })) may.has.own moved.run;
+      run = subst (λ (n : ℕ). WentOnFor config begun s tied (Come n actor.tenant actor.job ∷ events_of n (Bits bits) may.reins.attempt actor)
+          (record { words = slice_set s.words index (make bits); homes = s.homes; views = slice_set s.views id moved.view }) moved.view) may.has.own moved.run;
     }
 
 pub first_steps_keep : (config : Config) (begun : (ℕ → Opening) → List Happening → Type 0) → FirstStepsKeepTheRule config begun
 first_steps_keep config begun slots id worker me actor make may makes s tied homes at low =
-    let on = first_steps_on config begun id worker me.0 actor make may makes s tied at in (on.new, keeps, tt, on.run.after, on.is_told)
+    let on = first_steps_on config begun id worker me.0 actor make may makes s tied at in (on.new, keeps, tt, on.run.on.after, on.is_told)

@@ -27,8 +27,10 @@ use Rattle.mw_rule.specs.Continuing.{JoinsOn, LooksGoOn, PartsOn}
 use Rattle.mw_rule.specs.Layout.{index_of}
 use Rattle.mw_rule.specs.Dealing.{bereft, borrows, dealt, entrusted, first_held, gathers, head_of, hears, left_over, maker, meets, note, of_head, of_rest, other_held, reins_from, reins_of, rest_of, spent}
 use Rattle.mw_rule.specs.Laws.{BorrowingKeepsTheRule, DealsKeepTheRule, EntrustingKeepsTheRule, GatheringKeepsTheRule, HearingKeepsTheRule, LooksKeepTheRule, MeetingKeepsTheRule, NotesKeepTheRule, StartsUnderTheRule}
-use Rattle.mw_rule.specs.Rule.{Continues, Each, Fits, has, HasGroundFor, Holds, holds_of, HoldsFile, IsLive, IsOver, IsRight, IsSpent, notes_of, Tied, Ties, times, times_held, total, weight}
+use Rattle.mw_rule.specs.Courses.{course_of}
+use Rattle.mw_rule.specs.Rule.{Continues, Each, Fits, has, HasGroundFor, Holds, holds_of, HoldsFile, IsLive, IsOver, IsRight, IsRunOf, IsSpent, notes_of, Tied, Ties, times, times_held, total, weight, WentOnFor}
 use Rattle.mw_rule.specs.Seen.{Gave, HasBegunFor, opening_at, seen_at}
+use Rattle.mw_rule.proofs.Courses.{stays}
 use Rattle.mw_rule.proofs.Righting.{bereft_right, borrows_right, dealt_right, entrusted_right, gathers_right, hears_right, left_right, meets_right, mine_in, note_right, nothing_right, sees_right}
 use Rattle.mw_rule.proofs.Totals.{each_more, heads_and_rests, times_behind, times_more, total_more, total_set, total_two, weight_none}
 use Rattle.mw_rule.proofs.Owning.{each_of_head, each_of_rest, parts_sum}
@@ -36,9 +38,10 @@ use Rattle.mw_rule.proofs.Viewing.{all_at, all_seen, live_fits, sees, sees_on}
 
 -- the rule of the same words where threads know other things of the same world
 other_views : (config : Config) (begun : (ℕ → Opening) → List Happening → Type 0) (s now : Table Acting View) (tied : Tied config begun s) → now.words ≡ s.words
-    → ((id : ℕ) (view : View) → get_elem? now.views id ≡ some view → IsSpent view ⊎ Fits config tied.past.openings tied.state tied.events view) → ((worker : ℕ) → total (has worker) now.views ≤ 1)
+    → ((id : ℕ) (view : View) → get_elem? now.views id ≡ some view → IsSpent view ⊎ Fits config tied.past.openings tied.state tied.events view)
+    → ((id : ℕ) (view : View) → get_elem? now.views id ≡ some view → IsRunOf config tied.past.openings tied.past.before tied.events view) → ((worker : ℕ) → total (has worker) now.views ≤ 1)
     → ((tenant request : ℕ) → total (notes_of tenant request) now.views ≤ 1) → ((tenant : ℕ) → total (holds_of tenant) now.views ≤ 1) → Continues config begun s tied [] now
-other_views config begun s now tied same fits alone once one_hand = record { after = kept; same_openings = refl; same_before = refl; events = sym (append-nil tied.events) }
+other_views config begun s now tied same fits known alone once one_hand = record { after = kept; same_openings = refl; same_before = refl; events = sym (append-nil tied.events) }
   where
     kept : Tied config begun now
     kept = record {
@@ -48,6 +51,7 @@ other_views config begun s now tied same fits alone once one_hand = record { aft
       long = ap length same ∙ tied.long;
       ties = subst (Ties config tied.state.cells) (sym same) tied.ties;
       fits = fits;
+      known = known;
       alone = alone;
       once = once;
       one_hand = one_hand;
@@ -68,6 +72,14 @@ stood_there config openings events state view index bits same played gave all is
   same_bits = subst (λ (one : Config). (at : At) → has_place one at ≡ true → index_of one.pool at ≡ index → bits ≡ pack at (read state.cells at)) (sym same) is;
 }
 
+-- a thread that knows the run of a table knows it where nothing has happened
+for_looker : (config : Config) (begun : (ℕ → Opening) → List Happening → Type 0) (s : Table Acting View) (tied : Tied config begun s) (next : Table Acting View) (view : View)
+    → view.course ≡ Some (course_of config tied.past.openings tied.past.before tied.events) → Continues config begun s tied [] next → WentOnFor config begun s tied [] next view
+for_looker config begun s tied next view course on = record {
+  on = on;
+  course = course ∙ (λ i. Some (course_of config (sym on.same_openings i) (sym on.same_before i) (sym (on.events ∙ append-nil tied.events) i)));
+}
+
 -- A load that is no event, after which this is held of files, and these loads are known.
 pub record LooksAs (config : Config) (begun : (ℕ → Opening) → List Happening → Type 0) (s : Table Acting View) (tied : Tied config begun s) (id index bits : ℕ) (old : View) (files : List Held) (glances : List Glance) : Type 0 where
   pub view : View
@@ -78,7 +90,7 @@ pub record LooksAs (config : Config) (begun : (ℕ → Opening) → List Happeni
   pub same_mine : view.mine ≡ old.mine
   pub same_files : view.files ≡ files
   pub same_glances : view.glances ≡ glances
-  pub run : Continues config begun s tied [] (record { words = slice_set s.words index bits; homes = s.homes; views = slice_set s.views id view })
+  pub run : WentOnFor config begun s tied [] (record { words = slice_set s.words index bits; homes = s.homes; views = slice_set s.views id view }) view
 
 pub looks_as : (config : Config) (begun : (ℕ → Opening) → List Happening → Type 0) (id index : ℕ) (view : View) (make : ℕ → ℕ) (files : List Held) (glances : List Glance) → IsLive view → ((bits : ℕ) → make bits ≡ bits)
     → (s : Table Acting View) (tied : Tied config begun s) → get_elem? s.views id ≡ some view → ((tenant : ℕ) → times_held tenant files ≡ holds_of tenant view) → Each (HoldsFile config tied.state) files
@@ -87,7 +99,9 @@ looks_as config begun id index view make files glances live makes s tied at same
     let openings = tied.past.openings in
     let sealed = sealed_of openings tied.state in
     let fits = live_fits config openings tied.state tied.events view live (tied.fits id view at) in
-    let new = record (sees config sealed view view.reins view.mine files) { glances = glances } in
+    let course = course_of config openings tied.past.before tied.events in
+    let follows = tied.known id view at in
+    let new = record (sees config sealed course view view.reins view.mine files) { glances = glances } in
     let before = tied.past.before ++ tied.events in
     let right = sees_right config openings tied.state new fits.same_config fits.gave before tied.past.played (all_at sealed (tenants_of config))
     (mine_in config openings tied.state view fits.same_config fits.gave fits.seen view.mine fits.right.mine) fits.right.once fits.right.own fits.right.alone in
@@ -97,21 +111,25 @@ looks_as config begun id index view make files glances live makes s tied at same
     let words : slice_set s.words index (make bits) ≡ s.words = ap (slice_set s.words index) (makes bits) ∙ set-get_or s.words index 0 in
     record {
       view = new;
-      goes_on = let on = sees_on config sealed view view.reins view.mine files fits.same_config fits.seen fits.told in
-          record { same_config = refl; same_openings = refl; same_spent = refl; same_told = refl; seen = on.seen; told = on.told };
+      goes_on = let on = sees_on config sealed course view view.reins view.mine files fits.same_config fits.seen fits.told follows.known follows.told in
+          record { same_config = refl; same_openings = refl; same_spent = refl; same_told = refl; seen = on.seen; told = on.told; course = on.course; told_course = on.told_course };
       stood = stood_there config openings before tied.state new index bits fits.same_config tied.past.played fits.gave (all_at sealed (tenants_of config)) (λ place there is. sym (ap (slice_index s.words) is) ∙ tied.ties place there);
       right = right;
       same_reins = refl;
       same_mine = refl;
       same_files = refl;
       same_glances = refl;
-      run = other_views config begun s (record { words = slice_set s.words index (make bits); homes = s.homes; views = slice_set s.views id new }) tied words
+      run = for_looker config begun s tied _ new refl (other_views config begun s (record { words = slice_set s.words index (make bits); homes = s.homes; views = slice_set s.views id new }) tied words
           (λ other one is. elim (at_set s.views id other new one is) [
             | inl here ↦ inr (subst (Fits config openings tied.state tied.events) here.1 new_fits)
             | inr else ↦ tied.fits other one else.1
+          ])
+          (λ other one is. elim (at_set s.views id other new one is) [
+            | inl here ↦ subst (IsRunOf config openings tied.past.before tied.events) here.1 (record { known = stays (Some course); told = follows.told })
+            | inr else ↦ tied.known other one else.1
           ]) (λ worker. let sums = total_set (has worker) s.views id view new at in let all = tied.alone worker in omega (arith, sums, all))
           (λ tenant request. let sums = total_set (notes_of tenant request) s.views id view new at in let all = tied.once tenant request in omega (arith, sums, all))
-          (λ tenant. let sums = total_set (holds_of tenant) s.views id view new at in let all = tied.one_hand tenant in let even = same_rights tenant in omega (arith, sums, all, even));
+          (λ tenant. let sums = total_set (holds_of tenant) s.views id view new at in let all = tied.one_hand tenant in let even = same_rights tenant in omega (arith, sums, all, even)));
     }
 
 pub looks_on : (config : Config) (begun : (ℕ → Opening) → List Happening → Type 0) → LooksGoOn config begun
@@ -134,18 +152,20 @@ looks_on config begun id index view make live makes s tied at =
 
 pub looks_keep : (config : Config) (begun : (ℕ → Opening) → List Happening → Type 0) → LooksKeepTheRule config begun
 looks_keep config begun slots id index me make live makes s tied homes at low =
-    let on = looks_on config begun id index me.0 make live makes s tied at in (on.new, keeps, tt, on.run.after, on.is_told)
+    let on = looks_on config begun id index me.0 make live makes s tied at in (on.new, keeps, tt, on.run.on.after, on.is_told)
 
 -- A thread's knowledge is cut in two parts that fit where it fits, and have its reins together.
 parts_on : (config : Config) (begun : (ℕ → Opening) → List Happening → Type 0) (id : ℕ) (view left right : View)
     → ((openings : ℕ → Opening) (state : State) (events : List Happening) → IsSpent view ⊎ Fits config openings state events view
     → (IsSpent left ⊎ Fits config openings state events left) × (IsSpent right ⊎ Fits config openings state events right))
+    → ((openings : ℕ → Opening) (before events : List Happening) → IsRunOf config openings before events view → IsRunOf config openings before events left × IsRunOf config openings before events right)
     → ((worker : ℕ) → has worker left + has worker right ≡ has worker view)
     → ((tenant request : ℕ) → notes_of tenant request left + notes_of tenant request right ≡ notes_of tenant request view)
     → ((tenant : ℕ) → holds_of tenant left + holds_of tenant right ≡ holds_of tenant view) → (s : Table Acting View) (tied : Tied config begun s) → get_elem? s.views id ≡ some view
     → Continues config begun s tied [] (record { words = s.words; homes = s.homes; views = slice_set s.views id left ++ right ∷ [] })
-parts_on config begun id view left right fit sums notes holds s tied at =
+parts_on config begun id view left right fit follow sums notes holds s tied at =
     let both = fit tied.past.openings tied.state tied.events (tied.fits id view at) in
+    let two = follow tied.past.openings tied.past.before tied.events (tied.known id view at) in
     let So : View → Type 0 = λ one. IsSpent one ⊎ Fits config tied.past.openings tied.state tied.events one in
     other_views config begun s (record { words = s.words; homes = s.homes; views = slice_set s.views id left ++ right ∷ [] }) tied refl
     (λ other one is. elim (at_snoc (slice_set s.views id left) right one other is) [
@@ -154,6 +174,13 @@ parts_on config begun id view left right fit sums notes holds s tied at =
         | inr else ↦ tied.fits other one else.1
       ]
       | inr last ↦ subst So last both.1
+    ])
+    (λ other one is. elim (at_snoc (slice_set s.views id left) right one other is) [
+      | inl before ↦ elim (at_set s.views id other left one before) [
+        | inl here ↦ subst (IsRunOf config tied.past.openings tied.past.before tied.events) here.1 two.0
+        | inr else ↦ tied.known other one else.1
+      ]
+      | inr last ↦ subst (IsRunOf config tied.past.openings tied.past.before tied.events) last two.1
     ])
     (λ worker.
     let first = total_set (has worker) s.views id view left at in
@@ -189,7 +216,7 @@ deals_on config begun id view any = parts_on config begun id view (left_over vie
     inr (record { same_config = fits.same_config; gave = fits.gave; reins = each_rest (Holds config openings state events) view.reins fits.reins; seen = fits.seen; told = fits.told; right = left_right view fits.right; over = each_of_rest (IsOver state) view.reins view.mine fits.over; files = fits.files }),
     inr (record { same_config = fits.same_config; gave = fits.gave; reins = each_head (Holds config openings state events) view.reins fits.reins; seen = fits.seen; told = fits.told; right = dealt_right view fits.right; over = each_of_head (IsOver state) view.reins view.mine fits.over; files = tt }),
   )
-]) (λ worker. heads_and_rests worker view.reins) (λ tenant request. parts_sum tenant request view.reins view.mine) (λ tenant. omega arith)
+]) (λ openings before events is. (record { known = is.known; told = is.told }, record { known = is.known; told = is.told })) (λ worker. heads_and_rests worker view.reins) (λ tenant request. parts_sum tenant request view.reins view.mine) (λ tenant. omega arith)
 
 pub deals_keep : (config : Config) (begun : (ℕ → Opening) → List Happening → Type 0) → DealsKeepTheRule config begun
 deals_keep config begun id view s tied at = (deals_on config begun id view tt s tied at).after
@@ -199,7 +226,7 @@ notes_on config begun id view live = parts_on config begun id view view (note vi
     let fits = live_fits config openings state events view live fit in (
       inr fits,
       inr (record { same_config = fits.same_config; gave = fits.gave; reins = tt; seen = fits.seen; told = fits.told; right = note_right view fits.right; over = tt; files = tt }),
-    )) (λ worker. omega arith) (λ tenant request. omega arith) (λ tenant. omega arith)
+    )) (λ openings before events is. (is, record { known = is.known; told = is.told })) (λ worker. omega arith) (λ tenant request. omega arith) (λ tenant. omega arith)
 
 pub notes_keep : (config : Config) (begun : (ℕ → Opening) → List Happening → Type 0) → NotesKeepTheRule config begun
 notes_keep config begun id view live s tied at = (notes_on config begun id view live s tied at).after
@@ -240,7 +267,7 @@ entrusting_on config begun id view live = parts_on config begun id view (bereft 
         over = tt;
         files = first_holds (HoldsFile config state) view.files fits.files;
       }),
-    )) (λ worker. omega arith) (λ tenant request. omega arith) (λ tenant. held_apart tenant view.files)
+    )) (λ openings before events is. (record { known = is.known; told = is.told }, record { known = is.known; told = is.told })) (λ worker. omega arith) (λ tenant request. omega arith) (λ tenant. held_apart tenant view.files)
 
 pub entrusting_keeps : (config : Config) (begun : (ℕ → Opening) → List Happening → Type 0) → EntrustingKeepsTheRule config begun
 entrusting_keeps config begun id view live s tied at = (entrusting_on config begun id view live s tied at).after
@@ -250,9 +277,10 @@ joins_on : (config : Config) (begun : (ℕ → Opening) → List Happening → T
     → ((tenant request : ℕ) → notes_of tenant request both ≤ notes_of tenant request view + notes_of tenant request its) → ((worker : ℕ) → has worker both ≤ has worker view + has worker its)
     → ((tenant : ℕ) → holds_of tenant both ≤ holds_of tenant view + holds_of tenant its)
     → ((openings : ℕ → Opening) (state : State) (events : List Happening) → ((tenant request : ℕ) → notes_of tenant request view + notes_of tenant request its ≤ 1)
-    → ((worker : ℕ) → has worker view + has worker its ≤ 1) → Fits config openings state events view → Fits config openings state events its → Fits config openings state events both) → (s : Table Acting View) (tied : Tied config begun s) → get_elem? s.views id ≡ some view → ¬ (other ≡ id)
+    → ((worker : ℕ) → has worker view + has worker its ≤ 1) → Fits config openings state events view → Fits config openings state events its → Fits config openings state events both)
+    → ((openings : ℕ → Opening) (before events : List Happening) → IsRunOf config openings before events view → IsRunOf config openings before events its → IsRunOf config openings before events both) → (s : Table Acting View) (tied : Tied config begun s) → get_elem? s.views id ≡ some view → ¬ (other ≡ id)
     → get_elem? (slice_set s.views id both) other ≡ some its → Continues config begun s tied [] (record { words = s.words; homes = s.homes; views = slice_set (slice_set s.views id both) other spent })
-joins_on config begun id other view its both live its_live notes sums holds fit s tied at apart its_at =
+joins_on config begun id other view its both live its_live notes sums holds fit follow s tied at apart its_at =
     let openings = tied.past.openings in
     let So : View → Type 0 = λ one. IsSpent one ⊎ Fits config openings tied.state tied.events one in
     let fits = live_fits config openings tied.state tied.events view live (tied.fits id view at) in
@@ -271,6 +299,13 @@ joins_on config begun id other view its both live its_live notes sums holds fit 
       | inr else ↦ elim (at_set s.views id third both one else.1) [
         | inl there ↦ inr (subst (Fits config openings tied.state tied.events) there.1 (fit openings tied.state tied.events few single fits its_fits))
         | inr third_one ↦ tied.fits third one third_one.1
+      ]
+    ])
+    (λ third one is. elim (at_set (slice_set s.views id both) other third spent one is) [
+      | inl here ↦ subst (IsRunOf config openings tied.past.before tied.events) here.1 (record { known = tt; told = tt })
+      | inr else ↦ elim (at_set s.views id third both one else.1) [
+        | inl there ↦ subst (IsRunOf config openings tied.past.before tied.events) there.1 (follow openings tied.past.before tied.events (tied.known id view at) (tied.known other its was))
+        | inr third_one ↦ tied.known third one third_one.1
       ]
     ])
     (λ worker.
@@ -300,7 +335,7 @@ hearing_on config begun id other view its live its_live may = joins_on config be
       right = hears_right view its fits.right;
       over = fits.over;
       files = fits.files;
-    })
+    }) (λ openings before events own its. record { known = own.known; told = its.known })
 
 pub meeting_on : (config : Config) (begun : (ℕ → Opening) → List Happening → Type 0) → JoinsOn config begun (λ view its. (its.reins ≡ []) × Precede (tenants_of view.config) view.seen its.seen) meets
 meeting_on config begun id other view its live its_live may = joins_on config begun id other view its (meets view its) live its_live (λ tenant request. omega arith) (λ worker. omega arith) (λ tenant. omega arith)
@@ -314,7 +349,7 @@ meeting_on config begun id other view its live its_live may = joins_on config be
           (its_fits.same_config ∙ sym fits.same_config) may.1 fits.right its_fits.right;
       over = fits.over;
       files = fits.files;
-    })
+    }) (λ openings before events own its. record { known = its.known; told = its.known })
 
 held_behind : (tenant : ℕ) (all more : List Held) → times_held tenant (all ++ more) ≡ times_held tenant all + times_held tenant more
 held_behind tenant [] more = omega arith
@@ -336,7 +371,7 @@ gathering_on config begun id other view its live its_live first = joins_on confi
           (its_fits.same_config ∙ sym fits.same_config) first few single fits.right its_fits.right;
       over = each_more (IsOver state) view.mine its.mine fits.over its_fits.over;
       files = each_more (HoldsFile config state) view.files its.files fits.files its_fits.files;
-    })
+    }) (λ openings before events own its. record { known = its.known; told = its.known })
 
 pub borrowing_on : (config : Config) (begun : (ℕ → Opening) → List Happening → Type 0) → JoinsOn config begun (λ view its. Unit {0}) borrows
 borrowing_on config begun id other view its live its_live may = joins_on config begun id other view its (borrows view its) live its_live (λ tenant request. omega arith) (λ worker. omega arith)
@@ -350,7 +385,7 @@ borrowing_on config begun id other view its live its_live may = joins_on config 
       right = borrows_right view its fits.right;
       over = fits.over;
       files = each_more (HoldsFile config state) view.files its.files fits.files its_fits.files;
-    })
+    }) (λ openings before events own its. record { known = own.known; told = own.told })
 
 pub borrowing_keeps : (config : Config) (begun : (ℕ → Opening) → List Happening → Type 0) → BorrowingKeepsTheRule config begun
 borrowing_keeps config begun id other view its live its_live s tied at apart its_at = (borrowing_on config begun id other view its live its_live tt s tied at apart its_at).after
@@ -420,8 +455,8 @@ nothing_first : (tenants : ℕ) (sealed : ℕ → List SealedChange) (tenant : �
 nothing_first tenants sealed tenant low = record { rest = sealed tenant; parted = refl }
 
 pub starts : (config : Config) (begun : (ℕ → Opening) → List Happening → Type 0) → StartsUnderTheRule config begun
-starts config begun openings before state given seats files words began played gave same files_fit one_each_file long ties =
-    let all_fit : Fits config openings state [] (maker config given seats files) = record {
+starts config begun openings before state given course seats files words began known played gave same files_fit one_each_file long ties =
+    let all_fit : Fits config openings state [] (maker config given course seats files) = record {
       same_config = refl;
       gave = gave;
       reins = all_hold config openings before state played seats same 0 config.workers (omega arith);
@@ -437,7 +472,8 @@ starts config begun openings before state given seats files words began played g
       past = record { openings = openings; before = before; began = began; played = subst (λ all. IsPlayed config openings all state) (sym (append-nil before)) played; no_starts = tt };
       long = long;
       ties = ties;
-      fits = λ id view is. inr (subst (Fits config openings state []) (the_one (maker config given seats files) view id is) all_fit);
+      fits = λ id view is. inr (subst (Fits config openings state []) (the_one (maker config given course seats files) view id is) all_fit);
+      known = λ id view is. subst (IsRunOf config openings before []) (the_one (maker config given course seats files) view id is) (record { known = known; told = tt });
       alone = λ worker. let one = one_each seats worker 0 config.workers in omega (arith, one);
       once = λ tenant request. omega arith;
       one_hand = λ tenant. let one = one_each_file tenant in omega (arith, one);

@@ -4,6 +4,7 @@ use Rattle.std.specs.Option.{option_and_then}
 use Rattle.std.proofs.Common.{refl, sym, ap, subst, ◌∙◌, append_assoc, append-nil, inl, inr, arith}
 use Rattle.std.proofs.lemmas.Bool.Decides.{nat_tests}
 use Rattle.std.proofs.lemmas.Option.{none-some, option_and_then_some, same_Some}
+use Rattle.mw_words.specs.declared.limits.TheConstants.{WORN_NUMBER}
 use Rattle.mw_words.specs.declared.replies.Reply.{Reply}
 use Rattle.mw_words.specs.declared.jobs.Job.{Job}
 use Rattle.mw_words.specs.Change.{is_well_formed}
@@ -27,7 +28,7 @@ use Rattle.mw_world.specs.Definition.Noting.{more, seated}
 use Rattle.mw_world.specs.Definition.State.{State, Opening, Seat, tenant_at, tenants_of}
 use Rattle.mw_world.specs.Definition.Turns.{may_make, made_of, moved, next_attempt, turn, turned}
 use Rattle.mw_world.specs.Definition.World.{begun, asked, hand, handed, may_come, run, step}
-use Rattle.mw_law_calls.proofs.FromLaws.{asks_stand_once, on_with, replies_keep_their_place, requests_begin, requests_stay_begun, runs_are_followed, same_or_other, upd_else, upd_here}
+use Rattle.mw_law_calls.proofs.FromLaws.{asks_stand_once, attempts_are_numbers, on_with, replies_keep_their_place, requests_begin, requests_stay_begun, runs_are_followed, same_or_other, upd_else, upd_here}
 use Rattle.mw_law_calls.specs.FromLaws.{AreApart, IsRightAt, IsRightSince, Moment, sealed_of, words_at_start}
 use Rattle.mw_rule.specs.declared.views.Deed.{Deed}
 use Rattle.mw_rule.specs.declared.views.Deed.TheVariants.{Came, Stepped, Handed}
@@ -38,7 +39,7 @@ use Rattle.mw_rule.specs.Continuing.{hand_out}
 use Rattle.mw_rule.specs.Grounds.{HasGround}
 use Rattle.mw_rule.specs.Rule.{Each, HasGroundFor, Holds, IsOver, deed_if, is_of, made_by, times_noted}
 use Rattle.mw_rule.specs.Seen.{CameAfter, HasBegunFor}
-use Rattle.mw_rule.proofs.Grounded.{ground_of}
+use Rattle.mw_rule.proofs.Grounded.{ground_of, whole_ground}
 use Rattle.mw_rule.proofs.GroundsInRuns.{first_grounded, ground_told, quota_so}
 use Rattle.mw_rule.proofs.Leading.{Leads, leads_on, made_on, no_fewer, one_gift, over_on, played_on, same_start, sealed_on, tenant_there}
 use Rattle.mw_rule.proofs.Righting.{IsRightIn, right_on}
@@ -217,7 +218,9 @@ module _ (config : Config) (openings : ℕ → Opening) (before : List Happening
     right = subst (λ (n : ℕ). IsRightAt (words_at_start openings state next.tenant) (sealed_of openings state next.tenant) since.place n next.job reply) holds.request since.right;
     ground = λ whole.
         subst (λ (quota : ℕ). HasGround reins.found reins.attempt next.tenant quota reply) (quota_so config openings before state played reins.worker next holds.actor)
-        (ground_of reins.found reins.attempt next.tenant next.quota next.point reply stands (holds.ground whole));
+        (whole_ground reins.found reins.attempt next.tenant next.quota reply
+        (subst (λ (n : ℕ). n ≤ WORN_NUMBER) holds.attempt (attempts_are_numbers config openings before state played reins.worker))
+        (ground_of reins.found reins.attempt next.tenant next.quota next.point reply stands (holds.ground whole)));
   }
 
   handed_right : IsRightIn config openings (after_hand state reins.worker next) the_finished

@@ -24,8 +24,10 @@ use Rattle.mw_rule.specs.declared.views.Held.{Held}
 use Rattle.mw_rule.specs.declared.views.Reins.{Reins}
 use Rattle.mw_rule.specs.declared.views.View.{View}
 use Rattle.mw_rule.specs.Carrying.{GoesOn, IsReady, IsReadyAt, IsReadyFor, settled_as, stepped, told, told_as, told_of}
-use Rattle.mw_rule.specs.Rule.{Continues, Each, Fits, has, Holds, holds_of, HoldsFile, IsLive, IsOfThese, IsOver, IsRight, IsSpent, notes_of, Tied, Ties, times, times_held, times_noted, total, weight}
+use Rattle.mw_rule.specs.Courses.{Course, IsOnFrom, course_of}
+use Rattle.mw_rule.specs.Rule.{Each, Fits, has, Holds, holds_of, HoldsFile, IsLive, IsOfThese, IsOver, IsRight, IsSpent, notes_of, Tied, Ties, times, times_held, times_noted, total, weight, WentOnFor}
 use Rattle.mw_rule.specs.Seen.{ComeFirst, all_of, opening_at, seen_at}
+use Rattle.mw_rule.proofs.Courses.{run_with_more}
 use Rattle.mw_rule.proofs.Keeping.{keep}
 use Rattle.mw_rule.proofs.Leading.{begins_itself, gave_on, over_on, played_on, seen_on}
 use Rattle.mw_rule.proofs.Righting.{IsRightIn, mine_in, sees_right}
@@ -64,14 +66,14 @@ all_at sealed (suc tenants) tenant low = elim (same_or_below tenant tenants (ome
       | inr below ↦ inr (omega (arith, below))
     ]
 
--- with these reins and files, and with these requests noted, all that was sealed was seen
-abbrev pub sees : Config → (ℕ → List SealedChange) → View → List Reins → List Finished → List Held → View
-sees config sealed old reins mine files = record old { reins = reins; seen = all_of sealed (tenants_of config); mine = mine; files = files }
+-- with these reins and files, and with these requests noted, all that was sealed was seen, and the run as it is
+abbrev pub sees : Config → (ℕ → List SealedChange) → Course → View → List Reins → List Finished → List Held → View
+sees config sealed course old reins mine files = record old { reins = reins; seen = all_of sealed (tenants_of config); course = Some course; mine = mine; files = files }
 
 -- What was seen goes on.
-pub sees_on : (config : Config) (sealed : ℕ → List SealedChange) (old : View) (reins : List Reins) (mine : List Finished) (files : List Held) → old.config ≡ config → ComeFirst (tenants_of config) old.seen sealed
-    → ComeFirst (tenants_of config) old.told sealed → GoesOn old (sees config sealed old reins mine files)
-sees_on config sealed old reins mine files same seen told = record {
+pub sees_on : (config : Config) (sealed : ℕ → List SealedChange) (course : Course) (old : View) (reins : List Reins) (mine : List Finished) (files : List Held) → old.config ≡ config → ComeFirst (tenants_of config) old.seen sealed
+    → ComeFirst (tenants_of config) old.told sealed → IsOnFrom old.course (Some course) → IsOnFrom old.told_course (Some course) → GoesOn old (sees config sealed course old reins mine files)
+sees_on config sealed course old reins mine files same seen told on told_on = record {
   same_config = refl;
   same_openings = refl;
   same_spent = refl;
@@ -80,6 +82,8 @@ sees_on config sealed old reins mine files same seen told = record {
       subst (IsBeginning (seen_at old.seen tenant)) (sym (all_at sealed (tenants_of config) tenant there)) (seen tenant there);
   told = λ tenant low. let there = subst (λ (one : Config). tenant < tenants_of one) same low in
       subst (IsBeginning (seen_at old.told tenant)) (sym (all_at sealed (tenants_of config) tenant there)) (told tenant there);
+  course = on;
+  told_course = told_on;
 }
 
 pub all_seen : (sealed : ℕ → List SealedChange) (tenants : ℕ) → ComeFirst tenants (all_of sealed tenants) sealed
@@ -131,7 +135,7 @@ times_map f same worker (one ∷ rest) = let first = ap (λ n. weight (n == work
 pub record Moved (config : Config) (begun : (ℕ → Opening) → List Happening → Type 0) (s : Table Acting View) (tied : Tied config begun s) (more : List Happening) (id index bits : ℕ) (old : View) (f : Reins → Reins)
     (files : List Held) (IsSo : List Finished → Type 0) : Type 0 where
   pub view : View
-  pub run : Continues config begun s tied more (record { words = slice_set s.words index bits; homes = s.homes; views = slice_set s.views id view })
+  pub run : WentOnFor config begun s tied more (record { words = slice_set s.words index bits; homes = s.homes; views = slice_set s.views id view }) view
   pub goes_on : GoesOn old view
   pub right : IsRight view
   pub reins : view.reins ≡ map f old.reins
@@ -169,7 +173,9 @@ moves config begun s tied more id index bits old reins f cells files IsSo at onl
     let openings = tied.past.openings in
     let before = tied.past.before ++ tied.events in
     let sealed = sealed_of openings reached.after in
-    let new = sees config sealed old (map f old.reins) (old.mine ++ reached.noted) files in
+    let course = course_of config openings tied.past.before (tied.events ++ more) in
+    let follows = run_with_more config openings tied.past.before tied.events more old (tied.known id old at) in
+    let new = sees config sealed course old (map f old.reins) (old.mine ++ reached.noted) files in
     let later = played_on config openings before tied.state tied.past.played reins.worker reached.after more reached.leads in
     let seen = seen_on config openings before tied.state tied.past.played reins.worker reached.after more reached.leads in
     let own : has reins.worker old ≡ 1 = ap (times reins.worker) only ∙ own_once reins.worker reins refl in
@@ -205,8 +211,8 @@ moves config begun s tied more id index bits old reins f cells files IsSo at onl
           (subst (λ all. Ties config all (slice_set s.words index bits)) (sym reached.same_cells) ties)
           (λ tenant request.
           let all = noted_few config begun s tied reached.noted reached.few reached.fresh tenant request in
-          let sum = times_more tenant request old.mine reached.noted in omega (arith, all, sum)) beside same_files;
-      goes_on = sees_on config sealed old (map f old.reins) (old.mine ++ reached.noted) files fits.same_config (seen old.seen fits.seen) (seen old.told fits.told);
+          let sum = times_more tenant request old.mine reached.noted in omega (arith, all, sum)) beside same_files refl refl;
+      goes_on = sees_on config sealed course old (map f old.reins) (old.mine ++ reached.noted) files fits.same_config (seen old.seen fits.seen) (seen old.told fits.told) follows.known follows.told;
       right = right;
       reins = refl;
       ready = subst (λ (one : Config). Each (IsReady one) (map f old.reins)) (sym fits.same_config)

@@ -1,5 +1,5 @@
 -- A whole call of a thread: from what it knew when a request came to what it knows once the request has its reply.
-use Rattle.std.specs.Prelude.{ℕ, ◌≡◌, ◌≤◌, Bool, true, List, [], ◌∷◌, ◌++◌, length, Some, None}
+use Rattle.std.specs.Prelude.{ℕ, ◌≡◌, ◌≤◌, Bool, true, List, [], ◌∷◌, ◌++◌, length, Option, Some, None}
 use Rattle.mw_words.specs.declared.jobs.Job.{Job}
 use Rattle.mw_words.specs.declared.replies.Reply.{Reply}
 use Rattle.mw_words.specs.declared.statuses.Status.{Status}
@@ -16,6 +16,7 @@ use Rattle.mw_rule.specs.declared.views.Held.{Held}
 use Rattle.mw_rule.specs.declared.views.Reins.{Reins}
 use Rattle.mw_rule.specs.declared.views.View.{View}
 use Rattle.mw_rule.specs.Carrying.{Began, Keeps, Looked, MayCome, Met, NotesAs, Took, comes, finished_as, settled, stepped, told_of}
+use Rattle.mw_rule.specs.Courses.{Course}
 use Rattle.mw_rule.specs.Dealing.{bereft, borrows, knows, reins_of}
 use Rattle.mw_rule.specs.Filing.{Starts, Went, after_call}
 use Rattle.mw_rule.specs.Grounds.{HasGround}
@@ -74,8 +75,8 @@ CallsMeet = (first old new : View) (reins : Reins) (actor : Acting) → Serves f
 
 -- So it is too of a request that a worker has when the table is made, from what its thread knows then on, if no reply to it stands.
 abbrev pub CallsDealt : Type 0
-CallsDealt = (config : Config) (openings : List Opening) (worker : ℕ) (seat : Seat) (actor : Acting) → seat.actor ≡ Some actor → replied actor ≡ None
-    → IsRight (knows config openings (reins_of worker seat ∷ []) []) → Serves (knows config openings (reins_of worker seat ∷ []) []) (knows config openings (reins_of worker seat ∷ []) []) (reins_of worker seat) actor
+CallsDealt = (config : Config) (openings : List Opening) (course : Option Course) (worker : ℕ) (seat : Seat) (actor : Acting) → seat.actor ≡ Some actor → replied actor ≡ None
+    → IsRight (knows config openings course (reins_of worker seat ∷ []) []) → Serves (knows config openings course (reins_of worker seat ∷ []) []) (knows config openings course (reins_of worker seat ∷ []) []) (reins_of worker seat) actor
 
 -- Once the reply is there the call has ended with it.
 abbrev pub CallsEnd : Type 0

@@ -29,6 +29,7 @@ use Rattle.mw_rule.specs.declared.views.Deed.TheVariants.{Came, Stepped, Handed}
 use Rattle.mw_rule.specs.declared.views.Finished.{Finished}
 use Rattle.mw_rule.specs.declared.views.Reins.{Reins}
 use Rattle.mw_rule.specs.declared.views.View.{View}
+use Rattle.mw_rule.specs.Courses.{IsOnFrom}
 use Rattle.mw_rule.specs.Layout.{index_of}
 use Rattle.mw_rule.specs.Rule.{Each, IsRight}
 use Rattle.mw_rule.specs.Seen.{ComeFirst, Gave, opening_at, seen_at}
@@ -108,11 +109,12 @@ pub record MayCome (view : View) (worker : ℕ) (actor : Acting) : Type 0 where
 abbrev pub Precede : ℕ → List (List SealedChange) → List (List SealedChange) → Type 0
 Precede tenants first then = ComeFirst tenants first (seen_at then)
 
--- Whatever a thread does, it knows the same of the world and of the latest start, and all that it had seen comes first of what it has seen now.
+-- Whatever a thread does, it knows the same of the world and of the latest start, all that it had seen comes first of what it has seen now, and the run behind the table goes on from the one that it knew.
 pub record Keeps (old new : View) : Type 0 where
   pub same_config : new.config ≡ old.config
   pub same_openings : new.openings ≡ old.openings
   pub seen : Precede (tenants_of old.config) old.seen new.seen
+  pub course : IsOnFrom old.course new.course
 
 -- So it is over steps and loads, and all that the thread was told comes first of what it has seen now.
 pub record GoesOn (old new : View) : Type 0 where
@@ -122,9 +124,11 @@ pub record GoesOn (old new : View) : Type 0 where
   pub same_told : new.told ≡ old.told
   pub seen : Precede (tenants_of old.config) old.seen new.seen
   pub told : Precede (tenants_of old.config) old.told new.seen
+  pub course : IsOnFrom old.course new.course
+  pub told_course : IsOnFrom old.told_course new.course
 
 -- These bits stand at an index of the table, in a world after some run whose latest start gave the tenants what the thread knows of it, and in which just those changes were sealed that
--- it has seen. Which run it is, and whether the table may have begun with what came first in it, is not told.
+-- it has seen.
 pub record StoodThere (view : View) (index bits : ℕ) : Type 0 where
   pub openings : ℕ → Opening
   pub events : List Happening

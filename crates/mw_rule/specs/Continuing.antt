@@ -29,7 +29,7 @@ use Rattle.mw_rule.specs.Carrying.{Began, Drives, Looked, MayCome, Precede, Took
 use Rattle.mw_rule.specs.Dealing.{bereft, borrows, dealt, entrusted, gathers, hears, left_over, meets, note, spent}
 use Rattle.mw_rule.specs.Filing.{Calls, Loaded, Went, broken_so, fails, filed_so, place_held}
 use Rattle.mw_rule.specs.Layout.{index_of}
-use Rattle.mw_rule.specs.Rule.{Continues, IsLive, Tied}
+use Rattle.mw_rule.specs.Rule.{Continues, IsLive, Tied, WentOnFor}
 use Rattle.mw_rule.specs.Ways.{finds, made_of_bits}
 
 -- where a reply stands, it is handed out
@@ -52,12 +52,12 @@ events_loaded true worker = []
 events_loaded false worker = FileEvent worker Good ∷ []
 
 module _ (config : Config) (begun : (ℕ → Opening) → List Happening → Type 0) where
-  -- A thread changes a word, and what it knows. By the bits that stood there the run gains these events, and the thread is told this.
+  -- A thread changes a word, and what it knows. By the bits that stood there the run gains these events, and the thread is told this, and knows the run as it is then.
   pub record StepsOn (s : Table Acting View) (tied : Tied config begun s) (id index : ℕ) (make : ℕ → ℕ) (more : ℕ → List Happening) (tells : ℕ → View → Type 0) : Type 0 where
     pub new : View
     pub is_told : tells (slice_index s.words index) new
-    pub run : Continues config begun s tied (more (slice_index s.words index))
-        (record { words = slice_set s.words index (make (slice_index s.words index)); homes = s.homes; views = slice_set s.views id new })
+    pub run : WentOnFor config begun s tied (more (slice_index s.words index))
+        (record { words = slice_set s.words index (make (slice_index s.words index)); homes = s.homes; views = slice_set s.views id new }) new
 
   -- A step of a request that a thread carries adds just this step, and behind it the reply, once that stands.
   abbrev pub StepsGoOn : Type 0

@@ -1,7 +1,8 @@
 -- What the first thread knows of a table, and how what threads know is cut in two and put together.
-use Rattle.std.specs.Prelude.{ℕ, zero, suc, ◌+◌, ◌==◌, cond, true, false, List, [], ◌∷◌, ◌++◌}
+use Rattle.std.specs.Prelude.{ℕ, zero, suc, ◌+◌, ◌==◌, cond, true, false, List, [], ◌∷◌, ◌++◌, Option, None}
 use Rattle.mw_world.specs.declared.config.Config.{Config}
 use Rattle.mw_world.specs.Definition.State.{Opening, Seat}
+use Rattle.mw_rule.specs.Courses.{Course}
 use Rattle.mw_rule.specs.declared.views.Finished.{Finished}
 use Rattle.mw_rule.specs.declared.views.Held.{Held}
 use Rattle.mw_rule.specs.declared.views.Reins.{Reins}
@@ -16,13 +17,25 @@ abbrev pub reins_from : (ℕ → Seat) → ℕ → ℕ → List Reins
 reins_from seats first zero = []
 reins_from seats first (suc left) = reins_of first (seats first) ∷ reins_from seats (first + 1) left
 
--- what the first thread knows: what the latest start gave, the reins of these workers, and these files; it saw nothing sealed
-abbrev pub knows : Config → List Opening → List Reins → List Held → View
-knows config openings reins files = record { config = config; openings = openings; reins = reins; seen = []; told = []; mine = []; files = files; glances = []; is_spent = false }
+-- what the first thread knows: what the latest start gave, this of the run so far, the reins of these workers, and these files; it saw nothing sealed
+abbrev pub knows : Config → List Opening → Option Course → List Reins → List Held → View
+knows config openings course reins files = record {
+  config = config;
+  openings = openings;
+  reins = reins;
+  seen = [];
+  told = [];
+  course = course;
+  told_course = None;
+  mine = [];
+  files = files;
+  glances = [];
+  is_spent = false;
+}
 
 -- the first thread has the reins of all workers, and the files that are given
-abbrev pub maker : Config → List Opening → (ℕ → Seat) → List Held → View
-maker config openings seats files = knows config openings (reins_from seats 0 config.workers) files
+abbrev pub maker : Config → List Opening → Option Course → (ℕ → Seat) → List Held → View
+maker config openings course seats files = knows config openings course (reins_from seats 0 config.workers) files
 
 abbrev pub head_of : List Reins → List Reins
 head_of [] = []
@@ -63,15 +76,23 @@ note view = record view { reins = []; mine = []; files = []; is_spent = false }
 
 -- a thread that is told what another's note says
 abbrev pub hears : View → View → View
-hears view other = record view { told = other.seen }
+hears view other = record view { told = other.seen; told_course = other.course }
 
 -- a thread that takes what another's note says for what it saw itself
 abbrev pub meets : View → View → View
-meets view other = record view { seen = other.seen; told = other.seen }
+meets view other = record view { seen = other.seen; told = other.seen; course = other.course; told_course = other.course }
 
 -- a thread that takes over all that another knew, which had seen no less
 abbrev pub gathers : View → View → View
-gathers view other = record view { reins = view.reins ++ other.reins; seen = other.seen; told = other.seen; mine = view.mine ++ other.mine; files = view.files ++ other.files }
+gathers view other = record view {
+  reins = view.reins ++ other.reins;
+  seen = other.seen;
+  told = other.seen;
+  course = other.course;
+  told_course = other.course;
+  mine = view.mine ++ other.mine;
+  files = view.files ++ other.files;
+}
 
 -- the first right to a file is given away, and with it a note of what was seen
 abbrev pub first_held : List Held → List Held
@@ -100,6 +121,8 @@ spent = record {
   reins = [];
   seen = [];
   told = [];
+  course = None;
+  told_course = None;
   mine = [];
   files = [];
   glances = [];

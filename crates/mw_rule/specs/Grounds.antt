@@ -66,17 +66,22 @@ pub record FoundWorn (found : List Finding) : Type 0 where
 abbrev pub HasGround : (found : List Finding) (attempt tenant quota : ℕ) → Reply → Type 0
 HasGround found attempt tenant quota SaysBusy = FoundBusy found tenant quota
 HasGround found attempt tenant quota SaysFault = FoundFault found tenant ⊎ MetFault found
-HasGround found attempt tenant quota SaysWorn = FoundWorn found ⊎ (WORN_NUMBER ≤ attempt)
+HasGround found attempt tenant quota SaysWorn = FoundWorn found ⊎ (attempt ≡ WORN_NUMBER)
 HasGround found attempt tenant quota reply = Unit {0}
+
+-- So it is as far as a request knows on its way to such a reply. That no attempt has a number past the last one is known of whole runs.
+abbrev pub HasGroundBy : (found : List Finding) (attempt tenant quota : ℕ) → Reply → Type 0
+HasGroundBy found attempt tenant quota SaysWorn = FoundWorn found ⊎ (WORN_NUMBER ≤ attempt)
+HasGroundBy found attempt tenant quota reply = HasGround found attempt tenant quota reply
 
 -- So it is of a reply to which a request is on its way.
 abbrev pub HasGroundAfter : (found : List Finding) (attempt tenant quota : ℕ) → After → Type 0
 HasGroundAfter found attempt tenant quota (Work task) = Unit {0}
-HasGroundAfter found attempt tenant quota (ThenGiveUp own undecided) = HasGround found attempt tenant quota undecided
-HasGroundAfter found attempt tenant quota (ThenReply reply) = HasGround found attempt tenant quota reply
+HasGroundAfter found attempt tenant quota (ThenGiveUp own undecided) = HasGroundBy found attempt tenant quota undecided
+HasGroundAfter found attempt tenant quota (ThenReply reply) = HasGroundBy found attempt tenant quota reply
 
 abbrev pub HasGroundOfRead : (found : List Finding) (attempt tenant quota : ℕ) → ReadPoint → Type 0
-HasGroundOfRead found attempt tenant quota (RepliedOfRead reply) = HasGround found attempt tenant quota reply
+HasGroundOfRead found attempt tenant quota (RepliedOfRead reply) = HasGroundBy found attempt tenant quota reply
 HasGroundOfRead found attempt tenant quota point = Unit {0}
 
 abbrev pub HasGroundAt : (found : List Finding) (attempt tenant quota : ℕ) → Point → Type 0
@@ -86,6 +91,6 @@ HasGroundAt found attempt tenant quota (Claim slot saw_worn from to) = saw_worn 
 HasGroundAt found attempt tenant quota (Unpin slot onward) = HasGroundAfter found attempt tenant quota onward
 HasGroundAt found attempt tenant quota (FreeSlot slot onward) = HasGroundAfter found attempt tenant quota onward
 HasGroundAt found attempt tenant quota (LowerDoor onward) = HasGroundAfter found attempt tenant quota onward
-HasGroundAt found attempt tenant quota (GiveUp own undecided) = HasGround found attempt tenant quota undecided
-HasGroundAt found attempt tenant quota (Replied reply) = HasGround found attempt tenant quota reply
+HasGroundAt found attempt tenant quota (GiveUp own undecided) = HasGroundBy found attempt tenant quota undecided
+HasGroundAt found attempt tenant quota (Replied reply) = HasGroundBy found attempt tenant quota reply
 HasGroundAt found attempt tenant quota point = Unit {0}

@@ -1,5 +1,5 @@
 -- What is proved of the rule.
-use Rattle.std.specs.Prelude.{[], false, length, List, slice_get, Some, true, ℕ, ◌<◌, ◌∷◌, ◌≡◌, ◌≢◌, ◌≤◌}
+use Rattle.std.specs.Prelude.{[], false, length, List, slice_get, Option, Some, true, ℕ, ◌<◌, ◌∷◌, ◌≡◌, ◌≢◌, ◌≤◌}
 use Rattle.atomic_table.specs.Table.{Me, Allows, Splits, Joins, opening}
 use Rattle.mw_words.specs.declared.places.At.TheVariants.{Door as AtDoor, Status as AtStatus}
 use Rattle.mw_words.specs.declared.statuses.Status.{Status}
@@ -21,6 +21,7 @@ use Rattle.mw_rule.specs.declared.views.Finished.{Finished}
 use Rattle.mw_rule.specs.declared.views.Held.{Held}
 use Rattle.mw_rule.specs.declared.views.View.{View}
 use Rattle.mw_rule.specs.Carrying.{Began, Drives, Looked, MayCome, Precede, Took}
+use Rattle.mw_rule.specs.Courses.{Course, IsOnFrom, course_of}
 use Rattle.mw_rule.specs.Dealing.{bereft, borrows, dealt, entrusted, gathers, hears, left_over, maker, meets, note, spent}
 use Rattle.mw_rule.specs.Filing.{broken_so, Calls, fails, filed_so, Loaded, place_held, Went}
 use Rattle.mw_rule.specs.declared.views.Reins.{Reins}
@@ -31,13 +32,13 @@ use Rattle.mw_rule.specs.Ways.{made_of_bits, finds}
 
 module _ (config : Config) (begun : (ℕ → Opening) → List Happening → Type 0) where
   -- The rule holds of a table that is made of a world after a run with which it may begin: the words are the world's, and the first thread has the reins of
-  -- all workers, and of files of tenants of which so much is known.
+  -- all workers, and of files of tenants of which so much is known, and knows that run, or none.
   abbrev pub StartsUnderTheRule : Type 0
-  StartsUnderTheRule = (openings : ℕ → Opening) (before : List Happening) (state : State) (given : List Opening) (seats : ℕ → Seat) (files : List Held) (words : List ℕ)
-      → begun openings before → IsPlayed config openings before state → ((tenant : ℕ) → tenant < tenants_of config → Gave openings state tenant (opening_at given tenant))
+  StartsUnderTheRule = (openings : ℕ → Opening) (before : List Happening) (state : State) (given : List Opening) (course : Option Course) (seats : ℕ → Seat) (files : List Held) (words : List ℕ)
+      → begun openings before → IsOnFrom course (Some (course_of config openings before [])) → IsPlayed config openings before state → ((tenant : ℕ) → tenant < tenants_of config → Gave openings state tenant (opening_at given tenant))
       → ((worker : ℕ) → worker < config.workers → seats worker ≡ state.seats worker)
       → Each (HoldsFile config state) files → ((tenant : ℕ) → times_held tenant files ≤ 1)
-      → length words ≡ words_of config → Ties config state.cells words → Tied config begun (opening words [] (maker config given seats files))
+      → length words ≡ words_of config → Ties config state.cells words → Tied config begun (opening words [] (maker config given course seats files))
 
   -- A step of a request that a thread carries keeps the rule, and the thread is told that the step was made, and what it found.
   abbrev pub StepsKeepTheRule : Type 0

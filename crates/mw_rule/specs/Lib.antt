@@ -1,6 +1,7 @@
 pub mod Calling
 pub mod Carrying
 pub mod Continuing
+pub mod Courses
 pub mod Dealing
 pub mod Filing
 pub mod FromLaws

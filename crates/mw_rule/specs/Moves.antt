@@ -29,9 +29,10 @@ use Rattle.mw_rule.specs.declared.views.Held.{Held}
 use Rattle.mw_rule.specs.declared.views.View.{View}
 use Rattle.mw_rule.specs.Carrying.{Began, Drives, Looked, MayCome, Took}
 use Rattle.mw_rule.specs.Continuing.{StepsOn, events_loaded, events_of, starts_by}
+use Rattle.mw_rule.specs.Courses.{course_of}
 use Rattle.mw_rule.specs.Filing.{Calls, Loaded, Went, broken_so, fails, filed_so, place_held}
 use Rattle.mw_rule.specs.Layout.{index_of}
-use Rattle.mw_rule.specs.Rule.{Fits, IsLive, Tied}
+use Rattle.mw_rule.specs.Rule.{Fits, IsLive, IsRunOf, Tied}
 use Rattle.mw_rule.specs.Ways.{finds, made_of_bits}
 
 -- What a thread that knows this may do to a word: a step of the request that it carries; the first step of a request that comes; a load that is no step; and of a call on a file the load of its change's status, the
@@ -90,7 +91,7 @@ told_by view (Breaks worker number actor called held status by found sound is_on
 told_by view (FindsFault worker actor called held status by found failed) bits new = Went false held held.file view new
 
 -- A run of a world goes on by these events, from a moment at which what a thread knew was so to one at which what it knows then is so. What happened before the table was made, and since then, is told apart; no start
--- has happened since. Which run it is, and whether the table may have begun with what was before, is not told.
+-- has happened since. It is a run that went on from the one that the thread knew, if it knew one: it began so, and what had happened in that one happened first in it. Then the thread knows this run with these events.
 pub record WentOn (more : List Happening) (old new : View) : Type 0 where
   pub openings : ℕ → Opening
   pub before : List Happening
@@ -100,6 +101,8 @@ pub record WentOn (more : List Happening) (old new : View) : Type 0 where
   pub played : IsPlayed old.config openings (before ++ events) state
   pub goes_on : IsPlayed old.config openings (before ++ (events ++ more)) next
   pub no_starts : AreNoStarts events
+  pub follows : IsRunOf old.config openings before events old
+  pub course : new.course ≡ Some (course_of old.config openings before (events ++ more))
   pub knew : Fits old.config openings state events old
   pub knows : Fits old.config openings next (events ++ more) new
 

@@ -24,6 +24,7 @@ use Rattle.mw_rule.specs.declared.views.FoundStatus.{FoundStatus}
 use Rattle.mw_rule.specs.declared.views.Held.{Held}
 use Rattle.mw_rule.specs.declared.views.Reins.{Reins}
 use Rattle.mw_rule.specs.declared.views.View.{View}
+use Rattle.mw_rule.specs.Courses.{IsOnFrom, course_of}
 use Rattle.mw_rule.specs.Grounds.{HasGround, HasGroundAt}
 use Rattle.mw_rule.specs.Layout.{index_of, words_of}
 use Rattle.mw_rule.specs.Seen.{ComeFirst, Gave, HasBegunFor, opening_at, seen_at}
@@ -186,6 +187,11 @@ pub record Fits (config : Config) (openings : ℕ → Opening) (state : State) (
   pub over : Each (IsOver state) view.mine
   pub files : Each (HoldsFile config state) view.files
 
+-- This run goes on from what a thread knows of it, and from what the thread was told of it.
+pub record IsRunOf (config : Config) (openings : ℕ → Opening) (before events : List Happening) (view : View) : Type 0 where
+  pub known : IsOnFrom view.course (Some (course_of config openings before events))
+  pub told : IsOnFrom view.told_course (Some (course_of config openings before events))
+
 -- A thread that has given all that it knew to another knows nothing, and has no reins.
 pub record IsSpent (view : View) : Type 0 where
   pub flag : view.is_spent ≡ true
@@ -196,7 +202,7 @@ pub record IsSpent (view : View) : Type 0 where
 abbrev pub IsLive : View → Type 0
 IsLive view = (view.is_spent ≡ false) ⊎ ((one : Reins) × (rest : List Reins) × (view.reins ≡ one ∷ rest))
 
--- The rule of the table: there is a run; the words are those of the world after it; so is what each thread knows, if it isn't spent; no two threads have reins of one worker, none noted a request that another did, and no two may call one tenant's file.
+-- The rule of the table: there is a run; the words are those of the world after it; so is what each thread knows, if it isn't spent, and the run goes on from what each knows of it; no two threads have reins of one worker, none noted a request that another did, and no two may call one tenant's file.
 pub record Tied (config : Config) (begun : (ℕ → Opening) → List Happening → Type 0) (s : Table Acting View) : Type 0 where
   pub state : State
   pub events : List Happening
@@ -204,6 +210,7 @@ pub record Tied (config : Config) (begun : (ℕ → Opening) → List Happening 
   pub long : length s.words ≡ words_of config
   pub ties : Ties config state.cells s.words
   pub fits : (id : ℕ) (view : View) → get_elem? s.views id ≡ some view → IsSpent view ⊎ Fits config past.openings state events view
+  pub known : (id : ℕ) (view : View) → get_elem? s.views id ≡ some view → IsRunOf config past.openings past.before events view
   pub alone : (worker : ℕ) → total (has worker) s.views ≤ 1
   pub once : (tenant request : ℕ) → total (notes_of tenant request) s.views ≤ 1
   pub one_hand : (tenant : ℕ) → total (holds_of tenant) s.views ≤ 1
@@ -214,3 +221,8 @@ pub record Continues (config : Config) (begun : (ℕ → Opening) → List Happe
   pub same_openings : after.past.openings ≡ tied.past.openings
   pub same_before : after.past.before ≡ tied.past.before
   pub events : after.events ≡ tied.events ++ more
+
+-- The run behind a table went on so, and a thread knows it as it is then.
+pub record WentOnFor (config : Config) (begun : (ℕ → Opening) → List Happening → Type 0) (s : Table Acting View) (tied : Tied config begun s) (more : List Happening) (next : Table Acting View) (view : View) : Type 0 where
+  pub on : Continues config begun s tied more next
+  pub course : view.course ≡ Some (course_of config on.after.past.openings on.after.past.before on.after.events)

@@ -134,6 +134,18 @@ pub struct Glance {
     pub bits: u64,
 }
 
+/// The run of the world behind a table, as far as a thread knows it: what its first start gave, what happened before
+/// the table was made, and what has happened since, but for which device calls failed.
+pub struct Course;
+
+impl Model for Course {
+    ghost use Rattle.mw_rule.specs.Courses as courses;
+
+    ghost Value = { courses.Course };
+
+    ghost view = { λ c. courses.no_course };
+}
+
 /// What a thread knows.
 pub struct View {
     /// What the world is made of.
@@ -146,6 +158,11 @@ pub struct View {
     pub seen: LinkedList<LinkedList<Sealed>>,
     /// The same, as another thread told it.
     pub told: LinkedList<LinkedList<Sealed>>,
+    /// The run behind the table, as it was at the thread's latest step, or when the table was made. Of a table that is
+    /// made of a world none is known before a first step.
+    pub course: Option<Course>,
+    /// The same, as another thread told it.
+    pub told_course: Option<Course>,
     /// The requests that its workers finished, in order, each at its place among what was seen; of a thread that
     /// took over another's knowledge its own come first.
     pub mine: LinkedList<Finished>,

@@ -13,6 +13,7 @@ use Rattle.mw_rule.specs.Dealing.{maker}
 use Rattle.mw_rule.specs.Layout.{words_of}
 use Rattle.mw_rule.specs.Rule.{Tied, Ties}
 use Rattle.mw_rule.specs.Seen.{opening_at}
+use Rattle.mw_rule.proofs.Courses.{stays}
 use Rattle.mw_rule.proofs.Parting.{starts}
 use Rattle.mw_table.specs.declared.origin.FileOpening.{FileOpening}
 use Rattle.mw_table.specs.Fresh.{StartedWith, basis_of_start, is_opened, openings_given, start_given, value_given, word_given, world_given}
@@ -46,8 +47,8 @@ value_so (first ∷ tenants) (one ∷ found) (suc tenant) address long = value_s
 -- the rule holds of the table at first
 pub fresh_table : (config : Config) (found : List FileOpening) (words : List ℕ) → IsConfig config → IsStart config (start_given config found) → length words ≡ words_of config
     → Ties config (world_given config found).cells words
-    → Tied config (StartedWith config found) (opening {S = Acting} words [] (maker config (openings_given config.tenants.items found) (λ worker. idle_seat) (basis_of_start config found).files))
+    → Tied config (StartedWith config found) (opening {S = Acting} words [] (maker config (openings_given config.tenants.items found) (basis_of_start config found).course (λ worker. idle_seat) (basis_of_start config found).files))
 fresh_table config found words made start long ties =
-    starts config (StartedWith config found) (start_given config found) [] (world_given config found) (openings_given config.tenants.items found) (λ worker. idle_seat) (basis_of_start config found).files words
-    (record { given = refl; nothing = refl }) (record { made = made; starts = start; runs = refl }) (λ tenant low. record { quota = refl; places = refl; words = refl; is_up = refl }) (λ worker low. refl)
+    starts config (StartedWith config found) (start_given config found) [] (world_given config found) (openings_given config.tenants.items found) (basis_of_start config found).course (λ worker. idle_seat) (basis_of_start config found).files words
+    (record { given = refl; nothing = refl }) (stays (basis_of_start config found).course) (record { made = made; starts = start; runs = refl }) (λ tenant low. record { quota = refl; places = refl; words = refl; is_up = refl }) (λ worker low. refl)
     (all_held config (openings_given config.tenants.items found) 0 (tenants_of config) (omega arith)) (λ tenant. held_once config.pool (openings_given config.tenants.items found) tenant 0 (tenants_of config)) long ties

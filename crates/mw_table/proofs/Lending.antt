@@ -77,19 +77,21 @@ opened_kept shared basis tenant right opened = ap (λ (view : View). file_among 
 
 -- What a right knows is so of the world, by a run that goes on by no event.
 pub so_of_world : (config : Config) (given : List Opening) (right : FileRight) (new : View) → right.seat.me.0.config ≡ config → right.seat.me.0.openings ≡ given → WentOn [] right.seat.me.0 new
-    → IsSoOfWorld config given right.tenant (file_kept right)
+    → IsSoOfWorld config given right.seat.me.0.course right.tenant (file_kept right)
 so_of_world config given right new same also went =
     let view = right.seat.me.0 in
     let holds = subst (λ (files : List Held). Each (HoldsFile view.config went.state) files) (right_is right) went.knew.files in
-    let so : IsSoOfWorld view.config view.openings (file_kept right).tenant (file_kept right) = record {
+    let so : IsSoOfWorld view.config view.openings view.course (file_kept right).tenant (file_kept right) = record {
       openings = went.openings;
-      events = went.before ++ went.events;
+      before = went.before;
+      events = went.events;
       state = went.state;
       played = went.played;
+      goes_on = went.follows.known;
       gave = went.knew.gave;
       there = holds.0.there;
       tells = holds.0.tells;
     } in
-    subst (λ (c : Config). IsSoOfWorld c given right.tenant (file_kept right)) same
-    (subst (λ (all : List Opening). IsSoOfWorld view.config all right.tenant (file_kept right)) also
-    (subst (λ (n : ℕ). IsSoOfWorld view.config view.openings n (file_kept right)) (right_its right) so))
+    subst (λ (c : Config). IsSoOfWorld c given view.course right.tenant (file_kept right)) same
+    (subst (λ (all : List Opening). IsSoOfWorld view.config all view.course right.tenant (file_kept right)) also
+    (subst (λ (n : ℕ). IsSoOfWorld view.config view.openings view.course n (file_kept right)) (right_its right) so))

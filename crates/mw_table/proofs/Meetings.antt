@@ -14,6 +14,7 @@ use Rattle.mw_rule.specs.Rule.{IsLive, IsRight, times}
 use Rattle.mw_rule.specs.Seen.{seen_at}
 use Rattle.mw_rule.proofs.Apart.{changes_are_own}
 use Rattle.mw_rule.proofs.Calling.{keeps_on, keeps_so}
+use Rattle.mw_rule.proofs.Courses.{on_again}
 use Rattle.mw_rule.proofs.Events.{looks_are_no_events}
 use Rattle.mw_rule.proofs.Leading.{begins_on}
 use Rattle.mw_rule.proofs.Owning.{dealt_alone, gathered_parts_again}
@@ -160,6 +161,7 @@ module _ (one other : View) (own theirs : ℕ × ℕ) (ones : numbers one ≡ ow
     seen = λ tenant low.
         begins_on (seen_at story.told.looked.seen tenant) (seen_at story.told.heard.seen tenant) (seen_at story.all.seen tenant) (no_less one other theirs others same_config story.told tenant low)
         (gathering.goes_on.seen tenant low);
+    course = on_again story.told.looked.course story.told.heard.course story.all.course heard_so.goes_on.told_course gathering.goes_on.course;
   })
 
   -- a thread that had no right to a file has none then
@@ -168,7 +170,7 @@ module _ (one other : View) (own theirs : ℕ × ℕ) (ones : numbers one ≡ ow
 
   pub one_met : Met one (dealt story.all)
   one_met = record {
-    keeps = record { same_config = keeps_first.same_config; same_openings = keeps_first.same_openings; seen = keeps_first.seen };
+    keeps = record { same_config = keeps_first.same_config; same_openings = keeps_first.same_openings; seen = keeps_first.seen; course = keeps_first.course };
     right = dealt_right story.all gathering.right;
     same_reins = ap head_of gathering.same_reins ∙ again.0 ∙ story.told.looking.same_reins;
     same_mine = (λ i. of_head (gathering.same_reins i) (gathering.same_mine i)) ∙ again.1 ∙ story.told.looking.same_mine;
@@ -182,6 +184,7 @@ module _ (one other : View) (own theirs : ℕ × ℕ) (ones : numbers one ≡ ow
       seen = λ tenant low.
           let there = subst (λ (config : Config). tenant < tenants_of config) (same_config ∙ sym story.told.looking.goes_on.same_config) low in
           begins_on (seen_at other.seen tenant) (seen_at story.told.heard.seen tenant) (seen_at story.all.seen tenant) (heard_so.goes_on.seen tenant low) (gathering.goes_on.seen tenant there);
+      course = on_again other.course story.told.heard.course story.all.course heard_so.goes_on.course gathering.goes_on.course;
     };
     right = left_right story.all gathering.right;
     same_reins = ap rest_of gathering.same_reins ∙ again.2 ∙ its_own.0;
@@ -192,7 +195,7 @@ module _ (one other : View) (own theirs : ℕ × ℕ) (ones : numbers one ≡ ow
   together =
       let mine : (dealt story.all).mine ++ (left_over story.all).mine ≡ story.all.mine =
       (λ i. (one_met.same_mine ∙ sym story.told.looking.same_mine) i ++ (other_met.same_mine ∙ sym its_own.1) i) ∙ sym gathering.same_mine in
-      subst IsRight (sym (λ i. record story.all { reins = parted story.all.reins i; told = story.all.seen; mine = mine i })) (hears_right story.all story.all gathering.right)
+      subst IsRight (sym (λ i. record story.all { reins = parted story.all.reins i; told = story.all.seen; told_course = story.all.course; mine = mine i })) (hears_right story.all story.all gathering.right)
 
   pub have_met : HaveMet (dealt story.all) (left_over story.all)
   have_met = record { same_seen = refl; right = together; own = changes_are_own (gathers (dealt story.all) (left_over story.all)) together }

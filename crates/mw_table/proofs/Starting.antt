@@ -97,10 +97,10 @@ gave_so world before stands tenant low = by_account (slice_get_cases world.accou
 
 -- the rule holds of the table at first
 pub first_table : (world : World) (before : List Happening) (words : List ℕ) → Stands world before → length words ≡ words_of world.config
-    → ((state : State) → Shows world state → Ties world.config state.cells words) → Tied world.config (LedTo world) (opening {S = Acting} words [] (maker world.config (openings_of world) (seat_in world) []))
+    → ((state : State) → Shows world state → Ties world.config state.cells words) → Tied world.config (LedTo world) (opening {S = Acting} words [] (maker world.config (openings_of world) None (seat_in world) []))
 first_table world before words stands long ties =
-    starts world.config (LedTo world) (first_openings world.config) before stands.state (openings_of world) (seat_in world) [] words
-    (record { first = refl; stands = stands }) (played world before stands) (gave_so world before stands) (λ worker low. seats_same world stands.state worker stands.shows low) tt (λ tenant. omega arith) long
+    starts world.config (LedTo world) (first_openings world.config) before stands.state (openings_of world) None (seat_in world) [] words
+    (record { first = refl; stands = stands }) tt (played world before stands) (gave_so world before stands) (λ worker low. seats_same world stands.state worker stands.shows low) tt (λ tenant. omega arith) long
     (ties stands.state stands.shows)
 
 -- what tells of the workers of a world that the world in memory shows tells of those in memory

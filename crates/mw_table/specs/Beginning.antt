@@ -1,5 +1,5 @@
 -- What a table begins with, and where it is made of a world in memory.
-use Rattle.std.specs.Prelude.{ℕ, ◌≡◌, ◌+◌, Bool, List, [], ◌∷◌, slice_get}
+use Rattle.std.specs.Prelude.{ℕ, ◌≡◌, ◌+◌, Bool, List, [], ◌∷◌, slice_get, Option, None}
 use Rattle.std.specs.Option.{option_map_or}
 use Rattle.mw_lone.specs.declared.marks.Mark.{Mark}
 use Rattle.mw_lone.specs.declared.marks.Mark.TheVariants.{Restart}
@@ -10,13 +10,15 @@ use Rattle.mw_world.specs.Definition.State.{Opening, Seat, first_openings, idle_
 use Rattle.mw_simulator.specs.FromMemory.{Account, seat_of}
 use Rattle.mw_simulator.specs.declared.world.World.{World}
 use Rattle.mw_simulator.specs.Running.{Stands}
+use Rattle.mw_rule.specs.Courses.{Course}
 use Rattle.mw_rule.specs.declared.views.Held.{Held}
 use Rattle.mw_rule.specs.FromLaws.{after_marks, first_moment}
 
--- What a table begins with: what its world is made of, what the latest start gave each tenant, the workers, and what is known of the files to which it gives rights.
+-- What a table begins with: what its world is made of, what the latest start gave each tenant, what is known of the run that led to it, the workers, and what is known of the files to which it gives rights.
 pub record Basis : Type 0 where
   pub config : Config
   pub openings : List Opening
+  pub course : Option Course
   pub seats : ℕ → Seat
   pub files : List Held
 
@@ -53,6 +55,6 @@ openings_of world = openings_from world.config 0 world.accounts.items
 abbrev pub seat_in : World → ℕ → Seat
 seat_in world worker = option_map_or seat_of (slice_get world.seats.items worker) idle_seat
 
--- What a table of the world begins with. It gives no right to a file.
+-- What a table of the world begins with. It gives no right to a file, and a world in memory doesn't tell which run led to it.
 abbrev pub basis_of_world : World → Basis
-basis_of_world world = record { config = world.config; openings = openings_of world; seats = seat_in world; files = [] }
+basis_of_world world = record { config = world.config; openings = openings_of world; course = None; seats = seat_in world; files = [] }

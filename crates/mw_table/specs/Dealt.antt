@@ -14,11 +14,11 @@ use Rattle.mw_table.specs.Passes.{IsOf}
 
 -- what a worker's pass knows at first
 abbrev pub view_of : Basis → ℕ → View
-view_of basis worker = knows basis.config basis.openings (reins_of worker (basis.seats worker) ∷ []) []
+view_of basis worker = knows basis.config basis.openings basis.course (reins_of worker (basis.seats worker) ∷ []) []
 
 -- what is known beside the passes: the rights to files are left
 abbrev pub left_of : Basis → View
-left_of basis = knows basis.config basis.openings [] basis.files
+left_of basis = knows basis.config basis.openings basis.course [] basis.files
 
 -- A pass of the table, as it was made: it carries the request that its worker has then, if it has one, and is idle else; and the words of that one's next step, or of its call, are there. It has seen nothing yet.
 pub record IsDealt (shared : Shared) (basis : Basis) (pass : Pass) : Type 0 where

@@ -1,5 +1,5 @@
 -- What the calls of a table on tenants' files ask of a pass, and what they tell it.
-use Rattle.std.specs.Prelude.{ℕ, ◌≡◌, ◌<◌, true, false, cond, List, [], ◌∷◌, Some}
+use Rattle.std.specs.Prelude.{ℕ, ◌≡◌, ◌<◌, true, false, cond, List, [], ◌∷◌, ◌++◌, Option, Some}
 use Rattle.mw_words.specs.declared.statuses.Status.{Status}
 use Rattle.mw_words.specs.Patterns.{IsStatusInRange, unpacked_status}
 use Rattle.mw_look.specs.declared.steps.Call.{Call}
@@ -11,6 +11,7 @@ use Rattle.mw_world.specs.Claim.Headline.{IsPlayed}
 use Rattle.mw_world.specs.Definition.Calls.{Called, device_calls, is_made}
 use Rattle.mw_world.specs.Definition.Happenings.{Happening, File as FileEvent}
 use Rattle.mw_world.specs.Definition.State.{State, Opening, tenants_of}
+use Rattle.mw_rule.specs.Courses.{Course, IsOnFrom, course_of}
 use Rattle.mw_rule.specs.FromLaws.{FileRights, file_told, HasWords, TellsFile}
 use Rattle.mw_rule.specs.Seen.{Gave, opening_at}
 use Rattle.mw_rule.specs.declared.views.Held.{Held}
@@ -34,13 +35,14 @@ pub record IsRightOf (shared : Shared) (right : FileRight) : Type 0 where
 abbrev pub file_kept : FileRight → FileRights
 file_kept right = file_among right.seat.me.0.files
 
--- What is known of a tenant's file is so in a world of this configuration, after some run whose latest start gave the tenants this. Which run it is, and whether the table may have begun with what came first in it, is
--- not told.
-pub record IsSoOfWorld (config : Config) (given : List Opening) (tenant : ℕ) (rights : FileRights) : Type 0 where
+-- What is known of a tenant's file is so in a world of this configuration, after some run whose latest start gave the tenants this. The run went on from the one that was known, if one was.
+pub record IsSoOfWorld (config : Config) (given : List Opening) (known : Option Course) (tenant : ℕ) (rights : FileRights) : Type 0 where
   pub openings : ℕ → Opening
+  pub before : List Happening
   pub events : List Happening
   pub state : State
-  pub played : IsPlayed config openings events state
+  pub played : IsPlayed config openings (before ++ events) state
+  pub goes_on : IsOnFrom known (Some (course_of config openings before events))
   pub gave : (tenant : ℕ) → tenant < tenants_of config → Gave openings state tenant (opening_at given tenant)
   pub there : tenant < tenants_of config
   pub tells : TellsFile (state.accounts tenant).quota config.pool rights (state.accounts tenant).file

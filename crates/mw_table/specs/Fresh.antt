@@ -8,6 +8,7 @@ use Rattle.mw_world.specs.declared.config.Tenant.{Tenant}
 use Rattle.mw_world.specs.Definition.Happenings.{Happening}
 use Rattle.mw_world.specs.Definition.State.{Opening, State, idle_seat, tenants_of, world_at}
 use Rattle.mw_simulator.specs.FromMemory.{first_words}
+use Rattle.mw_rule.specs.Courses.{course_of}
 use Rattle.mw_rule.specs.FromLaws.{rights_opened}
 use Rattle.mw_rule.specs.declared.views.Held.{Held}
 use Rattle.mw_rule.specs.Seen.{opening_at}
@@ -44,11 +45,12 @@ abbrev pub held_from : ℕ → List Opening → ℕ → ℕ → List Held
 held_from pool given first zero = []
 held_from pool given first (suc left) = held_given pool given first ∷ held_from pool given (first + 1) left
 
--- what a table of that world begins with: no worker has a request, and the rights to all tenants' files are given
+-- what a table of that world begins with: nothing has happened since the start, no worker has a request, and the rights to all tenants' files are given
 abbrev pub basis_of_start : Config → List FileOpening → Basis
 basis_of_start config found = record {
   config = config;
   openings = openings_given config.tenants.items found;
+  course = Some (course_of config (start_given config found) [] []);
   seats = λ worker. idle_seat;
   files = held_from config.pool (openings_given config.tenants.items found) 0 (tenants_of config);
 }

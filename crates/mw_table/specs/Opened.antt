@@ -12,7 +12,7 @@ use Rattle.mw_table.specs.Fresh.{held_given}
 pub record IsOpened (shared : Shared) (basis : Basis) (tenant : ℕ) (right : FileRight) : Type 0 where
   pub own : IsRightOf shared right
   pub whose : right.tenant ≡ tenant
-  pub view : right.seat.me.0 ≡ knows basis.config basis.openings [] (held_given basis.config.pool basis.openings tenant ∷ [])
+  pub view : right.seat.me.0 ≡ knows basis.config basis.openings basis.course [] (held_given basis.config.pool basis.openings tenant ∷ [])
 
 -- one to the file of each tenant, in the tenants' order
 pub record AreOpened (shared : Shared) (basis : Basis) (rights : List FileRight) : Type 0 where

@@ -27,4 +27,4 @@ begun_of (OfStart config found) = StartedWith config.value found.value.items
 
 -- what the first thread knows
 abbrev pub first_of : Origin → View
-first_of origin = maker (config_of origin) (openings_of origin) (basis_of origin).seats (basis_of origin).files
+first_of origin = maker (config_of origin) (openings_of origin) (basis_of origin).course (basis_of origin).seats (basis_of origin).files

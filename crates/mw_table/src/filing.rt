@@ -65,11 +65,13 @@ impl Shared {
         let seat = self.table.shared.split_seat::<Entrusts>(&mut pass.seat);
         FileRight { seat, tenant }
     }
+
     /// What is known of a file by whoever has the right is so of the world behind the table, while nobody calls the
-    /// file. That is found by a load of a word, which is no step of a request. The right is given up.
+    /// file, after a run that went on from the one that is known with the right. That is found by a load of a word,
+    /// which is no step of a request. The right is given up.
     pub fn confirm(&self, right: FileRight)
         requires right { IsRightOf self.now right }
-        ensures { IsSoOfWorld (config_of self.now.table.shared.key) (openings_of self.now.table.shared.key) right.tenant (file_kept right) }
+        ensures { IsSoOfWorld (config_of self.now.table.shared.key) (openings_of self.now.table.shared.key) right.seat.me.0.course right.tenant (file_kept right) }
     {
         let FileRight {
             mut seat,

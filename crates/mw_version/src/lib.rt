@@ -2,4 +2,4 @@
 #![tactic(auto)]
 
 /// The version that each program tells at `--version`.
-pub const VERSION: &str = "0.1.0";
+pub const VERSION: &str = "0.2.0";

@@ -10,9 +10,9 @@ fn programs_tell_their_version(rt: HostRuntime) -> Result<(), Fail> {
         new_folder(&rt, "version")?.as_str(),
         "\
 mwinit --version
-gives 0 mwinit 0.1.0;|
+gives 0 mwinit 0.2.0;|
 mwserve --version
-gives 0 mwserve 0.1.0;|",
+gives 0 mwserve 0.2.0;|",
     )
 }
 

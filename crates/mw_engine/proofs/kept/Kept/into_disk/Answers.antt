@@ -22,5 +22,5 @@ returns g c =
     let right = c.in-Some.right in
     let identity = g.J.EngineBrand.identity in
     given_as g.D.Disk.facts identity kept.book right kept.tenant c.into_disk.result c.into_disk.ensures (kept.kept.kept right c.in-Some.is) (kept.kept.its right c.in-Some.is)
-    (so_there c.args.core.now.shared identity right.tenant (file_kept right) c.requires.engine
-    (subst (λ (one : Shared). IsSoOfWorld (config_of one.table.shared.key) (openings_of one.table.shared.key) right.tenant (file_kept right)) c.shared.ensures c.confirm.ensures))
+    (so_there c.args.core.now.shared identity right c.requires.engine
+    (subst (λ (one : Shared). IsSoOfWorld (config_of one.table.shared.key) (openings_of one.table.shared.key) right.seat.me.0.course right.tenant (file_kept right)) c.shared.ensures c.confirm.ensures))

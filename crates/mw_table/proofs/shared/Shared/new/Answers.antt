@@ -14,7 +14,7 @@ use Rattle.mw_table.proofs.shared.Shared.new.Goals as goal
 
 -- the rule of a table that these begin with
 abbrev IsTied : List ℕ → Config → List FileOpening → Type 0
-IsTied words config found = Tied config (StartedWith config found) (opening {S = Acting} words [] (maker config (openings_given config.tenants.items found) (λ worker. idle_seat) (basis_of_start config found).files))
+IsTied words config found = Tied config (StartedWith config found) (opening {S = Acting} words [] (maker config (openings_given config.tenants.items found) (basis_of_start config found).course (λ worker. idle_seat) (basis_of_start config found).files))
 
 pub open-requires-clause-tied : goal.open-requires-clause-tied
 open-requires-clause-tied c =

@@ -1,4 +1,4 @@
-use Rattle.std.proofs.Common.{◌≡◌, ◌<◌, ℕ, List, [], length, ap, sym, ◌∙◌, subst}
+use Rattle.std.proofs.Common.{◌≡◌, ◌<◌, ℕ, List, [], None, length, ap, sym, ◌∙◌, subst}
 use Rattle.atomic_table.specs.Table.{opening}
 use Rattle.mw_actor.specs.Acting.{Acting}
 use Rattle.mw_world.specs.declared.config.Config.{Config}
@@ -19,7 +19,7 @@ open-requires-clause-tied c =
     let words = c.deref.result.now in
     let same = c.deref.ensures.value in
     let long : length words ≡ words_of world.config = ap length same ∙ c.in_ok-words.ensures.long in
-    subst (λ (one : World). Tied one.config (LedTo one) (opening {S = Acting} words [] (maker one.config (openings_of one) (seat_in one) []))) (sym c.of.ensures)
+    subst (λ (one : World). Tied one.config (LedTo one) (opening {S = Acting} words [] (maker one.config (openings_of one) None (seat_in one) []))) (sym c.of.ensures)
     (first_table world c.requires.0 words c.requires.1 long
     (λ state shows. subst (λ (bits : List ℕ). Ties world.config state.cells bits) (sym same) (c.in_ok-words.ensures.ties state shows)))
 
