@@ -29,8 +29,8 @@ use Rattle.mw_book.specs.Ends.{Ends, WasBroken}
 use Rattle.mw_book.specs.Held.{OnDisk, disk_in}
 use Rattle.mw_book.specs.Permits.{MayCall}
 use Rattle.mw_book.proofs.ShownFiles.{untouched}
-use Rattle.mw_table.specs.FromRule.{End, FileRights, FindsFault, FoundStatus, GoesWell, Held, Loaded, LoadedAs, MayEnd, MeetsFault, Skips, Starts, View, Went, WentOn, broken_so, fails, file_told, filed_so, opening_at, place_held, rights_broken, rights_by, rights_filed, went_well}
-use Rattle.mw_table.proofs.FromRule.{keeps_all, keeps_so, requests_go_on_from_calls}
+use Rattle.mw_table.specs.FromRule.{End, FileRights, FindsFault, FoundStatus, GoesWell, Held, IsOnFrom, Loaded, LoadedAs, MayEnd, MeetsFault, Skips, Starts, View, Went, WentOn, broken_so, fails, file_told, filed_so, opening_at, place_held, rights_broken, rights_by, rights_filed, went_well}
+use Rattle.mw_table.proofs.FromRule.{keeps_all, keeps_so, on_again, requests_go_on_from_calls, told_on}
 use Rattle.mw_table.specs.Filing.{HasFailed, faulted_so}
 use Rattle.mw_table.specs.Holding.{file_among}
 use Rattle.mw_core.specs.Books.{Agrees, AgreesHeld, rights_answered}
@@ -93,6 +93,7 @@ made_skips facts worker old new actor called held book status comes only idle ag
   well_is = refl;
   held = held;
   went = subst (λ (rights : FileRights). Went true held rights old new) (sym (ap file_among only)) went;
+  follows = told_on (FileEvent worker Good ∷ []) old new event;
   event = record {
     lent = old;
     keeps = keeps_all old;
@@ -212,10 +213,10 @@ module _ {D : Type 0} (facts : D → Facts) (old between : View) (actor : Acting
       went_on = event;
     }
 
-    made_as : (well : Bool) (end : End) → MayEnd end called status held.file → EndsThere facts called (own_entries actor) held.file before after end
+    made_as : (well : Bool) (end : End) → IsOnFrom between.course last.course → MayEnd end called status held.file → EndsThere facts called (own_entries actor) held.file before after end
         → StaysSafe facts called held.file before after end → well ≡ went_well end → Went well found (rights_by end held.file actor called) old last
         → IsOneEvent worker end status held.file old last → MakesCall facts worker old last actor before after well
-    made_as well end may there safe well_is went event =
+    made_as well end on may there safe well_is went event =
         let back : held.file ≡ file_among old.files = sym (ap file_among only) in
         record {
           called = called;
@@ -229,6 +230,7 @@ module _ {D : Type 0} (facts : D → Facts) (old between : View) (actor : Acting
           held = found;
           went = subst (λ (rights : FileRights). Went well found (rights_by end rights actor called) old last) back went;
           event = subst (λ (rights : FileRights). IsOneEvent worker end status rights old last) back event;
+          follows = on_again old.told_course between.course last.course starts.told_course on;
         }
 
     -- the change at stake, by the places of the right
@@ -242,7 +244,7 @@ module _ {D : Type 0} (facts : D → Facts) (old between : View) (actor : Acting
         → WentOn (FileEvent worker Good ∷ []) between last → MakesCall facts worker old last actor before after true × AgreesHeld facts after last actor.tenant
     made_well Made is ends moments went event =
         let since = went_since old between last worker actor called held found status true (filed_so between actor called found) starts went in (
-          made_as true GoesWell (test, ends.began) ends (stakes_at (moments (file_told held.file) agrees_here.shows)) refl (subst (λ (rights : FileRights). Went true found rights old last) (ap rights_at as_long) since)
+          made_as true GoesWell went.files.goes_on.course (test, ends.began) ends (stakes_at (moments (file_told held.file) agrees_here.shows)) refl (subst (λ (rights : FileRights). Went true found rights old last) (ap rights_at as_long) since)
               (one_event GoesWell refl event),
           agrees_told true (filed_so between actor called found) since
               (subst (λ (rights : FileRights). Agrees facts after rights quota old.config.pool) (sym (ap rights_at same_quota)) (agrees_after Made ends)),
@@ -259,7 +261,7 @@ module _ {D : Type 0} (facts : D → Facts) (old between : View) (actor : Acting
         let faulted = cond-false (fails between called found) held.file (broken_so between called found) ends.began in
         let since = went_since old between last worker actor called held found status false (broken_so between called found) starts (subst (λ (rights : FileRights). Went false found rights between last) faulted went) in
         let many : before.places ≡ length held.file.places = agrees_here.as_many ∙ sym agrees_here.long in (
-          made_as false (MeetsFault ends.number) (test, ends.began, ap (λ (n : ℕ). is_made (calls_at n) ends.number) (sym many) ∙ ends.within) (ends, refl) (stakes_at (moments (file_told held.file) agrees_here.shows)) refl
+          made_as false (MeetsFault ends.number) went.files.goes_on.course (test, ends.began, ap (λ (n : ℕ). is_made (calls_at n) ends.number) (sym many) ∙ ends.within) (ends, refl) (stakes_at (moments (file_told held.file) agrees_here.shows)) refl
               (subst (λ (n : ℕ). Went false found (rights_broken held.file (doubt_at n)) old last) as_long since)
               (one_event (MeetsFault ends.number) refl (event.now ends.began ends.number (one_made after ends))),
           agrees_told false (broken_so between called found) since
@@ -268,6 +270,6 @@ module _ {D : Type 0} (facts : D → Facts) (old between : View) (actor : Acting
     made_badly Untouched other ends moments went event =
         let faulted = cond-true (fails between called found) held.file (broken_so between called found) ends.refused in
         let since = went_since old between last worker actor called held found status false held.file starts (subst (λ (rights : FileRights). Went false found rights between last) faulted went) in (
-          made_as false FindsFault (test, ends.refused) ends (moments (file_told held.file) agrees_here.shows) refl since (one_event FindsFault refl (event.before ends.refused)),
+          made_as false FindsFault went.files.goes_on.course (test, ends.refused) ends (moments (file_told held.file) agrees_here.shows) refl since (one_event FindsFault refl (event.before ends.refused)),
           agrees_told false held.file since (agrees_after Untouched ends),
         )

@@ -24,7 +24,6 @@ goes_on_on first between last one two =
       seen = λ tenant low. begins_on (seen_at first.seen tenant) (seen_at between.seen tenant) (seen_at last.seen tenant) (one.seen tenant low) (two.seen tenant (there tenant low));
       told = λ tenant low. begins_on (seen_at first.told tenant) (seen_at between.seen tenant) (seen_at last.seen tenant) (one.told tenant low) (two.seen tenant (there tenant low));
       course = on_again first.course between.course last.course one.course two.course;
-      told_course = on_again first.told_course between.course last.course one.told_course two.course;
     }
 
 files_on : (first between last : View) → LeavesRest first between → LeavesRest between last → LeavesRest first last
@@ -61,7 +60,6 @@ module _ (old its last : View) (held found : Held) (well : Bool) (after : FileRi
         seen = made.files.goes_on.seen;
         told = made.files.goes_on.told;
         course = made.files.goes_on.course;
-        told_course = made.files.goes_on.told_course;
       };
       right = bereft_right last made.files.right;
       same_mine = made.files.same_mine;

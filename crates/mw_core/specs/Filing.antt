@@ -15,7 +15,7 @@ use Rattle.mw_book.specs.declared.kept.Book.{Book}
 use Rattle.mw_book.specs.Crashes.{LeavesEither}
 use Rattle.mw_book.specs.Held.{OnDisk, disk_in}
 use Rattle.mw_book.specs.Ends.{WasBroken, WasMade, WasRefused}
-use Rattle.mw_table.specs.FromRule.{Each, End, FileRights, FindsFault, FoundStatus, GoesWell, Held, IsReady, Keeps, LeavesRest, MayEnd, MeetsFault, Reins, Serves, Skips, View, Went, WentOn, after_call, bereft, file_told, rights_by, went, went_well}
+use Rattle.mw_table.specs.FromRule.{Each, End, FileRights, FindsFault, FoundStatus, GoesWell, Held, IsOnFrom, IsReady, Keeps, LeavesRest, MayEnd, MeetsFault, Reins, Serves, Skips, View, Went, WentOn, after_call, bereft, file_told, rights_by, went, went_well}
 use Rattle.mw_table.specs.declared.shared.Pass.{Pass}
 use Rattle.mw_table.specs.Holding.{file_among}
 use Rattle.mw_core.specs.Books.{AgreesFor}
@@ -77,7 +77,8 @@ pub record HasFiled (well : Bool) (old new : View) : Type 0 where
   pub ready : Each (IsReady new.config) new.reins
   pub same_files : new.files ≡ old.files
 
--- The call to which a worker's request has come was made, by the right that its thread has, and ended so; it went well or didn't. The right tells of the file after it.
+-- The call to which a worker's request has come was made, by the right that its thread has, and ended so; it went well or didn't. The right tells of the file after it. The run by which it was made went on from the one that
+-- the thread was told.
 pub record MakesCall {D : Type 0} (facts : D → Facts) (worker : ℕ) (old new : View) (actor : Acting) (before after : Book D) (well : Bool) : Type 0 where
   pub called : CallOn
   pub comes_to : called_at actor.point ≡ Some called
@@ -90,6 +91,7 @@ pub record MakesCall {D : Type 0} (facts : D → Facts) (worker : ℕ) (old new 
   pub held : Held
   pub went : Went well held (rights_by end (file_among old.files) actor called) old new
   pub event : IsOneEvent worker end status (file_among old.files) old new
+  pub follows : IsOnFrom old.told_course new.course
 
 -- One call on the file of the request's tenant was made, the one to which the request had come, and ended so: a run of a world goes on by that event. The request was told of that end, and the right tells of the file
 -- after it. Book and right agreed before it, and agree after it.

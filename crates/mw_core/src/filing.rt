@@ -3,6 +3,7 @@ ghost use Rattle.std.specs.Prelude.{◌≡◌, ◌≢◌, None};
 ghost use Rattle.mw_actor.specs.Acting as acting;
 ghost use Rattle.mw_world.specs.Definition.Calls.{called_at};
 ghost use Rattle.mw_table.specs.Carried.{IsCarried};
+ghost use Rattle.mw_table.specs.FromRule.{IsOnFrom};
 ghost use Rattle.mw_table.specs.Filing.{IsFree, IsRightOf, file_kept};
 ghost use Rattle.mw_table.specs.Holding.{HasFile};
 ghost use Rattle.mw_table.specs.Meeting.{IsSamePass};
@@ -26,7 +27,8 @@ impl Core {
     /// A call that doesn't start from the status of its change does nothing, and counts as one that went well. One
     /// that starts is made on the book: if all its device calls go well, the status goes on; if one of them fails,
     /// or the file had failed before, the tenant's door has the fault from then on. A run of a world goes on by this
-    /// call, as one that ended so.
+    /// call, as one that ended so; it went on from the one that the pass knew, and from the one that was known with the
+    /// right, with which it is known then: so all calls on one file are of one run, whoever makes them.
     pub fn file<D: Disk>(
         &self,
         pass: &mut Pass,
@@ -48,6 +50,8 @@ impl Core {
         ensures files { FilesOnce D.facts pass.old pass.new actor.old actor.new book.old book.new (file_kept right) (file_kept result) }
         ensures right { IsRightOf self.now.shared result }
         ensures whose { result.tenant ≡ right.tenant }
+        ensures follows { IsOnFrom right.seat.me.0.course result.seat.me.0.course }
+        ensures known { result.seat.me.0.course ≡ pass.new.seat.me.0.course }
         ensures agrees { AgreesThere D.facts self.now.shared book.new result }
     {
         let tenant = right.tenant();

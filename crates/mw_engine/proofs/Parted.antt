@@ -10,7 +10,7 @@ use Rattle.mw_world.specs.declared.config.Config.{Config}
 use Rattle.mw_world.specs.declared.config.Tenant.{Tenant}
 use Rattle.mw_world.specs.Definition.State.{Opening, tenants_of}
 use Rattle.mw_book.specs.declared.kept.Book.{Book}
-use Rattle.mw_core.specs.FromTable.{AreOpened, Basis, FileOpening, FileRight, FileRights, IsDealt, Pass, Shared, View, basis_of, basis_of_start, config_of, file_among, file_kept, numbers, opening_at, openings_given, openings_of, rights_opened}
+use Rattle.mw_core.specs.FromTable.{AreOpened, Basis, FileOpening, FileRight, FileRights, IsDealt, Pass, Shared, View, basis_of, basis_of_start, config_of, course_of, file_among, file_kept, numbers, opening_at, openings_given, openings_of, rights_opened}
 use Rattle.mw_core.specs.Books.{Agrees}
 use Rattle.mw_engine.specs.declared.listed.Listed.{Listed}
 use Rattle.mw_engine.specs.Agreeing.{Agrees as AgreesWithWorld, line_given, places_told}
@@ -76,6 +76,7 @@ module _ {D : Type 0} (facts : D → Facts) (shared : Shared) (config : Config) 
     attempt = ap second_of (sym pass.numbered ∙ ap numbers dealt.view);
     nothing_seen = ap (λ (view : View). view.seen) dealt.view;
     nothing_noted = ap (λ (view : View). view.mine) dealt.view;
+    begun = ap (λ (view : View). view.course) dealt.view ∙ ap (λ (b : Basis). Some (course_of b.config (opening_at b.openings) [] [])) (sym basis);
   }
 
   pub new_passes : (passes : List Pass) → All (IsDealt shared (basis_of_start config openings)) passes → All (IsNew (identity_on shared (map line_of kept))) passes

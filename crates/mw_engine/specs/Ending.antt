@@ -11,7 +11,7 @@ use Rattle.mw_engine.specs.Branding.{Identity}
 use Rattle.mw_engine.specs.Kept.{IsKept}
 
 module _ {D : Type 0} (facts : D → Facts) (identity : Identity) where
-  -- The disk is the one of the book that was kept with the right to this tenant's file. What the right tells of the file is so of the world behind the engine's shared words, after a run that went on from the one that was known with the right at the latest call on the file; and on an honest disk
+  -- The disk is the one of the book that was kept with the right to this tenant's file. What the right tells of the file is so of the world behind the engine's shared words; and on an honest disk
   -- the file stands for the words that it has in that world, with the change that is in doubt there.
   pub record IsGiven (tenant : ℕ) (disk : D) : Type 0 where
     pub book : Book D

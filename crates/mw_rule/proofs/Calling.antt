@@ -15,6 +15,7 @@ use Rattle.mw_rule.specs.declared.views.Reins.{Reins}
 use Rattle.mw_rule.specs.declared.views.View.{View}
 use Rattle.mw_rule.specs.Calling.{CallsBegin, CallsBorrow, CallsDealt, CallsEnd, CallsFile, CallsGiveBack, CallsGoOn, CallsMeet, CallsStand, CallsStart}
 use Rattle.mw_rule.specs.Carrying.{GoesOn, Keeps, NotesAs, comes, finished_as, settled, settled_as, stepped, told, told_of}
+use Rattle.mw_rule.specs.Courses.{Course}
 use Rattle.mw_rule.specs.Dealing.{bereft, borrows, other_held, reins_of}
 use Rattle.mw_rule.specs.Filing.{after_call, went}
 use Rattle.mw_rule.specs.Rule.{Each, IsFinished}
@@ -42,8 +43,8 @@ pub keeps_all : (view : View) → Keeps view view
 keeps_all view = record { same_config = refl; same_openings = refl; seen = λ tenant low. begins_itself (seen_at view.seen tenant); course = stays view.course }
 
 -- whatever files it may call
-keeps_files : (view : View) (files : List Held) → Keeps view (record view { files = files })
-keeps_files view files = record { same_config = refl; same_openings = refl; seen = λ tenant low. begins_itself (seen_at view.seen tenant); course = stays view.course }
+keeps_files : (view : View) (files : List Held) (told : Option Course) → Keeps view (record view { files = files; told_course = told })
+keeps_files view files told = record { same_config = refl; same_openings = refl; seen = λ tenant low. begins_itself (seen_at view.seen tenant); course = stays view.course }
 
 -- A place that is no smaller than one number is no smaller than a lower one.
 notes_from : (reins : Reins) (tenant begun lower : ℕ) (job : Job) (reply : Option Reply) (old new : List Finished) → lower ≤ begun → NotesAs reins tenant begun job reply old new → NotesAs reins tenant lower job reply old new
@@ -116,11 +117,11 @@ calls_stand first old new reins actor index bits serves looked =
 
 pub calls_borrow : CallsBorrow
 calls_borrow first old its reins actor serves =
-    calls_meet first old (borrows old its) reins actor serves (record { keeps = keeps_files old (old.files ++ its.files); right = borrows_right old its serves.right; same_reins = refl; same_mine = refl })
+    calls_meet first old (borrows old its) reins actor serves (record { keeps = keeps_files old (old.files ++ its.files) its.course; right = borrows_right old its serves.right; same_reins = refl; same_mine = refl })
 
 pub calls_give_back : CallsGiveBack
 calls_give_back first old reins actor serves =
-    calls_meet first old (bereft old) reins actor serves (record { keeps = keeps_files old (other_held old.files); right = bereft_right old serves.right; same_reins = refl; same_mine = refl })
+    calls_meet first old (bereft old) reins actor serves (record { keeps = keeps_files old (other_held old.files) old.told_course; right = bereft_right old serves.right; same_reins = refl; same_mine = refl })
 
 pub calls_start : CallsStart
 calls_start first old new reins worker actor called held status serves starts =

@@ -221,6 +221,7 @@ module _ (config : Config) (begun : (ℕ → Opening) → List Happening → Typ
         run = looks.run;
         told = record {
           files = record { goes_on = looks.goes_on; right = looks.right; same_mine = looks.same_mine };
+          told_course = looks.told_course;
           in_range = lawful_now.fit (AtStatus called.change.slot);
           same_reins = looks.same_reins;
           keeps = looks.same_files;

@@ -1,5 +1,5 @@
 -- Whatever a thread may do keeps the rule, by a step by which the run goes on.
-use Rattle.std.specs.Prelude.{ℕ, zero, suc, ◌<◌, Bool, true, false, ◌≡◌, List, [], ◌∷◌, ◌++◌, length, map, slice_index, slice_set, Some}
+use Rattle.std.specs.Prelude.{ℕ, zero, suc, ◌<◌, Bool, true, false, ◌≡◌, List, [], ◌∷◌, ◌++◌, length, map, slice_index, slice_set, Option, Some}
 use Rattle.std.proofs.Common.{refl, sym, ap, subst, ◌∙◌, inl, inr}
 use Rattle.std.proofs.lemmas.List.{get_or-set_same}
 use mathlib.Core.Option.{some, some-ne-none}
@@ -18,12 +18,13 @@ use Rattle.mw_rule.specs.declared.views.Held.{Held}
 use Rattle.mw_rule.specs.declared.views.Reins.{Reins}
 use Rattle.mw_rule.specs.declared.views.View.{View}
 use Rattle.mw_rule.specs.Carrying.{Looked, comes, told}
-use Rattle.mw_rule.specs.Courses.{course_of}
+use Rattle.mw_rule.specs.Courses.{Course, IsOnFrom, course_of}
 use Rattle.mw_rule.specs.Filing.{LoadedAs, went}
 use Rattle.mw_rule.specs.Layout.{index_of, words_of}
-use Rattle.mw_rule.specs.Moves.{Breaks, Comes, Exchanges, FindsFault, Loads, Looks, Move, MovesAreAllowed, MovesChangeWords, MovesGoOn, StandsAt, Steps, WentOnAt, events_by, index_by, made_by, told_by}
+use Rattle.mw_rule.specs.Moves.{Breaks, Comes, Exchanges, FindsFault, Loads, Looks, Move, MovesAreAllowed, MovesChangeWords, MovesGoOn, StandsAt, Steps, WentOn, WentOnAt, events_by, index_by, made_by, told_by}
 use Rattle.mw_rule.specs.Rule.{Fits, IsLive, IsRunOf, Tied, Ties, WentOnFor}
 use Rattle.mw_rule.specs.Ways.{finds}
+use Rattle.mw_rule.proofs.Courses.{on_with_more}
 use Rattle.mw_rule.proofs.Layouts.{places_in_table}
 use Rattle.mw_rule.proofs.FileCalls.{calls_end_on, calls_find_faults_on, calls_load_on, calls_meet_faults_on}
 use Rattle.mw_rule.proofs.Moving.{first_steps_on, steps_on}
@@ -99,6 +100,11 @@ set_stands config its state words index bits same is_config long ties at there i
     let low : index_of config.pool at < length words =
     subst (λ (n : ℕ). index_of config.pool at < n) (sym long) (places_in_table config at is_config (ap (λ (c : Config). has_place c at) same ∙ there)) in
     sym (get_or-set_same words index bits 0 (subst (λ (n : ℕ). n < length words) here low)) ∙ stands_so config its state (slice_set words index bits) index same ties at there is
+
+-- The run by which a thread's call goes on is one that went on from what it was told.
+pub told_on : (more : List Happening) (old new : View) → WentOn more old new → IsOnFrom old.told_course new.course
+told_on more old new went =
+    subst (λ (known : Option Course). IsOnFrom old.told_course known) (sym went.course) (on_with_more old.config old.told_course went.openings went.before went.events more went.follows.told)
 
 module _ (config : Config) (begun : (ℕ → Opening) → List Happening → Type 0) where
   went_on : (s : Table Acting View) (tied : Tied config begun s) (id index bits : ℕ) (old new : View) (more : List Happening) → get_elem? s.views id ≡ some old → IsLive old → IsLive new

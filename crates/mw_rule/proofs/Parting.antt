@@ -27,7 +27,7 @@ use Rattle.mw_rule.specs.Continuing.{JoinsOn, LooksGoOn, PartsOn}
 use Rattle.mw_rule.specs.Layout.{index_of}
 use Rattle.mw_rule.specs.Dealing.{bereft, borrows, dealt, entrusted, first_held, gathers, head_of, hears, left_over, maker, meets, note, of_head, of_rest, other_held, reins_from, reins_of, rest_of, spent}
 use Rattle.mw_rule.specs.Laws.{BorrowingKeepsTheRule, DealsKeepTheRule, EntrustingKeepsTheRule, GatheringKeepsTheRule, HearingKeepsTheRule, LooksKeepTheRule, MeetingKeepsTheRule, NotesKeepTheRule, StartsUnderTheRule}
-use Rattle.mw_rule.specs.Courses.{course_of}
+use Rattle.mw_rule.specs.Courses.{IsOnFrom, course_of}
 use Rattle.mw_rule.specs.Rule.{Continues, Each, Fits, has, HasGroundFor, Holds, holds_of, HoldsFile, IsLive, IsOver, IsRight, IsRunOf, IsSpent, notes_of, Tied, Ties, times, times_held, total, weight, WentOnFor}
 use Rattle.mw_rule.specs.Seen.{Gave, HasBegunFor, opening_at, seen_at}
 use Rattle.mw_rule.proofs.Courses.{stays}
@@ -84,6 +84,7 @@ for_looker config begun s tied next view course on = record {
 pub record LooksAs (config : Config) (begun : (ℕ → Opening) → List Happening → Type 0) (s : Table Acting View) (tied : Tied config begun s) (id index bits : ℕ) (old : View) (files : List Held) (glances : List Glance) : Type 0 where
   pub view : View
   pub goes_on : GoesOn old view
+  pub told_course : IsOnFrom old.told_course view.course
   pub stood : StoodThere view index (slice_index s.words index)
   pub right : IsRight view
   pub same_reins : view.reins ≡ old.reins
@@ -111,8 +112,9 @@ looks_as config begun id index view make files glances live makes s tied at same
     let words : slice_set s.words index (make bits) ≡ s.words = ap (slice_set s.words index) (makes bits) ∙ set-get_or s.words index 0 in
     record {
       view = new;
-      goes_on = let on = sees_on config sealed course view view.reins view.mine files fits.same_config fits.seen fits.told follows.known follows.told in
-          record { same_config = refl; same_openings = refl; same_spent = refl; same_told = refl; seen = on.seen; told = on.told; course = on.course; told_course = on.told_course };
+      goes_on = let on = sees_on config sealed course view view.reins view.mine files fits.same_config fits.seen fits.told follows.known in
+          record { same_config = refl; same_openings = refl; same_spent = refl; same_told = refl; seen = on.seen; told = on.told; course = on.course };
+      told_course = follows.told;
       stood = stood_there config openings before tied.state new index bits fits.same_config tied.past.played fits.gave (all_at sealed (tenants_of config)) (λ place there is. sym (ap (slice_index s.words) is) ∙ tied.ties place there);
       right = right;
       same_reins = refl;
@@ -140,6 +142,7 @@ looks_on config begun id index view make live makes s tied at =
       new = looks.view;
       is_told = record {
         goes_on = looks.goes_on;
+        told_course = looks.told_course;
         stood = looks.stood;
         glances = looks.same_glances;
         right = looks.right;
@@ -385,7 +388,7 @@ borrowing_on config begun id other view its live its_live may = joins_on config 
       right = borrows_right view its fits.right;
       over = fits.over;
       files = each_more (HoldsFile config state) view.files its.files fits.files its_fits.files;
-    }) (λ openings before events own its. record { known = own.known; told = own.told })
+    }) (λ openings before events own its. record { known = own.known; told = its.known })
 
 pub borrowing_keeps : (config : Config) (begun : (ℕ → Opening) → List Happening → Type 0) → BorrowingKeepsTheRule config begun
 borrowing_keeps config begun id other view its live its_live s tied at apart its_at = (borrowing_on config begun id other view its live its_live tt s tied at apart its_at).after

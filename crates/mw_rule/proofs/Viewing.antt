@@ -72,8 +72,8 @@ sees config sealed course old reins mine files = record old { reins = reins; see
 
 -- What was seen goes on.
 pub sees_on : (config : Config) (sealed : ℕ → List SealedChange) (course : Course) (old : View) (reins : List Reins) (mine : List Finished) (files : List Held) → old.config ≡ config → ComeFirst (tenants_of config) old.seen sealed
-    → ComeFirst (tenants_of config) old.told sealed → IsOnFrom old.course (Some course) → IsOnFrom old.told_course (Some course) → GoesOn old (sees config sealed course old reins mine files)
-sees_on config sealed course old reins mine files same seen told on told_on = record {
+    → ComeFirst (tenants_of config) old.told sealed → IsOnFrom old.course (Some course) → GoesOn old (sees config sealed course old reins mine files)
+sees_on config sealed course old reins mine files same seen told on = record {
   same_config = refl;
   same_openings = refl;
   same_spent = refl;
@@ -83,7 +83,6 @@ sees_on config sealed course old reins mine files same seen told on told_on = re
   told = λ tenant low. let there = subst (λ (one : Config). tenant < tenants_of one) same low in
       subst (IsBeginning (seen_at old.told tenant)) (sym (all_at sealed (tenants_of config) tenant there)) (told tenant there);
   course = on;
-  told_course = told_on;
 }
 
 pub all_seen : (sealed : ℕ → List SealedChange) (tenants : ℕ) → ComeFirst tenants (all_of sealed tenants) sealed
@@ -212,7 +211,7 @@ moves config begun s tied more id index bits old reins f cells files IsSo at onl
           (λ tenant request.
           let all = noted_few config begun s tied reached.noted reached.few reached.fresh tenant request in
           let sum = times_more tenant request old.mine reached.noted in omega (arith, all, sum)) beside same_files refl refl;
-      goes_on = sees_on config sealed course old (map f old.reins) (old.mine ++ reached.noted) files fits.same_config (seen old.seen fits.seen) (seen old.told fits.told) follows.known follows.told;
+      goes_on = sees_on config sealed course old (map f old.reins) (old.mine ++ reached.noted) files fits.same_config (seen old.seen fits.seen) (seen old.told fits.told) follows.known;
       right = right;
       reins = refl;
       ready = subst (λ (one : Config). Each (IsReady one) (map f old.reins)) (sym fits.same_config)

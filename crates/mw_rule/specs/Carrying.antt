@@ -109,14 +109,15 @@ pub record MayCome (view : View) (worker : ℕ) (actor : Acting) : Type 0 where
 abbrev pub Precede : ℕ → List (List SealedChange) → List (List SealedChange) → Type 0
 Precede tenants first then = ComeFirst tenants first (seen_at then)
 
--- Whatever a thread does, it knows the same of the world and of the latest start, all that it had seen comes first of what it has seen now, and the run behind the table goes on from the one that it knew.
+-- Whatever a thread does on a table, or whomever it meets there, it knows the same of the world and of the latest start, all that it had seen comes first of what it has seen now, and the run behind the table goes on from
+-- the one that it knew.
 pub record Keeps (old new : View) : Type 0 where
   pub same_config : new.config ≡ old.config
   pub same_openings : new.openings ≡ old.openings
   pub seen : Precede (tenants_of old.config) old.seen new.seen
   pub course : IsOnFrom old.course new.course
 
--- So it is over steps and loads, and all that the thread was told comes first of what it has seen now.
+-- So it is over steps and loads, and all that the thread was told of changes comes first of what it has seen now.
 pub record GoesOn (old new : View) : Type 0 where
   pub same_config : new.config ≡ old.config
   pub same_openings : new.openings ≡ old.openings
@@ -125,7 +126,6 @@ pub record GoesOn (old new : View) : Type 0 where
   pub seen : Precede (tenants_of old.config) old.seen new.seen
   pub told : Precede (tenants_of old.config) old.told new.seen
   pub course : IsOnFrom old.course new.course
-  pub told_course : IsOnFrom old.told_course new.course
 
 -- These bits stand at an index of the table, in a world after some run whose latest start gave the tenants what the thread knows of it, and in which just those changes were sealed that
 -- it has seen.
@@ -189,9 +189,11 @@ pub record IsFound (got : Got) (actor : Acting) : Type 0 where
 abbrev pub Finds : Got → View → Type 0
 Finds got old = (reins : Reins) (actor : Acting) → old.reins ≡ reins ∷ [] → reins.actor ≡ Some actor → IsFound got actor
 
--- A load that is no event, of these bits at this index, and of nothing else. What the thread saw before, and what it was told, comes first of what it has seen now.
+-- A load that is no event, of these bits at this index, and of nothing else. What the thread saw before, and what it was told, comes first of what it has seen now; and the run behind the table goes on from the
+-- one that it was told.
 pub record Looked (index bits : ℕ) (old new : View) : Type 0 where
   pub goes_on : GoesOn old new
+  pub told_course : IsOnFrom old.told_course new.course
   pub stood : StoodThere new index bits
   pub glances : new.glances ≡ old.glances ++ record { index = index; bits = bits } ∷ []
   pub right : IsRight new

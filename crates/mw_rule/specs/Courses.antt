@@ -5,7 +5,8 @@ use Rattle.mw_world.specs.declared.config.Config.{Config}
 use Rattle.mw_world.specs.Definition.Happenings.{Happening, File}
 use Rattle.mw_world.specs.Definition.State.{Opening, tenants_of}
 
--- A run: what its first start gave each tenant, what happened before the table was made, and what has happened since.
+-- A run: what its first start gave each tenant, what happened before the table was made, and what has happened since, but for which device call failed in a call on a file. Where one did, 0 stands for its number, which no
+-- device call has.
 pub record Course : Type 0 where
   pub openings : List Opening
   pub before : List Happening

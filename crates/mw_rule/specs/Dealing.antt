@@ -78,11 +78,11 @@ note view = record view { reins = []; mine = []; files = []; is_spent = false }
 abbrev pub hears : View → View → View
 hears view other = record view { told = other.seen; told_course = other.course }
 
--- a thread that takes what another's note says for what it saw itself
+-- a thread that takes what another's note says for what it saw itself, and the run that the other knew for the one that it knows, which may have been longer
 abbrev pub meets : View → View → View
 meets view other = record view { seen = other.seen; told = other.seen; course = other.course; told_course = other.course }
 
--- a thread that takes over all that another knew, which had seen no less
+-- a thread that takes over all that another knew, which had seen no less, and the run that the other knew for its own, which may have been longer
 abbrev pub gathers : View → View → View
 gathers view other = record view {
   reins = view.reins ++ other.reins;
@@ -109,9 +109,9 @@ entrusted view = record view { reins = []; mine = []; files = first_held view.fi
 abbrev pub bereft : View → View
 bereft view = record view { files = other_held view.files }
 
--- a thread takes another's files, and nothing else of what it knew
+-- a thread takes another's files, and is told the run that the other knew; nothing else of what it knew
 abbrev pub borrows : View → View → View
-borrows view other = record view { files = view.files ++ other.files }
+borrows view other = record view { files = view.files ++ other.files; told_course = other.course }
 
 -- what is left of a thread that gave away all that it knew
 abbrev pub spent : View

@@ -18,6 +18,7 @@ use Rattle.mw_rule.specs.declared.views.Deed.TheVariants.{Called}
 use Rattle.mw_rule.specs.declared.views.Held.{Held}
 use Rattle.mw_rule.specs.declared.views.Reins.{Reins}
 use Rattle.mw_rule.specs.declared.views.View.{View}
+use Rattle.mw_rule.specs.Courses.{IsOnFrom}
 use Rattle.mw_rule.specs.Carrying.{GoesOn, Has, IsReady}
 use Rattle.mw_rule.specs.Rule.{Each, IsRight}
 use Rattle.mw_rule.specs.Seen.{opening_at}
@@ -64,9 +65,11 @@ pub record LeavesRest (old new : View) : Type 0 where
   pub right : IsRight new
   pub same_mine : new.mine ≡ old.mine
 
--- The status is one that the call starts from, and in range. It is kept in mind, and nothing has happened yet. The call can be made, if the file hasn't failed.
+-- The status is one that the call starts from, and in range. It is kept in mind, and nothing has happened yet; the run behind the table goes on from the one that was known with the right. The call can be made, if the file
+-- hasn't failed.
 pub record Starts (worker : ℕ) (actor : Acting) (called : CallOn) (held : Held) (status : Status) (old new : View) : Type 0 where
   pub files : LeavesRest old new
+  pub told_course : IsOnFrom old.told_course new.course
   pub in_range : IsStatusInRange status
   pub same_reins : new.reins ≡ old.reins
   pub keeps : new.files ≡ record held { found = Some (record { worker = worker; status = status }) } ∷ []

@@ -91,7 +91,8 @@ told_by view (Breaks worker number actor called held status by found sound is_on
 told_by view (FindsFault worker actor called held status by found failed) bits new = Went false held held.file view new
 
 -- A run of a world goes on by these events, from a moment at which what a thread knew was so to one at which what it knows then is so. What happened before the table was made, and since then, is told apart; no start
--- has happened since. It is a run that went on from the one that the thread knew, if it knew one: it began so, and what had happened in that one happened first in it. Then the thread knows this run with these events.
+-- has happened since. It is a run that went on from the one that the thread knew, if it knew one, and from the one that it was told: it began so, and what had happened in that one happened first in it. Then the thread knows this run with these
+-- events.
 pub record WentOn (more : List Happening) (old new : View) : Type 0 where
   pub openings : ℕ → Opening
   pub before : List Happening

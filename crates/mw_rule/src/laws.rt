@@ -67,11 +67,11 @@ pub fn the_run_goes_on<B: Begins>()
 {}
 
 /// All that a thread may do to a word, together. The rule allows each by a step by which the run goes on by just its
-/// events; and what the thread is told of it goes with that: what it knew was so after some run, and what it knows then
-/// is so after the run with these events more. The bits that were found stood in the world before these, and the bits
-/// that are left stand in the world after them. So each step of a request is one event, its first step one more with
-/// which it comes, and a load that is no step is none. No law says which of the runs that fit the table is meant. So it
-/// is also of the device call that failed in a call on a file: the run goes on as well by any other of the call's.
+/// events; and what the thread is told of it goes with that: what it knew was so after a run that went on from the one
+/// that it knew, if it knew one, and what it knows then is so after that run with these events more. The bits that were
+/// found stood in the world before these, and the bits that are left stand in the world after them. So each step of a
+/// request is one event, its first step one more with which it comes, and a load that is no step is none. Which device
+/// call failed in a call on a file no law says: the run goes on as well by any other of the call's.
 pub fn moves_are_of_the_run<B: Begins>()
     ensures go_on { (key : B) → MovesGoOn (B.config key) (B.begun key) }
     ensures allowed { (key : B) → MovesAreAllowed (B.config key) (B.begun key) }

@@ -2,8 +2,8 @@
 //! the table, and what the threads know, are those of the world after some run.
 //!
 //! What to read first. `specs/Layout` says where each shared word stands, `specs/Ways` what each kind of step
-//! makes of a word's bits; `specs/Rule` is the rule, with what one thread knows, and `specs/Grounds` what BUSY,
-//! FAULT and WORN rest on; `specs/Carrying` what a step
+//! makes of a word's bits; `specs/Rule` is the rule, with what one thread knows, `specs/Courses` the run behind the
+//! table as a thread knows it, and `specs/Grounds` what BUSY, FAULT and WORN rest on; `specs/Carrying` what a step
 //! asks of the thread that makes it, and what it tells the thread; `specs/Calling` what that comes to over a
 //! whole call; `specs/Dealing` how what threads know is parted and put together. `specs/Laws` and
 //! `specs/Continuing` say what is proved of these, `specs/Moves` of all that a thread may do at once. `mw_table`
@@ -23,5 +23,7 @@ pub use laws::{
     the_run_goes_on, what_is_known_is_parted,
 };
 pub use rule::{Begins, Borrows, Deals, Entrusts, Gathers, Hears, Meets, Notes, Tie};
-pub use views::{Deed, Finding, Finished, FoundStatus, Glance, Held, Opened, Reins, Sealed, View};
+pub use views::{
+    Course, Deed, Finding, Finished, FoundStatus, Glance, Held, Opened, Reins, Sealed, View,
+};
 pub use ways::{Way, way_of};

@@ -158,10 +158,10 @@ pub struct View {
     pub seen: LinkedList<LinkedList<Sealed>>,
     /// The same, as another thread told it.
     pub told: LinkedList<LinkedList<Sealed>>,
-    /// The run behind the table, as it was at the thread's latest step, or when the table was made. Of a table that is
-    /// made of a world none is known before a first step.
+    /// The run behind the table, as it was at the thread's latest step or load, or at that of a thread that it met; before
+    /// these, as it was when the table was made at a start. Of a table that is made of a world none is known then.
     pub course: Option<Course>,
-    /// The same, as another thread told it.
+    /// The same, as another thread told it, or as it was known with a right to a file.
     pub told_course: Option<Course>,
     /// The requests that its workers finished, in order, each at its place among what was seen; of a thread that
     /// took over another's knowledge its own come first.

@@ -161,7 +161,7 @@ module _ (one other : View) (own theirs : ℕ × ℕ) (ones : numbers one ≡ ow
     seen = λ tenant low.
         begins_on (seen_at story.told.looked.seen tenant) (seen_at story.told.heard.seen tenant) (seen_at story.all.seen tenant) (no_less one other theirs others same_config story.told tenant low)
         (gathering.goes_on.seen tenant low);
-    course = on_again story.told.looked.course story.told.heard.course story.all.course heard_so.goes_on.told_course gathering.goes_on.course;
+    course = on_again story.told.looked.course story.told.heard.course story.all.course heard_so.told_course gathering.goes_on.course;
   })
 
   -- a thread that had no right to a file has none then
@@ -198,4 +198,4 @@ module _ (one other : View) (own theirs : ℕ × ℕ) (ones : numbers one ≡ ow
       subst IsRight (sym (λ i. record story.all { reins = parted story.all.reins i; told = story.all.seen; told_course = story.all.course; mine = mine i })) (hears_right story.all story.all gathering.right)
 
   pub have_met : HaveMet (dealt story.all) (left_over story.all)
-  have_met = record { same_seen = refl; right = together; own = changes_are_own (gathers (dealt story.all) (left_over story.all)) together }
+  have_met = record { same_seen = refl; same_course = refl; right = together; own = changes_are_own (gathers (dealt story.all) (left_over story.all)) together }

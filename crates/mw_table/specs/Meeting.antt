@@ -13,10 +13,11 @@ pub record IsSamePass (old new : Pass) : Type 0 where
   pub same_attempt : new.attempt ≡ old.attempt
   pub same_idle : new.idle ≡ old.idle
 
--- Two threads that have met have seen the same; the requests that either finished are all right at their places in it, none of them is noted twice, and no two of them that were
+-- Two threads that have met have seen the same, and know one run; the requests that either finished are all right at their places in it, none of them is noted twice, and no two of them that were
 -- answered by YES found one change.
 pub record HaveMet (one other : View) : Type 0 where
   pub same_seen : one.seen ≡ other.seen
+  pub same_course : one.course ≡ other.course
   pub right : IsRight (gathers one other)
   pub own : HaveOwnChanges (gathers one other).mine
 

@@ -52,8 +52,8 @@ impl Shared {
     }
 
     /// The bits of a word, for reports and tests, by a load that is no step of a request. The pass may carry a
-    /// request or be idle, and stays so. What the bits are: those that stand there in a world after some run from
-    /// the start of which the pass knows. A run goes on by no event. Two figures needn't be of one moment.
+    /// request or be idle, and stays so. What the bits are: those that stand there in a world after a run that
+    /// goes on from the one that the pass knew, by no event. Two figures needn't be of one moment.
     pub fn figure(&self, pass: &mut Pass, at: At) -> u64
         requires own { IsOf self.now pass.old }
         requires there { has_place (config_of self.now.table.shared.key) at ≡ true }

@@ -1,5 +1,7 @@
-use Rattle.std.proofs.Common.{ℕ, subst, sym, ◌∙◌}
+use Rattle.std.specs.Prelude.{Option}
+use Rattle.std.proofs.Common.{ℕ, ap, subst, sym, ◌∙◌}
 use Rattle.mw_table.specs.declared.shared.Shared.{Shared}
+use Rattle.mw_table.specs.FromRule.{Course, IsOnFrom, View}
 use Rattle.mw_table.specs.Holding.{HasFile}
 use Rattle.mw_table.specs.Passes.{IsOf}
 use Rattle.mw_core.proofs.Lent.{agrees_back, agrees_taken, carried_back, carried_taken, files_once, has_taken, may_give_back}
@@ -50,3 +52,13 @@ returns-clause-agrees g c =
     c.make_call-went_well.new.pass c.args.book.now c.make_call-went_well.new.book c.make_call-went_well.result c.make_call-went_well.ensures.same c.make_call-went_well.ensures.made
     c.give_back.new.pass c.tell.new.self c.give_back.result c.attempt.result c.give_back.ensures.same c.give_back.ensures.left c.give_back.ensures.file c.attempt.ensures c.tell.ensures
     c.make_call-went_well.ensures.own (c.give_back.ensures.whose ∙ c.tenant-tenant.ensures) c.make_call-went_well.ensures.agrees
+
+pub returns-clause-known : goal.returns-clause-known
+returns-clause-known g c = ap (λ (view : View). view.course) c.give_back.ensures.is ∙ sym (ap (λ (view : View). view.course) c.give_back.ensures.left)
+
+pub returns-clause-follows : goal.returns-clause-follows
+returns-clause-follows g c =
+    let last = c.make_call-went_well.new.pass.seat.me.0 in
+    let told = c.make_call-went_well.ensures.made.follows in
+    subst (λ (known : Option Course). IsOnFrom c.args.right.seat.me.0.course known) (sym (ap (λ (view : View). view.course) c.give_back.ensures.is))
+    (subst (λ (view : View). IsOnFrom view.told_course last.course) c.take.ensures.took told)
