@@ -77,8 +77,8 @@ pub record HasFiled (well : Bool) (old new : View) : Type 0 where
   pub ready : Each (IsReady new.config) new.reins
   pub same_files : new.files ≡ old.files
 
--- The call to which a worker's request has come was made, by the right that its thread has, and ended so; it went well or didn't. The right tells of the file after it. The run by which it was made went on from the one that
--- the thread was told.
+-- The call to which a worker's request has come was made, by the right that its thread has, and ended so; it went well or didn't. The right tells of the file after it. The run that the thread knows
+-- then goes on from the one that it was told.
 pub record MakesCall {D : Type 0} (facts : D → Facts) (worker : ℕ) (old new : View) (actor : Acting) (before after : Book D) (well : Bool) : Type 0 where
   pub called : CallOn
   pub comes_to : called_at actor.point ≡ Some called

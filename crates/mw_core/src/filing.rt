@@ -27,8 +27,8 @@ impl Core {
     /// A call that doesn't start from the status of its change does nothing, and counts as one that went well. One
     /// that starts is made on the book: if all its device calls go well, the status goes on; if one of them fails,
     /// or the file had failed before, the tenant's door has the fault from then on. A run of a world goes on by this
-    /// call, as one that ended so; it went on from the one that the pass knew, and from the one that was known with the
-    /// right, with which it is known then: so all calls on one file are of one run, whoever makes them.
+    /// call, as one that ended so, from the one that the pass knew. The run that the pass and the right know then goes
+    /// on from what either knew before: so all calls on one file are of one run, whoever makes them.
     pub fn file<D: Disk>(
         &self,
         pass: &mut Pass,

@@ -84,8 +84,8 @@ pub fn moves_are_of_the_run<B: Begins>()
 
 /// Reins may be given to a new thread, with what their worker finished, and a note of what was seen; and a thread
 /// may be told what a note says, or take it for its own where it saw no more; or one takes over all that another
-/// knew. A right to call a file may be given to a new thread alone, and the rights of another be taken over, of which
-/// nothing else is kept.
+/// knew. A right to call a file may be given to a new thread alone, with what is known of the run; and the rights of
+/// another may be taken over, and what it knew of the run heard, but nothing else of what it knew.
 pub fn what_is_known_is_parted<B: Begins>()
     ensures deals { (key : B) → DealsKeepTheRule (B.config key) (B.begun key) }
     ensures notes { (key : B) → NotesKeepTheRule (B.config key) (B.begun key) }
