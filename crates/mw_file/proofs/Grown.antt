@@ -2,7 +2,7 @@
 use Rattle.std.proofs.Common.{◌≡◌, ℕ, ◌+◌, ◌<◌, ◌≤◌, Bool, List, refl, sym, ◌∙◌, inl, inr, arith, subst}
 use Rattle.std.proofs.lemmas.Bool.{cases_lt}
 use Rattle.mw_disk.specs.Facts.{Facts, MayLeave, IsAtRest, Torn, Called, NothingNew, TearsAt}
-use Rattle.mw_disk.specs.Runs.{LeavesOnly}
+use Rattle.mw_disk.specs.Runs.{SameBut, Touched, LeavesOnly}
 use Rattle.mw_disk.proofs.RunLaws.{called_later, later_trans}
 use Rattle.mw_file.specs.Migrating.{GrownBut, Grown}
 
@@ -73,6 +73,31 @@ grown_more S n a b c ab bc = record {
   later = later_trans a b c ab.later bc.later;
   each = grown_each S n a b c ab bc;
   seen = grown_trans S n a.reads b.reads c.reads ab.seen bc.seen;
+}
+
+-- the same with more offsets
+but_wider : (S T : ℕ → Type 0) (n : ℕ) (old new : List ℕ) → ((k : ℕ) → S k → T k) → GrownBut S n old new → GrownBut T n old new
+but_wider S T n old new wide grown = record {
+  longer = grown.longer;
+  same = λ k lt there out. grown.same k lt there (λ s. out (wide k s));
+}
+
+pub grown_wider : (S T : ℕ → Type 0) (n : ℕ) (old new : Facts) → ((k : ℕ) → S k → T k) → Grown S n old new → Grown T n old new
+grown_wider S T n old new wide grown = record {
+  later = grown.later;
+  each = λ k c low high left. let t = grown.each k c low high left in (t.0, t.1, but_wider S T n t.0 c wide t.2);
+  seen = but_wider S T n old.reads new.reads wide grown.seen;
+}
+
+-- what has kept its length
+but_same : (S : ℕ → Type 0) (n : ℕ) (old new : List ℕ) → SameBut S old new → GrownBut S n old new
+but_same S n old new same = record { longer = omega (arith, same.size); same = λ k lt there out. same.outside k out }
+
+pub grown_touched : (S : ℕ → Type 0) (n : ℕ) (old new : Facts) → Touched S old new → Grown S n old new
+grown_touched S n old new touched = record {
+  later = touched.later;
+  each = λ k c low high left. let t = touched.each k c low high left in (t.0, t.1, but_same S n t.0 c t.2);
+  seen = but_same S n old.reads new.reads touched.seen;
 }
 
 -- from a disk at rest

@@ -5,7 +5,7 @@ use Rattle.std.proofs.lemmas.Bool.{cases_eq, cases_lt, eq-eqb, ne_eqb, le-leb, a
 use Rattle.std.proofs.lemmas.List.{get_or-drop, get_or-append-add, get_or_append_left, get_or_past, get_or-replicate, length-append, length-take-le, length-drop, length-replicate}
 use Rattle.mw_disk.specs.Facts.{Facts, IsAtRest, patched}
 use Rattle.mw_disk.specs.Runs.{SameBut, Touched, Fits, LeavesOnly}
-use Rattle.mw_disk.proofs.RunLaws.{fits_rest, leaves, leaves_more}
+use Rattle.mw_disk.proofs.RunLaws.{fits_rest, leaves, leaves_more, touched_wider}
 use Rattle.mw_record.specs.declared.layout.Layout.TheVariants.{First, Second}
 use Rattle.mw_record.specs.declared.layout.TheConstants.{HEAD_SIZE, WORD_SIZE, COMMITTED, SWITCH_AT, SECOND_AT, MAX_FIRST, PLACES_GROW, SECOND_MAGIC}
 use Rattle.mw_record.specs.Layout.{size, place_at, place_size, header, number_bytes, second_part}
@@ -18,9 +18,9 @@ use Rattle.mw_record.proofs.ClosedPlaces.{second_part_has, length-second_part}
 use Rattle.mw_record.proofs.Faults.{sizes_are}
 use Rattle.mw_record.proofs.Sound.{first_file, second_file, are_words}
 use Rattle.mw_file.specs.Keeps.{IsFile}
-use Rattle.mw_file.specs.Migrating.{GrownBut, Grown, IsLaid, CanMigrate, IsMigrated}
+use Rattle.mw_file.specs.Migrating.{GrownBut, Grown, InSwitch, given_second, IsLaid, CanMigrate, IsMigrated}
 use Rattle.mw_file.specs.Rolls.{InRange}
-use Rattle.mw_file.proofs.Grown.{leaves_grown}
+use Rattle.mw_file.proofs.Grown.{leaves_grown, grown_more, grown_wider, grown_touched}
 
 -- a file in its first layout, and one with a second
 pub is_first : (words places : ℕ) (contents image : List ℕ) → is_switched image ≡ false → HasWords First words places contents image → IsFile (PLACES_GROW * places) contents image
@@ -195,6 +195,20 @@ laid_bytes at second offset b b1 b2 small is_offset low within is1 is2 =
       there = λ k lt.
           read (at + k) (omega (arith, low, eight)) ∙ ap (λ bs. slice_index bs (at + k)) is1 ∙ get_patched b at second k within lt;
     }
+
+-- What is written to a file, and where.
+module _ (start mid new : Facts) (at : ℕ) where
+  pub laying_grown : Grown (InRange SECOND_AT WORD_SIZE) at start mid → Grown InSwitch at start mid
+  laying_grown grown = grown_wider (InRange SECOND_AT WORD_SIZE) InSwitch at start mid (λ k s. inr s) grown
+
+  pub switching_grown : Grown (InRange SECOND_AT WORD_SIZE) at start mid → Touched (InRange SWITCH_AT 1) mid new → Grown InSwitch at start new
+  switching_grown grown touched =
+      grown_more InSwitch at start mid new (laying_grown grown)
+      (grown_touched InSwitch at mid new (touched_wider (InRange SWITCH_AT 1) InSwitch mid new (λ k s. inl s) touched))
+
+  pub all_given : (second : List ℕ) → mid.reads ≡ patched (patched start.reads at second) SECOND_AT (number_bytes WORD_SIZE at)
+      → new.reads ≡ patched mid.reads SWITCH_AT (COMMITTED ∷ []) → new.reads ≡ given_second at second start.reads
+  all_given second laid set = set ∙ ap (λ bs. patched bs SWITCH_AT (COMMITTED ∷ [])) laid
 
 -- the offset lies behind the head, and within the bytes or at their end
 module _ (start : Facts) (at words places : ℕ) (contents second : List ℕ) (can : CanMigrate start at words places contents second) where

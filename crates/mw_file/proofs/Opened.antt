@@ -9,21 +9,22 @@ use Rattle.mw_record.specs.declared.layout.Layout.{Layout}
 use Rattle.mw_record.specs.declared.layout.Layout.TheVariants.{First, Second}
 use Rattle.mw_record.specs.declared.layout.TheConstants.{MAX_FILE, MAX_FIRST}
 use Rattle.mw_record.specs.declared.damages.Damage.{Damage}
-use Rattle.mw_record.specs.Layout.{place_at}
+use Rattle.mw_record.specs.Layout.{place_at, size, second_part}
 use Rattle.mw_record.specs.Records.{record_at}
-use Rattle.mw_record.specs.Damages.{damage_of, file_words, is_switched, second_at, at_of, words_in, words_of, found_places, records_of}
-use Rattle.mw_record.specs.Stands.{HasWords, HasSecond, StandsAs}
+use Rattle.mw_record.specs.Damages.{damage_of, file_words, is_switched, second_at, at_of, words_in, words_of, found_places, places_of, records_of}
+use Rattle.mw_record.specs.Stands.{HasWords, HasSecond, IsSwitched, StandsAs}
 use Rattle.mw_record.proofs.Sound.{file_of}
 use Rattle.mw_record.proofs.Faults.{sizes_are, begins_within, second_begins, second_layout}
 use Rattle.mw_record.proofs.Layouts.{place_within, size_fits}
-use Rattle.mw_record.proofs.Longer.{damage_of_first, file_words_first, words_of_first, found_places_first, is_switched_first, at_of_first, words_in_first}
+use Rattle.mw_record.proofs.Longer.{damage_of_first, file_words_first, words_of_first, found_places_first, places_of_first, is_switched_first, at_of_first, words_in_first}
 use Rattle.mw_record.proofs.Below.{few_entries}
 use Rattle.mw_record.proofs.Writes.{record_same}
 use Rattle.mw_file.specs.Run.{IsUntouched}
 use Rattle.mw_file.specs.Rolls.{Nowhere, CanFinish}
 use Rattle.mw_file.specs.Keeps.{IsFile}
-use Rattle.mw_file.specs.Migrating.{CanGrow}
-use Rattle.mw_file.specs.Opening.{front, SameFile, Unchanged, SparesFirst, read_calls, ready_calls, open_calls, CanOpen, OpensAs}
+use Rattle.mw_file.specs.Migrating.{CanGrow, InSwitch, Grown, given_second}
+use Rattle.mw_file.specs.Opening.{front, SameFile, Unchanged, SparesFirst, KeepsFirst, TellsSecond, GivesSecond, read_calls, ready_calls, open_calls, begins_at, CanOpen, OpensAs}
+use Rattle.mw_file.proofs.Grown.{grown_more, grown_touched}
 use Rattle.mw_file.proofs.Ready.{second_as}
 
 -- a list that fills n places, whatever stood behind
@@ -191,3 +192,47 @@ calls_before f len n is_len is_n =
     let long : length (front f) ≡ n = length-take MAX_FILE f.reads ∙ omega (arith, is_len, is_n) in
     let e : read_calls (front f) ≡ 1 + min 1 n = ap (λ k. 1 + min 1 k) long in
     omega (arith, e)
+
+-- where the second layout begins, by the bytes that can belong to a file
+begins_at_first : (b : List ℕ) → damage_of b ≡ None → begins_at (take MAX_FILE b) ≡ begins_at b
+begins_at_first b none =
+    let cut : List ℕ = take MAX_FILE b in
+    ap (λ s. if s then at_of cut else size First (words_of cut) (found_places cut)) (is_switched_first b)
+    ∙ ap (λ n. if is_switched b then n else size First (words_of cut) (found_places cut)) (at_of_first b)
+    ∙ ap (λ n. if is_switched b then at_of b else size First n (found_places cut)) (words_of_first b none)
+    ∙ ap (λ n. if is_switched b then at_of b else size First (words_of b) n) (found_places_first b none)
+
+-- a run that wrote nothing kept the first layout
+pub first_kept_unwritten : (f0 f1 : Facts) → (IsTrue f0.honest → Touched Nowhere f0 f1) → KeepsFirst f0 f1
+first_kept_unwritten f0 f1 quiet honest rest unset =
+    grown_touched InSwitch (begins_at f0.reads) f0 f1 (touched_wider Nowhere InSwitch f0 f1 (λ k z. absurd z) (quiet honest))
+
+-- what a run does that goes on from there, where what was read tells the same of the file
+module _ (f0 f1 f2 : Facts) (image : List ℕ) (quiet : IsTrue f0.honest → Touched Nowhere f0 f1) (seen : IsTrue f0.honest → image ≡ take MAX_FILE f0.reads)
+    (undamaged : damage_of image ≡ None) where
+  none_whole : IsTrue f0.honest → damage_of f0.reads ≡ None
+  none_whole honest = sym (damage_of_first f0.reads) ∙ sym (ap damage_of (seen honest)) ∙ undamaged
+
+  begins_whole : IsTrue f0.honest → begins_at image ≡ begins_at f0.reads
+  begins_whole honest = ap begins_at (seen honest) ∙ begins_at_first f0.reads (none_whole honest)
+
+  unset_read : IsTrue f0.honest → is_switched f0.reads ≡ false → is_switched image ≡ false
+  unset_read honest unset = ap is_switched (seen honest) ∙ is_switched_first f0.reads ∙ unset
+
+  pub first_kept_on : (IsTrue f0.honest → IsAtRest f0 → is_switched image ≡ false → Grown InSwitch (begins_at image) f1 f2) → KeepsFirst f0 f2
+  first_kept_on ran honest rest unset =
+      grown_more InSwitch (begins_at f0.reads) f0 f1 f2 (first_kept_unwritten f0 f1 quiet honest rest unset)
+      (subst (λ (n : ℕ). Grown InSwitch n f1 f2) (begins_whole honest) (ran honest rest (unset_read honest unset)))
+
+  pub second_told : (IsTrue f0.honest → IsAtRest f0 → IsSwitched (begins_at image) f2.reads) → TellsSecond f0 f2
+  second_told ran honest rest = subst (λ (n : ℕ). IsSwitched n f2.reads) (begins_whole honest) (ran honest rest)
+
+  pub second_given : (IsTrue f0.honest → IsAtRest f0 → is_switched image ≡ false
+      → f2.reads ≡ given_second (begins_at image) (second_part (places_of image) (words_in image)) f1.reads) → GivesSecond f0 f2
+  second_given ran honest rest unset =
+      let none = none_whole honest in
+      ran honest rest (unset_read honest unset)
+      ∙ ap (λ bs. given_second (begins_at image) (second_part (places_of image) (words_in image)) bs) (reads_stay f0 f1 (quiet honest) rest)
+      ∙ ap (λ k. given_second k (second_part (places_of image) (words_in image)) f0.reads) (begins_whole honest)
+      ∙ ap (λ n. given_second (begins_at f0.reads) (second_part n (words_in image)) f0.reads) (ap places_of (seen honest) ∙ places_of_first f0.reads none)
+      ∙ ap (λ ws. given_second (begins_at f0.reads) (second_part (places_of f0.reads) ws) f0.reads) (ap words_in (seen honest) ∙ words_in_first f0.reads none)

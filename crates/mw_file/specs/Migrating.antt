@@ -1,13 +1,14 @@
 -- How a file that is in its first layout is given its second one, behind the first.
-use Rattle.std.specs.Prelude.{◌≡◌, ◌<◌, ◌≤◌, ℕ, ◌+◌, ◌*◌, false, None, List, length, drop, slice_index, IsTrue}
-use Rattle.mw_disk.specs.Facts.{Facts, MayLeave, IsAtRest}
+use Rattle.std.specs.Prelude.{◌≡◌, ◌⊎◌, ◌<◌, ◌≤◌, ℕ, ◌+◌, ◌*◌, false, None, List, [], ◌∷◌, length, drop, slice_index, IsTrue}
+use Rattle.mw_disk.specs.Facts.{Facts, MayLeave, IsAtRest, patched}
 use Rattle.mw_disk.specs.Runs.{Later}
 use Rattle.mw_record.specs.declared.layout.Layout.TheVariants.{First, Second}
-use Rattle.mw_record.specs.declared.layout.TheConstants.{PLACES_GROW}
-use Rattle.mw_record.specs.Layout.{size, second_part}
+use Rattle.mw_record.specs.declared.layout.TheConstants.{PLACES_GROW, WORD_SIZE, COMMITTED, SWITCH_AT, SECOND_AT}
+use Rattle.mw_record.specs.Layout.{size, number_bytes, second_part}
 use Rattle.mw_record.specs.Records.{record_at}
 use Rattle.mw_record.specs.Damages.{is_switched, second_at, words_of, found_places}
 use Rattle.mw_record.specs.Stands.{HasWords, HasSecond}
+use Rattle.mw_file.specs.Rolls.{InRange}
 
 -- The device calls that give a file its second layout: the layout, its offset, a sync, the switch byte, a sync.
 abbrev pub migration_calls : ℕ
@@ -24,6 +25,15 @@ pub record Grown (S : ℕ → Type 0) (n : ℕ) (old new : Facts) : Type 0 where
   pub later : Later old new
   pub each : (k : ℕ) (c : List ℕ) → old.moment ≤ k → k ≤ new.moment → new.image k c → (d : List ℕ) × MayLeave old d × GrownBut S n d c
   pub seen : GrownBut S n old.reads new.reads
+
+-- the bytes of a file's head that tell of its second layout: the switch byte, and the offset at which it begins
+abbrev pub InSwitch : ℕ → Type 0
+InSwitch k = InRange SWITCH_AT 1 k ⊎ InRange SECOND_AT WORD_SIZE k
+
+-- A file's bytes with a second layout written over them at an offset, this offset written into its head, and the switch byte set.
+abbrev pub given_second : ℕ → List ℕ → List ℕ → List ℕ
+given_second at second image =
+    patched (patched (patched image at second) SECOND_AT (number_bytes WORD_SIZE at)) SWITCH_AT (COMMITTED ∷ [])
 
 -- These bytes stand in a file from an offset on, and the file's head tells that its second layout begins there.
 pub record IsLaid (at : ℕ) (second image : List ℕ) : Type 0 where

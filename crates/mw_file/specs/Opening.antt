@@ -6,8 +6,9 @@ use Rattle.mw_disk.specs.Runs.{Good, Bad, Later, Touched, LeavesOnly}
 use Rattle.mw_record.specs.declared.damages.Damage.{Damage as DamageKind}
 use Rattle.mw_record.specs.declared.layout.Layout.TheVariants.{First}
 use Rattle.mw_record.specs.declared.layout.TheConstants.{MAX_FILE}
-use Rattle.mw_record.specs.Layout.{size}
+use Rattle.mw_record.specs.Layout.{size, second_part}
 use Rattle.mw_record.specs.Damages.{damage_of, file_words, is_switched, second_at, at_of, words_of as told_words, found_places, words_in, places_of, pairs_in}
+use Rattle.mw_record.specs.Stands.{IsSwitched}
 use Rattle.mw_file.specs.declared.tenant_file.TenantFile.{TenantFile}
 use Rattle.mw_file.specs.declared.opening.OpenFault.{OpenFault}
 use Rattle.mw_file.specs.declared.opening.OpenFault.TheVariants.{Damage, Disk, Memory}
@@ -15,7 +16,7 @@ use Rattle.mw_file.specs.Run.{IsUntouched}
 use Rattle.mw_file.specs.PlaceStates.{all_free}
 use Rattle.mw_file.specs.File.{disk_of, words_of, states_of, has_failed}
 use Rattle.mw_file.specs.Keeps.{Keeps}
-use Rattle.mw_file.specs.Migrating.{migration_calls, CanGrow}
+use Rattle.mw_file.specs.Migrating.{migration_calls, InSwitch, Grown, given_second, CanGrow}
 use Rattle.mw_file.specs.Rolls.{CanFinish}
 
 -- what of a disk's bytes can belong to a file
@@ -96,6 +97,24 @@ OpensSafely old new = IsTrue old.honest → IsAtRest old → Unchanged old new
 abbrev pub SparesFirst : Facts → Facts → Type 0
 SparesFirst old new = IsTrue old.honest → IsAtRest old → is_switched old.reads ≡ true → Touched (λ k. second_at old.reads ≤ k) old new
 
+-- An opening on an honest disk that was at rest leaves the first layout of a file that has no second one, but for what its head tells
+-- of the second: in what a read gives, and in what a crash at any moment leaves, no byte is gone, and before the offset at which the
+-- second is to begin no other has changed.
+abbrev pub KeepsFirst : Facts → Facts → Type 0
+KeepsFirst old new = IsTrue old.honest → IsAtRest old → is_switched old.reads ≡ false → Grown InSwitch (begins_at old.reads) old new
+
+-- After an opening that went well, on an honest disk that was at rest, the switch byte is set, and the head tells that the second
+-- layout begins there: where it began, or behind the first.
+abbrev pub TellsSecond : Facts → Facts → Type 0
+TellsSecond old new = IsTrue old.honest → IsAtRest old → IsSwitched (begins_at old.reads) new.reads
+
+-- An opening that went well, on an honest disk that was at rest, gives a file in its first layout the second one and does nothing else
+-- to it: a read gives what it gave, with three things written over it. They are a second layout behind the first, of the file's words
+-- and with zeros for all its places; the offset of that, in the head; and the switch byte.
+abbrev pub GivesSecond : Facts → Facts → Type 0
+GivesSecond old new = IsTrue old.honest → IsAtRest old → is_switched old.reads ≡ false
+    → new.reads ≡ given_second (begins_at old.reads) (second_part (places_of old.reads) (words_in old.reads)) old.reads
+
 -- the disk after an opening
 abbrev pub disk_after : {D : Type 0} → Result (TenantFile D × Vec ℕ Global) (OpenFault × D) → D
 disk_after (Ok opened) = disk_of opened.0
@@ -107,6 +126,9 @@ module _ {D : Type 0} (facts : D → Facts) where
     pub later : Later (facts disk) (facts (disk_of file))
     pub unchanged : OpensSafely (facts disk) (facts (disk_of file))
     pub first_stays : SparesFirst (facts disk) (facts (disk_of file))
+    pub first_kept : KeepsFirst (facts disk) (facts (disk_of file))
+    pub begins : TellsSecond (facts disk) (facts (disk_of file))
+    pub given : GivesSecond (facts disk) (facts (disk_of file))
     pub image : List ℕ
     pub seen : WasRead (facts disk) image
     pub undamaged : damage_of image ≡ None
@@ -137,6 +159,7 @@ module _ {D : Type 0} (facts : D → Facts) where
     pub later : Later (facts disk) (facts after)
     pub unchanged : OpensSafely (facts disk) (facts after)
     pub first_stays : SparesFirst (facts disk) (facts after)
+    pub first_kept : KeepsFirst (facts disk) (facts after)
     pub calls : ℕ
     pub made : Bad calls (facts disk) (facts after)
     pub within : IsTrue (facts disk).honest → calls ≤ open_calls (front (facts disk))

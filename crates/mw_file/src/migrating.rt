@@ -1,10 +1,11 @@
 //! Giving a file its second layout.
 ghost use Rattle.std.specs.Prelude.{◌≡◌, ◌+◌, ◌*◌, ◌≤◌, ℕ, List, length, IsTrue, OnOk};
-ghost use Rattle.mw_disk.specs.Facts.{IsAtRest};
+ghost use Rattle.mw_disk.specs.Facts.{IsAtRest, patched};
 ghost use Rattle.mw_disk.specs.Runs.{Later, LeavesOnly};
 ghost use Rattle.mw_record.specs.declared.layout.TheConstants.{SECOND_AT, WORD_SIZE, PLACES_GROW};
+ghost use Rattle.mw_record.specs.Layout.{number_bytes};
 ghost use Rattle.mw_file.specs.Keeps.{IsFile};
-ghost use Rattle.mw_file.specs.Migrating.{migration_calls, Grown, IsLaid, CanMigrate, IsMigrated};
+ghost use Rattle.mw_file.specs.Migrating.{migration_calls, InSwitch, Grown, given_second, IsLaid, CanMigrate, IsMigrated};
 ghost use Rattle.mw_file.specs.Rolls.{InRange};
 ghost use Rattle.mw_file.specs.Run.{Ran};
 
@@ -25,6 +26,10 @@ pub(crate) fn migrate<D: Disk>(disk: &mut D, second: &[u8], at: u64) -> Result<(
         → IsFile (PLACES_GROW * places) contents (D.facts disk.new).reads }
     ensures done { OnOk result ((words places : ℕ) (contents : List ℕ) → CanMigrate (D.facts disk.old) at words places contents second.now
         → IsMigrated (D.facts disk.new) at words (PLACES_GROW * places) contents) }
+    ensures grown { (words places : ℕ) (contents : List ℕ) → CanMigrate (D.facts disk.old) at words places contents second.now
+        → Grown InSwitch at (D.facts disk.old) (D.facts disk.new) }
+    ensures given { OnOk result ((words places : ℕ) (contents : List ℕ) → CanMigrate (D.facts disk.old) at words places contents second.now
+        → (D.facts disk.new).reads ≡ given_second at second.now (D.facts disk.old).reads) }
 {
     lay(disk, second, at)?;
     write_and_sync(disk, SWITCH_AT as u64, &[COMMITTED])?;
@@ -39,6 +44,8 @@ fn lay<D: Disk>(disk: &mut D, second: &[u8], at: u64) -> Result<(), DiskFault>
     ensures rest { OnOk result (IsTrue (D.facts disk.old).honest → IsAtRest (D.facts disk.new)) }
     ensures laid { OnOk result (IsTrue (D.facts disk.old).honest → SECOND_AT + WORD_SIZE ≤ at → at ≤ length (D.facts disk.old).reads
         → IsLaid at second.now (D.facts disk.new).reads) }
+    ensures written { OnOk result (IsTrue (D.facts disk.old).honest → SECOND_AT + WORD_SIZE ≤ at → at ≤ length (D.facts disk.old).reads
+        → (D.facts disk.new).reads ≡ patched (patched (D.facts disk.old).reads at second.now) SECOND_AT (number_bytes WORD_SIZE at)) }
 {
     disk.write_at(at, second)?;
     disk.write_at(SECOND_AT as u64, &home_word(at))?;

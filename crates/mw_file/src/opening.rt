@@ -1,5 +1,5 @@
 //! Opening a file.
-ghost use Rattle.std.specs.Prelude.{◌≡◌, true, ◌*◌, ◌≤◌, ◌<◌, ◌^◌, ◌==◌, ℕ, not, if◌then◌else◌, List, length, None, vec_len, min, take, IsTrue, IfOk, OnOk};
+ghost use Rattle.std.specs.Prelude.{◌≡◌, true, false, ◌*◌, ◌≤◌, ◌<◌, ◌^◌, ◌==◌, ℕ, not, if◌then◌else◌, List, length, None, vec_len, min, take, IsTrue, IfOk, OnOk};
 ghost use Rattle.mw_words.specs.declared.limits.TheConstants.{MAX_PLACES, MAX_WORDS};
 ghost use Rattle.mw_record.specs.declared.layout.Layout.TheVariants.{First};
 ghost use Rattle.mw_record.specs.declared.layout.TheConstants.{MAX_FILE, MAX_FIRST, MAX_SECOND, PLACES_GROW};
@@ -8,7 +8,7 @@ ghost use Rattle.mw_record.specs.Layout as layout;
 ghost use Rattle.mw_record.specs.Damages.{is_switched, layout_of, at_of, words_of, found_places, places_of, words_in, pairs_in, records_of};
 ghost use Rattle.mw_record.specs.Stands.{HasSecond};
 ghost use Rattle.mw_file.specs.Keeps.{IsFile};
-ghost use Rattle.mw_file.specs.Migrating.{migration_calls, CanGrow, IsMigrated};
+ghost use Rattle.mw_file.specs.Migrating.{migration_calls, InSwitch, Grown, given_second, CanGrow, IsMigrated};
 ghost use Rattle.mw_file.specs.Opening as spec;
 ghost use Rattle.mw_file.specs.Opening.{repair_calls, ready_calls, CanOpen};
 ghost use Rattle.mw_file.specs.Rolls.{CanRoll, CanFinish, IsRolled, IsRecalled, Nowhere, record_of};
@@ -211,6 +211,11 @@ fn make_ready<D: Disk>(
         → IsDurable (D.facts disk.new) (spec.begins_at image.now) (words_of image.now) words.now states.new) }
     ensures touched { CanOpen (D.facts disk.old) image.now words.now → is_switched image.now ≡ true
         → Touched (λ k. at_of image.now ≤ k) (D.facts disk.old) (D.facts disk.new) }
+    ensures grown { CanOpen (D.facts disk.old) image.now words.now → is_switched image.now ≡ false
+        → Grown InSwitch (spec.begins_at image.now) (D.facts disk.old) (D.facts disk.new) }
+    ensures given { OnOk result (CanOpen (D.facts disk.old) image.now words.now → is_switched image.now ≡ false
+        → (D.facts disk.new).reads
+        ≡ given_second (spec.begins_at image.now) (layout.second_part (places_of image.now) words.now) (D.facts disk.old).reads) }
 {
     match image.layout() {
         Layout::First => give_second(disk, image, words, second),
@@ -237,6 +242,12 @@ fn give_second<D: Disk>(
     ensures done { OnOk result (CanGrow (D.facts disk.old) image.now words.now
         → IsMigrated (D.facts disk.new) (layout.size First (words_of image.now) (found_places image.now)) (words_of image.now)
         (PLACES_GROW * found_places image.now) words.now) }
+    ensures grown { CanGrow (D.facts disk.old) image.now words.now
+        → Grown InSwitch (layout.size First (words_of image.now) (found_places image.now)) (D.facts disk.old) (D.facts disk.new) }
+    ensures given { OnOk result (CanGrow (D.facts disk.old) image.now words.now
+        → (D.facts disk.new).reads
+        ≡ given_second (layout.size First (words_of image.now) (found_places image.now))
+        (layout.second_part (PLACES_GROW * found_places image.now) words.now) (D.facts disk.old).reads) }
 {
     let places = PLACES_GROW * image.places();
     let out = &mut second[..size2(image.words(), places) as usize];

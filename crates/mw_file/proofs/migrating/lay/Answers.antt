@@ -1,6 +1,8 @@
 use Rattle.std.proofs.Common.{◌≤◌, length, true, false, arith, ap, ◌∙◌}
+use Rattle.mw_disk.specs.Facts.{patched}
 use Rattle.mw_disk.proofs.RunLaws.{good_call, bad_call, good_trans, called_later, still_honest}
 use Rattle.mw_record.specs.declared.layout.TheConstants.{SECOND_AT, WORD_SIZE}
+use Rattle.mw_record.specs.Layout.{number_bytes}
 use Rattle.mw_record.proofs.Reading.{length-number_bytes}
 use Rattle.mw_file.specs.Rolls.{InRange}
 use Rattle.mw_file.proofs.Grown.{grown_write, grown_quiet, grown_more}
@@ -92,3 +94,16 @@ returns-clause-laid g c honest low within =
     laid_bytes c.args.at c.args.second.now c.home_word.result old.reads one.reads new.reads c.home_word.ensures.fits c.home_word.ensures.bytes low within
     (c.in_ok-write_at.ensures.written honest within)
     (c.in_ok-sync.ensures.same honest2 ∙ c.in_ok-write_at-2.ensures.written honest1 there)
+
+pub returns-clause-written : goal.returns-clause-written
+returns-clause-written g c honest low within =
+    let old = g.D.Disk.facts c.args.disk.now in
+    let one = g.D.Disk.facts c.write_at.new.self in
+    let two = g.D.Disk.facts c.write_at-2.new.self in
+    let honest1 = still_honest old one (called_later old one true c.in_ok-write_at.ensures.call) honest in
+    let honest2 = still_honest one two (called_later one two true c.in_ok-write_at-2.ensures.call) honest1 in
+    let longer = (c.in_ok-write_at.ensures.torn honest).no_shorter in
+    let there : SECOND_AT ≤ length one.reads = omega (arith, low, within, longer) in
+    c.in_ok-sync.ensures.same honest2 ∙ c.in_ok-write_at-2.ensures.written honest1 there
+    ∙ ap (patched one.reads SECOND_AT) c.home_word.ensures.bytes
+    ∙ ap (λ bs. patched bs SECOND_AT (number_bytes WORD_SIZE c.args.at)) (c.in_ok-write_at.ensures.written honest within)

@@ -1,11 +1,14 @@
-use Rattle.std.proofs.Common.{ℕ, sym, ◌∙◌, subst}
+use Rattle.std.proofs.Common.{ℕ, sym, ap, ◌∙◌, subst}
 use Rattle.std.proofs.lemmas.Bool.{both_ways}
-use Rattle.mw_record.specs.Damages.{is_switched, at_of, words_of, found_places}
+use Rattle.mw_record.specs.declared.layout.Layout.TheVariants.{First}
+use Rattle.mw_record.specs.Layout.{size, second_part}
+use Rattle.mw_record.specs.Damages.{is_switched, at_of, words_of, found_places, places_of}
 use Rattle.mw_file.specs.Keeps.{IsFile}
+use Rattle.mw_file.specs.Migrating.{InSwitch, Grown, given_second}
 use Rattle.mw_file.specs.Stores.{IsDurable}
 use Rattle.mw_file.specs.Run.{Ran}
 use Rattle.mw_file.proofs.Looping.{on_ok}
-use Rattle.mw_file.proofs.Ready.{is_unset, places_unset, places_set, begins_unset, begins_set, calls_unset, calls_set, can_grow, can_finish, migrated_durable, file_moments, second_moments}
+use Rattle.mw_file.proofs.Ready.{is_unset, is_set, places_unset, places_set, begins_unset, begins_set, calls_unset, calls_set, can_grow, can_finish, migrated_durable, file_moments, second_moments}
 use Rattle.mw_file.proofs.Safety.{is_file}
 use Rattle.mw_file.proofs.opening.make_ready.Goals as goal
 
@@ -87,3 +90,32 @@ returns-in-Second-clause-touched g c can set =
     let image = c.args.image.now in
     let words = c.args.words.now in
     c.finish.ensures.touched words (can_finish image f words (sym c.layout.ensures ∙ c.in-Second.is) can)
+
+pub returns-in-First-clause-grown : goal.returns-in-First-clause-grown
+returns-in-First-clause-grown g c can unset =
+    let f = g.D.Disk.facts c.args.disk.now in
+    let f2 = g.D.Disk.facts c.give_second.new.disk in
+    let image = c.args.image.now in
+    let first = sym c.layout.ensures ∙ c.in-First.is in
+    subst (λ (k : ℕ). Grown InSwitch k f f2) (begins_unset image first) (c.give_second.ensures.grown (can_grow image f c.args.words.now first can))
+
+pub returns-in-First-clause-given : goal.returns-in-First-clause-given
+returns-in-First-clause-given g c =
+    let f = g.D.Disk.facts c.args.disk.now in
+    let image = c.args.image.now in
+    let words = c.args.words.now in
+    let first = sym c.layout.ensures ∙ c.in-First.is in
+    on_ok _ _ c.give_second.result (λ given can unset.
+    given (can_grow image f words first can)
+    ∙ ap (λ n. given_second (size First (words_of image) (found_places image)) (second_part n words) f.reads) (places_unset image first)
+    ∙ ap (λ k. given_second k (second_part (places_of image) words) f.reads) (begins_unset image first)) c.give_second.ensures.given
+
+pub returns-in-Second-clause-grown : goal.returns-in-Second-clause-grown
+returns-in-Second-clause-grown g c can unset =
+    let set = is_set c.args.image.now (sym c.layout.ensures ∙ c.in-Second.is) in
+    absurd (both_ways (is_switched c.args.image.now) unset set)
+
+pub returns-in-Second-clause-given : goal.returns-in-Second-clause-given
+returns-in-Second-clause-given g c =
+    let set = is_set c.args.image.now (sym c.layout.ensures ∙ c.in-Second.is) in
+    on_ok _ _ c.finish.result (λ done can unset. absurd (both_ways (is_switched c.args.image.now) unset set)) c.finish.ensures.done

@@ -4,6 +4,8 @@ use Rattle.mw_disk.specs.Facts.{IsAtRest}
 use Rattle.mw_disk.specs.Runs.{Good, Bad, Touched}
 use Rattle.mw_disk.proofs.RunLaws.{good_call, bad_call, good_trans, then_bad, called_later, later_trans, still_honest, touched_trans, touched_quiet}
 use Rattle.mw_record.specs.declared.layout.TheConstants.{MAX_FILE}
+use Rattle.mw_record.specs.Layout.{second_part}
+use Rattle.mw_record.specs.Stands.{IsSwitched}
 use Rattle.mw_record.specs.Damages.{is_switched, at_of, words_in, words_of, places_of, layout_of, part_of}
 use Rattle.mw_file.specs.declared.place_states.PlaceState.{PlaceState}
 use Rattle.mw_file.specs.PlaceStates.{all_free}
@@ -12,9 +14,10 @@ use Rattle.mw_file.proofs.Ended.{went_well}
 use Rattle.mw_file.proofs.Free.{first_free}
 use Rattle.mw_file.proofs.Ready.{open_file}
 use Rattle.mw_file.specs.Rolls.{Nowhere}
-use Rattle.mw_file.specs.Opening.{front, open_calls, ready_calls, CanOpen, OpensSafely}
+use Rattle.mw_file.specs.Migrating.{InSwitch, Grown, given_second}
+use Rattle.mw_file.specs.Opening.{front, open_calls, ready_calls, begins_at, CanOpen, OpensSafely}
 use Rattle.mw_file.proofs.Ran.{ran_well, ran_badly}
-use Rattle.mw_file.proofs.Opened.{whole, front_read, first_unwritten, first_spared, untouched_trans, nothing_written, rest_stays, reads_stay, all_ready, can_open, whole_words, whole_damage, calls_sound, calls_damaged, calls_before}
+use Rattle.mw_file.proofs.Opened.{whole, front_read, first_unwritten, first_spared, first_kept_unwritten, first_kept_on, second_told, second_given, untouched_trans, nothing_written, rest_stays, reads_stay, all_ready, can_open, whole_words, whole_damage, calls_sound, calls_damaged, calls_before}
 use Rattle.mw_file.proofs.Safety.{keeps_well, durable_as}
 use Rattle.mw_file.proofs.tenant_file.TenantFile.open.Goals as goal
 
@@ -26,6 +29,7 @@ returns-in_default g c =
       later = called_later f0 f1 false c.in_default.ensures.call;
       unchanged = λ honest rest. nothing_written f0 f1 (touched_quiet Nowhere f0 f1 false c.in_default.ensures.call (c.in_default.ensures.crash honest) (c.in_default.ensures.same honest)) rest;
       first_stays = first_unwritten f0 f1 (λ honest. touched_quiet Nowhere f0 f1 false c.in_default.ensures.call (c.in_default.ensures.crash honest) (c.in_default.ensures.same honest));
+      first_kept = first_kept_unwritten f0 f1 (λ honest. touched_quiet Nowhere f0 f1 false c.in_default.ensures.call (c.in_default.ensures.crash honest) (c.in_default.ensures.same honest));
       calls = 1;
       made = bad_call f0 f1 c.in_default.ensures.call (λ honest. c.in_default.ensures.spared);
       within = λ honest. omega arith;
@@ -47,6 +51,7 @@ returns-then-is_err g c =
       later = later_trans f0 f1 f2 first c.read_front.ensures.later;
       unchanged = λ honest rest. nothing_written f0 f2 (quiet honest) rest;
       first_stays = first_unwritten f0 f2 quiet;
+      first_kept = first_kept_unwritten f0 f2 quiet;
       calls = 1 + n;
       made = then_bad 1 n f0 f1 f2 (good_call f0 f1 c.in-Ok.ensures.call) (ran_badly n n f1 f2 _ refl (sym c.is_err.ensures.value ∙ c.if-is_err.true) c.read_front.ensures.calls);
       within = λ honest. calls_before f0 c.in-Ok.len size (c.in-Ok.ensures.length honest) size_is;
@@ -137,6 +142,9 @@ returns-then-is_err-2 g c =
       first_stays = first_spared f0 f2 f3 image quiet seen (λ honest rest set.
           subst (λ (i : List ℕ). Touched (λ k. at_of i ≤ k) f2 f3) same
           (c.make_ready.ensures.touched (can honest rest) (ap is_switched same ∙ set)));
+      first_kept = first_kept_on f0 f2 f3 image quiet seen none (λ honest rest unset.
+          subst (λ (i : List ℕ). Grown InSwitch (begins_at i) f2 f3) same
+          (c.make_ready.ensures.grown (can honest rest) (ap is_switched same ∙ unset)));
       calls = open_calls image;
       made = subst (λ (k : ℕ). Bad k f0 f3) calls
           (then_bad (1 + n) (ready_calls c.in-Ok-decode.image) f0 f2 f3 so_far
@@ -195,6 +203,16 @@ returns g c =
       first_stays = first_spared f0 f2 f3 image quiet seen (λ honest rest set.
           subst (λ (i : List ℕ). Touched (λ k. at_of i ≤ k) f2 f3) same
           (c.make_ready.ensures.touched (can honest rest) (ap is_switched same ∙ set)));
+      first_kept = first_kept_on f0 f2 f3 image quiet seen none (λ honest rest unset.
+          subst (λ (i : List ℕ). Grown InSwitch (begins_at i) f2 f3) same
+          (c.make_ready.ensures.grown (can honest rest) (ap is_switched same ∙ unset)));
+      begins = second_told f0 f2 f3 image quiet seen none (λ honest rest.
+          let durable = went_well c.make_ready.result _ ended c.make_ready.ensures.done (can honest rest) in
+          subst (λ (i : List ℕ). IsSwitched (begins_at i) f3.reads) same durable.stores.has.head);
+      given = second_given f0 f2 f3 image quiet seen none (λ honest rest unset.
+          let given = went_well c.make_ready.result _ ended c.make_ready.ensures.given (can honest rest) (ap is_switched same ∙ unset) in
+          given ∙ ap (λ ws. given_second (begins_at c.in-Ok-decode.image) (second_part (places_of c.in-Ok-decode.image) ws) f2.reads) filled
+          ∙ ap (λ i. given_second (begins_at i) (second_part (places_of i) (words_in i)) f2.reads) same);
       image = image;
       seen = seen;
       undamaged = none;
