@@ -1,0 +1,108 @@
+"""The whole files that changes begin with: made by mwinit, and opened by mwserve with open records planted by hand, of which
+it must keep the words that the reader found there."""
+import random
+import subprocess
+from pathlib import Path
+from typing import Iterator, NamedTuple, Sequence, Union
+
+from .drafts import Draft, fill_words, first_draft, plant_records, second_draft, some_value
+from .reader import Contents, Damage, read
+
+SIZES = ((1, 1), (1, 32), (2, 1), (3, 2), (9, 3), (17, 5), (40, 32), (300, 4), (4095, 1), (4096, 31), (4096, 32))
+"""Numbers of words and places, from the least to the greatest."""
+AT_ONCE = 10
+"""For how many seconds a program is waited for."""
+
+
+class Disagreement(Exception):
+    """A program and the reader say different things, and of which file."""
+
+    def __init__(self, text: str, data: bytes) -> None:
+        super().__init__(text)
+        self.data = data
+
+
+class Programs(NamedTuple):
+    """The built programs."""
+    mwinit: Path
+    mwserve: Path
+    mwshow: Path
+
+
+class Base(NamedTuple):
+    """A whole file."""
+    name: str
+    data: bytes
+
+    def draft(self) -> Draft:
+        """Its bytes, to be changed in the layout that says what the file says."""
+        return second_draft(self.data) if self.name != "new" else first_draft(self.data)
+
+
+def whole(data: bytes, what: str) -> Contents:
+    """What a file says that can have no damage."""
+    found = read(data)
+    if isinstance(found, Damage):
+        raise Disagreement(f"{what}: damage {found.number} byte {found.byte}, as the reader says", data)
+    return found
+
+
+class Said(NamedTuple):
+    """The status of a program that has ended, and what it printed."""
+    status: int
+    text: str
+    error: str = ""
+
+
+def run(command: Sequence[Union[str, Path]], folder: Path) -> Said:
+    """What a program says. Of one that doesn't end there is no status that any program has."""
+    try:
+        ended = subprocess.run(command, cwd=folder, stdin=subprocess.DEVNULL, capture_output=True, timeout=AT_ONCE)
+    except subprocess.TimeoutExpired:
+        return Said(-1, "", f"no end within {AT_ONCE} seconds")
+    return Said(ended.returncode, ended.stdout.decode(errors="replace"), ended.stderr.decode(errors="replace"))
+
+
+def new_file(programs: Programs, folder: Path, words: int, places: int) -> bytes:
+    """A file that mwinit made."""
+    path = folder / "new.mw"
+    said = run([programs.mwinit, path.name, str(words), str(places)], folder)
+    data = path.read_bytes() if path.exists() else b""
+    path.unlink(missing_ok=True)
+    found = whole(data, f"a file that mwinit has made: {said}")
+    wanted = Contents(1, 0, [0] * words, places, [])
+    if found != wanted or said != Said(0, f"made {len(data)}\n") or len(data) != first_draft(data).end:
+        raise Disagreement(f"mwinit was to make a file of {words} words and {places} places, and made another: {said}", data)
+    return data
+
+
+def opened(programs: Programs, folder: Path, data: bytes, value: int) -> bytes:
+    """The file after mwserve has opened it and changed word 0 to this value."""
+    before = whole(data, "a file to be opened")
+    words, path = len(before.words), folder / "t.mw"
+    path.write_bytes(data)
+    (folder / "tenants").write_text(f"t {words} 1 {path.name}\n")
+    (folder / "script").write_text(f"TENANT t\nCAS 0:{before.words[0]}:{value}\nQUIT\n")
+    said = run([programs.mwserve, "--tenants", "tenants", "--script", "script"], folder)
+    after = path.read_bytes()
+    begins, places = before.offset, before.places
+    if before.layout == 1:
+        begins, places = first_draft(data).end, 2 * places
+    wanted = Contents(2, begins, [value, *before.words[1:]], places, [])
+    found = whole(after, f"a file that mwserve has opened: {said}")
+    if said != Said(0, f"OK {words}\nYES\nBYE\n") or found != wanted:
+        raise Disagreement(f"mwserve opened a file of {words} words, and left others, or other places or records: {said}", data)
+    return after
+
+
+def make_bases(programs: Programs, folder: Path, dice: random.Random) -> Iterator[Base]:
+    """Of each size a new file, one that was opened once, and one that was opened again with records open."""
+    for words, places in SIZES:
+        data = new_file(programs, folder, words, places)
+        yield Base("new", data)
+        for name, draft_of in (("opened", first_draft), ("opened again", second_draft)):
+            draft = draft_of(data)
+            fill_words(draft, dice)
+            plant_records(draft, dice, dice.choice((1, 2, draft.places)))
+            data = opened(programs, folder, bytes(draft.data), some_value(dice))
+            yield Base(name, data)
