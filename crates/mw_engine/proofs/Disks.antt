@@ -1,5 +1,5 @@
 -- The disks at the end of an engine.
-use Rattle.std.specs.Prelude.{◌≡◌, ℕ, zero, suc, true, false, Bool, is_some, List, [], ◌∷◌, ◌++◌, length, slice_get, Option, Some, None, IsTrue}
+use Rattle.std.specs.Prelude.{◌≡◌, ℕ, zero, suc, is_some, List, [], ◌∷◌, ◌++◌, length, slice_get, Option, Some, None, IsTrue}
 use Rattle.std.proofs.Common.{refl, sym, ap, subst, ◌∙◌}
 use Rattle.mw_disk.specs.Facts.{Facts}
 use Rattle.mw_record.specs.Layout.{pairs_of}

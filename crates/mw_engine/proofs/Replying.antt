@@ -1,5 +1,5 @@
 -- The reply to a request is one that its job can have.
-use Rattle.std.specs.Prelude.{◌≡◌, ℕ, ◌-◌, ◌==◌, Bool, true, false, nat_lt, Option, Some, None, IfSome, [], ◌∷◌, ◌++◌, List, map, Result, Ok, Err, IfOk}
+use Rattle.std.specs.Prelude.{◌≡◌, ℕ, ◌-◌, ◌==◌, Bool, nat_lt, Option, Some, None, IfSome, [], ◌∷◌, ◌++◌, List, map, Result, Ok, Err, IfOk}
 use Rattle.std.proofs.Common.{refl, sym, subst, ◌∙◌, get_or, ap, arith}
 use Rattle.std.proofs.lemmas.Option.{none-some, same_Some, slice_get-get_or, slice_get_within}
 use Rattle.mw_words.specs.declared.gates.Gate.{Gate}

@@ -10,10 +10,10 @@ use Rattle.mw_words.specs.declared.places.At.{At}
 use Rattle.mw_words.specs.declared.places.At.TheVariants.{Door as AtDoor, Gate as AtGate}
 use Rattle.mw_words.specs.Patterns.{unpacked_door, unpacked_gate}
 use Rattle.mw_report.specs.declared.figures.TenantFigures.{TenantFigures}
-use Rattle.mw_core.specs.FromTable.{Looked, Pass, View, index_of}
+use Rattle.mw_core.specs.FromTable.{Pass, View, index_of}
 use Rattle.mw_core.proofs.FromTable.{keeps_all, keeps_on}
 use Rattle.mw_engine.specs.declared.listed.Listed.{Listed}
-use Rattle.mw_engine.specs.Figures.{FoundDoor, FoundGate, HasLooked, Loads, TellsFree, TellTenants, door_shown, door_told, each_at, gate_told, is_free, line_shown, places_shown}
+use Rattle.mw_engine.specs.Figures.{FoundDoor, FoundGate, HasLooked, IsLoaded, Loads, TellsFree, TellTenants, door_shown, door_told, each_at, gate_told, is_free, line_shown, places_shown}
 use Rattle.mw_engine.specs.Lines.{line_of, places_of}
 
 -- what is told of a door is the door
@@ -54,15 +54,15 @@ each_more place first (one ∷ bits) last at is =
 
 module _ (pool : ℕ) where
   -- one load more
-  loads_more : (loads : List (At × ℕ)) (at : At) (bits : ℕ) (old between new : View) → Loads pool loads old between → Looked (index_of pool at) bits between new → Loads pool (loads ++ (at, bits) ∷ []) old new
-  loads_more [] at bits old between new same looked = (new, subst (λ (view : View). Looked (index_of pool at) bits view new) same looked, refl)
-  loads_more (one ∷ loads) at bits old between new before looked = (before.0, before.1, loads_more loads at bits before.0 between new before.2 looked)
+  loads_more : (loads : List (At × ℕ)) (at : At) (bits : ℕ) (old between new : View) → Loads pool loads old between → IsLoaded (index_of pool at) bits between new → Loads pool (loads ++ (at, bits) ∷ []) old new
+  loads_more [] at bits old between new same loaded = (new, subst (λ (view : View). IsLoaded (index_of pool at) bits view new) same loaded, refl)
+  loads_more (one ∷ loads) at bits old between new before loaded = (before.0, before.1, loads_more loads at bits before.0 between new before.2 loaded)
 
-  loads_at : (place : ℕ → At) (bits : List ℕ) (last at : ℕ) (old between new : View) → length bits ≡ at → Loads pool (each_at place 0 bits) old between → Looked (index_of pool (place at)) last between new
+  loads_at : (place : ℕ → At) (bits : List ℕ) (last at : ℕ) (old between new : View) → length bits ≡ at → Loads pool (each_at place 0 bits) old between → IsLoaded (index_of pool (place at)) last between new
       → Loads pool (each_at place 0 (bits ++ last ∷ [])) old new
-  loads_at place bits last at old between new many before looked =
+  loads_at place bits last at old between new many before loaded =
       let is : at ≡ 0 + length bits = omega (arith, many) in
-      subst (λ (loads : List (At × ℕ)). Loads pool loads old new) (sym (each_more place 0 bits last at is)) (loads_more (each_at place 0 bits) (place at) last old between new before looked)
+      subst (λ (loads : List (At × ℕ)). Loads pool loads old new) (sym (each_more place 0 bits last at is)) (loads_more (each_at place 0 bits) (place at) last old between new before loaded)
 
   -- nothing was looked at yet
   pub no_tenants : (view : View) → TellTenants pool [] [] [] view view
@@ -81,7 +81,7 @@ module _ (pool : ℕ) where
     gates = tells.gates ++ gate ∷ [];
     count = length-append tells.gates (gate ∷ []) ∙ ap (λ (n : ℕ). n + 1) tells.count;
     bits = tells.bits ++ found.bits ∷ [];
-    loads = loads_at AtGate tells.bits found.bits slot old between new (as_many gate_told unpacked_gate tells.gates tells.bits tells.unpacked ∙ tells.count) tells.loads found.looked;
+    loads = loads_at AtGate tells.bits found.bits slot old between new (as_many gate_told unpacked_gate tells.gates tells.bits tells.unpacked ∙ tells.count) tells.loads found.loaded;
     unpacked = map-append unpacked_gate tells.bits (found.bits ∷ [])
         ∙ ((λ i. tells.unpacked i ++ found.unpacked i ∷ []) ∙ sym (map-append gate_told tells.gates (gate ∷ [])));
     free_are = is ∙ (ap (λ (n : ℕ). n + cond (is_free gate) 1 0) tells.free_are ∙ sym (sum_by_push (λ (one : Gate). cond (is_free one) 1 0) tells.gates gate));
@@ -102,7 +102,7 @@ module _ (pool : ℕ) where
         places_are = map-append places_shown shown (one ∷ [])
             ∙ ((λ i. tells.places_are i ++ places i ∷ []) ∙ (sym (map-append places_of (take tenant kept) (item ∷ [])) ∙ ap (map places_of) (sym longer)));
         bits = tells.bits ++ found.bits ∷ [];
-        loads = loads_at AtDoor tells.bits found.bits tenant old between new (as_many door_told unpacked_door shown tells.bits tells.doors ∙ many) tells.loads found.looked;
+        loads = loads_at AtDoor tells.bits found.bits tenant old between new (as_many door_told unpacked_door shown tells.bits tells.doors ∙ many) tells.loads found.loaded;
         doors = map-append unpacked_door tells.bits (found.bits ∷ [])
             ∙ ((λ i. tells.doors i ++ found.unpacked i ∷ []) ∙ sym (map-append door_told shown (one ∷ [])));
       }

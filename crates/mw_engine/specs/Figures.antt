@@ -1,4 +1,4 @@
--- What figures tell: just what loads found that were made for them, one of each tenant's door and one of each slot's gate. No load is a step of a request, and each has a moment of its own.
+-- What figures tell: just what loads found that were made for them, one of each tenant's door and one of each slot's gate. No load is a step of a request, or adds an event to the run, and each has a moment of its own.
 use Rattle.std.specs.Prelude.{ℕ, suc, ◌≡◌, ◌&&◌, Bool, true, not, cond, nat_lt, List, [], ◌∷◌, length, map, sum_by, Option, Some}
 use Rattle.mw_words.specs.declared.doors.Door.{Door}
 use Rattle.mw_words.specs.declared.gates.Gate.{Gate}
@@ -7,14 +7,18 @@ use Rattle.mw_words.specs.declared.places.At.{At}
 use Rattle.mw_words.specs.declared.places.At.TheVariants.{Door as AtDoor, Gate as AtGate}
 use Rattle.mw_words.specs.Patterns.{unpacked_door, unpacked_gate}
 use Rattle.mw_report.specs.declared.figures.TenantFigures.{TenantFigures}
-use Rattle.mw_core.specs.FromTable.{Keeps, Looked, Pass, View, index_of}
+use Rattle.mw_core.specs.FromTable.{GoesOnByNone, Keeps, Looked, Pass, View, index_of}
 use Rattle.mw_engine.specs.Identity.{Line}
 
--- Of each of these places its word was loaded, one after the other, and these bits were found; besides these loads nothing was done on the shared words. Each found what stood there in a world after some run in which no less
--- was sealed than the pass had seen by then.
+-- A word was loaded, and these bits were found: what stood there in a world after some run in which no less was sealed than the pass had seen by then. It adds no event to the run, which goes on from the one that the pass knew.
+pub record IsLoaded (index bits : ℕ) (old new : View) : Type 0 where
+  pub looked : Looked index bits old new
+  pub event : GoesOnByNone index bits old new
+
+-- Of each of these places its word was loaded, one after the other, and these bits were found; besides these loads nothing was done on the shared words.
 abbrev pub Loads : ℕ → List (At × ℕ) → View → View → Type 0
 Loads pool [] old new = new ≡ old
-Loads pool (one ∷ rest) old new = (between : View) × Looked (index_of pool one.0) one.1 old between × Loads pool rest between new
+Loads pool (one ∷ rest) old new = (between : View) × IsLoaded (index_of pool one.0) one.1 old between × Loads pool rest between new
 
 -- these bits at places of one kind, from a number on
 abbrev pub each_at : (ℕ → At) → ℕ → List ℕ → List (At × ℕ)
@@ -24,12 +28,12 @@ each_at place first (bits ∷ rest) = (place first, bits) ∷ each_at place (suc
 -- A tenant's door was loaded, and a slot's gate.
 pub record FoundDoor (pool tenant : ℕ) (door : Door) (old new : View) : Type 0 where
   pub bits : ℕ
-  pub looked : Looked (index_of pool (AtDoor tenant)) bits old new
+  pub loaded : IsLoaded (index_of pool (AtDoor tenant)) bits old new
   pub unpacked : unpacked_door bits ≡ Some door
 
 pub record FoundGate (pool slot : ℕ) (gate : Gate) (old new : View) : Type 0 where
   pub bits : ℕ
-  pub looked : Looked (index_of pool (AtGate slot)) bits old new
+  pub loaded : IsLoaded (index_of pool (AtGate slot)) bits old new
   pub unpacked : unpacked_gate bits ≡ Some gate
 
 -- what a tenant's figures tell of its line, and of its door: up to now its file has had no fault, and so many slots are in use

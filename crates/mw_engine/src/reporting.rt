@@ -16,7 +16,7 @@ use mw_words::{At, Door, Gate, MAX_TENANTS, WORN_NUMBER, copy_of_name};
 impl<H> Front<H> {
     /// The figures of all tenants, and how many slots are neither taken nor worn: what a load of each tenant's door
     /// and then of each slot's gate found. Two of them needn't be of one moment. How many places a tenant's file has
-    /// was found when it opened: 0 where it didn't.
+    /// was found when it opened: 0 where it didn't. No load adds an event to the run.
     pub fn figures(&self, pass: &mut Pass) -> Figures
         requires own { HasPass self.now pass.old }
         requires idle { pass.old.idle ≡ true }

@@ -6,7 +6,7 @@ ghost use Rattle.mw_actor.specs.Program.{replied};
 ghost use Rattle.mw_core.specs.declared.calls.Advance.TheVariants.{NeedsFile};
 ghost use Rattle.mw_core.specs.Looking.{Looks, is_over};
 ghost use Rattle.mw_report.specs.Table.{AreWithinLimits};
-ghost use Rattle.mw_core.specs.FromTable.{HaveMet, IsCarried, IsOfSameWorker, IsSamePass, Met, View as Knowledge};
+ghost use Rattle.mw_core.specs.FromTable.{HaveMet, MetByNone, IsCarried, IsOfSameWorker, IsSamePass, Met, MetByNone, View as Knowledge};
 ghost use Rattle.mw_engine.specs.Agreeing.{places_told};
 ghost use Rattle.mw_engine.specs.Figures.{HasLooked, TellAll};
 ghost use Rattle.mw_engine.specs.History.{IsAnswered, IsSince, ReadStands, Stands};
@@ -37,7 +37,7 @@ impl<J: EngineBrand, D: Disk, H> Engine<J, D, H> {
 
     /// The figures of all tenants, and how many slots are neither taken nor worn: what a load of each tenant's door
     /// and then of each slot's gate found. Two of them needn't be of one moment. How many places a tenant's file has
-    /// was found when it opened: 0 where it didn't.
+    /// was found when it opened: 0 where it didn't. No load adds an event to the run.
     pub fn figures(&self, pass: &mut Pass) -> Figures
         requires own { IsPassOf J.identity pass.old }
         requires idle { pass.old.idle ≡ true }
@@ -121,7 +121,7 @@ impl<J: EngineBrand, D: Disk, H> Engine<J, D, H> {
 
     /// Two passes meet: afterwards both have seen the same of what was sealed, which goes on from what each had seen
     /// before. Each has the requests that its worker finished still; and all of these, of both, are right among what
-    /// was seen, with a change of its own for each YES.
+    /// was seen, with a change of its own for each YES. That adds no event to the run.
     pub fn meet(&self, one: &mut Pass, other: &mut Pass)
         requires one { IsPassOf J.identity one.old }
         requires other { IsPassOf J.identity other.old }
@@ -132,6 +132,7 @@ impl<J: EngineBrand, D: Disk, H> Engine<J, D, H> {
         ensures one_met { Met one.old.seat.me.0 one.new.seat.me.0 }
         ensures other_met { Met other.old.seat.me.0 other.new.seat.me.0 }
         ensures both { HaveMet one.new.seat.me.0 other.new.seat.me.0 }
+        ensures event { MetByNone one.old.seat.me.0 other.old.seat.me.0 one.new.seat.me.0 other.new.seat.me.0 }
     {
         self.front.meet(one, other);
     }

@@ -84,14 +84,9 @@ impl<'a, 'l, J: EngineBrand, R: Wait> Worker<'a, 'l, J, R> {
 }
 
 impl<J: EngineBrand, R: Wait> Service for Worker<'_, '_, J, R> {
-    ghost use Rattle.std.specs.Prelude.{false, None, []};
     ghost use Rattle.mw_engine.specs.Identity.{HasWords};
 
-    ghost tells = { λ _. false };
-
-    ghost noted = { λ _. [] };
-
-    ghost found = { λ _ _. None };
+    ghost answered = { λ _ _ _. Unit {0} };
 
     ghost has_words = { λ _. HasWords J.identity.lines };
 

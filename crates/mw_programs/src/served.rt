@@ -10,14 +10,10 @@ use std::sync::Wait;
 
 impl<J: EngineBrand, D: Disk + Drop, H: Hold + Drop, R: Wait, T: FaultWatch> Service
     for Worker<'_, J, D, H, R, T> {
-    ghost use Rattle.std.specs.Prelude.{false, None, []};
     ghost use Rattle.mw_engine.specs.Identity.{HasWords};
+    ghost use Rattle.mw_programs.specs.Served.{Answers};
 
-    ghost tells = { λ _. false };
-
-    ghost noted = { λ _. [] };
-
-    ghost found = { λ _ _. None };
+    ghost answered = { λ old call new. Answers J.identity old.pass call new.pass };
 
     ghost has_words = { λ _. HasWords J.identity.lines };
 

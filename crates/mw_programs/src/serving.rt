@@ -18,7 +18,7 @@ use log::{Log, warn};
 use mw_config::{ArgFault, Args, Mode, Refusal, TenantLine, read_args};
 use mw_disk::{Disk, FileDisk};
 use mw_engine::{Engine, EngineBrand, EngineParts, NoHold, Pass};
-use mw_session::{Ended, Session};
+use mw_session::Ended;
 use mw_words::MAX_WORKERS;
 use std::alloc::AllocError;
 use std::fs::File;
@@ -281,7 +281,7 @@ where
         return Err(ServeFault::Memory);
     };
     let mut worker = Worker::new(engine, pass, rt, watch);
-    match Session::run(rt.alloc(), rt, &mut script, out, &mut worker) {
+    match worker.run(rt.alloc(), &mut script, out) {
         Ended::Quit | Ended::PeerEnd | Ended::TooLong => Ok(()),
         Ended::ReadFault | Ended::WriteFault(_) | Ended::Memory => Err(ServeFault::Ended),
     }

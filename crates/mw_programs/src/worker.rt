@@ -1,9 +1,15 @@
 //! A worker of an engine.
 ghost use Rattle.std.specs.Prelude.{◌≡◌, true};
 ghost use Rattle.mw_engine.specs.Passes.{IsPassOf};
+ghost use Rattle.mw_programs.specs.Served.{IsSession};
 
+use crate::tenants::FaultWatch;
 use mw_disk::Disk;
-use mw_engine::{Engine, EngineBrand, Pass};
+use mw_engine::{Engine, EngineBrand, Hold, Pass};
+use mw_session::{Ended, Session};
+use std::alloc::Global;
+use std::io::{Read, Write};
+use std::sync::Wait;
 
 /// A worker of an engine, with its pass, which is idle between two requests.
 #[derive(Drop)]
@@ -28,5 +34,25 @@ impl<'a, J: EngineBrand, D: Disk, H, R, T> Worker<'a, J, D, H, R, T> {
             rt,
             watch,
         }
+    }
+}
+
+impl<J: EngineBrand, D: Disk + Drop, H: Hold + Drop, R: Wait, T: FaultWatch> Worker<
+    '_,
+    J,
+    D,
+    H,
+    R,
+    T,
+> {
+    /// Serves one session: reads its lines and writes the reply to each, until it ends. Each reply to a
+    /// job is right at a place in its tenant's history no earlier than what the worker had seen when it
+    /// asked, or has its ground. A reader may never end, so this may wait for ever.
+    pub fn run<I: Read, O: Write>(&mut self, alloc: Global, reader: &mut I, writer: &mut O) -> Ended
+        ensures session { IsSession J.identity (I.remaining reader.old) (I.remaining reader.new) (O.contents writer.old) (O.contents writer.new)
+            self.old.pass self.new.pass result }
+    {
+        let rt = self.rt;
+        Session::run(alloc, rt, reader, writer, self)
     }
 }

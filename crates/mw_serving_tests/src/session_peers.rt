@@ -197,15 +197,14 @@ impl Notebook {
 }
 
 impl Service for Notebook {
-    ghost use Rattle.std.specs.Prelude.{Some, map};
+    ghost use Rattle.std.specs.Prelude.{map};
     ghost use Rattle.mw_session.specs.Talk.{Asks};
+    ghost use Rattle.mw_serving_tests.specs.Noted.{Notes};
     ghost use Rattle.mw_serving_tests.specs.declared.session_peers.Note.{Note as NoteRead};
 
-    ghost tells = { λ s. s.complete };
-
-    ghost noted = { λ s. map (λ (n : NoteRead). Asks n.tenant n.job n.reply) s.notes.items };
-
-    ghost found = { λ _ _. Some (0, 2) };
+    ghost answered = { λ old call new. Notes
+        old.complete (map (λ (n : NoteRead). Asks n.tenant n.job n.reply) old.notes.items) call
+        new.complete (map (λ (n : NoteRead). Asks n.tenant n.job n.reply) new.notes.items) };
 
     ghost has_words = { λ _ _ _. Unit {0} };
 

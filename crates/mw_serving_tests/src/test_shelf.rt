@@ -1,7 +1,5 @@
 //! A service in memory for the tests: one tenant, `t`, and its words. Many may ask for them where they lie
 //! under a lock.
-ghost use Rattle.std.specs.Prelude.{None, []};
-
 use arrayvec::ArrayVec;
 use mw_report::{Figures, TenantFigures};
 use mw_session::Service;
@@ -57,13 +55,7 @@ impl Shelf {
 }
 
 impl Service for Shelf {
-    ghost use Rattle.std.specs.Prelude.{false};
-
-    ghost tells = { λ _. false };
-
-    ghost noted = { λ _. [] };
-
-    ghost found = { λ _ _. None };
+    ghost answered = { λ _ _ _. Unit {0} };
 
     ghost has_words = { λ _ _ _. Unit {0} };
 
@@ -109,13 +101,7 @@ pub struct Clerk<'a, R: Wait> {
 }
 
 impl<'a, R: Wait> Service for Clerk<'a, R> {
-    ghost use Rattle.std.specs.Prelude.{false};
-
-    ghost tells = { λ _. false };
-
-    ghost noted = { λ _. [] };
-
-    ghost found = { λ _ _. None };
+    ghost answered = { λ _ _ _. Unit {0} };
 
     ghost has_words = { λ _ _ _. Unit {0} };
 

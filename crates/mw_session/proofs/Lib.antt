@@ -1,3 +1,4 @@
+pub mod Through
 pub mod Sending
 pub mod Jobs
 pub mod Performing

@@ -1,5 +1,5 @@
 -- What each step says and asks.
-use Rattle.std.proofs.Common.{◌≡◌, ℕ, Bool, List, [], ◌∷◌, ◌++◌, Option, Some, None, refl, sym, ap, ◌∙◌, append-nil, append_assoc, subst}
+use Rattle.std.proofs.Common.{◌≡◌, ℕ, List, [], ◌∷◌, ◌++◌, Some, None, refl, sym, ap, subst}
 use Rattle.arrayvec.specs.ArrayVec.{ArrayVec}
 use Rattle.mw_words.specs.declared.jobs.Job.{Job}
 use Rattle.mw_words.specs.declared.replies.Reply.{Reply}
@@ -13,35 +13,16 @@ use Rattle.mw_session.specs.declared.steps.Bound.{Bound}
 use Rattle.mw_session.specs.declared.steps.Bound.TheVariants.{Tenant, Admin}
 use Rattle.mw_session.specs.declared.steps.Step.TheVariants.{Refuse, Find, BindAdmin, Ask, Report, Leave, Overrun}
 use Rattle.mw_session.specs.Talk.{Found, Replied, Counted, Call, Finds, Asks, Counts, Quits, Cuts, after, ends}
-use Rattle.mw_session.specs.Serving.{AreFound, Tells, noted}
+use Rattle.mw_session.specs.Serving.{AreAnswered}
 use Rattle.mw_session.specs.Parts.{Performs}
 
-pub asked_nothing : {S : Type 0} (tells : S → Bool) (by : S → List Call) (names : S → List ℕ → Option (ℕ × ℕ)) (s : S) → Tells tells by names s s []
-asked_nothing tells by names s is = record { order = sym (append-nil (by s)); finds = tt; names = refl; told = is }
+pub asked_nothing : {S : Type 0} (answered : S → Call → S → Type 0) (s : S) → AreAnswered answered s s []
+asked_nothing answered s = refl
 
-noted_append : (xs ys : List Call) → noted (xs ++ ys) ≡ noted xs ++ noted ys
-noted_append [] ys = refl
-noted_append (Finds name found ∷ xs) ys = noted_append xs ys
-noted_append (Asks tenant wanted reply ∷ xs) ys = ap (λ l. Asks tenant wanted reply ∷ l) (noted_append xs ys)
-noted_append (Counts figures ∷ xs) ys = ap (λ l. Counts figures ∷ l) (noted_append xs ys)
-
-found_append : (found : List ℕ → Option (ℕ × ℕ)) (xs ys : List Call) → AreFound found xs → AreFound found ys → AreFound found (xs ++ ys)
-found_append found [] ys h k = k
-found_append found (Finds name answer ∷ xs) ys h k = (h.0, found_append found xs ys h.1 k)
-found_append found (Asks tenant wanted reply ∷ xs) ys h k = found_append found xs ys h k
-found_append found (Counts figures ∷ xs) ys h k = found_append found xs ys h k
-
-pub asked_then : {S : Type 0} (tells : S → Bool) (by : S → List Call) (names : S → List ℕ → Option (ℕ × ℕ)) (s t u : S) (xs ys : List Call)
-    → Tells tells by names s t xs → Tells tells by names t u ys → Tells tells by names s u (xs ++ ys)
-asked_then tells by names s t u xs ys h k is =
-    let b = k is in
-    let a = h b.told in
-    record {
-      order = b.order ∙ ap (λ l. l ++ noted ys) a.order ∙ append_assoc (by s) (noted xs) (noted ys) ∙ ap (λ l. by s ++ l) (sym (noted_append xs ys));
-      finds = found_append (names s) xs ys a.finds (subst (λ f. AreFound f ys) a.names b.finds);
-      names = b.names ∙ a.names;
-      told = a.told;
-    }
+pub asked_then : {S : Type 0} (answered : S → Call → S → Type 0) (s t u : S) (xs ys : List Call)
+    → AreAnswered answered s t xs → AreAnswered answered t u ys → AreAnswered answered s u (xs ++ ys)
+asked_then answered s t u [] ys h k = subst (λ state. AreAnswered answered state u ys) h k
+asked_then answered s t u (x ∷ xs) ys h k = (h.0, h.1, asked_then answered h.0 t u xs ys h.2 k)
 
 module _ (Asked : List Call → Type 0) where
   pub refused : (wrong : ErrCode) (bound : Bound) (text : List ℕ) → Asked [] → text ≡ text_of (say.Err wrong) → Performs Asked (Refuse wrong) bound bound text

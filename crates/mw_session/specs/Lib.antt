@@ -1,4 +1,5 @@
 pub mod Talk
+pub mod Through
 pub mod Serving
 pub mod Lines
 pub mod Judged

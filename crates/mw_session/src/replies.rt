@@ -2,7 +2,7 @@
 ghost use Rattle.std.specs.Prelude.{◌≡◌};
 ghost use Rattle.mw_line.specs.Replies as line_spec;
 ghost use Rattle.mw_session.specs.Parts.{Performs, bytes_of};
-ghost use Rattle.mw_session.specs.Serving.{CanAsk, IsServed, Tells};
+ghost use Rattle.mw_session.specs.Serving.{AreAnswered, CanAsk, IsServed};
 
 use crate::service::Service;
 use crate::steps::{Bound, Step};
@@ -35,7 +35,7 @@ impl ReplyText {
 pub fn perform<S: Service>(step: &Step, bound: &mut Bound, service: &mut S) -> ReplyText
     requires served { IsServed (S.has_words service.old) bound.old }
     requires can_ask { CanAsk (S.has_words service.old) step.now }
-    ensures performs { Performs (Tells S.tells S.noted S.found service.old service.new) step.now bound.old bound.new (bytes_of result) }
+    ensures performs { Performs (AreAnswered S.answered service.old service.new) step.now bound.old bound.new (bytes_of result) }
     ensures served { IsServed (S.has_words service.new) bound.new }
 {
     match step {

@@ -3,7 +3,7 @@ ghost use Rattle.std.specs.Prelude.{◌≡◌, [], ◌∷◌, List, OnOk};
 ghost use Rattle.mw_frame.specs.declared.lines.Line.{Line as LineRead};
 ghost use Rattle.mw_frame.specs.Stream.{lines_of};
 ghost use Rattle.mw_session.specs.Parts.{Gives, Turned};
-ghost use Rattle.mw_session.specs.Serving.{IsServed, Tells};
+ghost use Rattle.mw_session.specs.Serving.{AreAnswered, IsServed};
 ghost use Rattle.mw_session.specs.Whole.{Holds};
 
 use crate::replies::perform;
@@ -58,7 +58,7 @@ impl Session {
         service: &mut S,
     ) -> Ended
         ensures { Holds (R.remaining reader.old) (R.remaining reader.new) (W.contents writer.old) (W.contents writer.new)
-            (Tells S.tells S.noted S.found service.old service.new) result }
+            (AreAnswered S.answered service.old service.new) result }
     {
         let Ok(feed) = Feed::new(alloc) else {
             return Ended::Memory;
@@ -94,7 +94,7 @@ impl Session {
     ) -> Result<(), Ended>
         requires { IsServed (S.has_words service.old) self.old.bound }
         ensures turned { (lines : List LineRead) × Gives self.old.feed lines self.new.feed
-            × Turned (W.contents writer.old) (W.contents writer.new) (Tells S.tells S.noted S.found service.old service.new)
+            × Turned (W.contents writer.old) (W.contents writer.new) (AreAnswered S.answered service.old service.new)
             self.old.written self.new.written lines self.old.bound self.new.bound result }
         ensures all { OnOk result (lines_of self.new.feed ≡ []) }
         ensures served { OnOk result (IsServed (S.has_words service.new) self.new.bound) }
@@ -116,7 +116,7 @@ impl Session {
         service: &mut S,
     ) -> Result<(), Ended>
         requires { IsServed (S.has_words service.old) self.old.bound }
-        ensures turned { Turned (W.contents writer.old) (W.contents writer.new) (Tells S.tells S.noted S.found service.old service.new)
+        ensures turned { Turned (W.contents writer.old) (W.contents writer.new) (AreAnswered S.answered service.old service.new)
             self.old.written self.new.written (line.now ∷ []) self.old.bound self.new.bound result }
         ensures served { IsServed (S.has_words service.new) self.new.bound }
         ensures feed { self.new.feed ≡ self.old.feed }

@@ -2,8 +2,8 @@
 use Rattle.std.proofs.Common.{◌≡◌, ℕ, ◌+◌, List, [], ◌∷◌, ◌++◌, length, refl, ap, subst, sym, arith, length-append}
 use Rattle.std.specs.declared.result.Result.{Result}
 use Rattle.std.specs.declared.result.Result.TheVariants.{Ok, Err}
-use Rattle.mw_workers.proofs.Steps.{goes_further}
-use Rattle.mw_workers.specs.Steps.{GoesThrough}
+use Rattle.mw_session.proofs.Through.{goes_further}
+use Rattle.mw_session.specs.Through.{GoesThrough}
 use Rattle.mw_workers.specs.Asked.{ArePut, IsPut, given}
 
 given_more : {C E : Type 0} (answers : List (Result C E)) (connection : C) → given (answers ++ Ok connection ∷ []) ≡ given answers ++ connection ∷ []

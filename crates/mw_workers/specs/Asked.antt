@@ -2,7 +2,7 @@
 use Rattle.std.specs.Prelude.{◌≡◌, ℕ, List, [], ◌∷◌, length, Option, Some, None}
 use Rattle.std.specs.declared.result.Result.{Result}
 use Rattle.std.specs.declared.result.Result.TheVariants.{Ok, Err}
-use Rattle.mw_workers.specs.Steps.{GoesThrough}
+use Rattle.mw_session.specs.Through.{GoesThrough}
 use Rattle.mw_workers.specs.declared.serving.ServeEnd.{ServeEnd}
 use Rattle.mw_workers.specs.declared.serving.ServeEnd.TheVariants.{Served, Memory}
 

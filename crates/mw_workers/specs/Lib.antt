@@ -1,4 +1,3 @@
-pub mod Steps
 pub mod Asked
 pub mod Sessions
 pub mod Pauses

@@ -3,7 +3,7 @@ use Rattle.std.specs.Prelude.{ℕ, List, Option}
 use Rattle.mw_session.specs.declared.session.Ended.{Ended}
 use Rattle.mw_session.specs.Talk.{Call}
 use Rattle.mw_session.specs.Whole.{Holds}
-use Rattle.mw_workers.specs.Steps.{GoesThrough}
+use Rattle.mw_session.specs.Through.{GoesThrough}
 
 -- Between two states of a service a connection was served by one session, however that ended, and then closed. What a
 -- connection has left and was sent, and what the service tells of its calls, each says by itself.

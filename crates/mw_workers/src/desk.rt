@@ -1,6 +1,6 @@
 //! A listener with a worker of its own, beside those that many workers share.
 ghost use Rattle.std.specs.Prelude.{ℕ, ◌<◌, vec_len};
-ghost use Rattle.mw_session.specs.Serving.{Tells};
+ghost use Rattle.mw_session.specs.Serving.{AreAnswered};
 ghost use Rattle.mw_workers.specs.Asked.{ArePut, EndsSo};
 ghost use Rattle.mw_workers.specs.Sessions.{IsServed};
 
@@ -138,7 +138,7 @@ struct Clerk<S> {
 }
 
 impl<C: Connection + Drop, S: Service> Intake<C> for Clerk<S> {
-    ghost puts = { λ old connection new. IsServed C.left C.sent (Tells S.tells S.noted S.found) old.service connection new.service };
+    ghost puts = { λ old connection new. IsServed C.left C.sent (AreAnswered S.answered) old.service connection new.service };
 
     fn put<R: Wait>(&mut self, rt: &R, connection: C) {
         connection.serve(rt, self.alloc, &mut self.service);

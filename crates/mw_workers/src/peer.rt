@@ -2,7 +2,7 @@
 ghost use Rattle.std.specs.Prelude.{ℕ, List, Option};
 ghost use Rattle.std.specs.declared.result.Result.{Result as Outcome};
 ghost use Rattle.std.specs.declared.io.Error.{Error as IoError};
-ghost use Rattle.mw_session.specs.Serving.{Tells};
+ghost use Rattle.mw_session.specs.Serving.{AreAnswered};
 ghost use Rattle.mw_session.specs.Whole.{Holds};
 
 use mw_session::{Ended, Service};
@@ -51,5 +51,5 @@ pub trait Connection {
     /// wait for ever.
     fn serve<S: Service, R: Wait>(self, rt: &R, alloc: Global, service: &mut S) -> Ended
         ensures { (closed : Self) × Holds (left self) (left closed) (sent self) (sent closed)
-            (Tells S.tells S.noted S.found service.old service.new) result };
+            (AreAnswered S.answered service.old service.new) result };
 }

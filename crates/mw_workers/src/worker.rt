@@ -1,7 +1,7 @@
 //! What one worker does.
 ghost use Rattle.std.specs.Prelude.{List};
 ghost use Rattle.std.specs.Iterator.{Drains, IsFinite};
-ghost use Rattle.mw_session.specs.Serving.{Tells};
+ghost use Rattle.mw_session.specs.Serving.{AreAnswered};
 ghost use Rattle.mw_workers.specs.Sessions.{AreServed};
 
 use crate::peer::Connection;
@@ -20,7 +20,7 @@ pub fn serve_each<C: Connection + Drop, I: Iterator<Item = C> + Drop, S: Service
     requires can { I.can_next connections }
     requires ends { IsFinite (I.remaining connections) }
     ensures { (all : List C) × Drains I.next_gives connections all
-        × AreServed C.left C.sent (Tells S.tells S.noted S.found) service.old all service.new }
+        × AreServed C.left C.sent (AreAnswered S.answered) service.old all service.new }
 {
     for connection in connections {
         connection.serve(rt, alloc, service);

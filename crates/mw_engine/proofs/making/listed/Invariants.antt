@@ -1,4 +1,4 @@
-use Rattle.std.proofs.Common.{◌≡◌, take, map, length}
+use Rattle.std.proofs.Common.{◌≡◌, take, map}
 use Rattle.mw_engine.specs.Lines.{HasFewPlaces, line_of, places_of}
 use Rattle.mw_engine.specs.Opened.{line_read, places_found}
 use Rattle.mw_engine.proofs.making.listed.Given as goal

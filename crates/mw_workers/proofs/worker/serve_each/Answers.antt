@@ -1,10 +1,10 @@
-use Rattle.mw_session.specs.Serving.{Tells}
-use Rattle.mw_workers.proofs.Steps.{goes_further}
+use Rattle.mw_session.specs.Serving.{AreAnswered}
+use Rattle.mw_session.proofs.Through.{goes_further}
 use Rattle.mw_workers.specs.Sessions.{IsServed}
 use Rattle.mw_workers.proofs.worker.serve_each.Goals as goal
 
 pub loop-connection-preserved : goal.loop-connection-preserved
 loop-connection-preserved g c =
-    goes_further (IsServed g.C.Connection.left g.C.Connection.sent (Tells g.S.Service.tells g.S.Service.noted g.S.Service.found))
+    goes_further (IsServed g.C.Connection.left g.C.Connection.sent (AreAnswered g.S.Service.answered))
     c.args.service.now c.loop-connection.yielded c.loop-connection.service c.in-Some.connection c.serve.new.service
     c.loop-connection.invariant (c.serve.result, c.serve.ensures.0, c.serve.ensures.1)

@@ -1,8 +1,8 @@
-use Rattle.mw_session.specs.Serving.{Tells}
+use Rattle.mw_session.specs.Serving.{AreAnswered}
 use Rattle.mw_workers.specs.Sessions.{AreServed}
 use Rattle.mw_workers.proofs.worker.serve_each.Given as goal
 
 -- those that came so far are served
 abbrev pub invariant-loop-connection : goal.invariant-loop-connection
 invariant-loop-connection g l =
-    AreServed g.C.Connection.left g.C.Connection.sent (Tells g.S.Service.tells g.S.Service.noted g.S.Service.found) l.initial.service l.yielded l.service
+    AreServed g.C.Connection.left g.C.Connection.sent (AreAnswered g.S.Service.answered) l.initial.service l.yielded l.service

@@ -49,5 +49,7 @@ returns-clause-files g c =
           made.ensures.files made.ensures.right made.ensures.whose made.ensures.agrees;
       its = its;
       its_still = made.ensures.whose ∙ its;
+      follows = made.ensures.follows;
+      known = made.ensures.known;
       once = made.ensures.files;
     }

@@ -1,6 +1,6 @@
 use Rattle.std.proofs.Common.{sym, subst, ◌∙◌}
 use Rattle.mw_session.specs.Parts.{Performs}
-use Rattle.mw_session.specs.Serving.{Tells}
+use Rattle.mw_session.specs.Serving.{AreAnswered}
 use Rattle.mw_session.proofs.Judging.{wrote_all}
 use Rattle.mw_session.proofs.Turning.{line_breaks, line_ends, line_goes_on}
 use Rattle.mw_session.proofs.session.Session.answer.Goals as goal
@@ -13,7 +13,7 @@ returns-then-is_err-clause-turned g c =
     let sent = c.write_counted-sent in
     let new = c.perform-text.new in
     let step = c.step_at-step.result in
-    let Asked = Tells s.tells s.noted s.found c.args.service.now new.service in
+    let Asked = AreAnswered s.answered c.args.service.now new.service in
     line_breaks (W c.args.writer.now) (W sent.new.writer) Asked old.written sent.new.count c.args.line.now old.bound new.bound step c.bytes.result.now sent.result
     (sym c.is_err.ensures.value ∙ c.if-is_err.true) c.step_at-step.ensures.judges
     (subst (λ t. Performs Asked step old.bound new.bound t) (sym c.bytes.ensures) c.perform-text.ensures.performs) sent.ensures
@@ -26,7 +26,7 @@ returns-in-Some-clause-turned g c =
     let sent = c.write_counted-sent in
     let new = c.perform-text.new in
     let step = c.step_at-step.result in
-    let Asked = Tells s.tells s.noted s.found c.args.service.now new.service in
+    let Asked = AreAnswered s.answered c.args.service.now new.service in
     line_ends (W c.args.writer.now) (W sent.new.writer) Asked old.written sent.new.count c.args.line.now old.bound new.bound step c.bytes.result.now c.in-Some.ended
     (sym c.end.ensures ∙ c.in-Some.is) c.step_at-step.ensures.judges
     (subst (λ t. Performs Asked step old.bound new.bound t) (sym c.bytes.ensures) c.perform-text.ensures.performs)
@@ -40,7 +40,7 @@ returns-in-None-clause-turned g c =
     let sent = c.write_counted-sent in
     let new = c.perform-text.new in
     let step = c.step_at-step.result in
-    let Asked = Tells s.tells s.noted s.found c.args.service.now new.service in
+    let Asked = AreAnswered s.answered c.args.service.now new.service in
     line_goes_on (W c.args.writer.now) (W sent.new.writer) Asked old.written sent.new.count c.args.line.now old.bound new.bound step c.bytes.result.now
     (sym c.end.ensures ∙ c.in-None.is) c.step_at-step.ensures.judges
     (subst (λ t. Performs Asked step old.bound new.bound t) (sym c.bytes.ensures) c.perform-text.ensures.performs)

@@ -1,6 +1,6 @@
 use Rattle.std.proofs.Common.{sym, subst, ◌∙◌, [], ◌∷◌, ◌++◌}
 use Rattle.mw_session.specs.Parts.{Gives}
-use Rattle.mw_session.specs.Serving.{Tells}
+use Rattle.mw_session.specs.Serving.{AreAnswered}
 use Rattle.mw_session.proofs.Judging.{none_left, turned_ok}
 use Rattle.mw_session.proofs.Performing.{asked_nothing, asked_then}
 use Rattle.mw_session.proofs.Turning.{fewer_lines, gives_then, spoken_more, spoken_nothing, turned_then}
@@ -12,7 +12,7 @@ loop-line-init g c =
     let old = c.args.self.now in
     let now = c.args.service.now in
     record {
-      spoken = spoken_nothing (g.W.Write.contents c.args.writer.now) (Tells s.tells s.noted s.found now now) old.written old.feed old.bound (asked_nothing s.tells s.noted s.found now);
+      spoken = spoken_nothing (g.W.Write.contents c.args.writer.now) (AreAnswered s.answered now now) old.written old.feed old.bound (asked_nothing s.answered now);
       served = c.requires;
     }
 
@@ -35,12 +35,12 @@ loop-line-preserved g c =
     let end = a.new.service in
     record {
       spoken = spoken_more (W c.args.writer.now) (W c.loop-line.writer) (W a.new.writer)
-          (Tells s.tells s.noted s.found start middle) (Tells s.tells s.noted s.found middle end) (Tells s.tells s.noted s.found start end)
-          (asked_then s.tells s.noted s.found start middle end)
+          (AreAnswered s.answered start middle) (AreAnswered s.answered middle end) (AreAnswered s.answered start end)
+          (asked_then s.answered start middle end)
           first.written old.written a.new.self.written first.feed old.feed a.new.self.feed line first.bound old.bound a.new.self.bound
           c.loop-line.invariant.spoken
           (subst (λ f. Gives old.feed (line ∷ []) f) (sym a.ensures.feed) c.in-Some.ensures.lines)
-          (turned_ok (W c.loop-line.writer) (W a.new.writer) old.written a.new.self.written (Tells s.tells s.noted s.found middle end) (line ∷ []) old.bound a.new.self.bound a.result
+          (turned_ok (W c.loop-line.writer) (W a.new.writer) old.written a.new.self.written (AreAnswered s.answered middle end) (line ∷ []) old.bound a.new.self.bound a.result
           (sym c.is_err.ensures.value ∙ c.if-is_err.false) a.ensures.turned);
       served = a.ensures.served;
     }
@@ -61,8 +61,8 @@ returns-then-is_err-clause-turned g c =
       gives_then first.feed old.feed a.new.self.feed so_far.lines (line ∷ []) so_far.gives
           (subst (λ f. Gives old.feed (line ∷ []) f) (sym a.ensures.feed) c.in-Some.ensures.lines),
       turned_then (W c.args.writer.now) (W c.loop-line.writer) (W a.new.writer)
-          (Tells s.tells s.noted s.found start middle) (Tells s.tells s.noted s.found middle end) (Tells s.tells s.noted s.found start end)
-          (asked_then s.tells s.noted s.found start middle end)
+          (AreAnswered s.answered start middle) (AreAnswered s.answered middle end) (AreAnswered s.answered start end)
+          (asked_then s.answered start middle end)
           first.written old.written a.new.self.written so_far.lines (line ∷ []) first.bound old.bound a.new.self.bound a.result so_far.talked a.ensures.turned,
     )
 

@@ -1,7 +1,7 @@
 use Rattle.std.proofs.Common.{length}
 use Rattle.mw_frame.specs.Stream.{lines_of}
 use Rattle.mw_session.specs.Parts.{Spoken}
-use Rattle.mw_session.specs.Serving.{IsServed, Tells}
+use Rattle.mw_session.specs.Serving.{AreAnswered, IsServed}
 use Rattle.mw_session.proofs.session.Session.answer_all.Given as goal
 
 -- the lines so far were answered
@@ -10,7 +10,7 @@ invariant-loop-line g l =
     let W = g.W.Write.contents in
     let s = g.S.Service in
     record {
-      spoken : Spoken (W l.initial.writer) (W l.writer) (Tells s.tells s.noted s.found l.initial.service l.service)
+      spoken : Spoken (W l.initial.writer) (W l.writer) (AreAnswered s.answered l.initial.service l.service)
           l.initial.self.written l.self.written l.initial.self.feed l.self.feed l.initial.self.bound l.self.bound;
       served : IsServed (s.has_words l.service) l.self.bound;
     }

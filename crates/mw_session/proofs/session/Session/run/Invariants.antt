@@ -1,4 +1,4 @@
-use Rattle.mw_session.specs.Serving.{IsServed, Tells}
+use Rattle.mw_session.specs.Serving.{AreAnswered, IsServed}
 use Rattle.mw_session.specs.UnderWay.{UnderWay}
 use Rattle.mw_session.proofs.session.Session.run.Given as goal
 
@@ -9,7 +9,7 @@ invariant-loop g l =
     let W = g.W.Write.contents in
     let s = g.S.Service in
     record {
-      way : UnderWay (R l.initial.reader) (R l.reader) (W l.initial.writer) (W l.writer) (Tells s.tells s.noted s.found l.initial.service l.service)
+      way : UnderWay (R l.initial.reader) (R l.reader) (W l.initial.writer) (W l.writer) (AreAnswered s.answered l.initial.service l.service)
           l.session.feed l.session.bound l.session.written;
       served : IsServed (s.has_words l.service) l.session.bound;
     }

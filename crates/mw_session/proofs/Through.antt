@@ -1,6 +1,6 @@
 -- One step more.
 use Rattle.std.proofs.Common.{List, [], ◌∷◌, ◌++◌, refl, subst}
-use Rattle.mw_workers.specs.Steps.{GoesThrough}
+use Rattle.mw_session.specs.Through.{GoesThrough}
 
 pub goes_further : {S X : Type 0} (steps : S → X → S → Type 0) (old : S) (items : List X) (between : S) (item : X) (new : S)
     → GoesThrough steps old items between → steps between item new → GoesThrough steps old (items ++ item ∷ []) new

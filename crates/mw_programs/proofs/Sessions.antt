@@ -1,0 +1,32 @@
+-- A session of a worker, said of its pass.
+use Rattle.std.specs.Prelude.{ℕ, List, [], ◌∷◌, Option}
+use Rattle.std.proofs.Common.{ap}
+use Rattle.mw_session.specs.declared.session.Ended.{Ended}
+use Rattle.mw_session.specs.Talk.{Call}
+use Rattle.mw_session.specs.Through.{GoesThrough}
+use Rattle.mw_session.specs.Whole.{Holds}
+
+-- steps of a part
+pub part_goes : {S P X : Type 0} (part : S → P) (steps : P → X → P → Type 0) (old : S) (items : List X) (new : S) → GoesThrough (λ before item after. steps (part before) item (part after)) old items new
+    → GoesThrough steps (part old) items (part new)
+part_goes part steps old [] new same = ap part same
+part_goes part steps old (item ∷ later) new goes = (part goes.0, goes.1, part_goes part steps goes.0 later new goes.2)
+
+-- what the calls meet may be told otherwise
+pub told_otherwise : (left new_left taken new_taken : Option (List ℕ)) (Asked Told : List Call → Type 0) (ended : Ended) → ((calls : List Call) → Asked calls → Told calls)
+    → Holds left new_left taken new_taken Asked ended → Holds left new_left taken new_taken Told ended
+told_otherwise left new_left taken new_taken Asked Told ended tell holds = record {
+  read = holds.read;
+  seen = holds.seen;
+  unseen = holds.unseen;
+  heard = holds.heard;
+  answers = holds.answers;
+  calls = holds.calls;
+  text = holds.text;
+  is_read = holds.is_read;
+  are_lines = holds.are_lines;
+  is_heard = holds.is_heard;
+  is_asked = tell holds.calls holds.is_asked;
+  is_taken = holds.is_taken;
+  ends = holds.ends;
+}
