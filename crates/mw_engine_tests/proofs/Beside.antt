@@ -26,10 +26,11 @@ module _ {D : Type 0} (facts : D → Facts) where
   fit_all [] [] words quotas fit = tt
   fit_all [] (file ∷ files) words quotas fit = absurd fit
   fit_all (line ∷ lines) [] words quotas fit = absurd fit
-  fit_all (line ∷ lines) (file ∷ files) words quotas fit =
-      ( record { words = (All-head HasWords line lines words).1; quota = (All-head HasQuota line lines quotas).1 }
-      , fits_one line file fit.0
-      , fit_all lines files (All-tail HasWords line lines words) (All-tail HasQuota line lines quotas) fit.1 )
+  fit_all (line ∷ lines) (file ∷ files) words quotas fit = (
+    record { words = (All-head HasWords line lines words).1; quota = (All-head HasQuota line lines quotas).1 },
+    fits_one line file fit.0,
+    fit_all lines files (All-tail HasWords line lines words) (All-tail HasQuota line lines quotas) fit.1,
+  )
 
   -- the same of a slice of the lines, told once more
   pub fit_plain : (pool : ℕ) (lines told again : List TenantLine) (files : List (Option (TenantFile D × Vec ℕ Global))) → told ≡ lines → again ≡ lines
