@@ -11,6 +11,7 @@ use crate::peers::Peer;
 use crate::races::{Race, is_run};
 use crate::starts::{Started, start};
 use crate::talks::{Story, Talk, are_served, are_told, is_played};
+use crate::twins::answer_alike;
 use crate::workers::{Worker, workers_of};
 use arrayvec::ArrayVec;
 use mw_config::{TenantLine, read_tenants};
@@ -46,6 +47,8 @@ pub(crate) enum Play<'c> {
     Story(Story<'c>),
     /// They count up words at once.
     Race(Race),
+    /// They make requests by turns, all made from this number, and the plain store over files of its own replies the same.
+    Beside(&'c u64),
 }
 
 /// Tenants with new files, what the workers of an engine do, and what it leaves.
@@ -109,7 +112,7 @@ fn is_so_of<'l, J: EngineBrand + Send + Sync, R: Threads + Wait + Sync>(
         return false;
     };
     let is_done = match workers_of(rt, alloc, &engine, passes) {
-        Some(workers) => is_done(rt, alloc, workers, &case.play, latch),
+        Some(workers) => is_done(rt, alloc, workers, case, latch),
         None => false,
     };
     match engine.into_disks(alloc) {
@@ -123,13 +126,14 @@ fn is_done<J: EngineBrand + Send + Sync, R: Threads + Wait + Sync>(
     rt: &R,
     alloc: Global,
     workers: Vec<Worker<'_, '_, J, R>>,
-    play: &Play<'_>,
+    case: &Case<'_>,
     latch: &Latch,
 ) -> bool {
-    match play {
+    match &case.play {
         Play::Talks(talks) => are_told(alloc, workers, talks),
         Play::Peers(peers) => are_served(alloc, workers, peers),
         Play::Story(story) => is_played(rt, alloc, workers, story, latch),
         Play::Race(race) => is_run(rt, workers, *race),
+        Play::Beside(first) => answer_alike(alloc, workers, case, latch, **first),
     }
 }

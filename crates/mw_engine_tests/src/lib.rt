@@ -13,6 +13,8 @@ mod latch;
 #[cfg(test)]
 mod peers;
 #[cfg(test)]
+mod plain_tests;
+#[cfg(test)]
 mod race_tests;
 #[cfg(test)]
 mod races;
@@ -26,5 +28,7 @@ mod starts;
 mod sweep_tests;
 #[cfg(test)]
 mod talks;
+#[cfg(test)]
+mod twins;
 #[cfg(test)]
 mod workers;

@@ -50,7 +50,7 @@ fn opened_next<D: Disk + Drop>(
 }
 
 /// The files of the tenants with these lines, on these disks. None where memory is refused.
-fn all_opened<D: Disk + Drop>(
+pub(crate) fn all_opened<D: Disk + Drop>(
     alloc: Global,
     lines: &[TenantLine],
     disks: Vec<Option<D>>,
