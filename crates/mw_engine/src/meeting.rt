@@ -1,5 +1,5 @@
 //! Two passes meet.
-ghost use Rattle.mw_core.specs.FromTable.{HaveMet, MetByNone, IsSamePass, Met};
+ghost use Rattle.mw_core.specs.FromTable.{HaveMet, IsSamePass, Met, MetByNone};
 ghost use Rattle.mw_engine.specs.Fronts.{HasPass};
 
 use crate::front::Front;

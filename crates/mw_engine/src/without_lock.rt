@@ -6,7 +6,7 @@ ghost use Rattle.mw_actor.specs.Program.{replied};
 ghost use Rattle.mw_core.specs.declared.calls.Advance.TheVariants.{NeedsFile};
 ghost use Rattle.mw_core.specs.Looking.{Looks, is_over};
 ghost use Rattle.mw_report.specs.Table.{AreWithinLimits};
-ghost use Rattle.mw_core.specs.FromTable.{HaveMet, MetByNone, IsCarried, IsOfSameWorker, IsSamePass, Met, MetByNone, View as Knowledge};
+ghost use Rattle.mw_core.specs.FromTable.{HaveMet, IsCarried, IsOfSameWorker, IsSamePass, Met, MetByNone, View as Knowledge};
 ghost use Rattle.mw_engine.specs.Agreeing.{places_told};
 ghost use Rattle.mw_engine.specs.Figures.{HasLooked, TellAll};
 ghost use Rattle.mw_engine.specs.History.{IsAnswered, IsSince, ReadStands, Stands};

@@ -20,6 +20,7 @@ Answers identity old (Asks tenant job reply) new = IsAnswered old.seat.me.0 new.
 Answers identity old (Counts figures) new = HasLooked old new
     × TellAll identity.config.pool identity.config.pool identity.lines (map places_told identity.openings) figures.tenants.items figures.pool_free old.seat.me.0 new.seat.me.0
 
--- A session of a worker, which ended so: what was written is what its lines call for, given the answers of calls that were made one after the other, each answered so; and the worker did nothing else.
+-- A session of a worker, which ended so: what was written is what its lines call for, or a beginning of it where the writer failed, given the answers of calls that led from what the pass knew before to what it knows after it, each answered
+-- so.
 abbrev pub IsSession : Identity → Option (List ℕ) → Option (List ℕ) → Option (List ℕ) → Option (List ℕ) → Pass → Pass → Ended → Type 0
 IsSession identity left new_left taken new_taken old new ended = Holds left new_left taken new_taken (λ calls. GoesThrough (Answers identity) old calls new) ended

@@ -1,7 +1,5 @@
 //! Ends of a session for the tests: readers and writers that fail where they are told to, and a
 //! service that notes what it is asked for.
-ghost use Rattle.std.specs.Prelude.{None, []};
-
 use arrayvec::ArrayVec;
 use mw_report::Figures;
 use mw_session::Service;

@@ -8,7 +8,7 @@ use Rattle.mw_session.specs.declared.steps.Bound.TheVariants.{Nobody, Tenant, Ad
 use Rattle.mw_session.specs.declared.steps.Step.{Step}
 use Rattle.mw_session.specs.declared.steps.Step.TheVariants.{Refuse, Find, BindAdmin, Ask, Report, Leave, Overrun}
 
--- Between two states of a service just these calls were made, one after the other, and each was answered so.
+-- From one state of a service to the other these calls lead, one after the other, each answered as the service says. A search for a name, which changes nothing, may be missing.
 abbrev pub AreAnswered : {S : Type 0} → (S → Call → S → Type 0) → S → S → List Call → Type 0
 AreAnswered answered old new calls = GoesThrough answered old calls new
 

@@ -44,8 +44,8 @@ EndsSo left unseen heard answers text calls TooLong = EndsTalk heard answers tex
 EndsSo left unseen heard answers text calls Memory = IsTalk heard answers text calls
 EndsSo left unseen heard answers text calls (WriteFault told) = (told ≡ min (length text) (2 ^ 64 - 1)) × BeginsTalk heard answers text calls
 
--- A session: the reader had these bytes left before and after it, and the writer had taken these; Asked says that just
--- these calls of the service were made.
+-- A session: the reader had these bytes left before and after it, and the writer had taken these; Asked says that these
+-- calls led the service from its state before it to the one after it.
 pub record Holds (left new_left taken new_taken : Option (List ℕ)) (Asked : List Call → Type 0) (ended : Ended) : Type 0 where
   -- what was read, the lines of it that were looked at, and the others
   pub read : List ℕ
