@@ -1,9 +1,9 @@
 //! The machine of a request.
 ghost use Rattle.std.specs.Prelude.{◌≡◌, ◌≤◌, ◌<◌};
 ghost use Rattle.mw_words.specs.declared.limits.TheConstants.{MAX_POOL, MAX_WORKERS};
-ghost use Rattle.mw_look.specs.Steps.{place};
+ghost use Rattle.mw_look.specs.Steps.{op_of, place};
 ghost use Rattle.mw_look.specs.News.{IsNewsInRange, news_of};
-ghost use Rattle.mw_look.specs.Program.{tells as read_tells, asks as read_asks};
+ghost use Rattle.mw_look.specs.Program.{tells as read_tells};
 ghost use Rattle.mw_actor.specs.Acting.{first, first_point, entries_of, entry_at, entry_of, own_entries};
 ghost use Rattle.mw_actor.specs.Asks.{asks};
 ghost use Rattle.mw_actor.specs.Program.{goes, replied, tells};
@@ -14,7 +14,7 @@ mod asks;
 mod moves;
 
 use crate::points::{Attempt, Point, Task};
-use mw_look::{Look, News, Told};
+use mw_look::{Look, News, Op, Told};
 use mw_words::{Entries, Entry, Job, MAX_VALUE, Reply, copy_of};
 use std::marker::Model;
 
@@ -149,21 +149,28 @@ impl Actor {
     pub fn tell(&mut self, told: Told)
         ensures { self.new ≡ tells self.old (news_of (place (asks self.old)) told.got) told.next }
     {
-        let news = News::of(self.place(), told.got);
-        let point = self.after(told, news);
+        self.tell_of(self.ask(), told);
+    }
+
+    /// The same, by a caller who has the step that was asked for at hand.
+    pub fn tell_of(&mut self, op: Op, told: Told)
+        requires { op ≡ op_of (asks self.old) }
+        ensures { self.new ≡ tells self.old (news_of (place (asks self.old)) told.got) told.next }
+    {
+        let news = News::of(op.place(), told.got);
+        let point = self.after(news, told.next);
         read_others(&mut self.others, self.point, news);
         self.point = point;
     }
 
-    // The point after this was told.
-    fn after(&self, told: Told, news: News) -> Point
-        requires is { news ≡ news_of (place (asks self.now)) told.got }
-        requires in_range { IsNewsInRange news }
-        ensures { result ≡ goes self.now told.next self.now.point news }
+    // The point after these news.
+    fn after(&self, news: News, next: u64) -> Point
+        requires { IsNewsInRange news }
+        ensures { result ≡ goes self.now next self.now.point news }
     {
         match self.point {
-            Point::Read(look) => Point::Read(read_told(look, told)),
-            _ => self.next(news, told.next),
+            Point::Read(look) => Point::Read(read_told(look, news)),
+            _ => self.next(news, next),
         }
     }
 
@@ -207,10 +214,11 @@ fn first_point(tenant: u8, job: &Job) -> Point
 }
 
 // A read that was told what its step found.
-fn read_told(mut look: Look, told: Told) -> Look
-    ensures { result ≡ read_tells look (news_of (place (read_asks look)) told.got) }
+fn read_told(mut look: Look, news: News) -> Look
+    requires { IsNewsInRange news }
+    ensures { result ≡ read_tells look news }
 {
-    look.tell(told);
+    look.tell_news(news);
     look
 }
 

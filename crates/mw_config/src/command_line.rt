@@ -5,7 +5,7 @@ ghost use Rattle.mw_config.specs.CommandLine.{ArePermittedArgs, IsPermittedMode,
 use clap::builder::ValueParser;
 use clap::error::ErrorKind;
 use clap::{Arg, ArgAction, ArgMatches, Command};
-use mw_version::VERSION;
+use mw_main::VERSION;
 use mw_words::{MAX_CONNECTIONS, MAX_POOL, MAX_WORKERS};
 use std::alloc::{AllocError, Global};
 use thiserror::Error;

@@ -31,7 +31,7 @@ use Rattle.mw_table.specs.Holding.{HasFile}
 use Rattle.mw_table.specs.Meeting.{IsSamePass}
 use Rattle.mw_table.proofs.Called.{calls_so, carried_so}
 use Rattle.mw_core.specs.Books.{AgreesHeld}
-use Rattle.mw_core.specs.Filing.{MakesCall}
+use Rattle.mw_core.specs.Filing.{AreTaken, MakesCall}
 use Rattle.mw_core.proofs.MadeCalls.{agrees_first, book_takes, call_failed, ends_here, found_by, loaded_starts, made_badly, made_skips, made_well, safe_here, same_call, same_slot, skips_agrees, some_call}
 
 -- one of two answers is not the third
@@ -118,12 +118,12 @@ module _ {D : Type 0} (facts : D → Facts) (old between : Pass) (actor : Acting
         found_then : found_as status old.worker ≡ found_as status between.worker
         found_then = ap (found_as status) (sym same.same_worker)
 
-        pub may_call : (entries : List Entry) → old.seat.me.0.config.pool ≤ MAX_POOL → entries ≡ own_entries actor → MayCall book call slot entries
+        pub may_call : (entries : List Entry) → old.seat.me.0.config.pool ≤ MAX_POOL → AreTaken call entries (own_entries actor) → MayCall book call slot entries
         may_call entries few given =
             book_takes facts old.seat.me.0 between.seat.me.0 actor called has.held book status old.worker comes has.only has.its words.slot agrees starts_here starts call slot entries few call_is slot_is given
 
         -- It was made on the book.
-        module _ (after : Book D) (entries : List Entry) (given : entries ≡ own_entries actor) (answer : Filed) (as_before : after.places ≡ book.places)
+        module _ (after : Book D) (entries : List Entry) (given : AreTaken call entries (own_entries actor)) (answer : Filed) (as_before : after.places ≡ book.places)
             (told : (file : File) → Shows facts book file → Ends facts call slot entries file book after answer) (moments : IsCrashSafe facts call slot book after answer) where
           safe : IsCrashSafe facts called.call called.change.slot book after answer
           safe =

@@ -1,5 +1,5 @@
 -- How a step that was made ends a call.
-use Rattle.std.specs.Prelude.{ℕ, ◌≡◌, Bool, true, false, List, [], ◌∷◌, map, Option, Some, None, is_some}
+use Rattle.std.specs.Prelude.{ℕ, ◌≡◌, Bool, true, false, List, [], ◌∷◌, map, Option, Some, None, is_some, if◌then◌else◌}
 use Rattle.std.proofs.Common.{refl, sym, ap, subst, ◌∙◌}
 use Rattle.mw_words.specs.declared.replies.Reply.{Reply}
 use Rattle.mw_look.specs.declared.news.Got.{Got}
@@ -27,7 +27,8 @@ use Rattle.mw_table.proofs.Driving.{is_file}
 use Rattle.mw_table.proofs.Numbering.{settled_number}
 use Rattle.mw_core.specs.declared.calls.Advance.{Advance}
 use Rattle.mw_core.specs.declared.calls.Advance.TheVariants.{NeedsFile, Finished}
-use Rattle.mw_core.specs.Advancing.{Advances, Ends, IsTold, answer_of}
+use Rattle.mw_core.specs.Advancing.{Advances, Ends, IsTold, Steps, StepsAs, answer_of}
+use Rattle.mw_core.proofs.MadeCalls.{same_call}
 
 -- a read makes no call on a file
 pub read_calls_none : (tenant address : ℕ) (point : LookPoint) → is_file (op_of (read_asks_at tenant address point)) ≡ false
@@ -68,19 +69,29 @@ none_of (Some reply) is = absurd (cc)
 pub runs_still : (actor : Acting) → is_some (replied actor) ≡ false → replied actor ≡ None
 runs_still actor is = none_of (replied actor) is
 
--- a call on a file is next
-pub file_next : (pass : Pass) (actor : Acting) → replied actor ≡ None → is_file (op_of (asks actor)) ≡ true → Advances pass pass actor actor NeedsFile
-file_next pass actor running is =
-    let there = call_there actor actor.point is in
-    subst (λ (reply : Option Reply). Ends pass pass actor actor NeedsFile reply (called_at actor.point)) (sym running)
-    (subst (λ (called : Option Called). Ends pass pass actor actor NeedsFile None called) (sym there.1) (refl, record { same_pass = refl; same_request = refl }))
+-- the call on a file that is next
+pub file_next : (pass : Pass) (actor : Acting) (call : Call) (slot : ℕ) → op_of (asks actor) ≡ FileCall call slot → Steps pass pass actor actor (Some call)
+file_next pass actor call slot is =
+    let there = call_there actor actor.point (ap is_file is) in
+    subst (λ (called : Option Called). StepsAs pass pass actor actor (Some call) called) (sym there.1)
+    (ap Some (sym (same_call actor there.0 call slot there.1 is)), record { same_pass = refl; same_request = refl })
 
 -- a step was made
-pub step_made : (old new : Pass) (actor next : Acting) (got : Got) (result : Advance) → replied actor ≡ None → is_file (op_of (asks actor)) ≡ false → Took got old.seat.me.0 new.seat.me.0
-    → GoesOnByStep got old.seat.me.0 new.seat.me.0 → IsTold new actor next got → result ≡ answer_of (replied next) → Advances old new actor next result
-step_made old new actor next got result running plain took event told is =
-    subst (λ (reply : Option Reply). Ends old new actor next result reply (called_at actor.point)) (sym running)
-    (subst (λ (called : Option Called). Ends old new actor next result None called) (sym (no_call_there actor actor.point plain)) (is, record { got = got; took = took; event = event; told = told }))
+pub step_made : (old new : Pass) (actor next : Acting) (got : Got) → is_file (op_of (asks actor)) ≡ false → Took got old.seat.me.0 new.seat.me.0
+    → GoesOnByStep got old.seat.me.0 new.seat.me.0 → IsTold new actor next got → Steps old new actor next None
+step_made old new actor next got plain took event told =
+    subst (λ (called : Option Called). StepsAs old new actor next None called) (sym (no_call_there actor actor.point plain)) (refl, record { got = got; took = took; event = event; told = told })
+
+-- A step of a request without a reply ends a call of `advance`.
+ends_by : (old new : Pass) (actor next : Acting) (stepped : Option Call) (result : Advance) (called : Option Called) → StepsAs old new actor next stepped called
+    → result ≡ (if is_some stepped then NeedsFile else answer_of (replied next)) → Ends old new actor next result None called
+ends_by old new actor next stepped result (Some called) steps is = (is ∙ ap (λ (one : Option Call). if is_some one then NeedsFile else answer_of (replied next)) steps.0, steps.1)
+ends_by old new actor next stepped result None steps is = (is ∙ ap (λ (one : Option Call). if is_some one then NeedsFile else answer_of (replied next)) steps.0, steps.1)
+
+pub advanced : (old new : Pass) (actor next : Acting) (stepped : Option Call) (result : Advance) → replied actor ≡ None → Steps old new actor next stepped
+    → result ≡ (if is_some stepped then NeedsFile else answer_of (replied next)) → Advances old new actor next result
+advanced old new actor next stepped result running steps is =
+    subst (λ (reply : Option Reply). Ends old new actor next result reply (called_at actor.point)) (sym running) (ends_by old new actor next stepped result (called_at actor.point) steps is)
 
 abbrev second_of : List (ℕ × ℕ) → ℕ
 second_of [] = 0

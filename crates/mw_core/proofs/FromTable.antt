@@ -3,4 +3,3 @@ pub use Rattle.mw_table.proofs.Coming.{request_comes}
 pub use Rattle.mw_table.proofs.FromRule.{calls_begin, calls_end, calls_go_on, keeps_all, keeps_on, keeps_so, requests_go_on_from_calls, runs_are_sound}
 pub use Rattle.mw_table.proofs.Idling.{none_carried}
 pub use Rattle.mw_table.proofs.Numbering.{settled_number}
-pub use Rattle.mw_table.proofs.Starting.{seats_same}

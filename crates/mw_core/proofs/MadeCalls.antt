@@ -8,7 +8,7 @@ use Rattle.mw_words.specs.declared.jobs.Entry.{Entry}
 use Rattle.mw_words.specs.declared.statuses.Status.{Status}
 use Rattle.mw_words.specs.Patterns.{unpacked_status}
 use Rattle.mw_look.specs.declared.steps.Call.{Call}
-use Rattle.mw_look.specs.declared.steps.Call.TheVariants.{Prepare as PrepareCall}
+use Rattle.mw_look.specs.declared.steps.Call.TheVariants.{Prepare as PrepareCall, Seal as SealCall, Settle as SettleCall, Cancel as CancelCall}
 use Rattle.mw_look.specs.declared.steps.Op.{Op}
 use Rattle.mw_look.specs.declared.steps.Op.TheVariants.{File as FileCall}
 use Rattle.mw_look.specs.Steps.{op_of}
@@ -16,9 +16,9 @@ use Rattle.mw_actor.specs.Acting.{Acting, own_entries}
 use Rattle.mw_actor.specs.Asks.{asks}
 use Rattle.mw_disk.specs.Facts.{Facts}
 use Rattle.mw_world_file.specs.declared.outcomes.Outcome.TheVariants.{Good}
-use Rattle.mw_world_file.specs.Calls.{device_calls, doubt_of, is_made, place_for}
+use Rattle.mw_world_file.specs.Calls.{device_calls, doubt_of, filed, is_made, place_for}
 use Rattle.mw_world_file.specs.Crashes.{at_stake}
-use Rattle.mw_world_file.specs.Files.{entries_at}
+use Rattle.mw_world_file.specs.Files.{File, entries_at}
 use Rattle.mw_world.specs.Definition.Calls.{Called as CallOn, called_at, starts_from}
 use Rattle.mw_world.specs.Definition.Happenings.{File as FileEvent}
 use Rattle.mw_book.specs.declared.answers.Filed.{Filed}
@@ -28,13 +28,14 @@ use Rattle.mw_book.specs.Crashes.{IsCrashSafe, LeavesEither}
 use Rattle.mw_book.specs.Ends.{Ends, WasBroken}
 use Rattle.mw_book.specs.Held.{OnDisk, disk_in}
 use Rattle.mw_book.specs.Permits.{MayCall}
+use Rattle.mw_book.specs.Shown.{Shows}
 use Rattle.mw_book.proofs.ShownFiles.{untouched}
 use Rattle.mw_table.specs.FromRule.{End, FileRights, FindsFault, FoundStatus, GoesWell, Held, IsOnFrom, Loaded, LoadedAs, MayEnd, MeetsFault, Skips, Starts, View, Went, WentOn, broken_so, fails, file_told, filed_so, opening_at, place_held, rights_broken, rights_by, rights_filed, went_well}
 use Rattle.mw_table.proofs.FromRule.{keeps_all, keeps_so, on_again, requests_go_on_from_calls, told_on}
 use Rattle.mw_table.specs.Filing.{HasFailed, faulted_so}
 use Rattle.mw_table.specs.Holding.{file_among}
 use Rattle.mw_core.specs.Books.{Agrees, AgreesHeld, rights_answered}
-use Rattle.mw_core.specs.Filing.{EndsThere, IsOneEvent, MakesCall, StaysSafe, event_of, found_for, held_as}
+use Rattle.mw_core.specs.Filing.{AreTaken, EndsThere, IsOneEvent, MakesCall, StaysSafe, event_of, found_for, held_as}
 use Rattle.mw_core.proofs.Agreeing.{books_follow_rights, books_take_calls}
 use Rattle.mw_core.proofs.WholeCalls.{went_since}
 
@@ -115,6 +116,28 @@ skips_agrees facts old new tenant held book only went agrees =
     (subst (λ given. Agrees facts book (file_among old.files) (opening_at given tenant).quota new.config.pool) (sym openings)
     (subst (λ one. Agrees facts book (file_among old.files) (opening_at old.openings tenant).quota one.pool) (sym config) agrees))
 
+-- Only a prepare depends on the entries that it is given.
+may_with : {D : Type 0} (book : Book D) (call : Call) (slot : ℕ) (own entries : List Entry) → AreTaken call entries own → MayCall book call slot own → MayCall book call slot entries
+may_with book PrepareCall slot own entries given may = subst (λ (one : List Entry). MayCall book PrepareCall slot one) (sym given) may
+may_with book SealCall slot own entries given may = may
+may_with book SettleCall slot own entries given may = may
+may_with book CancelCall slot own entries given may = may
+
+ends_as : {D : Type 0} (facts : D → Facts) (call : Call) (slot : ℕ) (entries own : List Entry) (file : File) (before after : Book D) (answer : Filed)
+    → filed call file slot (place_for call file before.places slot) entries ≡ filed call file slot (place_for call file before.places slot) own
+    → Ends facts call slot entries file before after answer → Ends facts call slot own file before after answer
+ends_as facts call slot entries own file before after Made same ends = record { began = ends.began; made = ends.made; shows = subst (λ (one : File). Shows facts after one) same ends.shows }
+ends_as facts call slot entries own file before after Broken same ends = record { began = ends.began; number = ends.number; within = ends.within; made = ends.made; shows = ends.shows }
+ends_as facts call slot entries own file before after Untouched same ends = record { refused = ends.refused; same = ends.same }
+
+ends_with : {D : Type 0} (facts : D → Facts) (call : Call) (slot : ℕ) (entries own : List Entry) (file : File) (before after : Book D) (answer : Filed) → AreTaken call entries own
+    → Ends facts call slot entries file before after answer → Ends facts call slot own file before after answer
+ends_with facts PrepareCall slot entries own file before after answer given ends =
+    subst (λ (one : List Entry). Ends facts PrepareCall slot one file before after answer) given ends
+ends_with facts SealCall slot entries own file before after answer given ends = ends_as facts SealCall slot entries own file before after answer refl ends
+ends_with facts SettleCall slot entries own file before after answer given ends = ends_as facts SettleCall slot entries own file before after answer refl ends
+ends_with facts CancelCall slot entries own file before after answer given ends = ends_as facts CancelCall slot entries own file before after answer refl ends
+
 -- A call that starts, by the thread that has this right to the file, and no other.
 module _ {D : Type 0} (facts : D → Facts) (old between : View) (actor : Acting) (called : CallOn) (held : Held) (before : Book D) (status : Status) (worker : ℕ) (comes : called_at actor.point ≡ Some called)
     (only : old.files ≡ held ∷ []) (its : held.file.tenant ≡ actor.tenant) (low : nat_lt called.change.slot old.config.pool ≡ true) (agrees : AgreesHeld facts before old actor.tenant)
@@ -132,20 +155,20 @@ module _ {D : Type 0} (facts : D → Facts) (old between : View) (actor : Acting
   within_pool = ltb-true called.change.slot old.config.pool low
 
   -- the call may be made on the book
-  pub book_takes : (call : Call) (slot : ℕ) (entries : List Entry) → old.config.pool ≤ MAX_POOL → called.call ≡ call → called.change.slot ≡ slot → entries ≡ own_entries actor → MayCall before call slot entries
+  pub book_takes : (call : Call) (slot : ℕ) (entries : List Entry) → old.config.pool ≤ MAX_POOL → called.call ≡ call → called.change.slot ≡ slot → AreTaken call entries (own_entries actor) → MayCall before call slot entries
   book_takes call slot entries few same there given =
-      subst (λ (one : Call). MayCall before one slot entries) same
-      (subst (λ (one : ℕ). MayCall before called.call one entries) there
-      (subst (λ (one : List Entry). MayCall before called.call called.change.slot one) (sym given)
+      may_with before call slot (own_entries actor) entries given
+      (subst (λ (one : Call). MayCall before one slot (own_entries actor)) same
+      (subst (λ (one : ℕ). MayCall before called.call one (own_entries actor)) there
       (books_take_calls facts before old between worker old.config.pool actor called held status agrees_here (let within = within_pool in omega (arith, within, few)) starts)))
 
   -- how it ended there, told of the right's own file
-  pub ends_here : (after : Book D) (call : Call) (slot : ℕ) (entries : List Entry) (answer : Filed) → called.call ≡ call → called.change.slot ≡ slot → entries ≡ own_entries actor
+  pub ends_here : (after : Book D) (call : Call) (slot : ℕ) (entries : List Entry) (answer : Filed) → called.call ≡ call → called.change.slot ≡ slot → AreTaken call entries (own_entries actor)
       → Ends facts call slot entries (file_told held.file) before after answer → Ends facts called.call called.change.slot (own_entries actor) (file_told held.file) before after answer
   ends_here after call slot entries answer same there given ends =
       subst (λ (one : Call). Ends facts one called.change.slot (own_entries actor) (file_told held.file) before after answer) (sym same)
       (subst (λ (one : ℕ). Ends facts call one (own_entries actor) (file_told held.file) before after answer) (sym there)
-      (subst (λ (one : List Entry). Ends facts call slot one (file_told held.file) before after answer) given ends))
+      (ends_with facts call slot entries (own_entries actor) (file_told held.file) before after answer given ends))
 
   -- and what a crash leaves meanwhile
   pub safe_here : (after : Book D) (call : Call) (slot : ℕ) (answer : Filed) → called.call ≡ call → called.change.slot ≡ slot → IsCrashSafe facts call slot before after answer

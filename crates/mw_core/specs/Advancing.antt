@@ -1,6 +1,7 @@
 -- What a call of the core does: one step of a request on the shared words, or nothing.
 use Rattle.std.specs.Prelude.{ℕ, ◌≡◌, Option, Some, None}
 use Rattle.mw_words.specs.declared.replies.Reply.{Reply}
+use Rattle.mw_look.specs.declared.steps.Call.{Call}
 use Rattle.mw_look.specs.declared.news.Got.{Got}
 use Rattle.mw_look.specs.declared.news.Got.TheVariants.{Word as Found}
 use Rattle.mw_look.specs.News.{news_of}
@@ -29,6 +30,14 @@ pub record StepsOnce (old new : Pass) (actor next : Acting) : Type 0 where
 pub record IsStill (old new : Pass) (actor next : Acting) : Type 0 where
   pub same_pass : new ≡ old
   pub same_request : next ≡ actor
+
+-- How a step ends, by the call on a file that was next: with that call, and nothing done; or with one step.
+abbrev pub StepsAs : Pass → Pass → Acting → Acting → Option Call → Option Called → Type 0
+StepsAs old new actor next result (Some called) = (result ≡ Some called.call) × IsStill old new actor next
+StepsAs old new actor next result None = (result ≡ None) × StepsOnce old new actor next
+
+abbrev pub Steps : Pass → Pass → Acting → Acting → Option Call → Type 0
+Steps old new actor next result = StepsAs old new actor next result (called_at actor.point)
 
 -- what is answered after a step, by the reply that then stands
 abbrev pub answer_of : Option Reply → Advance

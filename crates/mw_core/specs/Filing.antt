@@ -2,6 +2,8 @@
 use Rattle.std.specs.Prelude.{ℕ, ◌≡◌, Bool, List, [], ◌∷◌, length, map, Option, Some, None}
 use Rattle.mw_words.specs.declared.jobs.Entry.{Entry}
 use Rattle.mw_words.specs.declared.statuses.Status.{Status}
+use Rattle.mw_look.specs.declared.steps.Call.{Call}
+use Rattle.mw_look.specs.declared.steps.Call.TheVariants.{Prepare as PrepareCall}
 use Rattle.mw_look.specs.declared.news.News.TheVariants.{Filed}
 use Rattle.mw_actor.specs.Acting.{Acting, own_entries}
 use Rattle.mw_actor.specs.Program.{tells}
@@ -19,6 +21,11 @@ use Rattle.mw_table.specs.FromRule.{Each, End, FileRights, FindsFault, FoundStat
 use Rattle.mw_table.specs.declared.shared.Pass.{Pass}
 use Rattle.mw_table.specs.Holding.{file_among}
 use Rattle.mw_core.specs.Books.{AgreesFor}
+
+-- These are the entries that a call takes, of a change that has these: a prepare takes them all, any other call none.
+abbrev pub AreTaken : Call → List Entry → List Entry → Type 0
+AreTaken PrepareCall entries own = entries ≡ own
+AreTaken call entries own = entries ≡ []
 
 -- What the call did to the book, by how it ended: nothing where it didn't start; it was made there, or a device call of it failed, the one of this number, counted from 1; or nothing, since the file had failed
 -- before.

@@ -1,5 +1,5 @@
 -- Definitions of the table that crates above need too, passed on: these then name this crate alone.
-pub use Rattle.mw_table.specs.Beginning.{Basis, basis_of_world, seat_in}
+pub use Rattle.mw_table.specs.Beginning.{Basis}
 pub use Rattle.mw_table.specs.Carried.{IsCarried}
 pub use Rattle.mw_table.specs.Dealt.{AreInOrder, IsDealt}
 pub use Rattle.mw_table.specs.Filing.{IsFree, IsRightOf, IsSoOfWorld, file_kept}

@@ -4,10 +4,10 @@ ghost use Rattle.mw_table.specs.FromRule.{MayCome};
 ghost use Rattle.mw_table.specs.Carried.{IsCarried};
 ghost use Rattle.mw_table.specs.Passes.{IsOf, IsOfSameWorker};
 ghost use Rattle.mw_actor.specs.Program.{replied};
-ghost use Rattle.mw_core.specs.Advancing.{Advances, Begins, answer_of};
+ghost use Rattle.mw_core.specs.Advancing.{Advances, Begins, Steps, answer_of};
 
 use mw_actor::Actor;
-use mw_look::{Got, Op, Told};
+use mw_look::{Call, Got, Op, Told};
 use mw_table::{Pass, Shared};
 
 /// How a call of [`Core::advance`] ended.
@@ -60,9 +60,35 @@ impl Core {
         });
     }
 
-    /// One atomic step of the request that the pass carries, on one shared word, of which the machine is
-    /// told. Nothing is done where a call on the tenant's file is next, or the reply stands. As long as no reply
-    /// stands the pass is as idle as it was, which is not at all.
+    /// Makes one atomic step of the request that the pass carries, which has no reply yet, on one shared word, and
+    /// tells the machine what it found. The machine is asked for its step once. If a call on the tenant's file is
+    /// next, nothing is done, and that call is the answer.
+    pub fn step(&self, pass: &mut Pass, actor: &mut Actor) -> Option<Call>
+        requires own { IsOf self.now.shared pass.old }
+        requires carried { IsCarried pass.old actor.old }
+        requires running { replied actor.old ≡ None }
+        ensures own { IsOf self.now.shared pass.new }
+        ensures worker { IsOfSameWorker pass.old pass.new }
+        ensures steps { Steps pass.old pass.new actor.old actor.new result }
+        ensures carried { IsCarried pass.new actor.new }
+    {
+        let op = actor.ask();
+        if let Op::File { call, .. } = op {
+            return Some(call);
+        }
+        let got = self.shared.step(pass, op);
+        actor.tell_of(
+            op,
+            Told {
+                got,
+                next: pass.attempt(),
+            },
+        );
+        None
+    }
+
+    /// Makes one step as [`Core::step`] does, of a request that may have its reply. Then nothing is done. As long as
+    /// no reply stands the pass is as idle as it was, which is not at all.
     pub fn advance(&self, pass: &mut Pass, actor: &mut Actor) -> Advance
         requires own { IsOf self.now.shared pass.old }
         requires carried { IsCarried pass.old actor.old }
@@ -75,15 +101,9 @@ impl Core {
         if actor.reply().is_some() {
             return Advance::Finished;
         }
-        let op = actor.ask();
-        if let Op::File { .. } = op {
+        if self.step(pass, actor).is_some() {
             return Advance::NeedsFile;
         }
-        let got = self.shared.step(pass, op);
-        actor.tell(Told {
-            got,
-            next: pass.attempt(),
-        });
         ended(actor)
     }
 }

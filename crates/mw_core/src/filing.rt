@@ -9,15 +9,16 @@ ghost use Rattle.mw_table.specs.Holding.{HasFile};
 ghost use Rattle.mw_table.specs.Meeting.{IsSamePass};
 ghost use Rattle.mw_table.specs.Passes.{IsOf};
 ghost use Rattle.mw_core.specs.Books.{AgreesHeld, AgreesThere};
-ghost use Rattle.mw_core.specs.Filing.{FilesOnce, MakesCall};
+ghost use Rattle.mw_core.specs.Filing.{AreTaken, FilesOnce, MakesCall};
 
 use crate::calls::Core;
 use mw_actor::Actor;
 use mw_book::{Book, Filed};
 use mw_disk::Disk;
-use mw_look::{Got, Op, Told};
-use mw_table::{FileRight, Pass, starts_from};
+use mw_look::{Call, Got, Op, Told};
+use mw_table::{FileRight, Pass};
 use mw_words::{Entries, Job, Status, copy_of};
+use mw_world::starts_from;
 
 impl Core {
     /// The call on its tenant's file to which the pass's request has come, made whole: on the tenant's book, by
@@ -86,7 +87,7 @@ impl Core {
         if !starts_from(call, status) {
             return true;
         }
-        match book.call(call, slot, &own_entries(actor)) {
+        match book.call(call, slot, &entries_for(call, actor)) {
             Filed::Made => {
                 self.shared().end_call(pass, call, slot, status);
                 true
@@ -96,6 +97,16 @@ impl Core {
                 false
             }
         }
+    }
+}
+
+/// The entries that a call takes: a prepare those of the request's own change, any other call none.
+fn entries_for(call: Call, actor: &Actor) -> Entries
+    ensures { AreTaken call result.items (acting.own_entries actor.now) }
+{
+    match call {
+        Call::Prepare => own_entries(actor),
+        Call::Seal | Call::Settle | Call::Cancel => Entries::new(),
     }
 }
 

@@ -91,10 +91,13 @@ impl Core {
         let point = look_point(actor);
         let op = actor.ask();
         let got = self.shared().step(pass, op);
-        actor.tell(Told {
-            got,
-            next: pass.attempt(),
-        });
+        actor.tell_of(
+            op,
+            Told {
+                got,
+                next: pass.attempt(),
+            },
+        );
         turns(point, News::of(op.place(), got))
     }
 }

@@ -1,52 +1,53 @@
--- What of an engine needs no lock, and what stays of the engine, say the same of passes and requests.
+-- The tenants' words, and what stays of the engine that has them, say the same of passes and requests.
 use Rattle.std.specs.Prelude.{ℕ, ◌≡◌, ◌<◌, List, map}
 use Rattle.std.proofs.Common.{sym, ap, subst, ◌∙◌}
 use Rattle.mw_words.specs.declared.jobs.Job.{Job}
-use Rattle.mw_actor.specs.Acting.{Acting, first}
+use Rattle.mw_actor.specs.Acting.{first}
 use Rattle.mw_world.specs.declared.config.Config.{Config}
-use Rattle.mw_core.specs.FromTable.{Pass, config_of, openings_of}
-use Rattle.mw_engine.specs.declared.front.Front.{Front}
+use Rattle.mw_core.specs.FromTable.{IsFree, IsOf, IsRested, Pass, config_of, openings_of}
+use Rattle.mw_engine.specs.declared.tenant_words.TenantWords.{TenantWords}
 use Rattle.mw_engine.specs.Agreeing.{places_told}
 use Rattle.mw_engine.specs.Branding.{Identity, identity_on}
-use Rattle.mw_engine.specs.Fronts.{HasPass, IsRequestOfFront, lines_told, places_kept, request}
 use Rattle.mw_engine.specs.Identity.{IsFor, Line, quota_told}
 use Rattle.mw_engine.specs.Passes.{IsPassOf}
-use Rattle.mw_engine.specs.Requests.{IsRequest, request_of}
+use Rattle.mw_engine.specs.Requests.{request_of}
+use Rattle.mw_engine.specs.TenantWords.{HasPass, lines_told, places_kept}
+use Rattle.mw_engine.proofs.Passing.{one_free, one_on}
 
-module _ {H : Type 0} (front : Front H) (identity : Identity) (same : identity_on front.core.shared (lines_told front) ≡ identity) where
-  pub same_lines : lines_told front ≡ identity.lines
+module _ (words : TenantWords) (identity : Identity) (same : identity_on words.core.shared (lines_told words) ≡ identity) where
+  pub same_lines : lines_told words ≡ identity.lines
   same_lines = ap (λ (one : Identity). one.lines) same
 
-  same_config : config_of front.core.shared.table.shared.key ≡ identity.config
+  same_config : config_of words.core.shared.table.shared.key ≡ identity.config
   same_config = ap (λ (one : Identity). one.config) same
 
-  same_openings : openings_of front.core.shared.table.shared.key ≡ identity.openings
+  same_openings : openings_of words.core.shared.table.shared.key ≡ identity.openings
   same_openings = ap (λ (one : Identity). one.openings) same
 
   -- so many places for changes of each file
-  pub same_places : places_kept front ≡ map places_told identity.openings
-  same_places = front.places_are ∙ ap (map places_told) same_openings
+  pub same_places : places_kept words ≡ map places_told identity.openings
+  same_places = words.places_are ∙ ap (map places_told) same_openings
 
-  same_table : front.core.shared.table.shared.table_id ≡ identity.table
+  same_table : words.core.shared.table.shared.table_id ≡ identity.table
   same_table = ap (λ (one : Identity). one.table) same
 
   -- so many slots
-  pub same_pool : front.core.shared.pool ≡ identity.config.pool
-  same_pool = front.core.shared.pool_is ∙ ap (λ (config : Config). config.pool) same_config
+  pub same_pool : words.core.shared.pool ≡ identity.config.pool
+  same_pool = words.core.shared.pool_is ∙ ap (λ (config : Config). config.pool) same_config
 
-  pub same_slots : front.pool ≡ identity.config.pool
-  same_slots = front.agrees.slots ∙ ap (λ (config : Config). config.pool) same_config
+  pub same_slots : words.pool ≡ identity.config.pool
+  same_slots = words.agrees.slots ∙ ap (λ (config : Config). config.pool) same_config
 
-  -- a pass of the one is one of the other
-  pub pass_of_front : (pass : Pass) → IsPassOf identity pass → HasPass front pass
-  pass_of_front pass own = record {
+  -- a pass of the engine is one of its words, and the other way round
+  pub in_words : (pass : Pass) → IsPassOf identity pass → HasPass words pass
+  in_words pass own = record {
     own = record { table = own.table ∙ sym same_table; config = own.config ∙ sym same_config; openings = own.openings ∙ sym same_openings };
     there = subst (λ (config : Config). pass.worker < config.workers) (sym same_config) own.there;
     free = own.free;
   }
 
-  pub pass_of_engine : (pass : Pass) → HasPass front pass → IsPassOf identity pass
-  pass_of_engine pass own = record {
+  pub of_engine : (pass : Pass) → HasPass words pass → IsPassOf identity pass
+  of_engine pass own = record {
     table = own.own.table ∙ same_table;
     config = own.own.config ∙ same_config;
     openings = own.own.openings ∙ same_openings;
@@ -54,12 +55,26 @@ module _ {H : Type 0} (front : Front H) (identity : Identity) (same : identity_o
     free = own.free;
   }
 
-  -- and so are requests
-  pub same_request : (worker tenant : ℕ) (job : Job) → request front worker tenant job ≡ request_of identity worker tenant job
+  -- it is the engine's still after a step on its words, and where it has no right to a file
+  pub still_of : (old new : Pass) → IsPassOf identity old → IsOf words.core.shared new → new.worker ≡ old.worker → new.seat.me.0.files ≡ old.seat.me.0.files → IsPassOf identity new
+  still_of old new own is worker files = of_engine new (one_on words.core.shared old new (in_words old own) is worker files)
+
+  pub free_of : (old new : Pass) → IsPassOf identity old → IsOf words.core.shared new → new.worker ≡ old.worker → IsFree new → IsPassOf identity new
+  free_of old new own is worker free = of_engine new (one_free words.core.shared old new (in_words old own) is worker free)
+
+  -- a tenant's request is the same for both
+  pub same_request : (worker tenant : ℕ) (job : Job) → first worker tenant (quota_told (lines_told words) tenant) words.pool job ≡ request_of identity worker tenant job
   same_request worker tenant job = λ i. first worker tenant (quota_told (same_lines i) tenant) (same_slots i) job
 
-  pub formed_there : (tenant : ℕ) (job : Job) → IsFor identity.lines tenant job → IsFor (lines_told front) tenant job
+  pub formed_there : (tenant : ℕ) (job : Job) → IsFor identity.lines tenant job → IsFor (lines_told words) tenant job
   formed_there tenant job formed = subst (λ (lines : List Line). IsFor lines tenant job) (sym same_lines) formed
 
-  pub request_there : (worker : ℕ) (actor : Acting) → IsRequest identity worker actor → IsRequestOfFront front worker actor
-  request_there worker actor asks = record { formed = formed_there actor.tenant actor.job asks.formed; is = asks.is ∙ sym (same_request worker actor.tenant actor.job) }
+-- a pass of the engine that rests is its own still
+pub rested_of : (identity : Identity) (old new : Pass) → IsPassOf identity old → IsRested old new → IsPassOf identity new
+rested_of identity old new own rested = record {
+  table = (λ i. (rested.same_seat i).table_id) ∙ own.table;
+  config = (λ i. (rested.same_seat i).me.0.config) ∙ own.config;
+  openings = (λ i. (rested.same_seat i).me.0.openings) ∙ own.openings;
+  there = subst (λ (n : ℕ). n < identity.config.workers) (sym rested.same_worker) own.there;
+  free = (λ i. (rested.same_seat i).me.0.files) ∙ own.free;
+}

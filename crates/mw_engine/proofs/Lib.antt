@@ -15,3 +15,4 @@ pub mod Served
 pub mod Shown
 pub mod Standing
 pub mod Started
+pub mod Stepped

@@ -1,5 +1,5 @@
 -- The search of a name.
-use Rattle.std.proofs.Common.{◌≡◌, ℕ, ◌+◌, ◌<◌, List, length, map, slice_get, Option, Some, get_or, sym, ap, ◌∙◌, inl, inr, arith}
+use Rattle.std.proofs.Common.{◌≡◌, ℕ, ◌+◌, ◌<◌, ◌≤◌, List, length, map, slice_get, Option, Some, get_or, sym, ap, ◌∙◌, inl, inr, arith}
 use Rattle.std.proofs.lemmas.Bool.{cases_eq}
 use Rattle.std.specs.Option.{option_map, option_map_or}
 use Rattle.std.proofs.lemmas.Option.{same_Some, slice_get-map, slice_get-get_or, slice_get_within}
@@ -40,3 +40,7 @@ module _ (kept : List Listed) (tenant : ℕ) (line : Listed) (name : List ℕ) (
     | inl at ↦ other (same_Some _ _ (sym named ∙ ap (name_told lines) (sym at) ∙ is))
     | inr apart ↦ none earlier (omega (arith, before, apart)) is
   ]
+
+-- nor has any, where none of all has it
+pub none_at_all : (lines : List Line) (tenant : ℕ) (name : List ℕ) → length lines ≤ tenant → HasNone lines tenant name → HasNone lines (length lines) name
+none_at_all lines tenant name past none = λ earlier before is. none earlier (omega (arith, past, before)) is

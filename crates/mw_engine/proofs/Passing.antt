@@ -6,7 +6,7 @@ use Rattle.mw_look.specs.declared.news.News.{News}
 use Rattle.mw_actor.specs.Acting.{Acting}
 use Rattle.mw_actor.specs.Program.{replied}
 use Rattle.mw_world.specs.Definition.Calls.{Called, called_at}
-use Rattle.mw_core.specs.FromTable.{IsFree, IsOf, IsRested, Pass, Shared, View, config_of}
+use Rattle.mw_core.specs.FromTable.{IsFree, IsOf, Pass, Shared, View, config_of}
 use Rattle.mw_core.specs.declared.calls.Advance.{Advance}
 use Rattle.mw_core.specs.declared.looking.WhyAgain.{WhyAgain}
 use Rattle.mw_core.specs.Advancing.{Advances, Ends}
@@ -26,17 +26,6 @@ one_free shared old new own is same free = record {
   there = subst (λ (n : ℕ). n < (config_of shared.table.shared.key).workers) (sym same) own.there;
   free = free;
 }
-
--- a pass that rests
-rested_of : (shared : Shared) (old new : Pass) → IsOf shared old → IsRested old new → IsOf shared new
-rested_of shared old new is rested = record {
-  table = (λ i. (rested.same_seat i).table_id) ∙ is.table;
-  config = (λ i. (rested.same_seat i).me.0.config) ∙ is.config;
-  openings = (λ i. (rested.same_seat i).me.0.openings) ∙ is.openings;
-}
-
-pub rested_one : (shared : Shared) (old new : Pass) → IsOneOf shared old → IsRested old new → IsOneOf shared new
-rested_one shared old new own rested = one_on shared old new own (rested_of shared old new own.own rested) rested.same_worker (λ i. (rested.same_seat i).me.0.files)
 
 -- no step of a request changes which files its pass may call
 ends_files : (old new : Pass) (actor next : Acting) (result : Advance) (reply : Option Reply) (called : Option Called) → Ends old new actor next result reply called

@@ -12,9 +12,13 @@ use Rattle.mw_world.specs.declared.config.Config.{Config}
 use Rattle.mw_world.specs.Definition.State.{Opening, no_tenant, tenant_at, tenants_of}
 use Rattle.mw_core.specs.FromTable.{Has, MayCome, Pass, Reins, config_of, number_of, opening_at, openings_of}
 use Rattle.mw_core.proofs.FromTable.{none_carried}
-use Rattle.mw_engine.specs.declared.front.Front.{Front}
+use Rattle.mw_engine.specs.declared.tenant_words.TenantWords.{TenantWords}
+use Rattle.mw_engine.specs.Branding.{Identity, identity_on}
 use Rattle.mw_engine.specs.Identity.{IsFor, Line, quota_told, words_told}
-use Rattle.mw_engine.specs.Fronts.{HasPass, IsRequestOfFront, lines_told}
+use Rattle.mw_engine.specs.Passes.{IsPassOf}
+use Rattle.mw_engine.specs.Requests.{IsRequest, request_of}
+use Rattle.mw_engine.specs.TenantWords.{lines_told}
+use Rattle.mw_engine.proofs.Branded.{formed_there, in_words, same_request}
 
 abbrev first_of : List (ℕ × ℕ) → ℕ
 first_of [] = 0
@@ -29,44 +33,54 @@ has_own pass = by pass.seat.me.0.reins refl pass.numbered
     by (one ∷ []) is numbered = (one, record { only = is; own = ap first_of numbered })
     by (one ∷ other ∷ rest) is numbered = absurd (cc)
 
-module _ {H : Type 0} (engine : Front H) (tenant : ℕ) (there : tenant < length (lines_told engine)) where
+module _ (words : TenantWords) (tenant : ℕ) (there : tenant < length (lines_told words)) where
   abbrev pub config : Config
-  config = config_of engine.core.shared.table.shared.key
+  config = config_of words.core.shared.table.shared.key
 
   abbrev pub openings : List Opening
-  openings = openings_of engine.core.shared.table.shared.key
+  openings = openings_of words.core.shared.table.shared.key
 
-  pub words_are : words_told (lines_told engine) tenant ≡ (tenant_at config tenant).words
-  words_are = ap (λ (o : Option Line). option_map_or (λ l. l.words) o 0) (engine.agrees.each tenant there)
+  pub words_are : words_told (lines_told words) tenant ≡ (tenant_at config tenant).words
+  words_are = ap (λ (o : Option Line). option_map_or (λ l. l.words) o 0) (words.agrees.each tenant there)
 
-  pub quota_is : quota_told (lines_told engine) tenant ≡ (opening_at openings tenant).quota
-  quota_is = ap (λ (o : Option Line). option_map_or (λ l. l.quota) o 0) (engine.agrees.each tenant there)
+  pub quota_is : quota_told (lines_told words) tenant ≡ (opening_at openings tenant).quota
+  quota_is = ap (λ (o : Option Line). option_map_or (λ l. l.quota) o 0) (words.agrees.each tenant there)
 
 -- it has no more words than a tenant may have
-pub words_few : {H : Type 0} (engine : Front H) (tenant : ℕ) → tenant < length (lines_told engine) → words_told (lines_told engine) tenant ≤ MAX_WORDS
-words_few engine tenant there =
-    let low : tenant < tenants_of (config engine tenant there) = subst (λ (n : ℕ). tenant < n) engine.agrees.count there in
-    subst (λ (n : ℕ). n ≤ MAX_WORDS) (sym (words_are engine tenant there)) (engine.core.shared.made.words tenant no_tenant low).1
+pub words_few : (words : TenantWords) (tenant : ℕ) → tenant < length (lines_told words) → words_told (lines_told words) tenant ≤ MAX_WORDS
+words_few words tenant there =
+    let low : tenant < tenants_of (config words tenant there) = subst (λ (n : ℕ). tenant < n) words.agrees.count there in
+    subst (λ (n : ℕ). n ≤ MAX_WORDS) (sym (words_are words tenant there)) (words.core.shared.made.words tenant no_tenant low).1
 
 -- its job is one that a request may have
-pub formed_so : {H : Type 0} (engine : Front H) (tenant : ℕ) (job : Job) → IsFor (lines_told engine) tenant job → IsFormed job
-formed_so engine tenant job asks = well_formed_is_formed (words_told (lines_told engine) tenant) job asks.formed (words_few engine tenant asks.there)
+pub formed_so : (words : TenantWords) (tenant : ℕ) (job : Job) → IsFor (lines_told words) tenant job → IsFormed job
+formed_so words tenant job asks = well_formed_is_formed (words_told (lines_told words) tenant) job asks.formed (words_few words tenant asks.there)
 
-pub may_come : {H : Type 0} (engine : Front H) (pass : Pass) (actor : Acting) → HasPass engine pass → pass.idle ≡ true → IsRequestOfFront engine pass.worker actor
-    → MayCome pass.seat.me.0 pass.worker actor
-may_come engine pass actor own idle asks =
+-- A request that the engine's tenant may make comes to an idle pass of the engine.
+pub may_come : (words : TenantWords) (identity : Identity) → identity_on words.core.shared (lines_told words) ≡ identity → (pass : Pass) (actor : Acting) → IsPassOf identity pass → pass.idle ≡ true
+    → IsRequest identity pass.worker actor → MayCome pass.seat.me.0 pass.worker actor
+may_come words identity same pass actor engines idle asks =
     let view = pass.seat.me.0 in
     let tenant = actor.tenant in
-    let there = asks.formed.there in
+    let own = in_words words identity same pass engines in
+    let formed = formed_there words identity same tenant actor.job asks.formed in
+    let there = formed.there in
     let has = has_own pass in
     record {
       reins = has.0;
       has = has.1;
       idle = none_carried view pass.worker has.0 has.1 (pass.rests idle);
-      tenant = subst (λ (c : Config). tenant < tenants_of c) (sym own.own.config) (subst (λ (n : ℕ). tenant < n) engine.agrees.count there);
+      tenant = subst (λ (c : Config). tenant < tenants_of c) (sym own.own.config) (subst (λ (n : ℕ). tenant < n) words.agrees.count there);
       may_ask = ap (λ (c : Config). is_well_formed (tenant_at c tenant).words actor.job) own.own.config
-          ∙ (ap (λ (n : ℕ). is_well_formed n actor.job) (sym (words_are engine tenant there)) ∙ asks.formed.formed);
-      is = asks.is ∙ (λ i. first pass.worker tenant
-          ((quota_is engine tenant there ∙ ap (λ (o : List Opening). (opening_at o tenant).quota) (sym own.own.openings)) i)
-          ((engine.agrees.slots ∙ ap (λ (c : Config). c.pool) (sym own.own.config)) i) actor.job);
+          ∙ (ap (λ (n : ℕ). is_well_formed n actor.job) (sym (words_are words tenant there)) ∙ formed.formed);
+      is = asks.is ∙ (sym (same_request words identity same pass.worker tenant actor.job) ∙ (λ i. first pass.worker tenant
+          ((quota_is words tenant there ∙ ap (λ (o : List Opening). (opening_at o tenant).quota) (sym own.own.openings)) i)
+          ((words.agrees.slots ∙ ap (λ (c : Config). c.pool) (sym own.own.config)) i) actor.job));
     }
+
+-- So does the request that an engine makes of a tenant's job.
+pub made_may_come : (words : TenantWords) (identity : Identity) → identity_on words.core.shared (lines_told words) ≡ identity → (pass : Pass) (tenant : ℕ) (asked job : Job) (actor : Acting)
+    → IsPassOf identity pass → pass.idle ≡ true → IsFor identity.lines tenant asked → job ≡ asked → actor ≡ request_of identity pass.worker tenant job → MayCome pass.seat.me.0 pass.worker actor
+made_may_come words identity same pass tenant asked job actor own idle formed copied is =
+    subst (λ (one : Acting). MayCome pass.seat.me.0 pass.worker one) (sym is)
+    (may_come words identity same pass (request_of identity pass.worker tenant job) own idle (record { formed = subst (λ (one : Job). IsFor identity.lines tenant one) (sym copied) formed; is = refl }))

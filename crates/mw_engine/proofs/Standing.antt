@@ -12,9 +12,9 @@ use Rattle.mw_world.specs.declared.config.Config.{Config}
 use Rattle.mw_world.specs.Definition.State.{Opening, tenants_of}
 use Rattle.mw_core.specs.FromTable.{IsOf, Looked, Pass, View, index_of, opening_at}
 use Rattle.mw_core.proofs.FromTable.{runs_are_sound}
-use Rattle.mw_engine.specs.declared.front.Front.{Front}
+use Rattle.mw_engine.specs.declared.tenant_words.TenantWords.{TenantWords}
 use Rattle.mw_engine.specs.Identity.{quota_told}
-use Rattle.mw_engine.specs.Fronts.{lines_told}
+use Rattle.mw_engine.specs.TenantWords.{lines_told}
 use Rattle.mw_engine.proofs.Requesting.{quota_is}
 
 under : (n m : ℕ) → n < m → nat_lt n m ≡ true
@@ -27,18 +27,18 @@ pub record StandsAtDoor (bits quota : ℕ) : Type 0 where
   pub used : door.used ≤ quota
   pub few : quota ≤ MAX_QUOTA
 
-pub door_stood : {H : Type 0} (engine : Front H) (pass : Pass) (old : View) (pool tenant bits : ℕ) → IsOf engine.core.shared pass → tenant < length (lines_told engine)
-    → Looked (index_of pool (AtDoor tenant)) bits old pass.seat.me.0 → StandsAtDoor bits (quota_told (lines_told engine) tenant)
-door_stood engine pass old pool tenant bits own there looked =
+pub door_stood : (words : TenantWords) (pass : Pass) (old : View) (pool tenant bits : ℕ) → IsOf words.core.shared pass → tenant < length (lines_told words)
+    → Looked (index_of pool (AtDoor tenant)) bits old pass.seat.me.0 → StandsAtDoor bits (quota_told (lines_told words) tenant)
+door_stood words pass old pool tenant bits own there looked =
     let view = pass.seat.me.0 in
     let stood = looked.stood in
     let config = view.config in
-    let low : tenant < tenants_of config = subst (λ (c : Config). tenant < tenants_of c) (sym own.config) (subst (λ (n : ℕ). tenant < n) engine.agrees.count there) in
+    let low : tenant < tenants_of config = subst (λ (c : Config). tenant < tenants_of c) (sym own.config) (subst (λ (n : ℕ). tenant < n) words.agrees.count there) in
     let door = stood.state.cells.doors tenant in
     let sound = (runs_are_sound config stood.openings stood.events stood.state stood.played).0 in
     let bits_are : bits ≡ packed_door door = stood.same_bits (AtDoor tenant) (under tenant (tenants_of config) low) refl in
-    let quota : (stood.state.accounts tenant).quota ≡ quota_told (lines_told engine) tenant =
-    (stood.gave tenant low).quota ∙ (ap (λ (o : List Opening). (opening_at o tenant).quota) own.openings ∙ sym (quota_is engine tenant there)) in
+    let quota : (stood.state.accounts tenant).quota ≡ quota_told (lines_told words) tenant =
+    (stood.gave tenant low).quota ∙ (ap (λ (o : List Opening). (opening_at o tenant).quota) own.openings ∙ sym (quota_is words tenant there)) in
     record {
       door = door;
       is = ap unpacked_door bits_are ∙ door_round door (sound.memory.fits (AtDoor tenant));
@@ -47,12 +47,12 @@ door_stood engine pass old pool tenant bits own there looked =
     }
 
 -- the bits are a gate's
-pub gate_stood : {H : Type 0} (engine : Front H) (pass : Pass) (old : View) (pool slot bits : ℕ) → IsOf engine.core.shared pass → slot < engine.pool
+pub gate_stood : (words : TenantWords) (pass : Pass) (old : View) (pool slot bits : ℕ) → IsOf words.core.shared pass → slot < words.pool
     → Looked (index_of pool (AtGate slot)) bits old pass.seat.me.0 → (gate : Gate) × (unpacked_gate bits ≡ Some gate)
-gate_stood engine pass old pool slot bits own there looked =
+gate_stood words pass old pool slot bits own there looked =
     let stood = looked.stood in
     let config = pass.seat.me.0.config in
-    let low : slot < config.pool = subst (λ (c : Config). slot < c.pool) (sym own.config) (subst (λ (n : ℕ). slot < n) engine.agrees.slots there) in
+    let low : slot < config.pool = subst (λ (c : Config). slot < c.pool) (sym own.config) (subst (λ (n : ℕ). slot < n) words.agrees.slots there) in
     let gate = stood.state.cells.gates slot in
     let sound = (runs_are_sound config stood.openings stood.events stood.state stood.played).0 in
     let bits_are : bits ≡ packed_gate gate = stood.same_bits (AtGate slot) (under slot config.pool low) refl in

@@ -4,7 +4,6 @@ pub mod Ending
 pub mod Figures
 pub mod Filing
 pub mod FromBelow
-pub mod Fronts
 pub mod History
 pub mod Identity
 pub mod Kept
@@ -15,3 +14,4 @@ pub mod Replies
 pub mod Requests
 pub mod Starting
 pub mod Stepping
+pub mod TenantWords

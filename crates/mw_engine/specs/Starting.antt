@@ -5,12 +5,12 @@ use Rattle.mw_config.specs.declared.lines.TenantLine.{TenantLine}
 use Rattle.mw_world.specs.declared.config.Config.{Config}
 use Rattle.mw_engine.specs.declared.parts.EngineParts.{EngineParts}
 use Rattle.mw_engine.specs.Branding.{Identity, identity_on}
-use Rattle.mw_engine.specs.Fronts.{lines_told}
+use Rattle.mw_engine.specs.TenantWords.{lines_told}
 use Rattle.mw_engine.specs.Opened.{tenant_read}
 
 -- the identity of the engine that these parts make
 abbrev pub identity_of : {D H : Type 0} {device : Ghosts D} → EngineParts D H device → Identity
-identity_of parts = identity_on parts.front.core.shared (lines_told parts.front)
+identity_of parts = identity_on parts.words.core.shared (lines_told parts.words)
 
 -- the world of these lines, with so many slots, each used first under the number 0, and so many workers
 abbrev pub world_read : ℕ → ℕ → List TenantLine → Config

@@ -30,7 +30,11 @@ impl<J: EngineBrand, D: Disk + Drop, H: Drop> Engine<J, D, H> {
     pub fn into_disks(self, alloc: Global) -> Result<Vec<Option<D>>, NoDisks>
         ensures { IfOk result (λ disks. AreGiven D.facts J.identity disks.items) }
     {
-        let Engine { front, books } = self;
+        let Engine {
+            words,
+            hold: _,
+            books,
+        } = self;
         let Ok(mut disks) = Vec::with_capacity(alloc, books.len()) else {
             return Err(NoDisks::Memory);
         };
@@ -39,7 +43,7 @@ impl<J: EngineBrand, D: Disk + Drop, H: Drop> Engine<J, D, H> {
             if usize::from(kept.tenant) != disks.len() {
                 return Err(NoDisks::Misplaced);
             }
-            let Ok(()) = disks.push(kept.into_disk(&front.core)) else {
+            let Ok(()) = disks.push(kept.into_disk(&words.core)) else {
                 return Err(NoDisks::Memory);
             };
         }

@@ -1,11 +1,11 @@
 //! An engine that serves.
 ghost use Rattle.std.specs.Prelude.{◌≡◌, length};
 ghost use Rattle.mw_engine.specs.Branding.{identity_on};
-ghost use Rattle.mw_engine.specs.Fronts.{lines_told};
+ghost use Rattle.mw_engine.specs.TenantWords.{lines_told};
 
 use crate::brand::EngineBrand;
-use crate::front::Front;
 use crate::kept::Kept;
+use crate::tenant_words::TenantWords;
 use mw_disk::Disk;
 use std::sync::Mutex;
 
@@ -13,8 +13,9 @@ use std::sync::Mutex;
 /// lock of its own, the tenants' files.
 #[derive(Drop)]
 pub struct Engine<J: EngineBrand, D: Disk, H> {
-    pub(crate) front: Front<H>,
+    pub(crate) words: TenantWords,
+    pub(crate) hold: H,
     pub(crate) books: Vec<Mutex<Kept<J, D>>>,
-    ghost same: { identity_on front.core.shared (lines_told front) ≡ J.identity },
-    ghost a_book_each: { length books.items ≡ length (lines_told front) },
+    ghost same: { identity_on words.core.shared (lines_told words) ≡ J.identity },
+    ghost a_book_each: { length books.items ≡ length (lines_told words) },
 }

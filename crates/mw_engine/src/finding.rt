@@ -1,21 +1,24 @@
 //! Which tenants there are, and the requests that they may make.
-ghost use Rattle.std.specs.Prelude.{◌≡◌, ◌<◌, length, IfSome, MatchOption};
+ghost use Rattle.std.specs.Prelude.{◌≡◌, length, IfSome, MatchOption};
 ghost use Rattle.mw_engine.specs.Identity.{HasNone, HasWords, IsFirst, IsFor};
-ghost use Rattle.mw_engine.specs.Fronts.{HasPass, lines_told, request};
+ghost use Rattle.mw_engine.specs.Passes.{IsPassOf};
+ghost use Rattle.mw_engine.specs.Requests.{request_of};
 
-use crate::front::Front;
+use crate::brand::EngineBrand;
+use crate::engine::Engine;
 use mw_actor::Actor;
 use mw_core::Pass;
+use mw_disk::Disk;
 use mw_words::{Job, Name};
 
-impl<H> Front<H> {
+impl<J: EngineBrand, D: Disk, H> Engine<J, D, H> {
     /// The number of the first tenant with this name, and how many words it has; none where no tenant
     /// has it.
     pub fn find(&self, name: &Name) -> Option<(u8, u16)>
-        ensures first { MatchOption result (HasNone (lines_told self.now) (length (lines_told self.now)) name.now.items) (IsFirst (lines_told self.now) name.now.items) }
-        ensures words { IfSome result (λ found. HasWords (lines_told self.now) found.0 found.1) }
+        ensures first { MatchOption result (HasNone J.identity.lines (length J.identity.lines) name.now.items) (IsFirst J.identity.lines name.now.items) }
+        ensures words { IfSome result (λ found. HasWords J.identity.lines found.0 found.1) }
     {
-        for (tenant, line) in self.lines.iter().enumerate() {
+        for (tenant, line) in self.words.lines.iter().enumerate() {
             if line.name.as_slice() == name.as_slice() {
                 return Some((tenant as u8, line.words));
             }
@@ -25,11 +28,11 @@ impl<H> Front<H> {
 
     /// A request of a tenant for a job, at its first step, for the worker of a pass.
     pub fn request(&self, pass: &Pass, tenant: u8, job: Job) -> Actor
-        requires own { HasPass self.now pass.now }
-        requires formed { IsFor (lines_told self.now) tenant job }
-        ensures { result ≡ request self.now pass.now.worker tenant job }
+        requires own { IsPassOf J.identity pass.now }
+        requires formed { IsFor J.identity.lines tenant job }
+        ensures { result ≡ request_of J.identity pass.now.worker tenant job }
     {
-        let quota = self.lines[usize::from(tenant)].quota;
-        Actor::new(pass.worker(), tenant, quota, self.pool, job)
+        let quota = self.words.lines[usize::from(tenant)].quota;
+        Actor::new(pass.worker(), tenant, quota, self.words.pool, job)
     }
 }

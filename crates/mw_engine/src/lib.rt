@@ -20,7 +20,6 @@ mod calling;
 mod ending;
 mod engine;
 mod finding;
-mod front;
 mod hold;
 mod kept;
 mod listed;
@@ -32,7 +31,7 @@ mod reporting;
 mod serving;
 mod starting;
 mod stepping;
-mod without_lock;
+mod tenant_words;
 
 pub use brand::EngineBrand;
 pub use ending::NoDisks;

@@ -8,9 +8,9 @@ ghost use Rattle.mw_engine.specs.Opened.{AreMadeOf, FitLines, FitsLine, HaveFewP
 ghost use Rattle.mw_engine.specs.Passes.{IsNew};
 ghost use Rattle.mw_engine.specs.Starting.{identity_of, world_read};
 
-use crate::front::Front;
 use crate::listed::Listed;
 use crate::parts::EngineParts;
+use crate::tenant_words::TenantWords;
 use arrayvec::ArrayVec;
 use mw_book::Book;
 use mw_config::TenantLine;
@@ -54,14 +54,14 @@ impl<D: Disk + Drop, H: Drop> EngineParts<D, H> {
         let config = config_of(lines, pool, workers);
         let (openings, books) = opened(alloc, lines, files)?;
         let (shared, passes, rights) = Shared::new(alloc, &config, &openings)?;
-        let front = Front {
+        let words = TenantWords {
             core: Core::new(shared),
             lines: listed(lines, &openings),
             pool,
-            hold,
         };
         let parts = EngineParts {
-            front,
+            words,
+            hold,
             books,
             rights,
         };

@@ -2,9 +2,9 @@
 ghost use Rattle.std.specs.Prelude.{◌≡◌, length};
 ghost use Rattle.mw_engine.specs.Branding.{identity_on};
 ghost use Rattle.mw_engine.specs.Kept.{AreKept};
-ghost use Rattle.mw_engine.specs.Fronts.{lines_told};
+ghost use Rattle.mw_engine.specs.TenantWords.{lines_told};
 
-use crate::front::Front;
+use crate::tenant_words::TenantWords;
 use mw_book::Book;
 use mw_core::FileRight;
 use mw_disk::Disk;
@@ -12,10 +12,11 @@ use mw_disk::Disk;
 /// What an engine is made of, which has no brand yet. [`EngineParts::into_engine`] gives it one.
 #[derive(Drop)]
 pub struct EngineParts<D: Disk, H> {
-    pub(crate) front: Front<H>,
+    pub(crate) words: TenantWords,
+    pub(crate) hold: H,
     pub(crate) books: Vec<Book<D>>,
     pub(crate) rights: Vec<FileRight>,
-    ghost kept: { AreKept D.facts (identity_on front.core.shared (lines_told front)) books.items rights.items },
-    ghost a_book_each: { length books.items ≡ length front.lines.items },
-    ghost a_right_each: { length rights.items ≡ length front.lines.items },
+    ghost kept: { AreKept D.facts (identity_on words.core.shared (lines_told words)) books.items rights.items },
+    ghost a_book_each: { length books.items ≡ length words.lines.items },
+    ghost a_right_each: { length rights.items ≡ length words.lines.items },
 }

@@ -6,15 +6,18 @@ ghost use Rattle.mw_core.specs.Looking.{Looks, is_over};
 ghost use Rattle.mw_core.specs.FromTable.{IsCarried, IsOfSameWorker, View as Knowledge};
 ghost use Rattle.mw_engine.specs.History.{IsAnswered, IsSince, ReadStands};
 ghost use Rattle.mw_engine.specs.Identity.{IsFor};
+ghost use Rattle.mw_engine.specs.Passes.{IsPassOf};
 ghost use Rattle.mw_engine.specs.Replies.{IsReplyTo};
-ghost use Rattle.mw_engine.specs.Fronts.{HasPass, lines_told, read_of};
+ghost use Rattle.mw_engine.specs.Requests.{read_of};
 
-use crate::front::Front;
+use crate::brand::EngineBrand;
+use crate::engine::Engine;
 use mw_core::{Pass, WhyAgain};
+use mw_disk::Disk;
 use mw_words::{Job, Reply};
 use std::sync::Wait;
 
-impl<H> Front<H> {
+impl<J: EngineBrand, D: Disk, H> Engine<J, D, H> {
     /// One pass of the program of a read of a tenant's word, up to its reply, or back to its first step. With the
     /// reply the pass is idle, and the read is noted, at a place that is right. Where the read began again the
     /// pass carries it still, and the next call for the same word goes on with it.
@@ -23,31 +26,31 @@ impl<H> Front<H> {
     ///
     /// Why the read began again. It holds nothing.
     pub fn try_look(&self, pass: &mut Pass, tenant: u8, address: u16) -> Result<Reply, WhyAgain>
-        requires own { HasPass self.now pass.old }
-        requires formed { IsFor (lines_told self.now) tenant (Get address) }
-        requires goes_on { pass.old.idle ≡ false → IsCarried pass.old (read_of self.now pass.old tenant address) }
-        ensures own { HasPass self.now pass.new }
+        requires own { IsPassOf J.identity pass.old }
+        requires formed { IsFor J.identity.lines tenant (Get address) }
+        requires goes_on { pass.old.idle ≡ false → IsCarried pass.old (read_of J.identity pass.old tenant address) }
+        ensures own { IsPassOf J.identity pass.new }
         ensures worker { IsOfSameWorker pass.old pass.new }
-        ensures looks { (next : Acting) × Looks pass.old pass.new (read_of self.now pass.old tenant address) next result }
-        ensures call { (first : Knowledge) → IsSince pass.old.idle first pass.old.seat.me.0 (read_of self.now pass.old tenant address)
-            → ReadStands result first pass.new.seat.me.0 (read_of self.now pass.old tenant address) }
-        ensures goes_on { pass.new.idle ≡ false → IsCarried pass.new (read_of self.now pass.old tenant address) }
+        ensures looks { (next : Acting) × Looks pass.old pass.new (read_of J.identity pass.old tenant address) next result }
+        ensures call { (first : Knowledge) → IsSince pass.old.idle first pass.old.seat.me.0 (read_of J.identity pass.old tenant address)
+            → ReadStands result first pass.new.seat.me.0 (read_of J.identity pass.old tenant address) }
+        ensures goes_on { pass.new.idle ≡ false → IsCarried pass.new (read_of J.identity pass.new tenant address) }
         ensures answers { IfOk result (IsReplyTo (Get address)) }
         ensures idle { pass.new.idle ≡ is_over result }
     {
         let mut read = self.request(pass, tenant, Job::Get(address));
-        self.core.try_look(pass, &mut read)
+        self.words.core.try_look(pass, &mut read)
     }
 
     /// The reply to a read of a tenant's word, which begins again until it is answered. It is noted at a place that
     /// is right, no smaller than what the pass had seen when the read came.
     pub fn look(&self, rt: &impl Wait, pass: &mut Pass, tenant: u8, address: u16) -> Reply
-        requires own { HasPass self.now pass.old }
-        requires formed { IsFor (lines_told self.now) tenant (Get address) }
-        requires goes_on { pass.old.idle ≡ false → IsCarried pass.old (read_of self.now pass.old tenant address) }
-        ensures own { HasPass self.now pass.new }
+        requires own { IsPassOf J.identity pass.old }
+        requires formed { IsFor J.identity.lines tenant (Get address) }
+        requires goes_on { pass.old.idle ≡ false → IsCarried pass.old (read_of J.identity pass.old tenant address) }
+        ensures own { IsPassOf J.identity pass.new }
         ensures worker { IsOfSameWorker pass.old pass.new }
-        ensures call { (first : Knowledge) → IsSince pass.old.idle first pass.old.seat.me.0 (read_of self.now pass.old tenant address)
+        ensures call { (first : Knowledge) → IsSince pass.old.idle first pass.old.seat.me.0 (read_of J.identity pass.old tenant address)
             → IsAnswered first pass.new.seat.me.0 tenant (Get address) result }
         ensures answers { IsReplyTo (Get address) result }
         ensures idle { pass.new.idle ≡ true }

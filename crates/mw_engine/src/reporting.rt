@@ -1,35 +1,42 @@
 //! What is reported of the tenants and the pool.
-ghost use Rattle.std.specs.Prelude.{◌≡◌, ◌≤◌, ◌<◌, All, true, length};
+ghost use Rattle.std.specs.Prelude.{◌≡◌, ◌≤◌, ◌<◌, All, true, length, map};
 ghost use Rattle.mw_report.specs.Table.{AreWithinLimits, IsWithinLimits};
 ghost use Rattle.mw_words.specs.declared.limits.TheConstants.{MAX_QUOTA};
 ghost use Rattle.mw_engine.specs.Figures.{FoundDoor, FoundGate, HasLooked, TellAll, TellTenants, TellsFree};
 ghost use Rattle.mw_engine.specs.Figures as figures;
 ghost use Rattle.mw_engine.specs.Identity.{quota_told};
-ghost use Rattle.mw_engine.specs.Fronts.{HasPass, lines_told, places_kept};
+ghost use Rattle.mw_engine.specs.Agreeing.{places_told};
+ghost use Rattle.mw_engine.specs.Passes.{IsPassOf};
+ghost use Rattle.mw_engine.specs.TenantWords.{HasPass, lines_told, places_kept};
 
-use crate::front::Front;
+use crate::brand::EngineBrand;
+use crate::engine::Engine;
+use crate::tenant_words::TenantWords;
 use arrayvec::ArrayVec;
 use mw_core::Pass;
+use mw_disk::Disk;
 use mw_report::{Figures, TenantFigures};
 use mw_words::{At, Door, Gate, MAX_TENANTS, WORN_NUMBER, copy_of_name};
 
-impl<H> Front<H> {
+impl<J: EngineBrand, D: Disk, H> Engine<J, D, H> {
     /// The figures of all tenants, and how many slots are neither taken nor worn: what a load of each tenant's door
     /// and then of each slot's gate found. Two of them needn't be of one moment. How many places a tenant's file has
     /// was found when it opened: 0 where it didn't. No load adds an event to the run.
     pub fn figures(&self, pass: &mut Pass) -> Figures
-        requires own { HasPass self.now pass.old }
+        requires own { IsPassOf J.identity pass.old }
         requires idle { pass.old.idle ≡ true }
-        ensures own { HasPass self.now pass.new }
+        ensures own { IsPassOf J.identity pass.new }
         ensures looked { HasLooked pass.old pass.new }
         ensures limits { AreWithinLimits result.tenants.items result.pool_free }
-        ensures tells { TellAll self.now.core.shared.pool self.now.pool (lines_told self.now) (places_kept self.now) result.tenants.items result.pool_free pass.old.seat.me.0 pass.new.seat.me.0 }
+        ensures tells { TellAll J.identity.config.pool J.identity.config.pool J.identity.lines (map places_told J.identity.openings) result.tenants.items result.pool_free pass.old.seat.me.0 pass.new.seat.me.0 }
     {
-        let tenants = self.tenant_figures(pass);
-        let pool_free = self.free_slots(pass);
+        let tenants = self.words.tenant_figures(pass);
+        let pool_free = self.words.free_slots(pass);
         Figures { tenants, pool_free }
     }
+}
 
+impl TenantWords {
     /// The figures of all tenants.
     fn tenant_figures(&self, pass: &mut Pass) -> ArrayVec<TenantFigures, MAX_TENANTS>
         requires own { HasPass self.now pass.old }

@@ -1,23 +1,22 @@
 //! Requests that are served whole.
-ghost use Rattle.std.specs.Prelude.{◌≡◌, ◌≢◌, true, false, is_some, IfSome, Some, None};
+ghost use Rattle.std.specs.Prelude.{◌≡◌, ◌≢◌, true, None};
 ghost use Rattle.mw_actor.specs.Program.{replied};
 ghost use Rattle.mw_core.specs.FromTable.{IsCarried, IsOfSameWorker, IsSamePass, View as Knowledge};
 ghost use Rattle.mw_world.specs.Definition.Calls.{called_at};
 ghost use Rattle.mw_engine.specs.Filing.{FilesOne};
-ghost use Rattle.mw_engine.specs.History.{IsAnswered, IsServed, IsSince, StandsAs};
+ghost use Rattle.mw_engine.specs.History.{IsAnswered, IsServed};
 ghost use Rattle.mw_engine.specs.Identity.{IsFor};
 ghost use Rattle.mw_engine.specs.Passes.{IsPassOf};
 ghost use Rattle.mw_engine.specs.Replies.{IsOnItsWay, IsReplyTo};
-ghost use Rattle.mw_engine.specs.Requests.{IsRequest};
 ghost use Rattle.mw_engine.specs.Stepping.{IsSameRequest};
 
 use crate::brand::EngineBrand;
 use crate::engine::Engine;
 use crate::hold::{Hold, Point};
 use mw_actor::{Actor, Point as Step};
-use mw_core::{Advance, Pass};
+use mw_core::Pass;
 use mw_disk::Disk;
-use mw_look::{Call, Op};
+use mw_look::Call;
 use mw_words::{Job, Reply};
 use std::sync::Wait;
 
@@ -36,59 +35,45 @@ impl<J: EngineBrand, D: Disk + Drop, H: Hold + Drop> Engine<J, D, H> {
         ensures idle { pass.new.idle ≡ true }
     {
         let mut actor = self.request(pass, tenant, job.copy());
+        self.words.core.begin(pass, &mut actor);
         for _ in rt.forever() {
-            match self.go_on(rt, pass, &mut actor) {
-                Some(reply) => {
-                    self.front.hold.at(pass.worker(), Point::BeforeReply);
-                    return reply;
-                }
-                None => {}
+            if let Some(reply) = actor.reply() {
+                pass.rest(&actor);
+                self.hold.at(pass.worker(), Point::BeforeReply);
+                return reply;
             }
+            self.go_on(rt, pass, &mut actor);
         }
         unreachable!()
     }
 
-    /// The next step of a request, or its call on its file. The reply, once it stands.
-    fn go_on(&self, rt: &impl Wait, pass: &mut Pass, actor: &mut Actor) -> Option<Reply>
+    /// Makes the next step of a request that has no reply yet, or its call on its tenant's file.
+    fn go_on(&self, rt: &impl Wait, pass: &mut Pass, actor: &mut Actor)
         requires own { IsPassOf J.identity pass.old }
-        requires comes { pass.old.idle ≡ true → IsRequest J.identity pass.old.worker actor.old }
-        requires goes_on { pass.old.idle ≡ false → IsCarried pass.old actor.old }
+        requires carried { IsCarried pass.old actor.old }
+        requires running { replied actor.old ≡ None }
         ensures own { IsPassOf J.identity pass.new }
         ensures worker { IsOfSameWorker pass.old pass.new }
         ensures request { IsSameRequest actor.old actor.new }
-        ensures call { (first : Knowledge) → IsSince pass.old.idle first pass.old.seat.me.0 actor.old → StandsAs result first pass.new.seat.me.0 actor.new }
+        ensures call { (first : Knowledge) → IsServed first pass.old.seat.me.0 actor.old → IsServed first pass.new.seat.me.0 actor.new }
         ensures way { IsOnItsWay actor.old.job actor.old.point → IsOnItsWay actor.new.job actor.new.point }
-        ensures says { IfSome result (λ reply. replied actor.new ≡ Some reply) }
-        ensures goes_on { pass.new.idle ≡ false → IsCarried pass.new actor.new }
-        ensures idle { pass.new.idle ≡ is_some result }
+        ensures carried { IsCarried pass.new actor.new }
     {
         let was_planting = is_planting(actor);
-        let ended = self.advance(pass, actor);
-        if let Advance::NeedsFile = ended {
-            self.hold_before_call(pass, actor);
+        if let Some(call) = self.words.core.step(pass, actor) {
+            self.hold_before(pass, call);
             self.file(rt, pass, actor);
-            return None;
+        } else if was_planting && has_planted(actor) {
+            self.hold.at(pass.worker(), Point::Planted);
         }
-        if was_planting && has_planted(actor) {
-            self.front.hold.at(pass.worker(), Point::Planted);
-        }
-        actor.reply()
     }
 
     /// Tells the hold of a seal or a settle that is next.
-    fn hold_before_call(&self, pass: &Pass, actor: &Actor) {
-        match actor.ask() {
-            Op::File {
-                call: Call::Seal,
-                ..
-            } => self.front.hold.at(pass.worker(), Point::BeforeSeal),
-            Op::File {
-                call: Call::Settle,
-                ..
-            } => {
-                self.front.hold.at(pass.worker(), Point::BeforeSettle);
-            }
-            _ => {}
+    fn hold_before(&self, pass: &Pass, call: Call) {
+        match call {
+            Call::Seal => self.hold.at(pass.worker(), Point::BeforeSeal),
+            Call::Settle => self.hold.at(pass.worker(), Point::BeforeSettle),
+            Call::Prepare | Call::Cancel => {}
         }
     }
 
@@ -105,15 +90,16 @@ impl<J: EngineBrand, D: Disk + Drop, H: Hold + Drop> Engine<J, D, H> {
         ensures way { IsOnItsWay actor.old.job actor.old.point → IsOnItsWay actor.new.job actor.new.point }
         ensures call { (first : Knowledge) → IsServed first pass.old.seat.me.0 actor.old → IsServed first pass.new.seat.me.0 actor.new }
     {
+        // The first lock that is taken is the tenant's own. The loop is there since no index can have a type that
+        // says so: the locks of a list are all of one type, and that type says the same of what each of them guards.
         let mut index = usize::from(actor.tenant());
         for _ in rt.forever() {
-            // The first that is looked at is the tenant's own, which no type says.
             if index >= self.books.len() {
                 index = 0;
             }
             let mut kept = self.books[index].lock(rt);
             if kept.is_of(actor) {
-                kept.file(&self.front.core, pass, actor);
+                kept.file(&self.words.core, pass, actor);
                 return;
             }
             index += 1;

@@ -22,15 +22,17 @@ impl<D: Disk + Drop, H: Drop> EngineParts<D, H> {
     /// [`AllocError`] for want of memory. The parts are dropped.
     pub fn into_engine<J: EngineBrand>(self, alloc: Global) -> Result<Engine<J, D, H>, AllocError>
         requires { identity_of self ≡ J.identity }
-        ensures { IfOk result (λ engine. engine.front ≡ self.front) }
+        ensures words { IfOk result (λ engine. engine.words ≡ self.words) }
+        ensures hold { IfOk result (λ engine. engine.hold ≡ self.hold) }
     {
         let EngineParts {
-            front,
+            words,
+            hold,
             books,
             rights,
         } = self;
         let books = locked(alloc, books, rights)?;
-        Ok(Engine { front, books })
+        Ok(Engine { words, hold, books })
     }
 }
 

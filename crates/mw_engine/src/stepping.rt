@@ -5,23 +5,27 @@ ghost use Rattle.mw_core.specs.declared.calls.Advance.TheVariants.{NeedsFile};
 ghost use Rattle.mw_core.specs.Advancing.{answer_of};
 ghost use Rattle.mw_core.specs.FromTable.{IsCarried, IsOfSameWorker, View as Knowledge};
 ghost use Rattle.mw_engine.specs.History.{IsServed, IsSince, Stands};
-ghost use Rattle.mw_engine.specs.Fronts.{HasPass, IsRequestOfFront};
+ghost use Rattle.mw_engine.specs.Passes.{IsPassOf};
 ghost use Rattle.mw_engine.specs.Replies.{IsOnItsWay, IsReplyTo};
+ghost use Rattle.mw_engine.specs.Requests.{IsRequest};
 ghost use Rattle.mw_engine.specs.Stepping.{EndsAs, IsAtCall, IsSameRequest, MakesStep};
 
-use crate::front::Front;
+use crate::brand::EngineBrand;
+use crate::engine::Engine;
 use mw_actor::Actor;
 use mw_core::{Advance, Pass};
+use mw_disk::Disk;
 
-impl<H> Front<H> {
+impl<J: EngineBrand, D: Disk, H> Engine<J, D, H> {
     /// One atomic step of a request, on one shared word. Where the pass is idle the request comes to it with its
     /// first step; else it is the one that the pass carries. Nothing is done where a call on the tenant's file is
-    /// next. Once the reply stands the pass is idle, and the request is noted, at a place that is right.
+    /// next, which [`Engine::file`] makes. Once the reply stands the pass is idle, and the request is noted, at a
+    /// place that is right.
     pub fn advance(&self, pass: &mut Pass, actor: &mut Actor) -> Advance
-        requires own { HasPass self.now pass.old }
-        requires comes { pass.old.idle ≡ true → IsRequestOfFront self.now pass.old.worker actor.old }
+        requires own { IsPassOf J.identity pass.old }
+        requires comes { pass.old.idle ≡ true → IsRequest J.identity pass.old.worker actor.old }
         requires goes_on { pass.old.idle ≡ false → IsCarried pass.old actor.old }
-        ensures own { HasPass self.now pass.new }
+        ensures own { IsPassOf J.identity pass.new }
         ensures worker { IsOfSameWorker pass.old pass.new }
         ensures step { MakesStep pass.old pass.new actor.old actor.new result }
         ensures request { IsSameRequest actor.old actor.new }
@@ -41,10 +45,10 @@ impl<H> Front<H> {
 
     /// The step. The pass isn't idle then, also where the reply stands.
     fn make_step(&self, pass: &mut Pass, actor: &mut Actor) -> Advance
-        requires own { HasPass self.now pass.old }
-        requires comes { pass.old.idle ≡ true → IsRequestOfFront self.now pass.old.worker actor.old }
+        requires own { IsPassOf J.identity pass.old }
+        requires comes { pass.old.idle ≡ true → IsRequest J.identity pass.old.worker actor.old }
         requires goes_on { pass.old.idle ≡ false → IsCarried pass.old actor.old }
-        ensures own { HasPass self.now pass.new }
+        ensures own { IsPassOf J.identity pass.new }
         ensures worker { IsOfSameWorker pass.old pass.new }
         ensures ends { EndsAs pass.old.idle pass.old pass.new actor.old actor.new result }
         ensures call { (first : Knowledge) → IsSince pass.old.idle first pass.old.seat.me.0 actor.old → IsServed first pass.new.seat.me.0 actor.new }
@@ -53,10 +57,10 @@ impl<H> Front<H> {
         ensures busy { replied actor.new ≡ None → pass.new.idle ≡ false }
     {
         if pass.idle() {
-            self.core.begin(pass, actor);
+            self.words.core.begin(pass, actor);
             return ended(actor);
         }
-        self.core.advance(pass, actor)
+        self.words.core.advance(pass, actor)
     }
 }
 

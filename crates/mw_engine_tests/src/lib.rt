@@ -25,6 +25,8 @@ mod socket_tests;
 #[cfg(test)]
 mod starts;
 #[cfg(test)]
+mod steps;
+#[cfg(test)]
 mod sweep_tests;
 #[cfg(test)]
 mod talks;

@@ -21,11 +21,18 @@ pub(crate) struct Race {
     pub(crate) word: u64,
 }
 
-/// Reads word 0 of a tenant, and changes it to one more. True if it was so.
+/// Reads word 0 of a tenant, and changes it to one more: by a whole request, or by its steps, if the worker has an odd
+/// number. True if it was so.
 fn adds_one<J: EngineBrand, R: Wait>(worker: &mut Worker<'_, '_, J, R>, name: &[u8]) -> bool {
     match worker.ask(name, &Job::Get(0)) {
         Some(Reply::Val(value)) if value < MAX_VALUE => {
-            worker.ask(name, &change(0, value, value + 1)) == Some(Reply::Yes)
+            let change = change(0, value, value + 1);
+            let reply = if worker.number() % 2 == 0 {
+                worker.ask(name, &change)
+            } else {
+                worker.ask_by_steps(name, &change)
+            };
+            reply == Some(Reply::Yes)
         }
         _ => false,
     }

@@ -1,7 +1,8 @@
 //! Sessions whose peers say and take single bytes and break off, each with a new session behind it.
 use crate::cases::{Case, Device, Play, is_so};
-use crate::peers::{Failure, Peer};
+use crate::peers::Peer;
 use mw_session::Ended;
+use mw_test_peers::{Failure, INPUT, OUTPUT, replied};
 use std::alloc::Global;
 use std::sync::Wait;
 use std::thread::Threads;
@@ -68,11 +69,6 @@ fn failing_writer(rt: HostRuntime) {
     assert!(rt; leaves(&rt, rt.alloc(), peer, true));
 }
 
-/// What the peers of the sweeps say, and what they are told.
-const INPUT: &[u8] = b"TENANT t\nCAS 0:0:1\nQUIT\n";
-
-const OUTPUT: &[u8] = b"OK 2\nYES\nBYE\n";
-
 /// Whether a peer is told as much as it takes. The change is made as soon as the reply before it was taken.
 fn is_cut_off<R: Threads + Wait + Sync>(
     rt: &R,
@@ -97,15 +93,6 @@ fn writer_sweep(rt: HostRuntime) {
         let is_so = is_cut_off(&rt, rt.alloc(), takes, Failure::Error)
             && is_cut_off(&rt, rt.alloc(), takes, Failure::Nothing);
         assert!(rt; is_so, "{takes} bytes taken");
-    }
-}
-
-/// How many bytes the replies to the lines in so many bytes have.
-fn replied(count: usize) -> usize {
-    match count {
-        ..=8 => 0,
-        ..=18 => 5,
-        _ => 9,
     }
 }
 

@@ -3,7 +3,8 @@ ghost use Rattle.std.specs.Prelude.{◌≡◌, true, All};
 ghost use Rattle.mw_engine.specs.Passes.{IsNew, IsPassOf};
 
 use crate::latch::{ByLatch, LatchedDisk};
-use crate::peers::{Page, Peer, Sender};
+use crate::peers::Peer;
+use crate::steps::by_steps;
 use mw_engine::{Engine, EngineBrand, Pass};
 use mw_report::Figures;
 use mw_session::{Service, Session};
@@ -49,12 +50,26 @@ impl<'a, 'l, J: EngineBrand, R: Wait> Worker<'a, 'l, J, R> {
         Some(self.engine.serve(self.rt, &mut self.pass, tenant, job))
     }
 
-    /// The reply to a read of a word of the tenant with this name. None where there is no such tenant or word.
+    /// The same, where each step is made by itself.
+    pub(crate) fn ask_by_steps(&mut self, name: &[u8], job: &Job) -> Option<Reply> {
+        let name = Name::try_from(name).unwrap_or_default();
+        let (tenant, words) = self.engine.find(&name)?;
+        if !job.is_well_formed(usize::from(words)) {
+            return None;
+        }
+        Some(by_steps(self.engine, self.rt, &mut self.pass, tenant, job))
+    }
+
+    /// The reply to a read of a word of the tenant with this name: of one pass of its program, or of as many more as it
+    /// takes. None where there is no such tenant or word.
     pub(crate) fn read(&mut self, name: &[u8], address: u16) -> Option<Reply> {
         let name = Name::try_from(name).unwrap_or_default();
         let (tenant, words) = self.engine.find(&name)?;
         if address >= words {
             return None;
+        }
+        if let Ok(reply) = self.engine.try_look(&mut self.pass, tenant, address) {
+            return Some(reply);
         }
         Some(self.engine.look(self.rt, &mut self.pass, tenant, address))
     }
@@ -75,11 +90,11 @@ impl<'a, 'l, J: EngineBrand, R: Wait> Worker<'a, 'l, J, R> {
 
     /// Whether a session of this worker with this peer goes as it is to.
     pub(crate) fn serves(&mut self, alloc: Global, peer: &Peer<'_>) -> bool {
-        let mut sender = Sender::new(peer);
-        let mut page = Page::new(peer);
+        let mut sender = peer.sender();
+        let mut page = peer.page();
         let rt = self.rt;
         let ended = Session::run(alloc, rt, &mut sender, &mut page, self);
-        ended == peer.ended && page.is_of(peer)
+        ended == peer.ended && peer.was_told(&page)
     }
 }
 

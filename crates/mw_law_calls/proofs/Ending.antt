@@ -25,7 +25,10 @@ use Rattle.mw_world.specs.declared.notes.Note.TheVariants.{Nothing}
 use Rattle.mw_world.specs.Claim.Lawful.{IsRightAs}
 use Rattle.mw_world.specs.Definition.Calls.{Called, breaks, call, call_if, calling, calls_made, can_be_made, device_calls, ends, fails_on, faults, goes_well, is_made, moved_if, place_for, skips, starts_from, status_after}
 use Rattle.mw_world.specs.Definition.Cells.{Cells, AllFit, write}
-use Rattle.mw_world.specs.Definition.Changes.{Shape, Exchange, Fetch, shape_of, fetched, changed}
+use Rattle.mw_look.specs.declared.steps.Shape.{Shape}
+use Rattle.mw_look.specs.declared.steps.Shape.TheVariants.{Exchange, Fetch}
+use Rattle.mw_look.specs.Shapes.{shape_of}
+use Rattle.mw_world.specs.Definition.Changes.{fetched, changed}
 use Rattle.mw_world.specs.Definition.Extent.{has_slot}
 use Rattle.mw_world.specs.Definition.Happenings.{File as FileEvent}
 use Rattle.mw_world.specs.Definition.State.{State}

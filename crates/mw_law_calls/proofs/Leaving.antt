@@ -17,7 +17,10 @@ use Rattle.mw_world_file.specs.declared.outcomes.Outcome.{Outcome}
 use Rattle.mw_world.specs.declared.config.Config.{Config}
 use Rattle.mw_world.specs.Definition.Calls.{Called, call, call_if, called_at, calling, moved_if}
 use Rattle.mw_world.specs.Definition.Cells.{Cells, read, write}
-use Rattle.mw_world.specs.Definition.Changes.{Shape, Exchange, Store, Fetch, shape_of, fetched, changed, done}
+use Rattle.mw_look.specs.declared.steps.Shape.{Shape}
+use Rattle.mw_look.specs.declared.steps.Shape.TheVariants.{Exchange, Store, Fetch}
+use Rattle.mw_look.specs.Shapes.{shape_of}
+use Rattle.mw_world.specs.Definition.Changes.{fetched, changed, done}
 use Rattle.mw_world.specs.Definition.Extent.{has_slot}
 use Rattle.mw_world.specs.Definition.Requests.{came, gave}
 use Rattle.mw_world.specs.Definition.State.{State}

@@ -30,7 +30,10 @@ use Rattle.mw_actor.specs.Helping.{others_read}
 use Rattle.mw_actor.specs.Program.{goes, tells}
 use Rattle.mw_world.specs.declared.config.Config.{Config}
 use Rattle.mw_world.specs.Definition.Cells.{Cells, read, write}
-use Rattle.mw_world.specs.Definition.Changes.{Shape, Exchange, Store, Fetch, shape_of, fetched, changed, done}
+use Rattle.mw_look.specs.declared.steps.Shape.{Shape}
+use Rattle.mw_look.specs.declared.steps.Shape.TheVariants.{Exchange, Store, Fetch}
+use Rattle.mw_look.specs.Shapes.{shape_of}
+use Rattle.mw_world.specs.Definition.Changes.{fetched, changed, done}
 use Rattle.mw_world.specs.Definition.Counting.{pins_held, frees_at, waits_at}
 use Rattle.mw_world.specs.Definition.History.{History}
 use Rattle.mw_world.specs.Claim.Invariant.{IsOfWorker}

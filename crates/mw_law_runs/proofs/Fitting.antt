@@ -17,7 +17,8 @@ use Rattle.mw_actor.specs.Acting.{Acting, own_entries, entries_of, entry_at, ent
 use Rattle.mw_actor.specs.Asks.{asks, asks_at}
 use Rattle.mw_actor.specs.Ranges.{IsEntryInRange}
 use Rattle.mw_world.specs.declared.config.Config.{Config}
-use Rattle.mw_world.specs.Definition.Changes.{Exchange, Store, Fetch, shape_of}
+use Rattle.mw_look.specs.declared.steps.Shape.TheVariants.{Exchange, Store, Fetch}
+use Rattle.mw_look.specs.Shapes.{shape_of}
 use Rattle.mw_world.specs.Definition.State.{State}
 use Rattle.mw_law_moves.specs.Guards.{IsLive}
 use Rattle.mw_law_runs.specs.Knowledge.Facts.{AtEntry}

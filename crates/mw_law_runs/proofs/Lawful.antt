@@ -26,7 +26,7 @@ use Rattle.mw_actor.specs.Ranges.{IsEntryInRange}
 use Rattle.mw_world.specs.declared.config.Config.{Config}
 use Rattle.mw_world.specs.Claim.Headline.{IsPlayed}
 use Rattle.mw_world.specs.Claim.Lawful.{EveryRunIsLawful, IsRightAs, IsRightInBits, bits_fetched}
-use Rattle.mw_world.specs.Definition.Changes.{Fetch}
+use Rattle.mw_look.specs.declared.steps.Shape.TheVariants.{Fetch}
 use Rattle.mw_world.specs.Definition.Counting.{pins_held, waits_at}
 use Rattle.mw_world.specs.Definition.State.{State}
 use Rattle.mw_law_counts.proofs.GateSteps.{has_pin, has_waited}

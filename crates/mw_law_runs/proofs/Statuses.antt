@@ -30,7 +30,10 @@ use Rattle.mw_world.specs.declared.config.Config.{Config}
 use Rattle.mw_world.specs.Claim.Lawful.{CallersStatusStays, IsBeside}
 use Rattle.mw_world.specs.Definition.Calls.{Called, call, call_if, called_at, fails_on, starts_from}
 use Rattle.mw_world.specs.Definition.Cells.{Cells, read, write}
-use Rattle.mw_world.specs.Definition.Changes.{Shape, Exchange, Store, Fetch, shape_of, fetched, changed, done}
+use Rattle.mw_look.specs.declared.steps.Shape.{Shape}
+use Rattle.mw_look.specs.declared.steps.Shape.TheVariants.{Exchange, Store, Fetch}
+use Rattle.mw_look.specs.Shapes.{shape_of}
+use Rattle.mw_world.specs.Definition.Changes.{fetched, changed, done}
 use Rattle.mw_world.specs.Definition.Happenings.{Happening, Step as StepEvent, File as FileEvent}
 use Rattle.mw_world.specs.Definition.State.{State}
 use Rattle.mw_world.specs.Definition.Turns.{turn, turned, may_make, moved, made_of}

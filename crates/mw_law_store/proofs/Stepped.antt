@@ -17,7 +17,10 @@ use Rattle.mw_actor.specs.Program.{replied}
 use Rattle.mw_world_file.specs.Maps.{upd}
 use Rattle.mw_world.specs.declared.config.Config.{Config}
 use Rattle.mw_world.specs.Definition.Cells.{Cells, read, write}
-use Rattle.mw_world.specs.Definition.Changes.{Shape, Exchange, Store, Fetch, changed, done, shape_of, fetched}
+use Rattle.mw_look.specs.declared.steps.Shape.{Shape}
+use Rattle.mw_look.specs.declared.steps.Shape.TheVariants.{Exchange, Store, Fetch}
+use Rattle.mw_look.specs.Shapes.{shape_of}
+use Rattle.mw_world.specs.Definition.Changes.{changed, done, fetched}
 use Rattle.mw_world.specs.Definition.State.{State}
 use Rattle.mw_world.specs.Definition.Turns.{turn, turned, may_make, moved, made_of}
 use Rattle.mw_law_runs.specs.Knowledge.Informed.{IsInformed}

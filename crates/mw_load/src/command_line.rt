@@ -2,7 +2,7 @@
 use arrayvec::ArrayVec;
 use clap::builder::ValueParser;
 use clap::{Arg, ArgAction, ArgMatches, Command};
-use mw_version::VERSION;
+use mw_main::VERSION;
 use mw_words::{MAX_ENTRIES, Name};
 use std::alloc::{AllocError, Global};
 

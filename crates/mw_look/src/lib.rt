@@ -22,4 +22,4 @@ pub use laws::{
 pub use look::Look;
 pub use news::{Got, News, Told};
 pub use points::{After, Point, Trail};
-pub use steps::{Call, Kind, Op};
+pub use steps::{Call, Kind, Op, Shape};

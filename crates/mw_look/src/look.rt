@@ -77,7 +77,14 @@ impl Look {
     pub fn tell(&mut self, told: Told)
         ensures { self.new ≡ tells self.old (news_of (place (asks self.old)) told.got) }
     {
-        let news = News::of(self.place(), told.got);
+        self.tell_news(News::of(self.place(), told.got));
+    }
+
+    /// Takes in what the step that was asked for found, read as the kind of word that stands at its place.
+    pub fn tell_news(&mut self, news: News)
+        requires { IsNewsInRange news }
+        ensures { self.new ≡ tells self.old news }
+    {
         self.point = self.next(news);
     }
 

@@ -1,5 +1,6 @@
 //! The steps that a machine asks for, as the shared words take them.
 ghost use Rattle.std.specs.Prelude.{◌≡◌};
+ghost use Rattle.mw_look.specs.Shapes.{shape_of};
 ghost use Rattle.mw_look.specs.Steps.{place_of};
 
 use mw_words::At;
@@ -47,6 +48,42 @@ pub enum Kind {
     Clean,
     /// The tenant's file has failed.
     Fault,
+}
+
+/// In which way a kind of step changes its word.
+#[derive(Clone, Copy, Debug, PartialEq, Eq)]
+pub enum Shape {
+    /// It wins where it finds what it expects, and else changes nothing.
+    Exchange,
+    /// It leaves one thing, whatever it finds.
+    Store,
+    /// It makes something of what it finds.
+    Fetch,
+}
+
+impl Kind {
+    /// In which way a step of this kind changes its word.
+    pub fn shape(self) -> Shape
+        ensures { result ≡ shape_of self }
+    {
+        match self {
+            Kind::Fill | Kind::Free | Kind::Row => Shape::Store,
+            Kind::Unpin | Kind::Drop | Kind::Fault => Shape::Fetch,
+            Kind::Admit
+            | Kind::Claim
+            | Kind::Pin
+            | Kind::Plant
+            | Kind::Resolve
+            | Kind::DecideYes
+            | Kind::DecideNo
+            | Kind::Release
+            | Kind::Ready
+            | Kind::Seal
+            | Kind::Settle
+            | Kind::Cancel
+            | Kind::Clean => Shape::Exchange,
+        }
+    }
 }
 
 /// A call on a tenant's file.

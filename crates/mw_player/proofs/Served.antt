@@ -59,7 +59,6 @@ keeps_same (Some xs) = refl
 
 -- no fault has the status of a good end
 pub no_good_fault : (one : ReplayFault) → status_of one ≢ 0
-no_good_fault (fault.Args clap) is = omega (arith, is)
 no_good_fault fault.CannotRead is = omega (arith, is)
 no_good_fault fault.Memory is = omega (arith, is)
 no_good_fault (fault.Wrong number) is = omega (arith, is)

@@ -14,13 +14,12 @@ use Rattle.mw_player.specs.declared.player.Halt.{Halt}
 use Rattle.mw_player.specs.declared.player.Halt.TheVariants as halt
 use Rattle.mw_player.specs.declared.player.Player.{Player}
 use Rattle.mw_player.specs.declared.replaying.ReplayFault.{ReplayFault}
-use Rattle.mw_player.specs.declared.replaying.ReplayFault.TheVariants.{Args, CannotRead, Memory, Wrong, NotEnabled, LastNumber, DidNotArrive, Output}
+use Rattle.mw_player.specs.declared.replaying.ReplayFault.TheVariants.{CannotRead, Memory, Wrong, NotEnabled, LastNumber, DidNotArrive, Output}
 use Rattle.mw_player.specs.Playing.{ObeysAll}
 use Rattle.mw_player.specs.Printed.{replies_among, text_of, told_in}
 
 -- the exit status that tells of a fault
 abbrev pub status_of : ReplayFault → ℕ
-status_of (Args fault) = 2
 status_of CannotRead = 1
 status_of Memory = 1
 status_of (Wrong number) = 2

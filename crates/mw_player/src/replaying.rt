@@ -6,10 +6,8 @@ ghost use Rattle.mw_player.specs.Playing.{IsSame, ObeysAll, Plays};
 ghost use Rattle.mw_player.specs.Replayed.{MayPrint, PrintsAll, Replays, fault_at, halt_of, status_after, status_of};
 
 use crate::player::{Halt, Player};
-use clap::error::ErrorKind;
-use clap::{Arg, ArgAction, Command};
+use mw_file_command::{AskedFile, FileCommand};
 use mw_schedule::{Schedule, ScheduleFault, ScheduleLine, read_schedule};
-use mw_version::VERSION;
 use std::alloc::{AllocError, Global};
 use std::fs::File;
 use std::io::{self, Read, Write};
@@ -19,9 +17,6 @@ use thiserror::Error;
 /// Why a schedule was not played to its end.
 #[derive(Debug, Drop, Error)]
 enum ReplayFault {
-    /// The command line is wrong, or asks for help or the version.
-    #[error("{0}")]
-    Args(clap::Error),
     /// The schedule can't be read.
     #[error("mwreplay: cannot read")]
     CannotRead,
@@ -65,7 +60,7 @@ impl ReplayFault {
     {
         match self {
             ReplayFault::CannotRead | ReplayFault::Memory | ReplayFault::Output => 1,
-            ReplayFault::Args(_) | ReplayFault::Wrong(_) => 2,
+            ReplayFault::Wrong(_) => 2,
             ReplayFault::NotEnabled(_) => 3,
             ReplayFault::DidNotArrive(_) => 4,
             ReplayFault::LastNumber(_) => 5,
@@ -88,15 +83,6 @@ impl From<ScheduleFault> for ReplayFault {
     }
 }
 
-impl From<clap::Error> for ReplayFault {
-    fn from(fault: clap::Error) -> Self {
-        match fault.kind() {
-            ErrorKind::OutOfMemory => ReplayFault::Memory,
-            _ => ReplayFault::Args(fault),
-        }
-    }
-}
-
 impl From<io::Error> for ReplayFault {
     fn from(fault: io::Error) -> Self {
         match fault.kind() {
@@ -105,6 +91,14 @@ impl From<io::Error> for ReplayFault {
         }
     }
 }
+
+const COMMAND: FileCommand = FileCommand {
+    name: "mwreplay",
+    about: "Plays a schedule, and prints the replies.",
+    switch: "trace",
+    switch_help: "also prints each claim of a slot that is won",
+    file_help: "the schedule to play",
+};
 
 /// Plays the schedule in the file that the command line `args` names, by [`replay_file`]. The program's
 /// own name comes first: `mwreplay [--trace] FILE`. Where help or the version is asked for, `out` gets
@@ -120,12 +114,9 @@ pub fn replay_args<R: Files + AllocGlobal, O: Write, E: Write>(
     out: &mut O,
     err: &mut E,
 ) -> u8 {
-    match ask(rt.alloc(), args) {
-        Ok(Asked { path, trace }) => replay_file(rt, path, trace, out, err),
-        Err(ReplayFault::Args(fault)) if !fault.use_stderr() => {
-            u8::from(write!(out, "{fault}").is_err())
-        }
-        Err(fault) => tell(&fault, err),
+    match COMMAND.read(rt.alloc(), args, out, err) {
+        Ok(AskedFile { path, is_switched }) => replay_file(rt, path, is_switched, out, err),
+        Err(status) => status,
     }
 }
 
@@ -200,50 +191,10 @@ fn tell<E: Write>(fault: &ReplayFault, err: &mut E) -> u8
     ensures { result ≡ status_of fault.now }
 {
     let _ = match fault {
-        // The text that clap makes ends with a line feed.
-        ReplayFault::Args(fault) => write!(err, "{fault}"),
         ReplayFault::Output => Ok(()),
         _ => writeln!(err, "{fault}"),
     };
     fault.status()
-}
-
-// What a command line asks for.
-struct Asked<'a> {
-    path: &'a str,
-    trace: bool,
-}
-
-fn ask<'a>(alloc: Global, args: &'a [String]) -> Result<Asked<'a>, ReplayFault> {
-    let matches = command(alloc)?.try_get_matches_from(args)?;
-    let Some(path) = matches.get_str("FILE") else {
-        return Err(ReplayFault::CannotRead);
-    };
-    Ok(Asked {
-        path,
-        trace: matches.get_flag("trace"),
-    })
-}
-
-fn command<'a>(alloc: Global) -> Result<Command<'a>, clap::Error> {
-    let command = Command::new(alloc, "mwreplay")
-        .version(VERSION)
-        .about("Plays a schedule, and prints the replies.");
-    let command = command.arg(trace_option(alloc))?;
-    Ok(command.arg(schedule_path(alloc))?)
-}
-
-fn trace_option<'a>(alloc: Global) -> Arg<'a> {
-    Arg::new(alloc, "trace")
-        .long("trace")
-        .action(ArgAction::SetTrue)
-        .help("also prints each claim of a slot that is won")
-}
-
-fn schedule_path<'a>(alloc: Global) -> Arg<'a> {
-    Arg::new(alloc, "FILE")
-        .required(true)
-        .help("the schedule to play")
 }
 
 // The schedule that `input` gives, which is read to its end.

@@ -5,8 +5,8 @@ ghost use Rattle.mw_record.specs.declared.layout.TheConstants.{FIRST_PLACES};
 
 use clap::error::ErrorKind;
 use clap::{Arg, ArgMatches, Command, value_parser};
+use mw_main::VERSION;
 use mw_record::{FIRST_PLACES, header, size};
-use mw_version::VERSION;
 use mw_words::MAX_WORDS;
 use std::alloc::{AllocError, Global};
 use std::fs::{File, OpenOptions};

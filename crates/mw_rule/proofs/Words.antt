@@ -14,7 +14,10 @@ use Rattle.mw_look.proofs.PlaceLaws.{packs_are_seen}
 use Rattle.mw_world.specs.declared.config.Config.{Config}
 use Rattle.mw_world.specs.Claim.Lawful.{IsRightAs, IsRightInBits, bits_fetched}
 use Rattle.mw_world.specs.Definition.Cells.{Cells, read, write}
-use Rattle.mw_world.specs.Definition.Changes.{Shape, Exchange, Store, Fetch, shape_of, fetched, changed, done}
+use Rattle.mw_look.specs.declared.steps.Shape.{Shape}
+use Rattle.mw_look.specs.declared.steps.Shape.TheVariants.{Exchange, Store, Fetch}
+use Rattle.mw_look.specs.Shapes.{shape_of}
+use Rattle.mw_world.specs.Definition.Changes.{fetched, changed, done}
 use Rattle.mw_world.specs.Definition.Turns.{may_make}
 use Rattle.mw_world.proofs.PlacesApart.{read-same, read-other}
 use Rattle.mw_rule.specs.declared.ways.Way.{Way}

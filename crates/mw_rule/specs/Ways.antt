@@ -4,21 +4,25 @@ use Rattle.std.specs.Int.Bits.{bit_or}
 use Rattle.mw_look.specs.declared.news.Got.{Got}
 use Rattle.mw_look.specs.declared.news.Got.TheVariants.{Word as Bits, Won as GotWon, Lost as GotLost}
 use Rattle.mw_look.specs.declared.steps.Kind.{Kind}
-use Rattle.mw_look.specs.declared.steps.Kind.TheVariants.{Fill as FillKind, Unpin as UnpinKind, Free as FreeKind, Drop as DropKind, Row as RowKind, Fault as FaultKind}
+use Rattle.mw_look.specs.declared.steps.Kind.TheVariants.{Unpin as UnpinKind, Drop as DropKind}
 use Rattle.mw_look.specs.declared.steps.Op.{Op}
 use Rattle.mw_look.specs.declared.steps.Op.TheVariants.{Load as LoadBits, Change as ChangeBits, File as FileCall}
+use Rattle.mw_look.specs.declared.steps.Shape.{Shape}
+use Rattle.mw_look.specs.declared.steps.Shape.TheVariants.{Exchange as ByExchange, Store as ByStore, Fetch as ByFetch}
+use Rattle.mw_look.specs.Shapes.{shape_of}
 use Rattle.mw_rule.specs.declared.ways.Way.{Way}
 use Rattle.mw_rule.specs.declared.ways.Way.TheVariants.{Exchange, Store, Sub, Or}
 
 -- How a kind of step changes its word: a pin less is subtracted at bit 48, a slot less at bit 0, and the fault is bit 63.
+abbrev pub way_by_shape : Shape → Kind → Way
+way_by_shape ByExchange kind = Exchange
+way_by_shape ByStore kind = Store
+way_by_shape ByFetch UnpinKind = Sub (2 ^ 48)
+way_by_shape ByFetch DropKind = Sub 1
+way_by_shape ByFetch kind = Or (2 ^ 63)
+
 abbrev pub way_of : Kind → Way
-way_of FillKind = Store
-way_of FreeKind = Store
-way_of RowKind = Store
-way_of UnpinKind = Sub (2 ^ 48)
-way_of DropKind = Sub 1
-way_of FaultKind = Or (2 ^ 63)
-way_of kind = Exchange
+way_of kind = way_by_shape (shape_of kind) kind
 
 -- what a change makes of the bits of its word
 abbrev pub made_by_way : Way → ℕ → ℕ → ℕ → ℕ

@@ -2,7 +2,7 @@
 ghost use Rattle.std.specs.Prelude.{◌≡◌};
 ghost use Rattle.mw_rule.specs.Ways as spec;
 
-use mw_look::Kind;
+use mw_look::{Kind, Shape};
 
 /// How a step changes a word.
 #[derive(Clone, Copy, Debug, PartialEq, Eq)]
@@ -21,23 +21,13 @@ pub enum Way {
 pub fn way_of(kind: Kind) -> Way
     ensures { result ≡ spec.way_of kind }
 {
-    match kind {
-        Kind::Fill | Kind::Free | Kind::Row => Way::Store,
-        Kind::Unpin => Way::Sub(1 << 48),
-        Kind::Drop => Way::Sub(1),
-        Kind::Fault => Way::Or(1 << 63),
-        Kind::Admit
-        | Kind::Claim
-        | Kind::Pin
-        | Kind::Plant
-        | Kind::Resolve
-        | Kind::DecideYes
-        | Kind::DecideNo
-        | Kind::Release
-        | Kind::Ready
-        | Kind::Seal
-        | Kind::Settle
-        | Kind::Cancel
-        | Kind::Clean => Way::Exchange,
+    match kind.shape() {
+        Shape::Exchange => Way::Exchange,
+        Shape::Store => Way::Store,
+        Shape::Fetch => match kind {
+            Kind::Unpin => Way::Sub(1 << 48),
+            Kind::Drop => Way::Sub(1),
+            _ => Way::Or(1 << 63),
+        },
     }
 }

@@ -1,7 +1,8 @@
-use crate::session_peers::{Chatter, Failure, Listener, Notebook, Page, Sender};
+use crate::session_peers::{Chatter, Listener, Notebook};
 use crate::test_shelf::Shelf;
 use arrayvec::ArrayVec;
 use mw_session::{Ended, Service, Session};
+use mw_test_peers::{Failure, INPUT, OUTPUT, Page, Sender, replied};
 use mw_words::MAX_LINE;
 use std::sync::Wait;
 
@@ -150,11 +151,6 @@ fn endless_line(rt: HostRuntime) {
     assert!(rt; long_line_is_told(&rt, bound, ENDLESS, b"\nGET 0\n", b"OK 2\nERR 1\n"));
 }
 
-/// What the peers of the sweeps say, and what they are told.
-const INPUT: &[u8] = b"TENANT t\nCAS 0:0:1\nQUIT\n";
-
-const OUTPUT: &[u8] = b"OK 2\nYES\nBYE\n";
-
 /// Whether a session whose peer takes so many bytes, one at a time, and then fails, tells it no more, asks
 /// it no more and ends by that.
 fn breaks_off(
@@ -203,15 +199,6 @@ fn part_is_told(rt: &(impl Wait + AllocGlobal), count: usize, failure: Failure) 
         told,
         wanted,
     )
-}
-
-/// How many bytes the replies to the lines in so many bytes have.
-fn replied(count: usize) -> usize {
-    match count {
-        ..=8 => 0,
-        ..=18 => 5,
-        _ => 9,
-    }
 }
 
 #[test]

@@ -1,9 +1,9 @@
 //! Clients in memory for the tests.
 ghost use Rattle.std.specs.Prelude.{None, Some};
 
-use crate::session_peers::{Failure, Page};
 use arrayvec::ArrayVec;
 use mw_session::{Ended, Service, Session};
+use mw_test_peers::{Failure, Page};
 use mw_workers::{Connection, Listener};
 use std::alloc::Global;
 use std::io;

@@ -2,7 +2,6 @@
 ghost use Rattle.std.specs.Prelude.{◌≡◌, ◌≤◌};
 ghost use Rattle.mw_show.specs.Statuses.{status_of};
 
-use clap::error::ErrorKind;
 use mw_record::MAX_FILE;
 use std::alloc::{AllocError, Global};
 use std::fs::{self, File, TryLockError};
@@ -13,9 +12,6 @@ use thiserror::Error;
 /// Why a file was not shown.
 #[derive(Debug, Drop, Error)]
 pub enum ShowFault {
-    /// The command line is wrong, or asks for help or the version.
-    #[error("{0}")]
-    Args(clap::Error),
     /// The file isn't there, may not be read, or a call of the system on it failed.
     #[error("mwshow: cannot read")]
     CannotRead,
@@ -40,7 +36,6 @@ impl ShowFault {
         ensures not_shown { 1 ≤ result }
     {
         match self {
-            ShowFault::Args(_) => 2,
             ShowFault::CannotRead
             | ShowFault::NotPlain
             | ShowFault::InUse
@@ -59,15 +54,6 @@ impl From<AllocError> for ShowFault {
 impl From<io::Error> for ShowFault {
     fn from(_: io::Error) -> Self {
         ShowFault::Output
-    }
-}
-
-impl From<clap::Error> for ShowFault {
-    fn from(fault: clap::Error) -> Self {
-        match fault.kind() {
-            ErrorKind::OutOfMemory => ShowFault::Memory,
-            _ => ShowFault::Args(fault),
-        }
     }
 }
 

@@ -5,12 +5,18 @@ ghost use Rattle.mw_show.specs.Text.{IsShown};
 
 use crate::lines::show;
 use crate::reading::{ShowFault, read_file};
-use clap::{Arg, ArgAction, Command};
-use mw_version::VERSION;
-use std::alloc::Global;
+use mw_file_command::{AskedFile, FileCommand};
 use std::fs::File;
 use std::io::Write;
 use std::rt::Files;
+
+const COMMAND: FileCommand = FileCommand {
+    name: "mwshow",
+    about: "Shows what a tenant's file says.",
+    switch: "words",
+    switch_help: "tells the words that are 0 too",
+    file_help: "the file of a tenant",
+};
 
 /// Shows the file that the command line `args` names, by [`show_file`]. The program's own name comes
 /// first: `mwshow [--words] FILE`. Where help or the version is asked for, `out` gets its text.
@@ -24,12 +30,9 @@ pub fn show_args<R: Files<File = File> + AllocGlobal, O: Write, E: Write>(
     out: &mut O,
     err: &mut E,
 ) -> u8 {
-    match ask(rt.alloc(), args) {
-        Ok(Asked { path, all_words }) => show_file(rt, path, all_words, out, err),
-        Err(ShowFault::Args(fault)) if !fault.use_stderr() => {
-            u8::from(write!(out, "{fault}").is_err())
-        }
-        Err(fault) => tell(&fault, err),
+    match COMMAND.read(rt.alloc(), args, out, err) {
+        Ok(AskedFile { path, is_switched }) => show_file(rt, path, is_switched, out, err),
+        Err(status) => status,
     }
 }
 
@@ -75,48 +78,8 @@ fn tell<E: Write>(fault: &ShowFault, err: &mut E) -> u8
     ensures not_shown { 1 ≤ result }
 {
     let _ = match fault {
-        // The text that clap makes ends with a line feed.
-        ShowFault::Args(fault) => write!(err, "{fault}"),
         ShowFault::Output => Ok(()),
         _ => writeln!(err, "{fault}"),
     };
     fault.status()
-}
-
-// What a command line asks for.
-struct Asked<'a> {
-    path: &'a str,
-    all_words: bool,
-}
-
-fn ask<'a>(alloc: Global, args: &'a [String]) -> Result<Asked<'a>, ShowFault> {
-    let matches = command(alloc)?.try_get_matches_from(args)?;
-    let Some(path) = matches.get_str("FILE") else {
-        return Err(ShowFault::CannotRead);
-    };
-    Ok(Asked {
-        path,
-        all_words: matches.get_flag("words"),
-    })
-}
-
-fn command<'a>(alloc: Global) -> Result<Command<'a>, clap::Error> {
-    let command = Command::new(alloc, "mwshow")
-        .version(VERSION)
-        .about("Shows what a tenant's file says.");
-    let command = command.arg(words_option(alloc))?;
-    Ok(command.arg(file_path(alloc))?)
-}
-
-fn words_option<'a>(alloc: Global) -> Arg<'a> {
-    Arg::new(alloc, "words")
-        .long("words")
-        .action(ArgAction::SetTrue)
-        .help("tells the words that are 0 too")
-}
-
-fn file_path<'a>(alloc: Global) -> Arg<'a> {
-    Arg::new(alloc, "FILE")
-        .required(true)
-        .help("the file of a tenant")
 }

@@ -5,7 +5,6 @@ pub mod Entering
 pub mod FirstWorlds
 pub mod Following
 pub mod Frames
-pub mod FromMemory
 pub mod GoingOn
 pub mod Halting
 pub mod Holding

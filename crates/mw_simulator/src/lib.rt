@@ -12,10 +12,9 @@
 
 mod faults;
 mod laws;
-mod statuses;
 mod world;
 
 pub use faults::{MOST_REQUESTS, WorldFault};
 pub use laws::what_serving_alone_leaves;
-pub use statuses::{starts_from, status_after};
+pub use mw_world_memory::{Account, Seat};
 pub use world::World;

@@ -7,8 +7,7 @@ use Rattle.mw_words.specs.Change.{word_at}
 use Rattle.mw_actor.specs.Acting.{Acting}
 use Rattle.mw_world.specs.declared.config.Config.{Config}
 use Rattle.mw_world.specs.declared.config.Tenant.{Tenant}
-use Rattle.mw_world.specs.Definition.State.{IsConfig, IsStart, Opening, idle_seat, tenants_of}
-use Rattle.mw_simulator.specs.FromMemory.{first_words}
+use Rattle.mw_world.specs.Definition.State.{IsConfig, IsStart, Opening, idle_seat, tenants_of, words_given}
 use Rattle.mw_rule.specs.Dealing.{maker}
 use Rattle.mw_rule.specs.Layout.{words_of}
 use Rattle.mw_rule.specs.Rule.{Tied, Ties}
@@ -28,7 +27,7 @@ opened_so (first ∷ tenants) [] tenant long = absurd (omega (arith, long))
 opened_so (first ∷ tenants) (one ∷ found) zero long = refl
 opened_so (first ∷ tenants) (one ∷ found) (suc tenant) long = opened_so tenants found tenant (omega (arith, long))
 
-word_so : (tenant : Tenant) (words : Option (Vec ℕ Global)) (address : ℕ) → word_given words address ≡ (if is_some words then word_at (first_words tenant words) address else 0)
+word_so : (tenant : Tenant) (words : Option (Vec ℕ Global)) (address : ℕ) → word_given words address ≡ (if is_some words then word_at (words_given tenant words) address else 0)
 word_so tenant None address = refl
 word_so tenant (Some words) address = refl
 

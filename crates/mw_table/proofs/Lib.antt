@@ -1,3 +1,4 @@
+pub mod AfterRuns
 pub mod Asked
 pub mod Asking
 pub mod Attempting
@@ -16,4 +17,3 @@ pub mod Numbering
 pub mod Opened
 pub mod Passing
 pub mod Placing
-pub mod Starting

@@ -23,8 +23,8 @@ use Rattle.mw_world.specs.Definition.Restarts.{doubt_then, found_of, interrupted
 use Rattle.mw_world.specs.Definition.State.{Account, State, marks_in, may_be_quotas, places_of, tenants_of}
 use Rattle.mw_world.specs.Definition.Turns.{Made, made_of, may_make, moved, turn, turned}
 use Rattle.mw_world.specs.Definition.World.{asked, hand, handed, may_come, run, step}
-use Rattle.mw_simulator.proofs.FromMemory.{done_is}
-use Rattle.mw_table.specs.Beginning.{up_after}
+use Rattle.mw_rule.proofs.Words.{done_is}
+use Rattle.mw_table.specs.Runs.{up_after}
 
 -- so is told of an account, of which this was so at first
 abbrev pub IsTold : Bool → Account → Type 0

@@ -38,6 +38,10 @@ pub record IsBearing (seat : Seat) (bearing : Bearing) : Type 0 where
   pub attempt : bearing.attempt ≡ seat.attempt
   pub idle : bearing.idle ≡ is_none seat.actor
 
+-- what a worker's pass is to say of itself
+abbrev pub bearing_of : Seat → Bearing
+bearing_of seat = record { attempt = seat.attempt; idle = is_none seat.actor }
+
 -- these do of so many workers, by worker
 pub record AreBearings (seats : ℕ → Seat) (workers : ℕ) (bearings : List Bearing) : Type 0 where
   pub count : length bearings ≡ workers

@@ -6,8 +6,7 @@ use Rattle.mw_words.specs.Patterns.{packed_door}
 use Rattle.mw_world.specs.declared.config.Config.{Config}
 use Rattle.mw_world.specs.declared.config.Tenant.{Tenant}
 use Rattle.mw_world.specs.Definition.Happenings.{Happening}
-use Rattle.mw_world.specs.Definition.State.{Opening, State, idle_seat, tenants_of, world_at}
-use Rattle.mw_simulator.specs.FromMemory.{first_words}
+use Rattle.mw_world.specs.Definition.State.{Opening, State, idle_seat, tenants_of, words_given, world_at}
 use Rattle.mw_rule.specs.Courses.{course_of}
 use Rattle.mw_rule.specs.FromLaws.{rights_opened}
 use Rattle.mw_rule.specs.declared.views.Held.{Held}
@@ -17,7 +16,7 @@ use Rattle.mw_table.specs.Beginning.{Basis}
 
 -- What the start gives a tenant. Where its file didn't open, zeros stand for its words, of which nobody is told.
 abbrev pub opening_given : Tenant → FileOpening → Opening
-opening_given tenant found = record { quota = found.quota; places = found.places; words = first_words tenant found.words; is_up = is_some found.words }
+opening_given tenant found = record { quota = found.quota; places = found.places; words = words_given tenant found.words; is_up = is_some found.words }
 
 -- the same by tenant
 abbrev pub openings_given : List Tenant → List FileOpening → List Opening

@@ -12,4 +12,5 @@ pub mod Origins
 pub mod Passes
 pub mod Places
 pub mod Resting
+pub mod Runs
 pub mod Said

@@ -11,8 +11,8 @@ use atomic_table::Play;
 use mw_actor::Actor;
 use mw_look::Call;
 use mw_rule::{View, index_of};
-use mw_simulator::status_after;
 use mw_words::{At, Status};
+use mw_world::status_after;
 
 /// The bit of a door that says that its tenant's file has failed.
 const FAULT: u64 = 1 << 63;

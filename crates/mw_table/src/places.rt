@@ -11,7 +11,7 @@ use mw_words::{At, MAX_ENTRIES, MAX_TENANTS, MAX_WORDS};
 use mw_world::Config;
 
 /// The place whose word stands at an index of a table of so many slots. Where none does, it is one that no world has.
-pub(crate) fn place_at(pool: u16, index: usize) -> At
+pub fn place_at(pool: u16, index: usize) -> At
     requires pool { pool ≤ MAX_POOL }
     requires index { index < slots_from + slot_wide * pool + MAX_WORDS * MAX_TENANTS }
     ensures { result ≡ spec.place_at pool index }
@@ -77,7 +77,7 @@ fn slot_place(slot: u8, index: usize) -> At
 }
 
 /// Whether a world of this configuration has a word at a place.
-pub(crate) fn has_place(config: &Config, at: At) -> bool
+pub fn has_place(config: &Config, at: At) -> bool
     ensures { result ≡ extent.has_place config.now at }
 {
     match at {

@@ -8,12 +8,13 @@ use Rattle.mw_world.specs.declared.events.Event.{Event}
 use Rattle.mw_world.specs.Definition.Calls.{called_at}
 use Rattle.mw_world.specs.Definition.Happenings.{Happening}
 use Rattle.mw_world.specs.Definition.State.{Seat, State}
-use Rattle.mw_core.specs.FromTable.{Each, IsCarried, IsDealt, IsReady, IsReadyAt, IsReadyFor, Pass, Reins, Shared, View, basis_of_world, numbers, reins_of, seat_in, settled, settled_as}
+use Rattle.mw_core.specs.FromTable.{Each, IsCarried, IsDealt, IsReady, IsReadyAt, IsReadyFor, Pass, Reins, Shared, View, numbers, reins_of, settled, settled_as}
 use Rattle.mw_simulator.specs.declared.faults.WorldFault.{WorldFault}
 use Rattle.mw_simulator.specs.declared.world.World.{World}
 use Rattle.mw_simulator.specs.Running.{StandsAfter}
 use Rattle.mw_simulator.specs.Shows.{Shows}
-use Rattle.mw_core.proofs.FromTable.{seats_same}
+use Rattle.mw_world_table.specs.Worlds.{basis_of_world}
+use Rattle.mw_world_table.proofs.Worlds.{seats_same}
 use Rattle.mw_table_tests.specs.Reached.{IsReached}
 
 -- a run goes on by an event, or ends where it was
@@ -30,7 +31,7 @@ pub carried_at_first : (shared : Shared) (world : World) (pass : Pass) (actor : 
     → ((state : State) → Shows world state → (state.seats pass.worker).actor ≡ Some actor) → replied actor ≡ None → IsCarried pass actor
 carried_at_first shared world pass actor reached dealt has running =
     let stands = reached.1 in
-    let seat = seat_in world pass.worker in
+    let seat = (basis_of_world world).seats pass.worker in
     let reins = reins_of pass.worker seat in
     let having : seat.actor ≡ Some actor =
     ap (λ (one : Seat). one.actor) (seats_same world stands.state pass.worker stands.shows dealt.there) ∙ has stands.state stands.shows in

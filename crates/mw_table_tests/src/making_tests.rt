@@ -1,14 +1,14 @@
 //! A table of a world in memory, and one at a start.
 ghost use Rattle.std.specs.Prelude.{◌≡◌, [], ◌∷◌, ℕ, IfOk, None, Some, Vec};
 ghost use Rattle.std.specs.declared.alloc.Global.{Global};
-ghost use Rattle.mw_world.specs.Definition.State.{IsConfig, no_tenant, tenant_at, tenants_of};
+ghost use Rattle.mw_world.specs.Definition.State.{tenant_at, tenants_of};
 ghost use Rattle.mw_core.specs.FromTable.{IsOf, config_of};
 
 use crate::worlds::{config, new_world};
-use arrayvec::ArrayVec;
 use mw_core::{FileOpening, Pass, Shared};
+use mw_two_tenants::two_tenants;
 use mw_words::{At, Door};
-use mw_world::{Config, Tenant};
+use mw_world_table::of_world;
 use std::alloc::{AllocError, Global};
 use std::test::Fail;
 
@@ -16,7 +16,7 @@ use std::test::Fail;
 /// isn't an idle pass for each worker and the place of a request for each, or where memory is refused.
 fn found_in_a_new_world(alloc: Global) -> Option<[u64; 2]> {
     let world = new_world(alloc, config(1, 2, 1))?;
-    let Ok((shared, mut passes, actors)) = Shared::of_world(alloc, &world) else {
+    let Ok((shared, mut passes, actors)) = of_world(alloc, &world) else {
         return None;
     };
     let mut other = passes.pop()?;
@@ -39,33 +39,6 @@ fn a_new_world_in_a_table(rt: HostRuntime) -> Result<(), Fail> {
     };
     assert!(rt; found_in_a_new_world(rt.alloc()) == Some([door.pack(), 0]));
     Ok(())
-}
-
-/// Two tenants of one word and one slot each, two workers.
-fn two_tenants() -> Config
-    ensures made { IsConfig result }
-    ensures pool { result.pool ≡ 2 }
-    ensures tenants { result.tenants.items ≡ record no_tenant { words = 1; quota = 1 } ∷ record no_tenant { words = 1; quota = 1 } ∷ [] }
-{
-    let mut tenants = ArrayVec::new();
-    tenants.push(Tenant {
-        name: ArrayVec::new(),
-        words: 1,
-        quota: 1,
-        old: None,
-    });
-    tenants.push(Tenant {
-        name: ArrayVec::new(),
-        words: 1,
-        quota: 1,
-        old: None,
-    });
-    Config {
-        pool: 2,
-        workers: 2,
-        seq: 0,
-        tenants,
-    }
 }
 
 /// What their files gave: the first has the word 7, the other didn't open.

@@ -1,15 +1,17 @@
 //! Two threads drive two requests on one table.
 ghost use Rattle.std.specs.Prelude.{◌≡◌, ◌≤◌, All, IfSome};
 ghost use Rattle.mw_world.specs.Definition.State.{tenant_at};
-ghost use Rattle.mw_core.specs.FromTable.{IsCarried, IsDealt, IsOf, basis_of, basis_of_world, config_of};
+ghost use Rattle.mw_core.specs.FromTable.{IsCarried, IsDealt, IsOf, basis_of, config_of};
+ghost use Rattle.mw_world_table.specs.Worlds.{basis_of_world};
 ghost use Rattle.mw_table_tests.specs.Reached.{IsReached};
 
 use crate::worlds::{MANY_STEPS, change_one, change_two, come, config, new_world, play_to, step};
 use mw_actor::Actor;
-use mw_core::{Advance, Core, Pass, Shared};
+use mw_core::{Advance, Core, Pass};
 use mw_look::Kind;
 use mw_simulator::World;
 use mw_words::{At, Door, Gate, Job, Reply, Status, Word};
+use mw_world_table::of_world;
 use std::alloc::Global;
 use std::test::Fail;
 use std::thread::{Threads, join};
@@ -54,7 +56,7 @@ pub(crate) fn open(alloc: Global, world: &World) -> Option<Opened>
     ensures world { IfSome result (λ opened. basis_of opened.core.shared.table.shared.key ≡ basis_of_world world.now) }
     ensures dealt { IfSome result (λ opened. All (IsDealt opened.core.shared (basis_of_world world.now)) opened.passes.items) }
 {
-    match Shared::of_world(alloc, world) {
+    match of_world(alloc, world) {
         Ok((shared, passes, _)) => Some(Opened {
             core: Core::new(shared),
             passes,

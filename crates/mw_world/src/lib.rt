@@ -15,6 +15,7 @@ mod config;
 mod events;
 mod laws;
 mod notes;
+mod statuses;
 
 pub use config::{Config, Tenant};
 pub use events::{Event, Interrupted, Outcome, Stop};
@@ -24,3 +25,4 @@ pub use laws::{
 };
 pub use mw_world_file::{OLD_ENTRIES, OLD_PLACES};
 pub use notes::{Note, Phase};
+pub use statuses::{starts_from, status_after};

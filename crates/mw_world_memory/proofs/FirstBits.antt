@@ -13,12 +13,12 @@ use Rattle.mw_words.specs.Patterns.{packed_door, packed_gate}
 use Rattle.mw_words.specs.Change.{AreWords, word_at}
 use Rattle.mw_world.specs.declared.config.Config.{Config}
 use Rattle.mw_world.specs.declared.config.Tenant.{Tenant}
-use Rattle.mw_world.specs.Definition.State.{IsConfig, no_tenant, tenant_at, tenants_of, first_cells}
+use Rattle.mw_world.specs.Definition.State.{IsConfig, no_tenant, tenant_at, tenants_of, first_cells, words_given}
 use Rattle.mw_world.specs.Definition.Cells.{AllFit}
 use Rattle.mw_world_memory.specs.Bits.{Bits, entry_at, word_bits}
 use Rattle.mw_world_memory.specs.Ties.{Tie}
 use Rattle.mw_world_memory.specs.BitPlaces.{HasPlacesOf}
-use Rattle.mw_world_memory.specs.Openings.{Openings, opening_at, AreOpenings, Gave, first_words, first_door, AreFirstWords}
+use Rattle.mw_world_memory.specs.Openings.{Openings, opening_at, AreOpenings, Gave, first_door, AreFirstWords}
 
 -- The shared words were made so.
 pub record StartsAs (config : Config) (openings : Openings) (bits : Bits) : Type 0 where
@@ -57,7 +57,7 @@ entry_there xs slot entry pool long = by (nat_lt entry MAX_ENTRIES) refl
     by false e = grind (arith, nat_tests)
 
 -- a tenant starts with as many words as it has
-first_long : (tenant : Tenant) (opening : Option (Vec ℕ Global)) → IfSome opening (λ given. length given.items ≡ tenant.words) → length (first_words tenant opening) ≡ tenant.words
+first_long : (tenant : Tenant) (opening : Option (Vec ℕ Global)) → IfSome opening (λ given. length given.items ≡ tenant.words) → length (words_given tenant opening) ≡ tenant.words
 first_long tenant (Some given) long = long
 first_long tenant None long = length-replicate tenant.words 0
 
@@ -120,7 +120,7 @@ doors_as (opening ∷ openings) words is_up gave (suc tenant) =
 
 -- a tenant's words are those that were given, or zeros
 word_as : (tenant : Tenant) (opening : Option (Vec ℕ Global)) (up : Bool) (words : List ℕ) (address : ℕ) → MatchOption opening (up ≡ false) (λ given. (up ≡ true) × (given.items ≡ words)) →
-    IfSome (slice_get (first_words tenant opening) address) (λ bits. bits ≡ (if up then word_at words address else 0))
+    IfSome (slice_get (words_given tenant opening) address) (λ bits. bits ≡ (if up then word_at words address else 0))
 word_as tenant (Some given) up words address gave =
     let P : Bool → List ℕ → Type 0 = λ b ws. IfSome (slice_get ws address) (λ bits. bits ≡ (if b then word_at ws address else 0)) in
     let at_words : IfSome (slice_get words address) (λ bits. bits ≡ (if up then word_at words address else 0)) = subst (λ b. P b words) (sym gave.0) (element_in words address) in

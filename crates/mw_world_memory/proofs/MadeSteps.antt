@@ -22,7 +22,10 @@ use Rattle.mw_look.specs.Places.{Val, Fits, pack}
 use Rattle.mw_look.proofs.PlaceLaws.{packs_are_seen}
 use Rattle.mw_look.specs.Steps.{Step, Load, Change, File, op_of, place}
 use Rattle.mw_world.specs.Definition.Cells.{Cells, read, write, AllFit}
-use Rattle.mw_world.specs.Definition.Changes.{Shape, Exchange, Store, Fetch, shape_of, fetched, changed, done}
+use Rattle.mw_look.specs.declared.steps.Shape.{Shape}
+use Rattle.mw_look.specs.declared.steps.Shape.TheVariants.{Exchange, Store, Fetch}
+use Rattle.mw_look.specs.Shapes.{shape_of}
+use Rattle.mw_world.specs.Definition.Changes.{fetched, changed, done}
 use Rattle.mw_look.specs.Steps.{StepFits}
 use Rattle.mw_world_memory.specs.Bits.{Bits, bits_at, put_bits, is_there, SamePlaces}
 use Rattle.mw_world_memory.specs.Ties.{Tie}

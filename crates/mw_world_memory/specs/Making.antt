@@ -16,7 +16,10 @@ use Rattle.mw_look.specs.declared.news.News.{News}
 use Rattle.mw_look.specs.News.{news_of}
 use Rattle.mw_look.specs.Steps.{Step, op_of, place}
 use Rattle.mw_world.specs.Definition.Cells.{Cells, AllFit}
-use Rattle.mw_world.specs.Definition.Changes.{Shape, Exchange, Store, Fetch, shape_of, done}
+use Rattle.mw_look.specs.declared.steps.Shape.{Shape}
+use Rattle.mw_look.specs.declared.steps.Shape.TheVariants.{Exchange, Store, Fetch}
+use Rattle.mw_look.specs.Shapes.{shape_of}
+use Rattle.mw_world.specs.Definition.Changes.{done}
 use Rattle.mw_look.specs.Steps.{StepFits}
 use Rattle.mw_world_memory.specs.Bits.{Bits, bits_at, put_bits, is_there}
 use Rattle.mw_world_memory.specs.Ties.{Tie}

@@ -1,11 +1,11 @@
 -- What the openings of the tenants' files gave, at a start.
-use Rattle.std.specs.Prelude.{ℕ, ◌≡◌, ◌<◌, Bool, true, false, List, [], Vec, length, replicate, slice_index_or, MatchOption, IfSome, Some, None}
+use Rattle.std.specs.Prelude.{ℕ, ◌≡◌, ◌<◌, Bool, true, false, List, [], Vec, length, slice_index_or, MatchOption, IfSome, Some, None}
 use Rattle.std.specs.declared.option.Option.{Option}
 use Rattle.std.specs.declared.alloc.Global.{Global}
 use Rattle.mw_words.specs.Patterns.{packed_door}
 use Rattle.mw_world.specs.declared.config.Config.{Config}
 use Rattle.mw_world.specs.declared.config.Tenant.{Tenant}
-use Rattle.mw_world.specs.Definition.State.{no_tenant, tenant_at, tenants_of}
+use Rattle.mw_world.specs.Definition.State.{no_tenant, tenant_at, tenants_of, words_given}
 
 -- by tenant, its words, or none where its file didn't open
 abbrev pub Openings : Type 0
@@ -24,11 +24,6 @@ abbrev pub Gave : Openings → (ℕ → List ℕ) → (ℕ → Bool) → Type 0
 Gave openings words is_up =
     (tenant : ℕ) → tenant < length openings → MatchOption (opening_at openings tenant) (is_up tenant ≡ false) (λ given. (is_up tenant ≡ true) × (given.items ≡ words tenant))
 
--- the words that a tenant starts with: those that were given, or zeros
-abbrev pub first_words : Tenant → Option (Vec ℕ Global) → List ℕ
-first_words tenant (Some given) = given.items
-first_words tenant None = replicate tenant.words 0
-
 -- the bits of the door that a tenant starts with: no slot in use, and the fault where its file didn't open
 abbrev pub first_door : Option (Vec ℕ Global) → ℕ
 first_door (Some given) = packed_door (record { fault = false; used = 0 })
@@ -37,4 +32,4 @@ first_door None = packed_door (record { fault = true; used = 0 })
 -- these are the words that the first tenants start with
 pub record AreFirstWords (tenants : List Tenant) (openings : Openings) (words : List (List ℕ)) (count : ℕ) : Type 0 where
   pub long : length words ≡ count
-  pub each : (tenant : ℕ) → tenant < count → slice_index_or words tenant [] ≡ first_words (slice_index_or tenants tenant no_tenant) (opening_at openings tenant)
+  pub each : (tenant : ℕ) → tenant < count → slice_index_or words tenant [] ≡ words_given (slice_index_or tenants tenant no_tenant) (opening_at openings tenant)

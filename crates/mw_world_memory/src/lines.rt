@@ -120,6 +120,15 @@ impl Lines {
         }
     }
 
+    /// The marks up to and with the last start.
+    pub fn closed(&self, alloc: Global) -> Result<Vec<Mark>, AllocError>
+        ensures { IfOk result (λ closed. closed.items ≡ self.now.closed.items) }
+    {
+        let mut closed = Vec::new(alloc);
+        copy_closed(&self.closed, &mut closed)?;
+        Ok(closed)
+    }
+
     /// The marks so far.
     pub fn marks(&self, alloc: Global) -> Result<Vec<Mark>, AllocError>
         ensures { IfOk result (λ marks. marks.items ≡ self.now.closed.items ++ marks_in self.now.lines.items) }

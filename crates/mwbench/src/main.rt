@@ -3,30 +3,17 @@
 #![tactic(auto)]
 
 use mw_load::load;
-use mw_streams::hold_streams;
-use std::io::ErrorKind;
+use mw_main::{Program, run};
 use std::process::ExitCode;
-use std::{env, io};
+
+const PROGRAM: Program = Program {
+    name: "mwbench",
+    no_text: "refused 1 command",
+    no_memory: "memory",
+};
 
 fn main(rt: HostRuntime) -> ExitCode {
-    let Ok(_held) = hold_streams(&rt) else {
-        let _ = rt.eprintln("mwbench: cannot open /dev/null");
-        return ExitCode::from(1);
-    };
-    let status = match args(&rt) {
-        Ok(args) => load(&rt, &args, &mut rt.stdout(), &mut rt.stderr()),
-        Err(fault) if fault.kind() == ErrorKind::InvalidData => {
-            let _ = rt.eprintln("mwbench: refused 1 command");
-            2
-        }
-        Err(_) => {
-            let _ = rt.eprintln("mwbench: memory");
-            1
-        }
-    };
-    ExitCode::from(status)
-}
-
-fn args(rt: &HostRuntime) -> io::Result<Vec<String>> {
-    Ok(env::args(rt)?.collect(rt.alloc())?)
+    run(&rt, &PROGRAM, |args| {
+        load(&rt, args, &mut rt.stdout(), &mut rt.stderr())
+    })
 }

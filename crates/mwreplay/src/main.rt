@@ -1,31 +1,18 @@
 //! `mwreplay [--trace] FILE` plays a schedule.
 #![tactic(auto)]
 
+use mw_main::{Program, run};
 use mw_player::replay_args;
-use mw_streams::hold_streams;
-use std::io::ErrorKind;
 use std::process::ExitCode;
-use std::{env, io};
+
+const PROGRAM: Program = Program {
+    name: "mwreplay",
+    no_text: "the command line is no text",
+    no_memory: "memory",
+};
 
 fn main(rt: HostRuntime) -> ExitCode {
-    let Ok(_held) = hold_streams(&rt) else {
-        let _ = rt.eprintln("mwreplay: cannot open /dev/null");
-        return ExitCode::from(1);
-    };
-    let status = match args(&rt) {
-        Ok(args) => replay_args(&rt, &args, &mut rt.stdout(), &mut rt.stderr()),
-        Err(fault) if fault.kind() == ErrorKind::InvalidData => {
-            let _ = rt.eprintln("mwreplay: the command line is no text");
-            2
-        }
-        Err(_) => {
-            let _ = rt.eprintln("mwreplay: memory");
-            1
-        }
-    };
-    ExitCode::from(status)
-}
-
-fn args(rt: &HostRuntime) -> io::Result<Vec<String>> {
-    Ok(env::args(rt)?.collect(rt.alloc())?)
+    run(&rt, &PROGRAM, |args| {
+        replay_args(&rt, args, &mut rt.stdout(), &mut rt.stderr())
+    })
 }

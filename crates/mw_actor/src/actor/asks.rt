@@ -50,13 +50,6 @@ impl Actor {
         unreachable!()
     }
 
-    // The place of the next step.
-    pub(crate) fn place(&self) -> At
-        ensures { result ≡ place (asks self.now) }
-    {
-        self.ask().place()
-    }
-
     // The next step while a slot is found and written. None in the other parts of the program.
     fn step_admitting(&self) -> Option<Op>
         ensures is { result ≡ step_in Admitting self.now }

@@ -14,7 +14,9 @@ use Rattle.mw_actor.specs.Acting.{Acting}
 use Rattle.mw_actor.specs.Ranges.{IsInRange}
 use Rattle.mw_world.specs.declared.config.Config.{Config}
 use Rattle.mw_world.specs.Definition.Cells.{Cells, read}
-use Rattle.mw_world.specs.Definition.Changes.{Shape, Exchange, Store, Fetch, shape_of}
+use Rattle.mw_look.specs.declared.steps.Shape.{Shape}
+use Rattle.mw_look.specs.declared.steps.Shape.TheVariants.{Exchange, Store, Fetch}
+use Rattle.mw_look.specs.Shapes.{shape_of}
 use Rattle.mw_world.specs.Definition.History.{standing_at, arm_at}
 use Rattle.mw_world.specs.Claim.Invariant.{IsOfWorker}
 use Rattle.mw_world.specs.Definition.State.{State}

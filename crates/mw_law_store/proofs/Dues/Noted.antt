@@ -21,7 +21,7 @@ use Rattle.mw_actor.specs.Program.{goes}
 use Rattle.mw_world.specs.declared.notes.Note.{Note}
 use Rattle.mw_world.specs.Definition.Calls.{Called, called_at}
 use Rattle.mw_world.specs.Definition.Cells.{Cells}
-use Rattle.mw_world.specs.Definition.Changes.{Exchange, Store, Fetch}
+use Rattle.mw_look.specs.declared.steps.Shape.TheVariants.{Exchange, Store, Fetch}
 use Rattle.mw_world.specs.Definition.Notes.{note_of}
 use Rattle.mw_law_runs.specs.Knowledge.Informed.{IsPointFor}
 use Rattle.mw_law_runs.proofs.Ending.{Ends}

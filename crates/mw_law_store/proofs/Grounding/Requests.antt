@@ -15,7 +15,9 @@ use Rattle.mw_actor.specs.Acting.{Acting}
 use Rattle.mw_actor.specs.Asks.{asks}
 use Rattle.mw_world.specs.declared.config.Config.{Config}
 use Rattle.mw_world.specs.Definition.Cells.{Cells, read}
-use Rattle.mw_world.specs.Definition.Changes.{Shape, Exchange, Store, Fetch, shape_of}
+use Rattle.mw_look.specs.declared.steps.Shape.{Shape}
+use Rattle.mw_look.specs.declared.steps.Shape.TheVariants.{Exchange, Store, Fetch}
+use Rattle.mw_look.specs.Shapes.{shape_of}
 use Rattle.mw_world.specs.Definition.State.{State, Account, tenants_of}
 use Rattle.mw_world_file.specs.Maps.{upd}
 use Rattle.mw_law_moves.specs.Relying.{Later}

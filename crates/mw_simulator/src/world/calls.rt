@@ -19,13 +19,12 @@ ghost use Rattle.mw_simulator.specs.Staying.{IsUnchanged, SameBooks, SameBooksBu
 ghost use Rattle.mw_simulator.specs.Stepping as stepping;
 
 use crate::faults::WorldFault;
-use crate::statuses::{starts_from, status_after};
 use crate::world::World;
 use crate::world::turns::next_attempt;
 use mw_actor::{Actor, Point, Slot};
 use mw_look::{Call, Got, Kind, Op, Told};
 use mw_words::{At, Entries, Job, Status, copy_of, is_change};
-use mw_world::{Note, Outcome};
+use mw_world::{Note, Outcome, starts_from, status_after};
 use mw_world_file::{Book, BookFault};
 
 /// A call on a tenant's file, for a change.

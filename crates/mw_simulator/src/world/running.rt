@@ -20,6 +20,7 @@ use mw_actor::Actor;
 use mw_lone::Mark;
 use mw_words::At;
 use mw_world::{Config, Event};
+use mw_world_memory::{Account, Seat};
 use std::alloc::AllocError;
 
 impl World {
@@ -36,6 +37,20 @@ impl World {
         ensures { (state : State) → Shows self.now state → MatchOption result ((state.seats worker).actor ≡ None) (λ actor. (state.seats worker).actor ≡ Some actor.now) }
     {
         self.seats[usize::from(worker)].actor.as_ref()
+    }
+
+    /// The workers, as the world keeps them.
+    pub fn seats(&self) -> &[Seat]
+        ensures { result.now ≡ self.now.seats.items }
+    {
+        &self.seats
+    }
+
+    /// The tenants, as the world keeps them.
+    pub fn accounts(&self) -> &[Account]
+        ensures { result.now ≡ self.now.accounts.items }
+    {
+        &self.accounts
     }
 
     /// The bits of a shared word, which is one of the world's.

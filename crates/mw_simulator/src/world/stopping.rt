@@ -6,13 +6,12 @@ ghost use Rattle.mw_simulator.specs.Ending.{called_of};
 ghost use Rattle.mw_simulator.specs.Shows.{Shows};
 ghost use Rattle.mw_simulator.specs.Stops as spec;
 
-use crate::statuses::starts_from;
 use crate::world::World;
 use crate::world::calls::{Called, called_at, entries_of, is_formed};
 use crate::world::halts::Halt;
 use mw_actor::Actor;
 use mw_look::Call;
-use mw_world::Interrupted;
+use mw_world::{Interrupted, starts_from};
 use mw_world_file::Cut;
 use mw_world_memory::Account;
 

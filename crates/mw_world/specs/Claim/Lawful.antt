@@ -13,7 +13,10 @@ use Rattle.mw_world_file.specs.declared.outcomes.Outcome.{Outcome}
 use Rattle.mw_world.specs.declared.config.Config.{Config}
 use Rattle.mw_world.specs.Definition.Calls.{Called, called_at, starts_from}
 use Rattle.mw_world.specs.Definition.Cells.{Cells, read, AllFit}
-use Rattle.mw_world.specs.Definition.Changes.{Shape, Fetch, shape_of, fetched}
+use Rattle.mw_look.specs.declared.steps.Shape.{Shape}
+use Rattle.mw_look.specs.declared.steps.Shape.TheVariants.{Fetch}
+use Rattle.mw_look.specs.Shapes.{shape_of}
+use Rattle.mw_world.specs.Definition.Changes.{fetched}
 use Rattle.mw_world.specs.Definition.Happenings.{Happening, Step as StepEvent, File as FileEvent}
 use Rattle.mw_world.specs.Definition.State.{State, Opening}
 use Rattle.mw_world.specs.Definition.Turns.{may_make}

@@ -4,29 +4,16 @@ use Rattle.mw_words.specs.declared.places.At.{At}
 use Rattle.mw_words.specs.declared.places.At.TheVariants.{Door as AtDoor, Gate as AtGate}
 use Rattle.mw_pool.specs.Moves.{after_unpin}
 use Rattle.mw_look.specs.declared.steps.Kind.{Kind}
-use Rattle.mw_look.specs.declared.steps.Kind.TheVariants.{Fill as FillKind, Unpin as UnpinKind, Free as FreeKind, Drop as DropKind, Row as RowKind, Fault as FaultKind}
+use Rattle.mw_look.specs.declared.steps.Kind.TheVariants.{Unpin as UnpinKind, Drop as DropKind, Fault as FaultKind}
+use Rattle.mw_look.specs.declared.steps.Shape.{Shape}
+use Rattle.mw_look.specs.declared.steps.Shape.TheVariants.{Exchange, Store, Fetch}
 use Rattle.mw_look.specs.declared.news.News.{News}
 use Rattle.mw_look.specs.declared.news.News.TheVariants.{Won, Lost}
 use Rattle.mw_look.specs.Places.{Val, pack}
 use Rattle.mw_look.specs.News.{seen}
+use Rattle.mw_look.specs.Shapes.{shape_of}
 use Rattle.mw_look.specs.Steps.{Step, Load, Change, File}
 use Rattle.mw_world.specs.Definition.Cells.{Cells, read, write}
-
--- A change is an exchange, which wins where it finds what it expects and else does nothing; a store, which leaves one thing
--- whatever it finds; or a fetch, which makes something of what it finds.
-pub data Shape : Type 0 where
-  Exchange : Shape
-  Store : Shape
-  Fetch : Shape
-
-abbrev pub shape_of : Kind → Shape
-shape_of FillKind = Store
-shape_of FreeKind = Store
-shape_of RowKind = Store
-shape_of UnpinKind = Fetch
-shape_of DropKind = Fetch
-shape_of FaultKind = Fetch
-shape_of kind = Exchange
 
 -- What a fetch makes of what it finds: a gate with a pin less, a door that counts a slot less, a door with the fault.
 abbrev pub fetched : Kind → (at : At) → Val at → Val at

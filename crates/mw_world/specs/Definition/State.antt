@@ -1,5 +1,6 @@
 -- The state of a world.
-use Rattle.std.specs.Prelude.{ℕ, zero, suc, ◌+◌, ◌≡◌, ◌≤◌, ◌<◌, All, sum_by, Bool, true, false, not, if◌then◌else◌, List, [], ◌++◌, length, replicate, slice_index_or, is_none, nat_le, ◌&&◌, IsTrue, Option, Some, None}
+use Rattle.std.specs.Prelude.{ℕ, zero, suc, ◌+◌, ◌≡◌, ◌≤◌, ◌<◌, All, sum_by, Bool, true, false, not, if◌then◌else◌, List, [], ◌++◌, length, replicate, slice_index_or, is_none, nat_le, ◌&&◌, IsTrue, Option, Some, None, Vec}
+use Rattle.std.specs.declared.alloc.Global.{Global}
 use Rattle.std.specs.Option.{option_to_list}
 use Rattle.arrayvec.specs.ArrayVec.{ArrayVec}
 use Rattle.std.specs.List.{flat_map}
@@ -196,6 +197,11 @@ old_entries (Some change) = change.items
 -- the words of a tenant's first file: zeros, and over them the change whose record stands open in an old one
 abbrev pub first_words_of : Tenant → List ℕ
 first_words_of tenant = put (replicate tenant.words 0) (old_entries tenant.old)
+
+-- The words that a tenant has after a start: those that its file gave, or zeros if it did not open.
+abbrev pub words_given : Tenant → Option (Vec ℕ Global) → List ℕ
+words_given tenant (Some words) = words.items
+words_given tenant None = replicate tenant.words 0
 
 -- The first start of all: each tenant has the quota of the configuration, and its first file with the places and the words of that. A new file opened;
 -- an old one didn't, until a later start opens it.

@@ -1,11 +1,12 @@
 //! Steps on the shared words.
 ghost use Rattle.std.specs.Prelude.{◌≡◌, ◌==◌, IfSome, None, cond, is_some};
-ghost use Rattle.mw_world.specs.Definition.Changes.{Exchange, shape_of};
+ghost use Rattle.mw_look.specs.declared.steps.Shape.TheVariants.{Exchange};
+ghost use Rattle.mw_look.specs.Shapes.{shape_of};
 ghost use Rattle.mw_world_memory.specs.Bits.{SamePlaces, put_bits};
 ghost use Rattle.mw_world_memory.specs.Making.{Makes, fetched_bits, bits_changed, got_by, bits_after, got_after, is_step_there};
 
 use crate::cells::Cells;
-use mw_look::{Got, Kind, Op};
+use mw_look::{Got, Kind, Op, Shape};
 use mw_words::{At, Door, Gate};
 
 impl Cells {
@@ -42,28 +43,16 @@ impl Cells {
         ensures is { result ≡ got_by (shape_of kind) from there }
         ensures after { self.new ≡ bits_changed (shape_of kind) kind at from to self.old there }
     {
-        match kind {
-            Kind::Fill | Kind::Free | Kind::Row => {
+        match kind.shape() {
+            Shape::Exchange => self.exchange(at, from, to, there),
+            Shape::Store => {
                 self.put(at, to);
                 Got::Won
             }
-            Kind::Unpin | Kind::Drop | Kind::Fault => {
+            Shape::Fetch => {
                 self.put(at, fetched(kind, at, there));
                 Got::Word(there)
             }
-            Kind::Admit
-            | Kind::Claim
-            | Kind::Pin
-            | Kind::Plant
-            | Kind::Resolve
-            | Kind::DecideYes
-            | Kind::DecideNo
-            | Kind::Release
-            | Kind::Ready
-            | Kind::Seal
-            | Kind::Settle
-            | Kind::Cancel
-            | Kind::Clean => self.exchange(at, from, to, there),
         }
     }
 

@@ -1,10 +1,10 @@
 //! The shared words at a start.
 ghost use Rattle.std.specs.Prelude.{◌≡◌, ℕ, Bool, List, length, map, replicate, IfOk};
 ghost use Rattle.mw_words.specs.declared.limits.TheConstants.{MAX_ENTRIES};
-ghost use Rattle.mw_world.specs.Definition.State.{IsConfig, first_cells};
+ghost use Rattle.mw_world.specs.Definition.State.{IsConfig, first_cells, words_given};
 ghost use Rattle.mw_world_memory.specs.Ties.{Tie};
 ghost use Rattle.mw_world_memory.specs.BitPlaces.{HasPlacesOf};
-ghost use Rattle.mw_world_memory.specs.Openings.{AreOpenings, AreFirstWords, Gave, first_door, first_words};
+ghost use Rattle.mw_world_memory.specs.Openings.{AreOpenings, AreFirstWords, Gave, first_door};
 
 use crate::cells::Cells;
 use mw_words::{Door, Gate, MAX_ENTRIES};
@@ -87,18 +87,18 @@ fn words_at_start(
 {
     let mut words = Vec::with_capacity(alloc, tenants.len())?;
     for (index, tenant) in tenants.iter().enumerate() {
-        words.push(first_words(alloc, tenant, &openings[index])?)?;
+        words.push(words_given(alloc, tenant, &openings[index])?)?;
     }
     Ok(words)
 }
 
 /// The words that a tenant starts with, by its opening.
-fn first_words(
+fn words_given(
     alloc: Global,
     tenant: &Tenant,
     opening: &Option<Vec<u64>>,
 ) -> Result<Vec<u64>, AllocError>
-    ensures { IfOk result (λ words. words.items ≡ first_words tenant.now opening.now) }
+    ensures { IfOk result (λ words. words.items ≡ words_given tenant.now opening.now) }
 {
     match opening {
         Some(words) => Vec::from_slice(alloc, words),

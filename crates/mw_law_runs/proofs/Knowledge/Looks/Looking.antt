@@ -29,7 +29,7 @@ use Rattle.mw_actor.specs.Asks.{asks_at}
 use Rattle.mw_actor.specs.Helping.{others_read, pinned}
 use Rattle.mw_actor.specs.Program.{goes}
 use Rattle.mw_world.specs.declared.config.Config.{Config}
-use Rattle.mw_world.specs.Definition.Changes.{Exchange, Store, Fetch}
+use Rattle.mw_look.specs.declared.steps.Shape.TheVariants.{Exchange, Store, Fetch}
 use Rattle.mw_world.specs.Definition.State.{State}
 use Rattle.mw_world.specs.Definition.Turns.{next_attempt}
 use Rattle.mw_law_runs.specs.Knowledge.Facts.{IsGiven, IsForChange}

@@ -21,7 +21,7 @@ use Rattle.mw_look.specs.Program.{goes, asks_at, word_seen, pinned, first_entry,
 use Rattle.mw_look.proofs.RangeLaws.{either_way}
 use Rattle.mw_world.specs.declared.config.Config.{Config}
 use Rattle.mw_world.specs.declared.notes.Phase.TheVariants.{Fresh, Keeping}
-use Rattle.mw_world.specs.Definition.Changes.{Exchange, Store, Fetch}
+use Rattle.mw_look.specs.declared.steps.Shape.TheVariants.{Exchange, Store, Fetch}
 use Rattle.mw_world.specs.Definition.State.{State}
 use Rattle.mw_law_moves.specs.Memory.{Memory}
 use Rattle.mw_law_runs.specs.Knowledge.Facts.{IsKnown, CameBy}

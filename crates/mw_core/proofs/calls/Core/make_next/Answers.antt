@@ -27,12 +27,12 @@ pub returns-clause-made : goal.returns-clause-made
 returns-clause-made c =
     let actor = c.args.actor.now in
     let got = c.step-got.result in
-    let told : IsTold c.step-got.new.pass actor c.tell.new.self got = c.tell.ensures ∙ ap (tells actor (news_of (place (asks actor)) got)) c.attempt.ensures in
+    let told : IsTold c.step-got.new.pass actor c.tell_of.new.self got = c.tell_of.ensures ∙ ap (tells actor (news_of (place (asks actor)) got)) c.attempt.ensures in
     λ read at.
     let point_is : c.look_point-point.result ≡ read.point = c.look_point-point.ensures read at in
     let place_is : c.place.result ≡ place (asks actor) = c.place.ensures ∙ (ap place_of c.ask-op.ensures.is ∙ place_of_bits (asks actor)) in
     let news_is : c.of.result ≡ news_of (place (asks actor)) got = c.of.ensures.is ∙ ap (λ (place : At). news_of place got) place_is in
-    next_made c.args.pass.now c.step-got.new.pass actor c.tell.new.self read got c.turns.result at c.requires.carried c.requires.running c.step-got.ensures.took c.step-got.ensures.event told
+    next_made c.args.pass.now c.step-got.new.pass actor c.tell_of.new.self read got c.turns.result at c.requires.carried c.requires.running c.step-got.ensures.took c.step-got.ensures.event told
     (c.turns.ensures ∙ (λ i. turns (point_is i) (news_is i)))
 
 pub returns-clause-carried : goal.returns-clause-carried
@@ -40,5 +40,5 @@ returns-clause-carried c =
     let actor = c.args.actor.now in
     let new = c.step-got.new.pass in
     let got = c.step-got.result in
-    let told : IsTold new actor c.tell.new.self got = c.tell.ensures ∙ ap (tells actor (news_of (place (asks actor)) got)) c.attempt.ensures in
+    let told : IsTold new actor c.tell_of.new.self got = c.tell_of.ensures ∙ ap (tells actor (news_of (place (asks actor)) got)) c.attempt.ensures in
     subst (λ (one : Acting). IsCarried new one) (sym told) (carried_on c.args.pass.now new actor got c.requires.carried c.requires.running c.step-got.ensures.worker c.step-got.ensures.took)

@@ -4,8 +4,8 @@ use Rattle.mw_actor.specs.Acting.{Acting}
 use Rattle.mw_world.specs.Definition.Calls.{called_at}
 use Rattle.mw_core.specs.FromTable.{IsCarried, IsSamePass, Pass}
 use Rattle.mw_engine.specs.Filing.{FilesOne}
-use Rattle.mw_engine.specs.Fronts.{HasPass}
-use Rattle.mw_engine.proofs.Branded.{pass_of_engine, pass_of_front}
+use Rattle.mw_engine.specs.TenantWords.{HasPass}
+use Rattle.mw_engine.proofs.Branded.{in_words, of_engine}
 use Rattle.mw_engine.proofs.Replying.{file_way}
 use Rattle.mw_engine.proofs.Served.{file_same, file_serves}
 use Rattle.mw_engine.proofs.engine.Engine.file.Goals as goal
@@ -13,10 +13,10 @@ use Rattle.mw_engine.proofs.engine.Engine.file.Goals as goal
 pub file-requires-clause-own : goal.file-requires-clause-own
 file-requires-clause-own g c =
     let engine = c.args.self.now in
-    subst (λ (pass : Pass). HasPass engine.front pass) (sym c.loop.invariant.pass_is) (pass_of_front engine.front g.J.EngineBrand.identity engine.same c.args.pass.now c.requires.own)
+    subst (λ (pass : Pass). HasPass engine.words pass) (sym c.loop.invariant.pass_is) (in_words engine.words g.J.EngineBrand.identity engine.same c.args.pass.now c.requires.own)
 
 pub returns-then-is_of-clause-own : goal.returns-then-is_of-clause-own
-returns-then-is_of-clause-own g c = pass_of_engine c.args.self.now.front g.J.EngineBrand.identity c.args.self.now.same c.file.new.pass c.file.ensures.own
+returns-then-is_of-clause-own g c = of_engine c.args.self.now.words g.J.EngineBrand.identity c.args.self.now.same c.file.new.pass c.file.ensures.own
 
 pub file-requires-clause-carried : goal.file-requires-clause-carried
 file-requires-clause-carried g c =

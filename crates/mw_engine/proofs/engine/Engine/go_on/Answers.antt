@@ -1,48 +1,51 @@
-use Rattle.std.specs.Prelude.{is_some, Option}
-use Rattle.std.proofs.Common.{sym, ap, subst, ◌∙◌}
-use Rattle.mw_words.specs.declared.replies.Reply.{Reply}
-use Rattle.mw_actor.specs.Program.{replied}
-use Rattle.mw_engine.specs.History.{StandsAs}
-use Rattle.mw_engine.proofs.Replying.{says_so}
-use Rattle.mw_engine.proofs.Served.{same_on, under_way}
+use Rattle.mw_engine.proofs.Branded.{still_of}
+use Rattle.mw_engine.proofs.Served.{same_on}
+use Rattle.mw_engine.proofs.Stepped.{stepped_files, stepped_same, stepped_serves, stepped_to, stepped_way}
 use Rattle.mw_engine.proofs.engine.Engine.go_on.Goals as goal
 
-pub file-requires-clause-carried : goal.file-requires-clause-carried
-file-requires-clause-carried g c =
-    let step = c.advance-ended in
-    step.ensures.goes_on (step.ensures.idle ∙ ap is_some (step.ensures.file c.in-NeedsFile.is).running)
+pub file-requires-clause-own : goal.file-requires-clause-own
+file-requires-clause-own g c =
+    let engine = c.args.self.now in
+    let step = c.step in
+    still_of engine.words g.J.EngineBrand.identity engine.same c.args.pass.now step.new.pass c.requires.own step.ensures.own step.ensures.worker
+    (stepped_files c.args.pass.now step.new.pass c.args.actor.now step.new.actor step.result c.requires.running step.ensures.steps)
 
 pub file-requires-clause-call : goal.file-requires-clause-call
-file-requires-clause-call g c = (c.advance-ended.ensures.file c.in-NeedsFile.is).comes
+file-requires-clause-call g c =
+    let step = c.step in
+    (stepped_to c.args.pass.now step.new.pass c.args.actor.now step.new.actor step.result c.in-Some.call c.requires.running step.ensures.steps c.in-Some.is).comes
 
-pub returns-in-NeedsFile-clause-worker : goal.returns-in-NeedsFile-clause-worker
-returns-in-NeedsFile-clause-worker g c = c.file.ensures.same.same_worker ∙ c.advance-ended.ensures.worker
+pub returns-in-Some-clause-request : goal.returns-in-Some-clause-request
+returns-in-Some-clause-request g c =
+    let step = c.step in
+    same_on c.args.actor.now step.new.actor c.file.new.actor (stepped_same c.args.pass.now step.new.pass c.args.actor.now step.new.actor step.result c.requires.running step.ensures.steps) c.file.ensures.request
 
-pub returns-in-NeedsFile-clause-request : goal.returns-in-NeedsFile-clause-request
-returns-in-NeedsFile-clause-request g c = same_on c.args.actor.now c.advance-ended.new.actor c.file.new.actor c.advance-ended.ensures.request c.file.ensures.request
+pub returns-in-Some-clause-call : goal.returns-in-Some-clause-call
+returns-in-Some-clause-call g c =
+    let step = c.step in
+    λ first served. c.file.ensures.call first (stepped_serves c.args.pass.now step.new.pass c.args.actor.now step.new.actor step.result c.requires.running step.ensures.steps first served)
 
-pub returns-in-NeedsFile-clause-call : goal.returns-in-NeedsFile-clause-call
-returns-in-NeedsFile-clause-call g c =
-    let step = c.advance-ended in
-    λ first since. c.file.ensures.call first
-    (under_way first step.new.pass.seat.me.0 step.new.actor (step.ensures.file c.in-NeedsFile.is).running (step.ensures.call first since))
+pub returns-in-Some-clause-way : goal.returns-in-Some-clause-way
+returns-in-Some-clause-way g c =
+    let step = c.step in
+    λ way. c.file.ensures.way (stepped_way c.args.pass.now step.new.pass c.args.actor.now step.new.actor step.result c.requires.running step.ensures.steps c.requires.carried way)
 
-pub returns-in-NeedsFile-clause-idle : goal.returns-in-NeedsFile-clause-idle
-returns-in-NeedsFile-clause-idle g c =
-    let step = c.advance-ended in
-    c.file.ensures.same.same_idle ∙ (step.ensures.idle ∙ ap is_some (step.ensures.file c.in-NeedsFile.is).running)
+pub returns-then-has_planted-clause-call : goal.returns-then-has_planted-clause-call
+returns-then-has_planted-clause-call g c =
+    let step = c.step in
+    λ first served. stepped_serves c.args.pass.now step.new.pass c.args.actor.now step.new.actor step.result c.requires.running step.ensures.steps first served
 
-pub returns-clause-call : goal.returns-clause-call
-returns-clause-call g c =
-    let step = c.advance-ended in
-    λ first since. subst (λ (reply : Option Reply). StandsAs reply first step.new.pass.seat.me.0 step.new.actor) (sym c.reply.ensures) (step.ensures.call first since)
+pub returns-then-has_planted-clause-way : goal.returns-then-has_planted-clause-way
+returns-then-has_planted-clause-way g c =
+    let step = c.step in
+    λ way. stepped_way c.args.pass.now step.new.pass c.args.actor.now step.new.actor step.result c.requires.running step.ensures.steps c.requires.carried way
 
-pub returns-clause-idle : goal.returns-clause-idle
-returns-clause-idle g c = c.advance-ended.ensures.idle ∙ ap is_some (sym c.reply.ensures)
+pub returns-else-was_planting-clause-call : goal.returns-else-was_planting-clause-call
+returns-else-was_planting-clause-call g c =
+    let step = c.step in
+    λ first served. stepped_serves c.args.pass.now step.new.pass c.args.actor.now step.new.actor step.result c.requires.running step.ensures.steps first served
 
-pub returns-in-NeedsFile-clause-way : goal.returns-in-NeedsFile-clause-way
-returns-in-NeedsFile-clause-way g c =
-    λ way. c.file.ensures.way (c.advance-ended.ensures.way way)
-
-pub returns-clause-says : goal.returns-clause-says
-returns-clause-says g c = says_so c.reply.result (replied c.advance-ended.new.actor) c.reply.ensures
+pub returns-else-was_planting-clause-way : goal.returns-else-was_planting-clause-way
+returns-else-was_planting-clause-way g c =
+    let step = c.step in
+    λ way. stepped_way c.args.pass.now step.new.pass c.args.actor.now step.new.actor step.result c.requires.running step.ensures.steps c.requires.carried way

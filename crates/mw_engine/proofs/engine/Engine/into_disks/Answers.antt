@@ -27,6 +27,6 @@ returns g c =
     let none : length (into_iter_items c.loop-book.book-iterator) ≡ 0 = sym c.loop-book.book-iterator.rest.ok.0 ∙ c.in-None.ensures.steps.0 in
     let count : length c.loop-book.disks.items ≡ length engine.books.items = omega (arith, all, none) in
     record {
-      count = count ∙ (engine.a_book_each ∙ ap (λ (lines : List Line). length lines) (same_lines engine.front g.J.EngineBrand.identity engine.same));
+      count = count ∙ (engine.a_book_each ∙ ap (λ (lines : List Line). length lines) (same_lines engine.words g.J.EngineBrand.identity engine.same));
       each = c.loop-book.invariant.each;
     }

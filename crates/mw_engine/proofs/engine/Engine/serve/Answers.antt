@@ -1,58 +1,53 @@
-use Rattle.std.specs.Prelude.{◌≡◌, IfSome, is_some, Option, Some}
-use Rattle.std.proofs.Common.{refl, sym, ap, subst, ◌∙◌}
-use Rattle.mw_words.specs.declared.jobs.Job.{Job}
+use Rattle.std.specs.Prelude.{Option}
+use Rattle.std.proofs.Common.{sym, ap, subst, ◌∙◌}
 use Rattle.mw_words.specs.declared.replies.Reply.{Reply}
 use Rattle.mw_actor.specs.Acting.{Acting}
-use Rattle.mw_actor.specs.Program.{replied}
-use Rattle.mw_engine.specs.History.{IsSince, StandsAs}
-use Rattle.mw_engine.specs.Identity.{IsFor}
+use Rattle.mw_core.specs.FromTable.{View}
+use Rattle.mw_engine.specs.History.{IsAnswered, StandsAs}
 use Rattle.mw_engine.specs.Replies.{IsOnItsWay}
-use Rattle.mw_engine.specs.Requests.{IsRequest}
-use Rattle.mw_engine.proofs.Histories.{served_since}
-use Rattle.mw_engine.proofs.Replying.{first_way, reply_can}
-use Rattle.mw_engine.proofs.Served.{not_both}
+use Rattle.mw_engine.proofs.Branded.{still_of}
+use Rattle.mw_engine.proofs.Histories.{begun_serves, served_stands}
+use Rattle.mw_engine.proofs.Replying.{begins_way, first_way}
+use Rattle.mw_engine.proofs.Requesting.{made_may_come}
+use Rattle.mw_engine.proofs.Served.{answered_so}
 use Rattle.mw_engine.proofs.engine.Engine.serve.Goals as goal
+
+pub begin-requires-clause-may : goal.begin-requires-clause-may
+begin-requires-clause-may g c =
+    let engine = c.args.self.now in
+    made_may_come engine.words g.J.EngineBrand.identity engine.same c.args.pass.now c.args.tenant c.args.job.now c.copy.result c.request-actor.result c.requires.own c.requires.idle c.requires.formed
+    c.copy.ensures c.request-actor.ensures
 
 pub loop-init : goal.loop-init
 loop-init g c =
+    let engine = c.args.self.now in
     let identity = g.J.EngineBrand.identity in
-    let pass = c.args.pass.now in
+    let old = c.args.pass.now in
+    let new = c.begin.new.pass in
     let actor = c.request-actor.result in
+    let next = c.begin.new.actor in
     let is = c.request-actor.ensures in
+    let begins = c.begin.ensures.begins in
+    let may = made_may_come engine.words identity engine.same old c.args.tenant c.args.job.now c.copy.result actor c.requires.own c.requires.idle c.requires.formed c.copy.ensures is in
+    let serves = begun_serves old new actor next may begins in
     record {
-      own = c.requires.own;
-      worker = refl;
-      its = ap (λ (one : Acting). one.tenant) is;
-      same_job = ap (λ (one : Acting). one.job) is ∙ c.copy.ensures;
-      way = subst (λ (one : Acting). IsOnItsWay one.job one.point) (sym is) (first_way c.args.tenant c.copy.result);
-      comes = λ idle. subst (λ (one : Acting). IsRequest identity pass.worker one) (sym is)
-          (record { formed = subst (λ (job : Job). IsFor identity.lines c.args.tenant job) (sym c.copy.ensures) c.requires.formed; is = refl });
-      goes_on = λ busy. absurd (not_both pass.idle c.requires.idle busy);
-      call = subst (λ test. IsSince test pass.seat.me.0 pass.seat.me.0 actor) (sym c.requires.idle) refl;
+      own = still_of engine.words identity engine.same old new c.requires.own c.begin.ensures.own c.begin.ensures.worker begins.began.same_files;
+      worker = c.begin.ensures.worker;
+      its = ap (λ (one : Acting). one.tenant) begins.told ∙ ap (λ (one : Acting). one.tenant) is;
+      same_job = ap (λ (one : Acting). one.job) begins.told ∙ (ap (λ (one : Acting). one.job) is ∙ c.copy.ensures);
+      way = begins_way old new actor next begins serves (subst (λ (one : Acting). IsOnItsWay one.job one.point) (sym is) (first_way c.args.tenant c.copy.result));
+      carried = c.begin.ensures.carried;
+      call = serves;
     }
 
-pub loop-preserved : goal.loop-preserved
-loop-preserved g c =
-    let step = c.go_on in
+pub returns-in-Some-reply-clause-answered : goal.returns-in-Some-reply-clause-answered
+returns-in-Some-reply-clause-answered g c =
     let inv = c.loop.invariant in
-    let busy = step.ensures.idle ∙ ap is_some c.in-None-go_on.is in
     let first = c.args.pass.now.seat.me.0 in
-    record {
-      own = step.ensures.own;
-      worker = step.ensures.worker ∙ inv.worker;
-      its = step.ensures.request.same_tenant ∙ inv.its;
-      same_job = step.ensures.request.same_job ∙ inv.same_job;
-      way = step.ensures.way inv.way;
-      comes = λ idle. absurd (not_both step.new.pass.idle idle busy);
-      goes_on = step.ensures.goes_on;
-      call = served_since step.new.pass.idle first step.new.pass.seat.me.0 step.new.actor busy
-          (subst (λ (reply : Option Reply). StandsAs reply first step.new.pass.seat.me.0 step.new.actor) c.in-None-go_on.is (step.ensures.call first inv.call));
-    }
-
-pub returns-in-Some-go_on-clause-answers : goal.returns-in-Some-go_on-clause-answers
-returns-in-Some-go_on-clause-answers g c =
-    let step = c.go_on in
-    let inv = c.loop.invariant in
-    let actor = step.new.actor in
-    let says = subst (λ (found : Option Reply). IfSome found (λ one. replied actor ≡ Some one)) c.in-Some-go_on.is step.ensures.says in
-    reply_can actor c.args.job.now c.in-Some-go_on.reply (step.ensures.request.same_job ∙ inv.same_job) (step.ensures.way inv.way) says
+    let pass = c.loop.pass in
+    let actor = c.loop.actor in
+    let reply = c.in-Some-reply.reply in
+    let answered : IsAnswered first pass.seat.me.0 actor.tenant actor.job reply =
+    subst (λ (one : Option Reply). StandsAs one first pass.seat.me.0 actor) (sym c.reply.ensures ∙ c.in-Some-reply.is) (served_stands first pass.seat.me.0 actor inv.call) in
+    subst (λ (view : View). IsAnswered first view c.args.tenant c.args.job.now reply) (λ i. (sym c.rest.ensures.rested.same_seat i).me.0)
+    (answered_so first pass.seat.me.0 actor c.args.tenant c.args.job.now reply inv.its inv.same_job answered)

@@ -44,8 +44,8 @@ listed-requires g c =
       few_places = subst HaveFewPlaces (sym c.deref.ensures.value) (few_all g.D.Disk.facts lines c.args.files.items openings c.in_ok-openings.books.items c.in_ok-openings.ensures);
     }
 
-pub invariant_of-front : goal.invariant_of-front
-invariant_of-front g c =
+pub invariant_of-words : goal.invariant_of-words
+invariant_of-words g c =
     let lines = c.args.lines.now in
     let config = c.config_of-config in
     let openings = c.in_ok-openings.openings.items in

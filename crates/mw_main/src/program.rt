@@ -1,0 +1,59 @@
+//! A program from its start to its exit status.
+ghost use Rattle.std.specs.Prelude.{◌≡◌};
+ghost use Rattle.std.specs.Process.{exit_status};
+
+use crate::streams::hold_streams;
+use std::env;
+use std::fs::File;
+use std::io::{self, ErrorKind};
+use std::process::ExitCode;
+use std::rt::{Env, Files};
+
+/// What a program says where it can't begin. Each text comes after its name, as `mwserve: memory`.
+#[derive(Clone, Copy)]
+pub struct Program {
+    /// The program's name.
+    pub name: &'static str,
+    /// What it says where an argument is no text.
+    pub no_text: &'static str,
+    /// What it says where memory is refused.
+    pub no_memory: &'static str,
+}
+
+/// Runs a program: holds its standard streams by [`hold_streams`], and gives `work` the command line, the program's
+/// own name first. The exit status is the one that `work` gives.
+///
+/// It is 1, and `work` isn't called, where `/dev/null` can't be opened or memory is refused; and 2 where an argument
+/// is no text. What went wrong is then written to the standard error.
+pub fn run<R, F: FnOnce(&[String]) -> u8>(rt: &R, program: &Program, work: F) -> ExitCode
+where
+    R: Files<File = File> + Env + Eprint + AllocGlobal,
+    requires { F.IsAlwaysCallable work }
+    ensures { exit_status result ≡ 0 → (args : _) × F.post work args 0 }
+{
+    let Ok(_held) = hold_streams(rt) else {
+        return program.refuse(rt, "cannot open /dev/null", 1);
+    };
+    match args(rt) {
+        Ok(args) => ExitCode::from(work(&args)),
+        Err(fault) if fault.kind() == ErrorKind::InvalidData => {
+            program.refuse(rt, program.no_text, 2)
+        }
+        Err(_) => program.refuse(rt, program.no_memory, 1),
+    }
+}
+
+impl Program {
+    /// Says what went wrong behind the program's name, and gives this exit status.
+    fn refuse<R: Eprint>(&self, rt: &R, text: &str, status: u8) -> ExitCode
+        ensures { exit_status result ≡ status }
+    {
+        let name = self.name;
+        let _ = eprintln!(rt; "{name}: {text}");
+        ExitCode::from(status)
+    }
+}
+
+fn args<R: Env + AllocGlobal>(rt: &R) -> io::Result<Vec<String>> {
+    Ok(env::args(rt)?.collect(rt.alloc())?)
+}

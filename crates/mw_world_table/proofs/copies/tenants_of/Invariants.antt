@@ -1,0 +1,7 @@
+use Rattle.std.proofs.Common.{◌≡◌, map, take}
+use Rattle.mw_table.specs.Runs.{last_start}
+use Rattle.mw_world_table.specs.Worlds.{last_start_of}
+use Rattle.mw_world_table.proofs.copies.tenants_of.Given as goal
+
+abbrev pub invariant-loop-account : goal.invariant-loop-account
+invariant-loop-account l = map last_start l.tenants.items ≡ map last_start_of (take l.account-index l.accounts)

@@ -1,0 +1,44 @@
+//! The shared words of a world in memory, as they stand in a table.
+ghost use Rattle.std.specs.Prelude.{◌≡◌, ◌<◌, IfOk, length};
+ghost use Rattle.mw_world.specs.Definition.State.{State};
+ghost use Rattle.mw_rule.specs.Layout as layout;
+ghost use Rattle.mw_rule.specs.Rule.{Ties};
+ghost use Rattle.mw_simulator.specs.Shows.{Shows};
+ghost use Rattle.mw_table.specs.Places.{IsAt};
+
+use mw_rule::index_of;
+use mw_simulator::World;
+use mw_table::{has_place, place_at};
+use mw_words::At;
+use std::alloc::{AllocError, Global};
+
+/// The bits of the table's words, by index.
+pub(crate) fn words_of(alloc: Global, world: &World) -> Result<Vec<u64>, AllocError>
+    ensures long { IfOk result (λ words. length words.items ≡ layout.words_of world.now.config) }
+    ensures ties { IfOk result (λ words. (state : State) → Shows world.now state → Ties world.now.config state.cells words.items) }
+{
+    let config = world.config();
+    let past = At::Data {
+        tenant: config.tenants.len() as u8,
+        address: 0,
+    };
+    let count = index_of(config.pool, past);
+    let mut words = Vec::with_capacity(alloc, count)?;
+    for index in 0..count {
+        words.push(bits_at(world, index))?;
+    }
+    Ok(words)
+}
+
+/// The bits at an index. Where no shared word stands they are 0.
+fn bits_at(world: &World, index: usize) -> u64
+    requires { index < layout.words_of world.now.config }
+    ensures { (state : State) → Shows world.now state → IsAt world.now.config state.cells index result }
+{
+    let at = place_at(world.config().pool, index);
+    if has_place(world.config(), at) {
+        world.word(at)
+    } else {
+        0
+    }
+}
