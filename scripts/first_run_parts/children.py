@@ -1,0 +1,95 @@
+"""Child processes: each writes into files, and ends when this process ends."""
+import ctypes
+import signal
+import subprocess
+import sys
+import time
+from pathlib import Path
+from typing import Iterable, List, Sequence
+
+END_WITH_PARENT = 1
+"""prctl's PR_SET_PDEATHSIG."""
+PATIENCE = 10.0
+"""So many seconds a child has to end, once it was told to."""
+WAITING = "rt: waiting for another rt"
+STOPPING = (signal.SIGINT, signal.SIGTERM, signal.SIGHUP)
+
+
+class Stopped(Exception):
+    """A signal told this run to stop."""
+
+    def __init__(self, number: int):
+        super().__init__(number)
+        self.number = number
+
+
+def raise_at_signals() -> None:
+    """Lets Ctrl-C, SIGTERM and SIGHUP raise Stopped, once: what follows is not disturbed again. `nohup` keeps SIGHUP away."""
+    def stop(number: int, _: object) -> None:
+        for it in STOPPING:
+            signal.signal(it, signal.SIG_IGN)
+        print("first-run: stopping", file=sys.stderr, flush=True)
+        raise Stopped(number)
+
+    for it in STOPPING:
+        if it != signal.SIGHUP or signal.getsignal(it) != signal.SIG_IGN:
+            signal.signal(it, stop)
+
+
+def end_with_parent() -> None:
+    """In a new child: has the system send it SIGTERM when its parent ends, and undoes what the parent ignores."""
+    ctypes.CDLL(None).prctl(END_WITH_PARENT, signal.SIGTERM)
+    for it in STOPPING:
+        signal.signal(it, signal.SIG_DFL)
+
+
+class Child:
+    """A command that runs in a folder of its own. Its two streams go to files in `logs`."""
+
+    def __init__(self, words: Sequence[str], folder: Path, logs: Path, name: str):
+        self.answer_file, self.log_file = logs / f"{name}.answer", logs / f"{name}.log"
+        self.began, self.seen = time.monotonic(), 0
+        with open(self.answer_file, "wb") as answer, open(self.log_file, "wb") as log:
+            # (a session of its own, so that Ctrl-C comes here alone, and the children are told in order)
+            self.process = subprocess.Popen(
+                words, cwd=folder, stdin=subprocess.DEVNULL, stdout=answer, stderr=log,
+                start_new_session=True, preexec_fn=end_with_parent)
+
+    def has_ended(self) -> bool:
+        """Whether the command has ended."""
+        return self.process.poll() is not None
+
+    def status(self) -> int:
+        """The exit status of a command that has ended."""
+        return self.process.returncode
+
+    def seconds(self) -> float:
+        """For how long it has run."""
+        return time.monotonic() - self.began
+
+    def answer(self) -> str:
+        """What it wrote on standard output."""
+        return self.answer_file.read_text(encoding="utf-8", errors="replace")
+
+    def log(self) -> str:
+        """What it wrote on standard error."""
+        return self.log_file.read_text(encoding="utf-8", errors="replace")
+
+    def waiting_lines(self) -> List[str]:
+        """The lines by which `rt` says that it waits, each told once."""
+        whole = self.log()
+        new, self.seen = whole[self.seen:], len(whole)
+        return [line for line in new.splitlines() if line.startswith(WAITING)]
+
+
+def end(children: Iterable[Child]) -> None:
+    """Ends those that still run, and waits until they have."""
+    running = [it for it in children if not it.has_ended()]
+    for it in running:
+        it.process.send_signal(signal.SIGTERM)
+    for it in running:
+        try:
+            it.process.wait(PATIENCE)
+        except subprocess.TimeoutExpired:
+            it.process.kill()
+            it.process.wait()
