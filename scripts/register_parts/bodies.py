@@ -1,0 +1,88 @@
+"""Reads the must-fail edits of the crates, and the wrong bodies that are kept by hand in wrong_bodies.txt."""
+import os
+import re
+
+from register_parts.source import files_below, read
+
+BODIES = os.path.join("scripts", "register_parts", "wrong_bodies.txt")
+KEYS = {
+    "named": ("name does edits tests call besides".split(), "name does".split()),
+    "headline": ("name code both test".split(),) * 2,
+    "survivors": ("function body refused".split(),) * 2,
+    "inside": ("edit call".split(),) * 2,
+}
+
+
+def edits(crates):
+    """The function whose body each edit changes first, by `crate/edit`; None if no body has that text."""
+    found = {}
+    for crate in crates:
+        sources = {source.path: source for source in crate.sources}
+        for path in files_below(f"crates/{crate.name}/must-fail", ".edit"):
+            text = read(path)
+            file = re.search(r"^file: (.*)$", text, re.M).group(1)
+            old = re.search(r"^old: (.*)$", text, re.M).group(1)
+            source = sources[f"crates/{crate.name}/{file}"]
+            place = source.text.find(old) + len(old) - len(old.lstrip())
+            found[f"{crate.name}/{os.path.basename(path)[:-5]}"] = source.function_at(place)
+    return found
+
+
+def tables():
+    """The tables of wrong_bodies.txt: for each its rows, in order, by key."""
+    found, table, row = {name: [] for name in KEYS}, None, None
+    for number, line in enumerate(read(BODIES).split("\n"), 1):
+        heading = re.fullmatch(r"\[(\w+)\]", line)
+        if heading:
+            table, row = heading.group(1), None
+        elif not line:
+            row = None
+        elif not line.startswith("#"):
+            key, _, value = line.partition(": ")
+            if table not in KEYS or key not in KEYS[table][0] or not value:
+                raise ValueError(f"{BODIES}:{number}: no such table or key, or no value")
+            if row is None:
+                row = {}
+                found[table].append(row)
+            row[key] = value
+    return found
+
+
+def tests_told(row):
+    """The tests of a row: crates, each with the names of its tests."""
+    parts = [part.split(": ") for part in row.get("tests", "").split("; ") if part]
+    return [(crate, tests.split(", ")) for crate, tests in parts]
+
+
+def edits_told(row):
+    """The edits of a row, as `crate/edit`."""
+    return [edit for edit in row.get("edits", "").split(", ") if edit]
+
+
+def faults(told, edit_places, crates):
+    """What the tables name though it isn't there, or leave out."""
+    tests = {(crate.name, f.name) for crate in crates for source in crate.sources for f in source.functions if f.is_test}
+    calls = {f"{s.path}: {f.label()}" for crate in crates for s in crate.sources for f in s.functions if f.is_open}
+    found = [f"{edit}: its text is in no body" for edit, function in edit_places.items() if function is None]
+    for table, rows in told.items():
+        for row in rows:
+            where = f"{BODIES}: {row.get('name') or row.get('edit') or row.get('function')}"
+            found += [f"{where}: no {key}" for key in KEYS[table][1] if key not in row]
+            named = edits_told(row) + ([row["edit"]] if "edit" in row else [])
+            found += [f"{where}: no edit {edit}" for edit in named if edit not in edit_places]
+            for crate, names in tests_told(row):
+                found += [f"{where}: no test {name} of {crate}" for name in names if (crate, name) not in tests]
+            if "call" in row and row["call"] not in calls:
+                found.append(f"{where}: no public call {row['call']}")
+            if table == "named" and not ("edits" in row or "tests" in row):
+                found.append(f"{where}: no edit and no test")
+    return found
+
+
+def public_calls(told, edit_places):
+    """The public call at which each edit is refused: of an edit in a public function that one, else the one that is told."""
+    found = {edit: f"{f.source.path}: {f.label()}" for edit, f in edit_places.items() if f and f.is_open}
+    found.update({row["edit"]: row["call"] for row in told["inside"]})
+    for row in told["named"]:
+        found.update({edit: row["call"] for edit in edits_told(row) if "call" in row})
+    return found
