@@ -13,6 +13,12 @@ KEYS = {
 }
 
 
+def edited(source, old):
+    """The first function of a source whose body has this text, if one has."""
+    places = [found.start() for found in re.finditer(re.escape(old.strip()), source.text)]
+    return next(filter(None, map(source.function_at, places)), None)
+
+
 def edits(crates):
     """The function whose body each edit changes first, by `crate/edit`; None if no body has that text."""
     found = {}
@@ -22,9 +28,8 @@ def edits(crates):
             text = read(path)
             file = re.search(r"^file: (.*)$", text, re.M).group(1)
             old = re.search(r"^old: (.*)$", text, re.M).group(1)
-            source = sources[f"crates/{crate.name}/{file}"]
-            place = source.text.find(old) + len(old) - len(old.lstrip())
-            found[f"{crate.name}/{os.path.basename(path)[:-5]}"] = source.function_at(place)
+            source = sources.get(f"crates/{crate.name}/{file}")
+            found[f"{crate.name}/{os.path.basename(path)[:-5]}"] = edited(source, old) if source else None
     return found
 
 

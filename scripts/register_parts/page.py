@@ -16,7 +16,7 @@ How to read a line of the first part:
 
 | part | what it is | how it is found |
 |---|---|---|
-| name | a `pub fn`, or a method of a public trait. **law**: its body is empty, and its contract is a statement. *In the crate alone*: no `pub use` and no `pub mod` shows it | from the source; the order is that of `crates.txt`, of the file names, and of the file |
+| name | a `pub fn`, or a method of a public trait. **law**: it takes nothing and gives nothing, and its contract is a statement. *In the crate alone*: no `pub use` and no `pub mod` shows it | from the source; the order is that of `crates.txt`, of the file names, and of the file |
 | sentence | the first sentence of its document | from the source |
 | requires, ensures | the names of its clauses; *unnamed* for a clause without a name; *no contract* if it has none: then it is proved safe and total, and no more | from the source |
 | cites | the definitions in these clauses: mw_file/Keeps is the page Keeps of the `specs/` of mw_file | by the `ghost use` lines of the source, through pages that pass a definition on. Left out: the standard library, libraries, types and constants of the code, ghost members of traits |

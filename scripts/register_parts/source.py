@@ -17,6 +17,7 @@ GHOST_USE = re.compile(r"^([ \t]*)ghost use Rattle\.([\w.]+?)(?:\.\{([^}]*)\}| a
 TEST_MODULE = re.compile(r"#\[cfg\(test\)\]\s*(?:pub )?mod (\w+);")
 EXPORT = re.compile(r"^pub use ([^;]*);", re.M)
 OPEN_MODULE = re.compile(r"^pub mod (\w+);", re.M)
+NOTHING = re.compile(r"\s*(?:<[^()]*>)?\(\)\s*(?:requires|ensures)\b")
 CALL = re.compile(r"(?:(\.)|((?:\w+(?:::<[^()]*?>)?::)+))?\b(\w+)(?:::<[^()]*?>)?\(")
 
 
@@ -82,7 +83,7 @@ class Function:
 
     def __init__(self, source, found, owner):
         self.source, self.owner, self.name = source, owner, found.group(2)
-        self.start = found.start()
+        self.start, self.name_end = found.start(), found.end()
         self.clauses, self.body = contract(source.code, found.end())
         self.is_open = found.group(1) == "pub " or bool(owner and owner.is_open_trait)
         before = source.text[: self.start].rstrip("\n").split("\n")
@@ -97,8 +98,8 @@ class Function:
         return self.source.code[self.body[0]:self.body[1]] if self.body else ""
 
     def is_law(self):
-        """Whether it does nothing and promises something."""
-        return bool(self.body and self.clauses and not self.body_text().strip("{} \n"))
+        """Whether it takes nothing, gives nothing and promises something."""
+        return bool(self.clauses and NOTHING.match(self.source.code, self.name_end))
 
     @functools.cached_property
     def calls(self):
