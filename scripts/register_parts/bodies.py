@@ -5,14 +5,14 @@ import re
 from register_parts.source import files_below, read
 
 BODIES = os.path.join("scripts", "register_parts", "wrong_bodies.txt")
+# Tests and schedules that a cell names: tests `a`, `b` and `c`.
+PROSE = re.compile(r"\b(tests?|schedules?) (`[\w-]+`(?:(?:, | and )`[\w-]+`)*)")
 KEYS = {
     "named": ("name does edits tests call besides".split(), "name does".split()),
     "headline": ("name code both test".split(),) * 2,
     "survivors": ("function body refused".split(),) * 2,
     "inside": ("edit call".split(),) * 2,
 }
-
-
 def edited(source, old):
     """The first function of a source whose body has this text, if one has."""
     places = [found.start() for found in re.finditer(re.escape(old.strip()), source.text)]
@@ -64,23 +64,51 @@ def edits_told(row):
     return [edit for edit in row.get("edits", "").split(", ") if edit]
 
 
+class There:
+    """What the rows may name: edits, tests with their crates, public calls, and the text of the tests, which has the schedules."""
+
+    def __init__(self, crates, edit_places):
+        sources = [source for crate in crates for source in crate.sources]
+        functions = [function for source in sources for function in source.functions]
+        self.edits = edit_places
+        self.tests = {(f.source.crate, f.name) for f in functions if f.is_test}
+        self.test_names = {name for _, name in self.tests}
+        self.calls = {f"{f.source.path}: {f.label()}" for f in functions if f.is_open}
+        self.test_text = "\n".join(source.text for crate in crates for source in crate.sources if crate.is_test(source))
+
+    def has(self, kind, name):
+        """Whether there is such a test, or such a schedule."""
+        return name in self.test_names or kind.startswith("schedule") and f'"{name}"' in self.test_text
+
+
+def told_in_words(row):
+    """The tests and schedules that the words of a row name, each with what it is said to be."""
+    parts = PROSE.findall(" ".join(row.values()))
+    return [(kind, name) for kind, names in parts for name in re.findall(r"`([\w-]+)`", names)]
+
+
+def row_faults(table, row, there):
+    """What a row names though it isn't there, or leaves out."""
+    found = [f"no {key}" for key in KEYS[table][1] if key not in row]
+    named = edits_told(row) + ([row["edit"]] if "edit" in row else [])
+    found += [f"no edit {edit}" for edit in named if edit not in there.edits]
+    found += [f"no test {name} of {crate}" for crate, names in tests_told(row) for name in names if (crate, name) not in there.tests]
+    found += [f"no test or schedule {name}" for kind, name in told_in_words(row) if not there.has(kind, name)]
+    if "call" in row and row["call"] not in there.calls:
+        found.append(f"no public call {row['call']}")
+    if table == "named" and not ("edits" in row or "tests" in row):
+        found.append("no edit and no test")
+    return found
+
+
 def faults(told, edit_places, crates):
-    """What the tables name though it isn't there, or leave out."""
-    tests = {(crate.name, f.name) for crate in crates for source in crate.sources for f in source.functions if f.is_test}
-    calls = {f"{s.path}: {f.label()}" for crate in crates for s in crate.sources for f in s.functions if f.is_open}
+    """What the tables name though it isn't there, or leave out; and edits whose text is in no body."""
+    there = There(crates, edit_places)
     found = [f"{edit}: its text is in no body" for edit, function in edit_places.items() if function is None]
     for table, rows in told.items():
         for row in rows:
-            where = f"{BODIES}: {row.get('name') or row.get('edit') or row.get('function')}"
-            found += [f"{where}: no {key}" for key in KEYS[table][1] if key not in row]
-            named = edits_told(row) + ([row["edit"]] if "edit" in row else [])
-            found += [f"{where}: no edit {edit}" for edit in named if edit not in edit_places]
-            for crate, names in tests_told(row):
-                found += [f"{where}: no test {name} of {crate}" for name in names if (crate, name) not in tests]
-            if "call" in row and row["call"] not in calls:
-                found.append(f"{where}: no public call {row['call']}")
-            if table == "named" and not ("edits" in row or "tests" in row):
-                found.append(f"{where}: no edit and no test")
+            name = row.get("name") or row.get("edit") or row.get("function")
+            found += [f"{BODIES}: {name}: {fault}" for fault in row_faults(table, row, there)]
     return found
 
 
