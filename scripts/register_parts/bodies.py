@@ -13,6 +13,8 @@ KEYS = {
     "survivors": ("function body refused".split(),) * 2,
     "inside": ("edit call".split(),) * 2,
 }
+
+
 def edited(source, old):
     """The first function of a source whose body has this text, if one has."""
     places = [found.start() for found in re.finditer(re.escape(old.strip()), source.text)]
