@@ -67,7 +67,7 @@ def edits_told(row):
 
 
 class There:
-    """What the rows may name: edits, tests with their crates, public calls, and the text of the tests, which has the schedules."""
+    """What the rows may name: edits, tests with their crates, public calls; and the text of the tests, which has schedules."""
 
     def __init__(self, crates, edit_places):
         sources = [source for crate in crates for source in crate.sources]
@@ -94,7 +94,8 @@ def row_faults(table, row, there):
     found = [f"no {key}" for key in KEYS[table][1] if key not in row]
     named = edits_told(row) + ([row["edit"]] if "edit" in row else [])
     found += [f"no edit {edit}" for edit in named if edit not in there.edits]
-    found += [f"no test {name} of {crate}" for crate, names in tests_told(row) for name in names if (crate, name) not in there.tests]
+    for crate, names in tests_told(row):
+        found += [f"no test {name} of {crate}" for name in names if (crate, name) not in there.tests]
     found += [f"no test or schedule {name}" for kind, name in told_in_words(row) if not there.has(kind, name)]
     if "call" in row and row["call"] not in there.calls:
         found.append(f"no public call {row['call']}")

@@ -17,7 +17,7 @@ def pairs(names):
 
 @functools.cache
 def page_path(page):
-    """The file of a page like mw_file.specs.Keeps, or None for one of the standard library, of a library or of declared code."""
+    """The file of a page like mw_file.specs.Keeps; None for one of a library or of declared code."""
     crate, *rest = page.split(".")
     path = os.path.join("crates", crate, *rest) + ".antt"
     return path if rest[:1] == ["specs"] and os.path.isfile(os.path.join(TOP, path)) else None

@@ -143,7 +143,8 @@ def above(lines):
             is_test = is_test or line == "#[test]"
         else:
             break
-    paragraph = re.sub(r"\[(`[^`]*`)\](?:\(crate::\w+\))?", r"\1", " ".join(doc[: doc.index("")] if "" in doc else doc)).replace("`crate::", "`")
+    paragraph = " ".join(doc[: doc.index("")] if "" in doc else doc)
+    paragraph = re.sub(r"\[(`[^`]*`)\](?:\(crate::\w+\))?", r"\1", paragraph).replace("`crate::", "`")
     return re.split(r"(?<=[.!?]) (?=[A-Z`\[\"])", paragraph)[0], is_test
 
 

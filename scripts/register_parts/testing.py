@@ -10,7 +10,7 @@ class Tests:
             self.read(crate)
 
     def read(self, crate):
-        """Takes the tests of a crate, with what they call: how far off the call is, and what it names."""
+        """Takes the tests of a crate, with what they call: whether a helper does, and what the call names."""
         functions = [f for source in crate.sources for f in source.functions]
         by_name = {}
         for function in functions:
@@ -24,7 +24,8 @@ class Tests:
                     last += 1
                 for function in reached:
                     for call in function.calls:
-                        self.calls.setdefault(call[2], []).append((function is not test, test.name, function.source, call))
+                        found = (function is not test, test.name, function.source, call)
+                        self.calls.setdefault(call[2], []).append(found)
 
     def of(self, function):
         """The tests that call a function: those that do so themselves, and those whose helpers do."""
@@ -58,5 +59,5 @@ def is_call_of(function, source, call):
     if is_method:
         return function.owner is not None
     if path:
-        return path == (function.owner.name if function.owner else crate) or path == function.source.path.rsplit("/", 1)[-1][:-3]
+        return path in (function.owner.name if function.owner else crate, function.source.path.rsplit("/", 1)[-1][:-3])
     return function.owner is None and all(f.name != function.name or f is function for f in source.functions)
