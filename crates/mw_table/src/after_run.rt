@@ -21,7 +21,7 @@ impl Shared {
     /// a request that comes to a call on its file stays there.
     ///
     /// Where a reply stands and hasn't been handed out, its worker's pass is of no use: it isn't idle, and the
-    /// request has no step left. The only error is want of memory; then there is no table.
+    /// request has no step left. The only error is that memory is out; then there is no table.
     ///
     /// [`place_at`]: crate::place_at
     pub fn of_run(

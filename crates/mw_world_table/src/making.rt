@@ -22,8 +22,8 @@ use std::alloc::{AllocError, Global};
 /// comes to a call on its file stays there.
 ///
 /// Where a reply stands in the world and hasn't been handed out, its worker's pass is of no use: it isn't idle, and
-/// the request has no step left. Hand it out in the world first. The only error is want of memory; then there is no
-/// table, and the world is as it was.
+/// the request has no step left. Hand it out in the world first. The only error is that memory is out; then there is
+/// no table, and the world is as it was.
 pub fn of_world(
     alloc: Global,
     world: &World,
