@@ -24,7 +24,7 @@ FURTHER = [
 OTHERWISE = "the example answers something else than README says"
 MEMORY_OF_TWO = 5_000_000_000
 """With less free memory than this the two trials run one after the other."""
-GLANCE = 0.1
+POLL_SECONDS = 0.1
 
 
 class Differs(Exception):
@@ -105,7 +105,7 @@ class Trial:
 def wait(child: Child) -> None:
     """Waits until a child has ended."""
     while not child.has_ended():
-        time.sleep(GLANCE)
+        time.sleep(POLL_SECONDS)
 
 
 # By the proved programs

@@ -12,7 +12,7 @@ from .children import Child, end
 from .crates import Crate, below, own_sum, sums_of
 from .rooms import Room
 
-GLANCE = 0.2
+POLL_SECONDS = 0.2
 """For so many seconds the children are let alone between two looks at them."""
 SILENCE = 60.0
 """After so many seconds without a line, a line says what is being proved."""
@@ -131,7 +131,7 @@ class Builder:
                 self.begin()
                 self.look()
                 self.tell_what_runs()
-                time.sleep(GLANCE if self.running or self.left else 0)
+                time.sleep(POLL_SECONDS if self.running or self.left else 0)
         finally:
             end(it.child for it in self.running.values())
             for it in self.running.values():

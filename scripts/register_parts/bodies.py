@@ -11,6 +11,8 @@ KEYS = {
     "named": ("name does edits tests call besides".split(), "name does".split()),
     "headline": ("name code both test".split(),) * 2,
     "survivors": ("function body refused".split(),) * 2,
+    "programs": ("mistake law clause schedules".split(),) * 2,
+    "planted": ("crate refused survive which".split(),) * 2,
     "inside": ("edit call".split(),) * 2,
 }
 
@@ -110,7 +112,7 @@ def faults(told, edit_places, crates):
     found = [f"{edit}: its text is in no body" for edit, function in edit_places.items() if function is None]
     for table, rows in told.items():
         for row in rows:
-            name = row.get("name") or row.get("edit") or row.get("function")
+            name = next(iter(row.values()))
             found += [f"{BODIES}: {name}: {fault}" for fault in row_faults(table, row, there)]
     return found
 

@@ -23,7 +23,7 @@ PARTS = {
         """
 An edit of mw_actor or mw_simulator changes the code against the definition that it cites, so a contract refuses it
 whatever [the theorem](THEOREM.md) says. If the definition has the mistake too, the proof of a law must fail. *Tried*: the
-check of that law was run on such a definition, and failed ([PROVING.md](PROVING.md#wrong-programs) has what was planted).
+check of that law was run on such a definition, and failed ([wrong programs](#wrong-programs) has what was planted).
 *By thought*: the statement of that law is false of such a definition, and nobody ran it. Laws have no edits, so `rt ci`
 doesn't check the third column.
 """,
@@ -39,11 +39,39 @@ exchange expects a plain word and loses. A program that exchanges the dirty word
         "## Bodies that no clause refuses",
         """
 Wrong bodies that every proof lets through, as far as they were found and judged; there may be others. Each has the test
-that refuses it, or the word *nothing*. [PROVING.md](PROVING.md#what-rt-plant-lets-through) counts what was tried. Bodies
-that always answer out of memory, or never answer, are in the first table (always_memory, endless_serve).
+that refuses it, or the word *nothing*. [What `rt plant` lets through](#what-rt-plant-lets-through) counts what was
+tried. Bodies that always answer out of memory, or never answer, are in the first table (always_memory, endless_serve).
 """,
         ("function", "wrong body", "refused by"),
         "",
+    ),
+    "programs": (
+        "## Wrong programs",
+        """
+These mistakes were planted in the definition, so that code and definition agree. *Tried*: this law's check was run and
+refused, because the law is false of the program. *By thought*: the law's statement is false of the program, but its check
+was not run. A schedule is a test that prints something else. The clauses are those of `Invariant.antt` and
+`Headline.antt` in `crates/mw_world/specs/Claim`.
+""",
+        ("mistake", "law", "false clause", "schedule"),
+        """
+Two are not wrong. BUSY after a round over the gates that claims none is never said while numbers are left. By hand, and not
+proved: for each k, at most pool - k admitted requests are at gate k or after it, and each step keeps that. A decision after
+a round that began before the last plant is right too: an open change's held word stays held until the decision.
+""",
+    ),
+    "planted": (
+        "## What `rt plant` lets through",
+        """
+Counts of single runs; some crates have changed since. Refused, and none survived: mw_words 71, mw_pool 28, mw_look 23,
+mw_actor 123, mw_plain 35, mw_core 11, mw_simulator 20, mw_lone 83, mw_line 40, mw_record 48, mw_report 3, mw_session 22,
+mw_file 52.
+""",
+        ("crate", "refused", "survive", "which"),
+        """
+Laws, mw_programs and mw_world_trials were not planted in. A body that always reports that memory is out is refused by tests
+only.
+""",
     ),
 }
 

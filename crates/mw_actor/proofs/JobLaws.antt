@@ -1,4 +1,5 @@
--- A well-formed job is one that a request may be made for.
+-- A well-formed job of a tenant is a job that a request may have, and its entries are in range. Used by: the proof of Actor::new,
+-- mw_engine, mw_simulator, mw_law_runs. Its statements may change with those crates; its proofs may change freely.
 use Rattle.std.specs.Prelude.{ℕ, ◌≡◌, ◌≤◌, ◌<◌, ◌^◌, ◌&&◌, Bool, true, false, List, [], ◌∷◌, length, nat_le, slice_index_or}
 use Rattle.std.specs.List.{list_all}
 use Rattle.std.proofs.Common.{refl, sym, subst, arith}
@@ -10,10 +11,10 @@ use Rattle.mw_words.specs.declared.jobs.Job.{Job}
 use Rattle.mw_words.specs.declared.jobs.Job.TheVariants.{Get, Cas}
 use Rattle.mw_words.specs.Change.{is_in_range, is_well_formed, rises}
 use Rattle.mw_actor.specs.declared.points.Point.{Point}
-use Rattle.mw_actor.specs.Acting.{entries_of_job, first_point}
+use Rattle.mw_actor.specs.ActorState.{entries_of_job, first_point}
 use Rattle.mw_actor.specs.Ranges.{AreEntriesInRange, IsEntryInRange, IsFormed, IsPointInRange, IsInRange}
 
--- what tests that all hold tell
+-- a test of two conditions that holds tells both
 both : (one other : Bool) → (one && other) ≡ true → (one ≡ true) × (other ≡ true)
 both true true e = (refl, refl)
 both true false e = (refl, e)
@@ -25,7 +26,7 @@ at_most m n is = grind (arith, nat_tests, is)
 entry_fits : (words : ℕ) (entry : Entry) → is_in_range words entry ≡ true → words ≤ MAX_WORDS → IsEntryInRange entry
 entry_fits words entry is few = grind (arith, nat_tests, is, few)
 
--- the entries of a well-formed job, of a tenant with no more words than one may have, are in range
+-- the entries of a well-formed job are in range, if the tenant has at most MAX_WORDS words
 pub well_formed_in_range : (words : ℕ) (job : Job) → is_well_formed words job ≡ true → words ≤ MAX_WORDS → AreEntriesInRange (entries_of_job job)
 well_formed_in_range words (Get address) is few = (omega arith, λ k d low. absurd (omega (arith, low)))
 well_formed_in_range words (Cas entries) is few =
@@ -36,12 +37,12 @@ well_formed_in_range words (Cas entries) is few =
     let counts = both (nat_le 1 count) (nat_le count MAX_ENTRIES) each.0 in
     (at_most count MAX_ENTRIES counts.1, λ k d low. entry_fits words (slice_index_or entries.items k d) (AllPass-from_list_all (is_in_range words) entries.items each.1 k d low) few)
 
--- the entries of a job that may be asked for are in range
+-- the entries of a job that a request may have are in range
 pub formed_in_range : (job : Job) → IsFormed job → AreEntriesInRange (entries_of_job job)
 formed_in_range (Get address) is = (omega arith, λ k d low. absurd (omega (arith, low)))
 formed_in_range (Cas entries) is = well_formed_in_range MAX_WORDS (Cas entries) is (omega arith)
 
--- what is among a tenant's words is among as many as one may have
+-- an entry in range for a tenant's words is in range for the most words
 in_range_of_more : (words : ℕ) (entry : Entry) → is_in_range words entry ≡ true → words ≤ MAX_WORDS → is_in_range MAX_WORDS entry ≡ true
 in_range_of_more words entry is few = grind (arith, nat_tests, is, few)
 
@@ -55,7 +56,7 @@ all_of_more words (entry ∷ entries) is few =
     let each = both (is_in_range words entry) (list_all (is_in_range words) entries) is in
     and_both (is_in_range MAX_WORDS entry) (list_all (is_in_range MAX_WORDS) entries) (in_range_of_more words entry each.0 few) (all_of_more words entries each.1 few)
 
--- a well-formed job, of a tenant with no more words than one may have, may be asked for
+-- a well-formed job may be a request's, if the tenant has at most MAX_WORDS words
 pub well_formed_is_formed : (words : ℕ) (job : Job) → is_well_formed words job ≡ true → words ≤ MAX_WORDS → IsFormed job
 well_formed_is_formed words (Get address) is few = tt
 well_formed_is_formed words (Cas entries) is few =
@@ -70,7 +71,7 @@ first_fits : (tenant : ℕ) (job : Job) → IsPointInRange [] (first_point tenan
 first_fits tenant (Get address) = tt
 first_fits tenant (Cas entries) = tt
 
--- a request that begins is in range
+-- a request at its first point is in range
 begins : (worker tenant quota pool : ℕ) (job : Job) → worker < MAX_WORKERS → quota < 2 ^ 8 → (1 ≤ pool) × (pool ≤ MAX_POOL) → IsFormed job
     → IsInRange (record { worker = worker; tenant = tenant; quota = quota; pool = pool; job = job; others = []; point = first_point tenant job })
 begins worker tenant quota pool job low small some is = record {
@@ -83,7 +84,7 @@ begins worker tenant quota pool job low small some is = record {
   point = first_fits tenant job;
 }
 
--- and so is one that begins at what are its point and no entries
+-- the same of a request whose point and entries are equal to the first ones
 pub begins_in_range : (worker tenant quota pool : ℕ) (job : Job) (others : List Entry) (point : Point) → others ≡ [] → point ≡ first_point tenant job → worker < MAX_WORKERS → quota < 2 ^ 8 → (1 ≤ pool) × (pool ≤ MAX_POOL) → IsFormed job
     → IsInRange (record { worker = worker; tenant = tenant; quota = quota; pool = pool; job = job; others = others; point = point })
 begins_in_range worker tenant quota pool job others point none starts low small some is =

@@ -1,4 +1,5 @@
--- A request's numbers stay in range from each point to the next.
+-- A request's numbers stay in range from each point to the next. Used by: the proofs of Actor::after and
+-- Actor::tell_of, mw_law_runs. Its statements may change with mw_law_runs; its proofs may change freely.
 use Rattle.std.specs.Prelude.{IfSome, ℕ, ◌≡◌, ◌+◌, ◌^◌, ◌<◌, ◌≤◌, ◌==◌, ◌&&◌, ◌||◌, ◌++◌, Bool, true, false, cond, nat_lt, nat_le, Some, None, List, [], ◌∷◌, length}
 use Rattle.std.specs.declared.option.Option.{Option}
 use Rattle.mw_words.specs.declared.limits.TheConstants.{MAX_ENTRIES, MAX_VALUE, MAX_WORDS, MAX_WORKERS, WORN_NUMBER}
@@ -15,8 +16,8 @@ use Rattle.mw_words.specs.Patterns.{IsDoorInRange, IsGateInRange}
 use Rattle.mw_pool.specs.declared.doors.Admission.{Admission}
 use Rattle.mw_pool.specs.declared.doors.Admission.TheVariants.{Fault as HasFailed, Busy as IsBusy, To}
 use Rattle.mw_pool.specs.Moves.{after_admit, after_claim, after_pin}
-use Rattle.mw_look.specs.declared.news.News.{News}
-use Rattle.mw_look.specs.declared.news.News.TheVariants.{SawDoor, SawGate, SawWord, SawStatus, SawRow, SawNumber, Won, Lost, Filed}
+use Rattle.mw_look.specs.declared.observations.Observation.{Observation}
+use Rattle.mw_look.specs.declared.observations.Observation.TheVariants.{SawDoor, SawGate, SawWord, SawStatus, SawRow, SawNumber, Won, Lost, Filed}
 use Rattle.mw_look.specs.Program.{same_word}
 use Rattle.mw_actor.specs.declared.points.Slot.{Slot}
 use Rattle.mw_actor.specs.declared.points.Task.{Task}
@@ -33,19 +34,19 @@ use Rattle.std.proofs.lemmas.List.Elements.{All-push}
 use Rattle.mw_words.specs.Patterns.{IsWordInRange}
 use Rattle.mw_pool.specs.Moves.{Says, Claims, Pins}
 use Rattle.mw_pool.proofs.MoveLaws.{admit_says, claim_is, pin_is}
-use Rattle.mw_look.specs.News.{IsNewsInRange}
+use Rattle.mw_look.specs.Observations.{IsObservationInRange}
 use Rattle.mw_look.specs.Program.{Reading}
 use Rattle.mw_look.proofs.RangeLaws.{either_way}
-use Rattle.mw_actor.specs.Acting.{Acting, own_entries, is_alone, alone, entries_of, entry_of, same_slot, planted}
-use Rattle.mw_actor.specs.Admitting.{admitted, round_over, next_gate, is_worn, claiming, next_fill, prepared}
-use Rattle.mw_actor.specs.Finishing.{works, resumed, unpinned, gives_up, refusal, finishes}
-use Rattle.mw_actor.specs.Helping.{turns_to, helps, pinned, other_gate_read, count_read, addr_read, expected_read, next_read, others_read}
-use Rattle.mw_actor.specs.Inspecting.{status_read, next_word, attempts, dirty_seen, inspected, attempt_met, attempt_confirmed, dirty_gate_read, dirty_confirmed}
-use Rattle.mw_actor.specs.Sweeping.{filed, sweep_over, next_sweep, swept, sweep_confirmed}
+use Rattle.mw_actor.specs.ActorState.{ActorState, own_entries, is_alone, alone, entries_of, entry_of, same_slot, planted}
+use Rattle.mw_actor.specs.Admission.{admitted, round_over, next_gate, is_worn, claiming, next_fill, prepared}
+use Rattle.mw_actor.specs.RequestEnds.{works, resumed, unpinned, gives_up, refusal, finishes}
+use Rattle.mw_actor.specs.Help.{turns_to, helps, pinned, other_gate_read, count_read, addr_read, expected_read, next_read, others_read}
+use Rattle.mw_actor.specs.Inspection.{status_read, next_word, attempts, dirty_seen, inspected, attempt_met, attempt_confirmed, dirty_gate_read, dirty_confirmed}
+use Rattle.mw_actor.specs.ReleasePhase.{filed, sweep_over, next_sweep, swept, sweep_confirmed}
 use Rattle.mw_actor.specs.Program.{changes, goes, tells}
 use Rattle.mw_actor.specs.Ranges.{IsEntryInRange, AreEntriesInRange, IsTaskInRange, IsAttemptInRange, IsAfterInRange, IsReading, IsPointInRange, IsInRange}
 
--- what a test of numbers tells
+-- what a test of two numbers tells
 is_below : (m n : ℕ) → nat_lt m n ≡ true → m < n
 is_below m n is = grind (arith, nat_tests, is)
 
@@ -55,12 +56,12 @@ below_most m n most is few = grind (arith, nat_tests, is, few)
 is_at_most : (m n : ℕ) → nat_le m n ≡ true → m ≤ n
 is_at_most m n is = grind (arith, nat_tests, is)
 
--- at once what follows is in range
+-- the task of a change that works alone is in range
 alone_fits : (own : Slot) → own.seq < WORN_NUMBER → IsTaskInRange (alone own)
 alone_fits own low = (low, low)
 
--- so many entries as the most, of either change
-entries_few : (actor : Acting) (task : Task) → length (own_entries actor) ≤ MAX_ENTRIES → length actor.others ≤ MAX_ENTRIES → length (entries_of actor task) ≤ MAX_ENTRIES
+-- either change has at most MAX_ENTRIES entries
+entries_few : (actor : ActorState) (task : Task) → length (own_entries actor) ≤ MAX_ENTRIES → length actor.others ≤ MAX_ENTRIES → length (entries_of actor task) ≤ MAX_ENTRIES
 entries_few actor task own read = either_way (λ entries. length entries ≤ MAX_ENTRIES) (is_alone task) (own_entries actor) actor.others (λ e. own) (λ e. read)
 
 works_fits : (others : List Entry) (task : Task) → IsTaskInRange task → IsPointInRange others (works task)
@@ -107,14 +108,14 @@ addr_fits others task count addr fits more = either_way (IsPointInRange others) 
 expected_fits : (others : List Entry) (task : Task) (count addr expected : ℕ) → IsTaskInRange task → IsReading others count → addr < MAX_WORDS → IsPointInRange others (expected_read task count addr expected)
 expected_fits others task count addr expected fits more low = either_way (IsPointInRange others) (nat_le expected MAX_VALUE) (ReadNew task count addr expected) (ReadExpected task count addr) (λ small. (fits, more, low, grind (arith, nat_tests, small))) (λ e. (fits, more, low))
 
--- once an entry more was read, there are so many more to be read or none
-next_read_fits : (actor : Acting) (task : Task) (count : ℕ) (entry : Entry) → IsTaskInRange task → count ≤ MAX_ENTRIES → IsPointInRange (actor.others ++ entry ∷ []) (next_read actor task count)
+-- after one entry more was read, another entry must be read or none
+next_read_fits : (actor : ActorState) (task : Task) (count : ℕ) (entry : Entry) → IsTaskInRange task → count ≤ MAX_ENTRIES → IsPointInRange (actor.others ++ entry ∷ []) (next_read actor task count)
 next_read_fits actor task count entry fits few =
     either_way (IsPointInRange (actor.others ++ entry ∷ [])) (nat_lt (length actor.others + 1) count) (ReadAddr task count) (ReadTargetStatus task)
     (λ more. (fits, (grind (arith, nat_tests, more, length-append actor.others (entry ∷ [])), few)))
     (λ e. fits)
 
-new_fits : (actor : Acting) (task : Task) (count addr expected : ℕ) (entry : Entry) (small : Bool) → IsTaskInRange task → IsReading actor.others count → addr < MAX_WORDS → expected ≤ MAX_VALUE →
+new_fits : (actor : ActorState) (task : Task) (count addr expected : ℕ) (entry : Entry) (small : Bool) → IsTaskInRange task → IsReading actor.others count → addr < MAX_WORDS → expected ≤ MAX_VALUE →
     IsPointInRange (cond small (actor.others ++ entry ∷ []) actor.others) (cond small (next_read actor task count) (ReadNew task count addr expected))
 new_fits actor task count addr expected entry true fits more low few = next_read_fits actor task count entry fits more.1
 new_fits actor task count addr expected entry false fits more low few = (fits, more, low, few)
@@ -123,10 +124,10 @@ round_over_fits : (others : List Entry) (saw_worn : Bool) → IsPointInRange oth
 round_over_fits others true = tt
 round_over_fits others false = tt
 
-next_gate_fits : (others : List Entry) (actor : Acting) (slot : ℕ) (saw_worn : Bool) → IsPointInRange others (next_gate actor slot saw_worn)
+next_gate_fits : (others : List Entry) (actor : ActorState) (slot : ℕ) (saw_worn : Bool) → IsPointInRange others (next_gate actor slot saw_worn)
 next_gate_fits others actor slot saw_worn = either_way (IsPointInRange others) (nat_lt (slot + 1) actor.pool) (ScanGate (slot + 1) saw_worn) (round_over saw_worn) (λ e. tt) (λ e. round_over_fits others saw_worn)
 
-claiming_fits : (others : List Entry) (actor : Acting) (slot : ℕ) (saw_worn : Bool) (gate : Gate) (next : Option Gate) → IsGateInRange gate → IfSome next (λ to. Claims gate to × IsGateInRange to) → IsPointInRange others (claiming actor slot saw_worn gate next)
+claiming_fits : (others : List Entry) (actor : ActorState) (slot : ℕ) (saw_worn : Bool) (gate : Gate) (next : Option Gate) → IsGateInRange gate → IfSome next (λ to. Claims gate to × IsGateInRange to) → IsPointInRange others (claiming actor slot saw_worn gate next)
 claiming_fits others actor slot saw_worn gate (Some to) saw is = (is.0.was_not_worn, saw, is.1)
 claiming_fits others actor slot saw_worn gate None saw is = next_gate_fits others actor slot (saw_worn || is_worn gate)
 
@@ -135,7 +136,7 @@ admitted_fits others next quota door HasFailed fits says = tt
 admitted_fits others next quota door IsBusy fits says = tt
 admitted_fits others next quota door (To to) fits says = either_way (IsPointInRange others) (nat_lt next WORN_NUMBER) (Admit door to) (Replied SaysWorn) (λ e. (fits, says.1)) (λ e. tt)
 
-next_fill_fits : (others : List Entry) (actor : Acting) (own : Slot) (entry : ℕ) → own.seq < WORN_NUMBER → IsPointInRange others (next_fill actor own entry)
+next_fill_fits : (others : List Entry) (actor : ActorState) (own : Slot) (entry : ℕ) → own.seq < WORN_NUMBER → IsPointInRange others (next_fill actor own entry)
 next_fill_fits others actor own entry low = either_way (IsPointInRange others) (nat_lt (entry + 1) (length (own_entries actor))) (FillAddr own (entry + 1)) (Prepare own) (λ e. low) (λ e. low)
 
 prepared_fits : (others : List Entry) (own : Slot) (went_well : Bool) → own.seq < WORN_NUMBER → IsPointInRange others (prepared own went_well)
@@ -151,7 +152,7 @@ status_fits others task DoneYes fits = fits
 status_fits others task (No entry value) fits = fits
 status_fits others task (DoneNo entry value) fits = fits
 
-next_word_fits : (others : List Entry) (actor : Acting) (task : Task) (entry : ℕ) → IsTaskInRange task → length (entries_of actor task) ≤ MAX_ENTRIES → IsPointInRange others (next_word actor task entry)
+next_word_fits : (others : List Entry) (actor : ActorState) (task : Task) (entry : ℕ) → IsTaskInRange task → length (entries_of actor task) ≤ MAX_ENTRIES → IsPointInRange others (next_word actor task entry)
 next_word_fits others actor task entry fits few = either_way (IsPointInRange others) (nat_lt (entry + 1) (length (entries_of actor task))) (Inspect task (entry + 1)) (DecideYes task) (λ more. (fits, below_most (entry + 1) (length (entries_of actor task)) MAX_ENTRIES more few)) (λ e. fits)
 
 attempts_fits : (others : List Entry) (task : Task) (entry next : ℕ) → IsTaskInRange task → entry < MAX_ENTRIES → IsPointInRange others (attempts task entry next)
@@ -162,7 +163,7 @@ dirty_seen_fits others task entry slot value fits =
     either_way (IsPointInRange others) (slot == task.target.slot) (ReadTargetStatus task) (cond (slot == task.own.slot) (helps task task.own) (ReadDirtyGate task entry slot value)) (λ e. fits)
     (λ e. either_way (IsPointInRange others) (slot == task.own.slot) (helps task task.own) (ReadDirtyGate task entry slot value) (λ d. helps_fits others task task.own fits) (λ d. fits))
 
-inspected_fits : (others : List Entry) (actor : Acting) (next : ℕ) (task : Task) (entry : ℕ) (word : Word) → IsTaskInRange task → entry < MAX_ENTRIES → length (entries_of actor task) ≤ MAX_ENTRIES → IsWordInRange word → IsPointInRange others (inspected actor next task entry word)
+inspected_fits : (others : List Entry) (actor : ActorState) (next : ℕ) (task : Task) (entry : ℕ) (word : Word) → IsTaskInRange task → entry < MAX_ENTRIES → length (entries_of actor task) ≤ MAX_ENTRIES → IsWordInRange word → IsPointInRange others (inspected actor next task entry word)
 inspected_fits others actor next task entry (Plain value) fits low few saw =
     either_way (IsPointInRange others) (value == (entry_of actor task entry).expected) (attempts task entry next) (DecideNo task entry value) (λ e. attempts_fits others task entry next fits low) (λ e. (fits, low, saw))
 inspected_fits others actor next task entry (Dirty slot value) fits low few saw =
@@ -188,19 +189,19 @@ filed_fits : (others : List Entry) (task : Task) (went_well : Bool) → IsTaskIn
 filed_fits others task true fits = fits
 filed_fits others task false fits = gives_up_fits others task SaysFault fits
 
-sweep_over_fits : (others : List Entry) (actor : Acting) (task : Task) (sweep : Sweep) → IsTaskInRange task → IsPointInRange others (sweep_over actor task sweep)
+sweep_over_fits : (others : List Entry) (actor : ActorState) (task : Task) (sweep : Sweep) → IsTaskInRange task → IsPointInRange others (sweep_over actor task sweep)
 sweep_over_fits others actor task SweepYes fits = fits
 sweep_over_fits others actor task SweepDoneYes fits = finishes_fits others task SaysYes fits
 sweep_over_fits others actor task SweepNo fits = fits
 sweep_over_fits others actor task (SweepDoneNo entry value) fits = finishes_fits others task (refusal actor entry value) fits
 
-next_sweep_fits : (others : List Entry) (actor : Acting) (task : Task) (sweep : Sweep) (entry : ℕ) → IsTaskInRange task → IsPointInRange others (next_sweep actor task sweep entry)
+next_sweep_fits : (others : List Entry) (actor : ActorState) (task : Task) (sweep : Sweep) (entry : ℕ) → IsTaskInRange task → IsPointInRange others (next_sweep actor task sweep entry)
 next_sweep_fits others actor task sweep entry fits = either_way (IsPointInRange others) (nat_lt (entry + 1) (length (entries_of actor task))) (SweepWord task sweep (entry + 1)) (sweep_over actor task sweep) (λ e. fits) (λ e. sweep_over_fits others actor task sweep fits)
 
-release_fits : (others : List Entry) (actor : Acting) (task : Task) (sweep : Sweep) (entry : ℕ) (slot : Slot) → IsTaskInRange task → IsPointInRange others (cond (same_slot slot task.target) (Release task sweep entry) (next_sweep actor task sweep entry))
+release_fits : (others : List Entry) (actor : ActorState) (task : Task) (sweep : Sweep) (entry : ℕ) (slot : Slot) → IsTaskInRange task → IsPointInRange others (cond (same_slot slot task.target) (Release task sweep entry) (next_sweep actor task sweep entry))
 release_fits others actor task sweep entry slot fits = either_way (IsPointInRange others) (same_slot slot task.target) (Release task sweep entry) (next_sweep actor task sweep entry) (λ e. fits) (λ e. next_sweep_fits others actor task sweep entry fits)
 
-swept_fits : (others : List Entry) (actor : Acting) (task : Task) (sweep : Sweep) (entry : ℕ) (word : Word) → IsTaskInRange task → IsWordInRange word → IsPointInRange others (swept actor task sweep entry word)
+swept_fits : (others : List Entry) (actor : ActorState) (task : Task) (sweep : Sweep) (entry : ℕ) (word : Word) → IsTaskInRange task → IsWordInRange word → IsPointInRange others (swept actor task sweep entry word)
 swept_fits others actor task sweep entry (Plain value) fits saw = next_sweep_fits others actor task sweep entry fits
 swept_fits others actor task SweepYes entry (Planted worker number) fits saw = next_sweep_fits others actor task SweepYes entry fits
 swept_fits others actor task SweepDoneYes entry (Planted worker number) fits saw = (fits, saw)
@@ -215,20 +216,20 @@ swept_fits others actor task SweepYes entry (Dirty slot value) fits saw = next_s
 swept_fits others actor task SweepNo entry (Dirty slot value) fits saw = next_sweep_fits others actor task SweepNo entry fits
 swept_fits others actor task (SweepDoneNo index found) entry (Dirty slot value) fits saw = next_sweep_fits others actor task (SweepDoneNo index found) entry fits
 
-sweep_confirmed_fits : (others : List Entry) (actor : Acting) (task : Task) (sweep : Sweep) (entry : ℕ) (attempt : Attempt) (other : Slot) (word : Word) → IsTaskInRange task → IsAttemptInRange attempt → IsPointInRange others (sweep_confirmed actor task sweep entry attempt other word)
+sweep_confirmed_fits : (others : List Entry) (actor : ActorState) (task : Task) (sweep : Sweep) (entry : ℕ) (attempt : Attempt) (other : Slot) (word : Word) → IsTaskInRange task → IsAttemptInRange attempt → IsPointInRange others (sweep_confirmed actor task sweep entry attempt other word)
 sweep_confirmed_fits others actor task sweep entry attempt other word fits is =
     either_way (IsPointInRange others) (same_word word (planted attempt) && same_slot other task.target) (SweepResolve task sweep entry attempt) (next_sweep actor task sweep entry) (λ e. (fits, is)) (λ e. next_sweep_fits others actor task sweep entry fits)
 
--- what a request goes by beside its point is in range
-pub record IsSound (actor : Acting) : Type 0 where
+-- what a request uses besides its point is in range: worker, quota, and the numbers of both lists of entries
+pub record IsSound (actor : ActorState) : Type 0 where
   pub worker : actor.worker < MAX_WORKERS
   pub quota : actor.quota < 2 ^ 8
   pub own : length (own_entries actor) ≤ MAX_ENTRIES
   pub read : length actor.others ≤ MAX_ENTRIES
 
--- what is kept at a point stays in range wherever the request goes from a point where it is, by news in range
-pub goes_in_range : (actor : Acting) (next : ℕ) (point : Point) (news : News) → IsSound actor → IsPointInRange actor.others point → IsNewsInRange news → IsPointInRange (others_read actor.others point news) (goes actor next point news)
-goes_in_range actor next (Read look) news is fits saw = tt
+-- the numbers kept at a point stay in range at the next point, if the observation is in range
+pub goes_in_range : (actor : ActorState) (next : ℕ) (point : Point) (observation : Observation) → IsSound actor → IsPointInRange actor.others point → IsObservationInRange observation → IsPointInRange (others_read actor.others point observation) (goes actor next point observation)
+goes_in_range actor next (Read look) observation is fits saw = tt
 goes_in_range actor next ReadDoor (SawDoor door) is fits saw = admitted_fits actor.others next actor.quota door (after_admit door actor.quota) saw (admit_says door actor.quota saw is.quota)
 goes_in_range actor next (Admit from to) Won is fits saw = tt
 goes_in_range actor next (Admit from to) Lost is fits saw = tt
@@ -281,44 +282,44 @@ goes_in_range actor next (Unpin slot after) (SawGate gate) is fits saw = unpinne
 goes_in_range actor next (FreeSlot slot after) Won is fits saw = fits.1
 goes_in_range actor next (LowerDoor after) (SawDoor door) is fits saw = resumed_fits actor.others after fits
 goes_in_range actor next (GiveUp own undecided) (SawStatus status) is fits saw = tt
-goes_in_range actor next point news is fits saw = fits
+goes_in_range actor next point observation is fits saw = fits
 
--- the entries of another's change are in range as they are read
-pub others_in_range : (others : List Entry) (point : Point) (news : News) → AreEntriesInRange others → IsPointInRange others point → AreEntriesInRange (others_read others point news)
+-- the entries read of another's change stay in range
+pub others_in_range : (others : List Entry) (point : Point) (observation : Observation) → AreEntriesInRange others → IsPointInRange others point → AreEntriesInRange (others_read others point observation)
 others_in_range others (ReadCount task) (SawNumber count) are fits = (omega arith, λ k d low. absurd (omega (arith, low)))
 others_in_range others (ReadNew task count addr expected) (SawNumber new) are fits =
     let entry : Entry = record { addr = addr; expected = expected; new = new } in
     either_way AreEntriesInRange (nat_le new MAX_VALUE) (others ++ entry ∷ []) others
     (λ small. (omega (arith, length-append others (entry ∷ []), fits.1.0, fits.1.1), All-push IsEntryInRange others entry are.1 (fits.2, fits.3, is_at_most new MAX_VALUE small)))
     (λ e. are)
-others_in_range others point news are fits = are
+others_in_range others point observation are fits = are
 
--- a request is in range once it was told news in range
-pub tells_in_range : (actor : Acting) (news : News) (next : ℕ) → IsInRange actor → IsNewsInRange news → IsInRange (tells actor news next)
-tells_in_range actor news next is saw = record {
+-- a request in range is in range after it was told an observation in range
+pub tells_in_range : (actor : ActorState) (observation : Observation) (next : ℕ) → IsInRange actor → IsObservationInRange observation → IsInRange (tells actor observation next)
+tells_in_range actor observation next is saw = record {
   worker = is.worker;
   quota = is.quota;
   pool = is.pool;
   formed = is.formed;
   job = is.job;
-  others = others_in_range actor.others actor.point news is.others is.point;
-  point = goes_in_range actor next actor.point news (record { worker = is.worker; quota = is.quota; own = is.job.0; read = is.others.0 }) is.point saw;
+  others = others_in_range actor.others actor.point observation is.others is.point;
+  point = goes_in_range actor next actor.point observation (record { worker = is.worker; quota = is.quota; own = is.job.0; read = is.others.0 }) is.point saw;
 }
 
--- a request whose entries and point are known by equations is the one that was told
-pub told_so : (actor inside : Acting) (news said : News) (next : ℕ) (others : List Entry) (point : Point) → inside ≡ actor → news ≡ said → others ≡ others_read inside.others inside.point news → point ≡ goes actor next actor.point news → record inside { others = others; point = point } ≡ tells actor said next
-told_so actor inside news said next others point is same read went =
-    let inner : Acting = inside in
+-- a request whose entries and point are given by equations is the request after the step
+pub told_so : (actor inside : ActorState) (observation said : Observation) (next : ℕ) (others : List Entry) (point : Point) → inside ≡ actor → observation ≡ said → others ≡ others_read inside.others inside.point observation → point ≡ goes actor next actor.point observation → record inside { others = others; point = point } ≡ tells actor said next
+told_so actor inside observation said next others point is same read went =
+    let inner : ActorState = inside in
     subst (λ a. record inner { others = others; point = point } ≡ tells a said next) is
     (subst (λ n. record inner { others = others; point = point } ≡ tells inner n next) same
-    (λ q. record inner { others = read q; point = (went ∙ ap (λ a. goes a next a.point news) (sym is)) q }))
+    (λ q. record inner { others = read q; point = (went ∙ ap (λ a. goes a next a.point observation) (sym is)) q }))
 
--- and so it is in range
-pub told_in_range : (actor inside : Acting) (news : News) (next : ℕ) (others : List Entry) (point : Point) → inside ≡ actor → others ≡ others_read inside.others inside.point news → point ≡ goes actor next actor.point news → IsInRange inside → IsNewsInRange news → IsInRange (record inside { others = others; point = point })
-told_in_range actor inside news next others point is read went fits saw =
-    subst IsInRange (sym (told_so actor inside news news next others point is refl read went)) (tells_in_range actor news next (subst IsInRange is fits) saw)
+-- so it is in range
+pub told_in_range : (actor inside : ActorState) (observation : Observation) (next : ℕ) (others : List Entry) (point : Point) → inside ≡ actor → others ≡ others_read inside.others inside.point observation → point ≡ goes actor next actor.point observation → IsInRange inside → IsObservationInRange observation → IsInRange (record inside { others = others; point = point })
+told_in_range actor inside observation next others point is read went fits saw =
+    subst IsInRange (sym (told_so actor inside observation observation next others point is refl read went)) (tells_in_range actor observation next (subst IsInRange is fits) saw)
 
--- a request that is no read goes as a change does
-pub goes_as_change : (actor : Acting) (next : ℕ) (point : Point) (news : News) → ((look : Reading) → point ≡ Read look → ⊥) → changes actor next point news ≡ goes actor next point news
-goes_as_change actor next (Read look) news other = absurd (other look refl)
-goes_as_change actor next point news other = refl
+-- a request that is no read goes where a change goes
+pub goes_as_change : (actor : ActorState) (next : ℕ) (point : Point) (observation : Observation) → ((look : Reading) → point ≡ Read look → ⊥) → changes actor next point observation ≡ goes actor next point observation
+goes_as_change actor next (Read look) observation other = absurd (other look refl)
+goes_as_change actor next point observation other = refl

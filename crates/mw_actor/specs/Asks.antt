@@ -1,4 +1,6 @@
--- What a request asks for at each point of its program.
+-- Defines the step for which a request asks at each point of its program.
+-- Used by: Parts, 13 crates from mw_world on, the contracts of actor.rt and actor/asks.rt. A new point needs a case here and in
+-- Program.
 use Rattle.std.specs.Prelude.{ℕ, Bool, true, false, length}
 use Rattle.mw_words.specs.declared.places.At.{At}
 use Rattle.mw_words.specs.declared.places.At.TheVariants.{Door as AtDoor, Gate as AtGate, Row as AtRow, Data, Status as AtStatus, Count, Addr, Expected, New}
@@ -17,31 +19,32 @@ use Rattle.mw_actor.specs.declared.points.Sweep.{Sweep}
 use Rattle.mw_actor.specs.declared.points.Sweep.TheVariants.{Yes as SweepYes}
 use Rattle.mw_actor.specs.declared.points.Point.{Point}
 use Rattle.mw_actor.specs.declared.points.Point.TheVariants.{Read, ReadDoor, Admit, ScanGate, Claim, FillStatus, FillCount, FillAddr, FillExpected, FillNew, Prepare, ReadTargetStatus, Inspect, AnnounceRow, Plant, ReadOtherRow, ConfirmAttempt, ReadDirtyGate, ConfirmDirty, DecideYes, DecideNo, CheckThenResolve, Resolve, ReadOtherGate, PinOther, ReadCount, ReadAddr, ReadExpected, ReadNew, Seal, SweepWord, Release, Clean, SweepRow, SweepConfirm, SweepResolve, Settle, Cancel, Unpin, FreeSlot, LowerDoor, GiveUp, Replied}
-use Rattle.mw_actor.specs.Acting.{Acting, own_entries, entry_at, entry_of, planted, held}
+use Rattle.mw_actor.specs.ActorState.{ActorState, own_entries, entry_at, entry_of, planted, held}
 
--- what an attempt becomes: the held word where the change is open, else the expected value
+-- the word for which an attempt is exchanged: the held word if the change is open, else the expected value
 abbrev pub resolved : Bool → Slot → Entry → Word
 resolved true target entry = held target
 resolved false target entry = Plain entry.expected
 
--- What a held word becomes: the new value, which names its slot still, where the change is made, else the expected value.
+-- The word for which a held word is exchanged: if the change is made, the new value, which still names the slot; else
+-- the expected value.
 abbrev pub released : Sweep → Slot → Entry → Word
 released SweepYes target entry = Dirty target.slot entry.new
 released sweep target entry = Plain entry.expected
 
--- the place of an entry's word, of the change that is worked on
-abbrev pub word_place : Acting → Task → ℕ → At
+-- the place of the word of a target's entry
+abbrev pub word_place : ActorState → Task → ℕ → At
 word_place actor task entry = Data actor.tenant (entry_of actor task entry).addr
 
 -- the row that names an entry of a change
 abbrev pub row_of : Slot → ℕ → Row
 row_of target entry = record { slot = target.slot; entry = entry; seq = target.seq }
 
--- What a request asks for at each point.
-abbrev pub asks_at : Acting → Point → Step
--- a read
+-- The step for which a request asks at each point.
+abbrev pub asks_at : ActorState → Point → Step
+-- the request is a read
 asks_at actor (Read look) = read_asks look
--- a slot is found and written
+-- a change finds a slot and is written into it
 asks_at actor ReadDoor = Load (AtDoor actor.tenant)
 asks_at actor (Admit from to) = Change AdmitKind (AtDoor actor.tenant) from to
 asks_at actor (ScanGate slot saw_worn) = Load (AtGate slot)
@@ -52,7 +55,7 @@ asks_at actor (FillAddr own entry) = store FillKind (Addr own.slot entry) (entry
 asks_at actor (FillExpected own entry) = store FillKind (Expected own.slot entry) (entry_at (own_entries actor) entry).expected
 asks_at actor (FillNew own entry) = store FillKind (New own.slot entry) (entry_at (own_entries actor) entry).new
 asks_at actor (Prepare own) = File PrepareCall own.slot
--- the words of an open change are looked at, and held one by one
+-- the request looks at the words of an open change, and holds them one by one
 asks_at actor (ReadTargetStatus task) = Load (AtStatus task.target.slot)
 asks_at actor (Inspect task entry) = Load (word_place actor task entry)
 asks_at actor (AnnounceRow task entry number) = store RowKind (AtRow actor.worker) (row_of task.target entry)
@@ -65,14 +68,14 @@ asks_at actor (DecideYes task) = Change DecideYesKind (AtStatus task.target.slot
 asks_at actor (DecideNo task entry value) = Change DecideNoKind (AtStatus task.target.slot) Open (No entry value)
 asks_at actor (CheckThenResolve task entry attempt) = Load (AtStatus task.target.slot)
 asks_at actor (Resolve task entry attempt was_open) = Change ResolveKind (word_place actor task entry) (planted attempt) (resolved was_open task.target (entry_of actor task entry))
--- another's change is pinned and read
+-- the request pins another's change and reads it
 asks_at actor (ReadOtherGate task other) = Load (AtGate other.slot)
 asks_at actor (PinOther task other from to) = Change PinKind (AtGate other.slot) from to
 asks_at actor (ReadCount task) = Load (Count task.target.slot)
 asks_at actor (ReadAddr task count) = Load (Addr task.target.slot (length actor.others))
 asks_at actor (ReadExpected task count addr) = Load (Expected task.target.slot (length actor.others))
 asks_at actor (ReadNew task count addr expected) = Load (New task.target.slot (length actor.others))
--- the words of a decided change are let go
+-- the request sweeps the words of a decided change
 asks_at actor (Seal task) = File SealCall task.target.slot
 asks_at actor (SweepWord task sweep entry) = Load (word_place actor task entry)
 asks_at actor (Release task sweep entry) = Change ReleaseKind (word_place actor task entry) (held task.target) (released sweep task.target (entry_of actor task entry))
@@ -82,13 +85,13 @@ asks_at actor (SweepConfirm task sweep entry attempt other) = Load (word_place a
 asks_at actor (SweepResolve task sweep entry attempt) = Change ResolveKind (word_place actor task entry) (planted attempt) (Plain (entry_of actor task entry).expected)
 asks_at actor (Settle task) = File SettleCall task.target.slot
 asks_at actor (Cancel task) = File CancelCall task.target.slot
--- a slot is let go, and the request ends
+-- the request gives back a slot and ends
 asks_at actor (Unpin slot after) = fetch UnpinKind (AtGate slot.slot)
 asks_at actor (FreeSlot slot after) = store FreeKind (AtGate slot.slot) (freed slot.seq)
 asks_at actor (LowerDoor after) = fetch DropKind (AtDoor actor.tenant)
 asks_at actor (GiveUp own undecided) = Load (AtStatus own.slot)
 asks_at actor (Replied reply) = Load (AtDoor actor.tenant)
 
--- what a request asks for
-abbrev pub asks : Acting → Step
+-- the step for which a request asks
+abbrev pub asks : ActorState → Step
 asks actor = asks_at actor actor.point

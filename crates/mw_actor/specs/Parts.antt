@@ -1,31 +1,32 @@
--- The parts of a request's program, and the next step in a part.
+-- Divides the points of a request's program into parts, and defines the next step in a part.
+-- Used by: the contracts of actor/asks.rt. No law is about it: it may change with src/actor/asks.rt, which follows its division.
 use Rattle.std.specs.Prelude.{Bool, true, false, cond, Some, None}
 use Rattle.std.specs.declared.option.Option.{Option}
 use Rattle.mw_look.specs.declared.steps.Op.{Op}
 use Rattle.mw_look.specs.Steps.{op_of}
 use Rattle.mw_actor.specs.declared.points.Point.{Point}
 use Rattle.mw_actor.specs.declared.points.Point.TheVariants.{Read, ReadDoor, Admit, ScanGate, Claim, FillStatus, FillCount, FillAddr, FillExpected, FillNew, Prepare, ReadTargetStatus, Inspect, AnnounceRow, Plant, ReadOtherRow, ConfirmAttempt, ReadDirtyGate, ConfirmDirty, DecideYes, DecideNo, CheckThenResolve, Resolve, ReadOtherGate, PinOther, ReadCount, ReadAddr, ReadExpected, ReadNew, Seal, SweepWord, Release, Clean, SweepRow, SweepConfirm, SweepResolve, Settle, Cancel, Unpin, FreeSlot, LowerDoor, GiveUp, Replied}
-use Rattle.mw_actor.specs.Acting.{Acting}
+use Rattle.mw_actor.specs.ActorState.{ActorState}
 use Rattle.mw_actor.specs.Asks.{asks}
 
 -- A part of a request's program.
 pub data Part : Type 0 where
-  -- it is a read
+  -- the request is a read
   Reading : Part
-  -- a slot is found and written
+  -- a change finds a slot and is written into it
   Admitting : Part
-  -- the words of an open change are looked at, and held one by one
+  -- the request looks at the words of an open change, and holds them one by one
   Holding : Part
-  -- a change goes on by its status and its file
+  -- the request takes a change on by its status and its file
   Deciding : Part
-  -- another's change is pinned and read
+  -- the request pins another's change and reads it
   Helping : Part
-  -- the words of a decided change are let go
+  -- the request sweeps the words of a decided change
   Sweeping : Part
-  -- a slot is let go, and the request ends
+  -- the request gives back a slot and ends
   Leaving : Part
 
--- the part that a point is of
+-- the part of a point
 abbrev pub part_of : Point → Part
 part_of (Read look) = Reading
 part_of ReadDoor = Admitting
@@ -82,6 +83,6 @@ same_part Sweeping Sweeping = true
 same_part Leaving Leaving = true
 same_part one other = false
 
--- the next step of a request that is in this part of its program; of one in another part there is none
-abbrev pub step_in : Part → Acting → Option Op
+-- the next step of a request that is in this part of its program; None: it is in another part
+abbrev pub step_in : Part → ActorState → Option Op
 step_in part actor = cond (same_part (part_of actor.point) part) (Some (op_of (asks actor))) None

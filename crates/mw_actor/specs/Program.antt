@@ -1,24 +1,26 @@
--- The program of a request: where it goes from each of its points.
+-- Defines the program of a request: where it goes from each of its points.
+-- Used by: 14 crates from mw_world on, the contracts of actor.rt and actor/moves.rt. It is the algorithm of a request: a new
+-- point needs a case here and in Asks, and the laws in the crates above must be proved again.
 use Rattle.std.specs.Prelude.{ℕ, false, Some, None}
 use Rattle.std.specs.declared.option.Option.{Option}
 use Rattle.mw_words.specs.declared.replies.Reply.{Reply}
-use Rattle.mw_look.specs.declared.news.News.{News}
-use Rattle.mw_look.specs.declared.news.News.TheVariants.{SawDoor, SawGate, SawWord, SawStatus, SawRow, SawNumber, Won, Lost, Filed}
+use Rattle.mw_look.specs.declared.observations.Observation.{Observation}
+use Rattle.mw_look.specs.declared.observations.Observation.TheVariants.{SawDoor, SawGate, SawWord, SawStatus, SawRow, SawNumber, Won, Lost, Filed}
 use Rattle.mw_look.specs.Program.{tells as read_tells, replied as read_replied}
 use Rattle.mw_actor.specs.declared.points.Sweep.TheVariants.{DoneYes as SweepDoneYes}
 use Rattle.mw_actor.specs.declared.points.Point.{Point}
 use Rattle.mw_actor.specs.declared.points.Point.TheVariants.{Read, ReadDoor, Admit, ScanGate, Claim, FillStatus, FillCount, FillAddr, FillExpected, FillNew, Prepare, ReadTargetStatus, Inspect, AnnounceRow, Plant, ReadOtherRow, ConfirmAttempt, ReadDirtyGate, ConfirmDirty, DecideYes, DecideNo, CheckThenResolve, Resolve, ReadOtherGate, PinOther, ReadCount, ReadAddr, ReadExpected, ReadNew, Seal, SweepWord, Release, Clean, SweepRow, SweepConfirm, SweepResolve, Settle, Cancel, Unpin, FreeSlot, LowerDoor, GiveUp, Replied}
-use Rattle.mw_actor.specs.Acting.{Acting, row_slot}
-use Rattle.mw_actor.specs.Admitting.{door_read, next_gate, gate_scanned, next_fill, prepared}
-use Rattle.mw_actor.specs.Finishing.{resumed, unpinned, gave_up}
-use Rattle.mw_actor.specs.Helping.{turns_to, other_gate_read, count_read, addr_read, expected_read, new_read, others_read}
-use Rattle.mw_actor.specs.Inspecting.{status_read, inspected, attempt_confirmed, dirty_gate_read, dirty_confirmed, is_open}
-use Rattle.mw_actor.specs.Sweeping.{filed, next_sweep, swept, sweep_confirmed}
+use Rattle.mw_actor.specs.ActorState.{ActorState, row_slot}
+use Rattle.mw_actor.specs.Admission.{door_read, next_gate, gate_scanned, next_fill, prepared}
+use Rattle.mw_actor.specs.RequestEnds.{resumed, unpinned, gave_up}
+use Rattle.mw_actor.specs.Help.{turns_to, other_gate_read, count_read, addr_read, expected_read, new_read, others_read}
+use Rattle.mw_actor.specs.Inspection.{status_read, inspected, attempt_confirmed, dirty_gate_read, dirty_confirmed, is_open}
+use Rattle.mw_actor.specs.ReleasePhase.{filed, next_sweep, swept, sweep_confirmed}
 
--- Where a change goes from each point by what it is told there, and by the worker's next attempt number. At all else that
--- it is told it stays.
-abbrev pub changes : Acting → ℕ → Point → News → Point
--- a slot is found and written
+-- Where a change goes from each point, by its observation there and the worker's next attempt number. At any other
+-- observation it stays.
+abbrev pub changes : ActorState → ℕ → Point → Observation → Point
+-- it finds a slot and is written into it
 changes actor next ReadDoor (SawDoor door) = door_read actor next door
 changes actor next (Admit from to) Won = ScanGate 0 false
 changes actor next (Admit from to) Lost = ReadDoor
@@ -31,7 +33,7 @@ changes actor next (FillAddr own entry) Won = FillExpected own entry
 changes actor next (FillExpected own entry) Won = FillNew own entry
 changes actor next (FillNew own entry) Won = next_fill actor own entry
 changes actor next (Prepare own) (Filed went_well) = prepared own went_well
--- the words of an open change are looked at, and held one by one
+-- it looks at the words of an open change, and holds them one by one
 changes actor next (ReadTargetStatus task) (SawStatus status) = status_read task status
 changes actor next (Inspect task entry) (SawWord word) = inspected actor next task entry word
 changes actor next (AnnounceRow task entry number) Won = Plant task entry number
@@ -48,7 +50,7 @@ changes actor next (DecideNo task entry value) Lost = ReadTargetStatus task
 changes actor next (CheckThenResolve task entry attempt) (SawStatus status) = Resolve task entry attempt (is_open status)
 changes actor next (Resolve task entry attempt was_open) Won = ReadTargetStatus task
 changes actor next (Resolve task entry attempt was_open) Lost = ReadTargetStatus task
--- another's change is pinned and read
+-- it pins another's change and reads it
 changes actor next (ReadOtherGate task other) (SawGate gate) = other_gate_read task other gate
 changes actor next (PinOther task other from to) Won = turns_to task other
 changes actor next (PinOther task other from to) Lost = ReadTargetStatus task
@@ -56,7 +58,7 @@ changes actor next (ReadCount task) (SawNumber count) = count_read task count
 changes actor next (ReadAddr task count) (SawNumber addr) = addr_read task count addr
 changes actor next (ReadExpected task count addr) (SawNumber expected) = expected_read task count addr expected
 changes actor next (ReadNew task count addr expected) (SawNumber new) = new_read actor task count addr expected new
--- the words of a decided change are let go
+-- it sweeps the words of a decided change
 changes actor next (Seal task) (Filed went_well) = filed task went_well
 changes actor next (SweepWord task sweep entry) (SawWord word) = swept actor task sweep entry word
 changes actor next (Release task sweep entry) Won = next_sweep actor task sweep entry
@@ -69,28 +71,28 @@ changes actor next (SweepResolve task sweep entry attempt) Won = next_sweep acto
 changes actor next (SweepResolve task sweep entry attempt) Lost = next_sweep actor task sweep entry
 changes actor next (Settle task) (Filed went_well) = filed task went_well
 changes actor next (Cancel task) (Filed went_well) = ReadTargetStatus task
--- a slot is let go, and the request ends
+-- it gives back a slot and ends
 changes actor next (Unpin slot after) (SawGate gate) = unpinned slot after gate
 changes actor next (FreeSlot slot after) Won = LowerDoor after
 changes actor next (LowerDoor after) (SawDoor door) = resumed after
 changes actor next (GiveUp own undecided) (SawStatus status) = Replied (gave_up actor undecided status)
-changes actor next point news = point
+changes actor next point observation = point
 
 -- Where a request goes from each point: a read by its own program, a change by this one.
-abbrev pub goes : Acting → ℕ → Point → News → Point
-goes actor next (Read look) news = Read (read_tells look news)
-goes actor next point news = changes actor next point news
+abbrev pub goes : ActorState → ℕ → Point → Observation → Point
+goes actor next (Read look) observation = Read (read_tells look observation)
+goes actor next point observation = changes actor next point observation
 
--- a request that was told what its step found, and the worker's next attempt number
-abbrev pub tells : Acting → News → ℕ → Acting
-tells actor news next = record actor { others = others_read actor.others actor.point news; point = goes actor next actor.point news }
+-- a request after it was told its observation and the worker's next attempt number
+abbrev pub tells : ActorState → Observation → ℕ → ActorState
+tells actor observation next = record actor { others = others_read actor.others actor.point observation; point = goes actor next actor.point observation }
 
--- the reply that stands at a point
+-- the reply at a point, if it is decided there
 abbrev pub reply_at : Point → Option Reply
 reply_at (Read look) = read_replied look
 reply_at (Replied reply) = Some reply
 reply_at point = None
 
--- the reply to a request, once it stands
-abbrev pub replied : Acting → Option Reply
+-- the reply to a request, if it has one
+abbrev pub replied : ActorState → Option Reply
 replied actor = reply_at actor.point

@@ -1,4 +1,6 @@
--- At each point the numbers that a request is to store are in range.
+-- Defines which requests are in range: each number that they store fits into its place.
+-- Used by: mw_law_counts, mw_law_runs, mw_law_store, mw_engine, mw_simulator, the contracts of actor.rt and actor/asks.rt. A new
+-- number in a request needs a bound here, which each step must keep.
 use Rattle.std.specs.Prelude.{ℕ, ◌≡◌, true, ◌<◌, ◌≤◌, ◌^◌, List, length, All}
 use Rattle.mw_words.specs.declared.limits.TheConstants.{MAX_ENTRIES, MAX_POOL, MAX_VALUE, MAX_WORDS, MAX_WORKERS, WORN_NUMBER}
 use Rattle.mw_words.specs.declared.jobs.Entry.{Entry}
@@ -12,26 +14,26 @@ use Rattle.mw_actor.specs.declared.points.After.{After}
 use Rattle.mw_actor.specs.declared.points.After.TheVariants.{Work}
 use Rattle.mw_actor.specs.declared.points.Point.{Point}
 use Rattle.mw_actor.specs.declared.points.Point.TheVariants.{Admit, Claim, FillStatus, FillCount, FillAddr, FillExpected, FillNew, Prepare, ReadTargetStatus, Inspect, AnnounceRow, Plant, ReadOtherRow, ConfirmAttempt, ReadDirtyGate, ConfirmDirty, DecideYes, DecideNo, CheckThenResolve, Resolve, ReadOtherGate, PinOther, ReadCount, ReadAddr, ReadExpected, ReadNew, Seal, SweepWord, Release, Clean, SweepRow, SweepConfirm, SweepResolve, Settle, Cancel, Unpin, FreeSlot, LowerDoor}
-use Rattle.mw_actor.specs.Acting.{Acting, own_entries}
+use Rattle.mw_actor.specs.ActorState.{ActorState, own_entries}
 
--- An entry is of a word that a tenant may have, and its values are values of a word.
+-- The entry's address is one that a tenant may have, and its values are values of a word.
 abbrev pub IsEntryInRange : Entry → Type 0
 IsEntryInRange entry = (entry.addr < MAX_WORDS) × (entry.expected ≤ MAX_VALUE) × (entry.new ≤ MAX_VALUE)
 
--- They are no more than a change has, each in range.
+-- There are at most as many entries as a change may have, and each is in range.
 abbrev pub AreEntriesInRange : List Entry → Type 0
 AreEntriesInRange entries = (length entries ≤ MAX_ENTRIES) × All IsEntryInRange entries
 
--- A job is a read, or a well-formed change of a tenant that has as many words as one may have.
+-- A job is a read, or a well-formed change of a tenant with the most words.
 abbrev pub IsFormed : Job → Type 0
 IsFormed (Get address) = Unit {0}
 IsFormed (Cas entries) = is_change MAX_WORDS entries.items ≡ true
 
--- the sequence numbers of both changes have a next one
+-- the sequence numbers of both changes are below WORN_NUMBER
 abbrev pub IsTaskInRange : Task → Type 0
 IsTaskInRange task = (task.own.seq < WORN_NUMBER) × (task.target.seq < WORN_NUMBER)
 
--- the attempt has a word
+-- the attempt fits into a word
 abbrev pub IsAttemptInRange : Attempt → Type 0
 IsAttemptInRange attempt = (attempt.worker < MAX_WORKERS) × (attempt.number ≤ WORN_NUMBER)
 
@@ -40,11 +42,11 @@ abbrev pub IsAfterInRange : After → Type 0
 IsAfterInRange (Work task) = IsTaskInRange task
 IsAfterInRange after = Unit {0}
 
--- another entry is to be read: of so many, after those that were read
+-- another entry must be read: these are fewer than the count, which is at most MAX_ENTRIES
 abbrev pub IsReading : List Entry → ℕ → Type 0
 IsReading others count = (length others < count) × (count ≤ MAX_ENTRIES)
 
--- what is kept at a point is in range, by the entries of another's change that were read
+-- the numbers kept at a point are in range, given the entries of another's change that were read
 abbrev pub IsPointInRange : List Entry → Point → Type 0
 IsPointInRange others (Admit from to) = IsDoorInRange from × IsDoorInRange to
 IsPointInRange others (Claim slot saw_worn from to) = (from.seq < WORN_NUMBER) × IsGateInRange from × IsGateInRange to
@@ -86,9 +88,9 @@ IsPointInRange others (FreeSlot slot after) = (slot.seq < WORN_NUMBER) × IsAfte
 IsPointInRange others (LowerDoor after) = IsAfterInRange after
 IsPointInRange others point = Unit {0}
 
--- A request is in range: its worker, its quota and its pool are ones that a server has, and so are its entries, those that were read,
--- and its point. Its own entries are a well-formed change.
-pub record IsInRange (actor : Acting) : Type 0 where
+-- A request is in range: its worker, quota and pool are within a server's limits, and its own entries, the entries
+-- that it read, and its point are in range. Its own entries are a well-formed change.
+pub record IsInRange (actor : ActorState) : Type 0 where
   pub worker : actor.worker < MAX_WORKERS
   pub quota : actor.quota < 2 ^ 8
   pub pool : (1 ≤ actor.pool) × (actor.pool ≤ MAX_POOL)

@@ -1,26 +1,28 @@
 //! The machine of a request.
+//!
+//! mw_engine makes one for each request, and mw_core runs it; mw_simulator has one for each busy worker of a world in
+//! memory. It may change as long as it asks what `specs/Asks` says, and goes where `specs/Program` says.
 ghost use Rattle.std.specs.Prelude.{◌≡◌, ◌≤◌, ◌<◌};
 ghost use Rattle.mw_words.specs.declared.limits.TheConstants.{MAX_POOL, MAX_WORKERS};
 ghost use Rattle.mw_look.specs.Steps.{op_of, place};
-ghost use Rattle.mw_look.specs.News.{IsNewsInRange, news_of};
+ghost use Rattle.mw_look.specs.Observations.{IsObservationInRange, observation_of};
 ghost use Rattle.mw_look.specs.Program.{tells as read_tells};
-ghost use Rattle.mw_actor.specs.Acting.{first, first_point, entries_of, entry_at, entry_of, own_entries};
+ghost use Rattle.mw_actor.specs.ActorState.{first, first_point, entries_of, entry_at, entry_of, own_entries};
 ghost use Rattle.mw_actor.specs.Asks.{asks};
 ghost use Rattle.mw_actor.specs.Program.{goes, replied, tells};
 ghost use Rattle.mw_actor.specs.Ranges.{AreEntriesInRange, IsEntryInRange, IsFormed, IsPointInRange};
-ghost use Rattle.mw_actor.specs.Helping as helping;
+ghost use Rattle.mw_actor.specs.Help as helping;
 
 mod asks;
 mod moves;
 
 use crate::points::{Attempt, Point, Task};
-use mw_look::{Look, News, Op, Told};
+use mw_look::{Look, Observation, Op, Told};
 use mw_words::{Entries, Entry, Job, MAX_VALUE, Reply, copy_of};
 use std::marker::Model;
 
-/// A request that a worker works on: a read, or a change. It is asked for its next step and told what
-/// that step found, until its reply stands. A thing told that doesn't fit the step leaves the request
-/// where it is.
+/// A request that a worker works on: a read, or a change. The worker asks it for its next step and tells it
+/// what the step found, until it has its reply. If what it is told doesn't fit the step, it stays where it is.
 #[derive(Drop)]
 pub struct Actor {
     worker: u8,
@@ -33,10 +35,10 @@ pub struct Actor {
 }
 
 impl Model for Actor {
-    ghost use Rattle.mw_actor.specs.Acting.{Acting};
+    ghost use Rattle.mw_actor.specs.ActorState.{ActorState};
     ghost use Rattle.mw_actor.specs.Ranges.{IsInRange};
 
-    ghost Value = { Acting };
+    ghost Value = { ActorState };
 
     ghost view = { λ a. record { worker = a.worker; tenant = a.tenant; quota = a.quota; pool = a.pool; job = a.job; others = a.others.items; point = a.point } };
 
@@ -44,10 +46,10 @@ impl Model for Actor {
 }
 
 impl Actor {
-    /// A request at its first step: this worker, below [`MAX_WORKERS`], works on this job for this
-    /// tenant, which may use `quota` of the `pool` slots, of which there are from 1 to [`MAX_POOL`].
-    /// A change has 1 to [`MAX_ENTRIES`] entries at strictly rising addresses, which are ones, and have
-    /// values, that a tenant's words may have.
+    /// Makes a request at its first step: worker `worker` works on `job` for `tenant`, which may use `quota` of
+    /// the `pool` slots. The worker is below [`MAX_WORKERS`], and the pool has 1 to [`MAX_POOL`] slots. A
+    /// change has 1 to [`MAX_ENTRIES`] entries at strictly rising addresses. Its addresses and values are in
+    /// range for a tenant's words.
     ///
     /// [`MAX_WORKERS`]: mw_words::MAX_WORKERS
     /// [`MAX_POOL`]: mw_words::MAX_POOL
@@ -70,7 +72,7 @@ impl Actor {
         }
     }
 
-    /// An equal request.
+    /// Returns an equal request.
     pub fn copy(&self) -> Actor
         ensures { result ≡ self.now }
     {
@@ -85,28 +87,28 @@ impl Actor {
         }
     }
 
-    /// The worker that works on the request.
+    /// Returns the worker that works on the request.
     pub fn worker(&self) -> u8
         ensures { result ≡ self.now.worker }
     {
         self.worker
     }
 
-    /// The tenant that asks.
+    /// Returns the tenant that asks.
     pub fn tenant(&self) -> u8
         ensures { result ≡ self.now.tenant }
     {
         self.tenant
     }
 
-    /// What the tenant asks for.
+    /// Returns what the tenant asks for.
     pub fn job(&self) -> &Job
         ensures { result.now ≡ self.now.job }
     {
         &self.job
     }
 
-    /// The reply, once it stands. From then on it stays.
+    /// Returns the reply, if the request has one. Once it has a reply, it keeps it.
     pub fn reply(&self) -> Option<Reply>
         ensures { result ≡ replied self.now }
     {
@@ -117,7 +119,7 @@ impl Actor {
         }
     }
 
-    /// Where the request is in its program.
+    /// Returns where the request is in its program.
     pub fn point(&self) -> Point
         ensures is { result ≡ self.now.point }
         ensures in_range { IsPointInRange self.now.others result }
@@ -125,7 +127,7 @@ impl Actor {
         self.point
     }
 
-    /// The entries of the request's own change. A read has none.
+    /// Returns the entries of the request's own change. A read has none.
     pub fn own_entries(&self) -> &[Entry]
         ensures is { result.now ≡ own_entries self.now }
         ensures in_range { AreEntriesInRange result.now }
@@ -136,8 +138,8 @@ impl Actor {
         }
     }
 
-    /// The entry at an index of the change that is worked on, the `target` of `task`. Past the last
-    /// one, where no program comes to, an entry of zeros.
+    /// Returns the entry at an index of the target of `task`. Past the last one it is an entry of zeros; no
+    /// program comes there.
     pub fn entry(&self, task: Task, index: u8) -> Entry
         ensures is { result ≡ entry_of self.now task index }
         ensures in_range { IsEntryInRange result }
@@ -145,36 +147,37 @@ impl Actor {
         entry_at(self.entries(task), index)
     }
 
-    /// Takes in what the step that was asked for found, and the worker's next attempt number.
+    /// Takes in what the step found and the worker's next attempt number, and goes on to the next point. The
+    /// step is the one for which [`Actor::ask`] asks.
     pub fn tell(&mut self, told: Told)
-        ensures { self.new ≡ tells self.old (news_of (place (asks self.old)) told.got) told.next }
+        ensures { self.new ≡ tells self.old (observation_of (place (asks self.old)) told.got) told.next }
     {
         self.tell_of(self.ask(), told);
     }
 
-    /// The same, by a caller who has the step that was asked for at hand.
+    /// Does the same. The caller passes `op`, the step for which [`Actor::ask`] asks.
     pub fn tell_of(&mut self, op: Op, told: Told)
         requires { op ≡ op_of (asks self.old) }
-        ensures { self.new ≡ tells self.old (news_of (place (asks self.old)) told.got) told.next }
+        ensures { self.new ≡ tells self.old (observation_of (place (asks self.old)) told.got) told.next }
     {
-        let news = News::of(op.place(), told.got);
-        let point = self.after(news, told.next);
-        read_others(&mut self.others, self.point, news);
+        let observation = Observation::of(op.place(), told.got);
+        let point = self.after(observation, told.next);
+        read_others(&mut self.others, self.point, observation);
         self.point = point;
     }
 
-    // The point after these news.
-    fn after(&self, news: News, next: u64) -> Point
-        requires { IsNewsInRange news }
-        ensures { result ≡ goes self.now next self.now.point news }
+    // Returns the point after this observation.
+    fn after(&self, observation: Observation, next: u64) -> Point
+        requires { IsObservationInRange observation }
+        ensures { result ≡ goes self.now next self.now.point observation }
     {
         match self.point {
-            Point::Read(look) => Point::Read(read_told(look, news)),
-            _ => self.next(news, next),
+            Point::Read(look) => Point::Read(read_told(look, observation)),
+            _ => self.next(observation, next),
         }
     }
 
-    // The entries of the change that is worked on.
+    // Returns the entries of the target.
     pub(crate) fn entries(&self, task: Task) -> &[Entry]
         ensures is { result.now ≡ entries_of self.now task }
         ensures in_range { AreEntriesInRange result.now }
@@ -193,7 +196,7 @@ impl Actor {
         entry_at(self.own_entries(), index)
     }
 
-    // An attempt of the request's own worker.
+    // Makes an attempt of the request's own worker.
     pub(crate) fn attempt(&self, number: u64) -> Attempt
         ensures { result ≡ record { worker = self.now.worker; number = number } }
     {
@@ -213,35 +216,36 @@ fn first_point(tenant: u8, job: &Job) -> Point
     }
 }
 
-// A read that was told what its step found.
-fn read_told(mut look: Look, news: News) -> Look
-    requires { IsNewsInRange news }
-    ensures { result ≡ read_tells look news }
+// Returns a read after it was told what its step found.
+fn read_told(mut look: Look, observation: Observation) -> Look
+    requires { IsObservationInRange observation }
+    ensures { result ≡ read_tells look observation }
 {
-    look.tell_news(news);
+    look.tell_observation(observation);
     look
 }
 
-// Keeps another's entries as they are read: none once their number is, and one more with each new
-// value.
-fn read_others(others: &mut Entries, point: Point, news: News)
+// Keeps another's entries as they are loaded. The load of their number clears them, and each load of a new
+// value adds one.
+fn read_others(others: &mut Entries, point: Point, observation: Observation)
     requires { IsPointInRange others.old.items point }
-    ensures { others.new.items ≡ helping.others_read others.old.items point news }
+    ensures { others.new.items ≡ helping.others_read others.old.items point observation }
 {
-    match (point, news) {
-        (Point::ReadCount(_), News::SawNumber(_)) => others.clear(),
-        (Point::ReadNew { addr, expected, .. }, News::SawNumber(new)) if new <= MAX_VALUE => {
-            others.push(Entry {
-                addr,
-                expected,
-                new,
-            });
-        }
+    match (point, observation) {
+        (Point::ReadCount(_), Observation::SawNumber(_)) => others.clear(),
+        (Point::ReadNew { addr, expected, .. }, Observation::SawNumber(new)) if new <= MAX_VALUE =>
+            {
+                others.push(Entry {
+                    addr,
+                    expected,
+                    new,
+                });
+            }
         _ => {}
     }
 }
 
-// The entry at an index. Past the last one, where no program comes to, an entry of zeros.
+// Returns the entry at an index. Past the last one it is an entry of zeros; no program comes there.
 fn entry_at(entries: &[Entry], index: u8) -> Entry
     requires { AreEntriesInRange entries.now }
     ensures is { result ≡ entry_at entries.now index }

@@ -1,180 +1,185 @@
-//! The points of a request's program.
+//! The points of a request's program: its program counter.
+//!
+//! `actor.rt` goes from point to point; the definitions and laws of the world see the point of each request. A new
+//! point needs a case in `specs/Asks`, `specs/Program`, `specs/Stages` and `specs/Ranges`, and in each law of
+//! requests.
 
 use mw_look::Look;
 use mw_words::{Door, Gate, Reply};
 
-/// A slot under its sequence number, which together name one change.
+/// A slot and its sequence number, which together name one change.
 #[derive(Clone, Copy, Debug, PartialEq, Eq)]
 pub struct Slot {
-    /// The slot.
+    /// The slot's index in the pool.
     pub slot: u8,
     /// Its sequence number.
     pub seq: u64,
 }
 
-/// The change of one's own and the change that is worked on, which is one's own or another's that
-/// stands in its way. A pin of each is held.
+/// A request's own change, and its target: the change that it works on. The target is its own change, or
+/// another's that is in its way. The request holds a pin of each.
 #[derive(Clone, Copy, Debug, PartialEq, Eq)]
 pub struct Task {
-    /// One's own.
+    /// The request's own change.
     pub own: Slot,
-    /// The one that is worked on.
+    /// The change that it works on.
     pub target: Slot,
 }
 
 /// A worker's attempt to hold a word.
 #[derive(Clone, Copy, Debug, PartialEq, Eq)]
 pub struct Attempt {
-    /// The worker.
+    /// The worker's number.
     pub worker: u8,
     /// The attempt's number.
     pub number: u64,
 }
 
-/// A round over the words of a decided change, by the status that was read before it.
+/// A sweep over the words of a decided change, named for the status that the request loaded before it.
 #[derive(Clone, Copy, Debug, PartialEq, Eq)]
 pub enum Sweep {
     /// The change is made: each word that it holds gets its new value.
     Yes,
-    /// The change is made and done with: each new value no longer names its slot.
+    /// The change is made and done: each word with its new value stops naming its slot.
     DoneYes,
-    /// The change is not made: each word that it holds gets its old value back.
+    /// The change is refused: each word that it holds gets its old value back.
     No,
-    /// The change is not made and done with: the same again.
+    /// The change is refused and done: the same once more.
     DoneNo {
-        /// The index of the entry whose word had another value.
+        /// The index of the entry whose word refused the change.
         entry: u8,
         /// The value that its word had.
         value: u64,
     },
 }
 
-/// What follows once a pin is given back.
+/// What a request does after it has given back a pin.
 #[derive(Clone, Copy, Debug)]
 pub enum After {
-    /// The work on this change.
+    /// It works on this change.
     Work(Task),
-    /// The end of a request whose change may be left as it stands: see [`Point::GiveUp`].
+    /// It ends, and leaves its own change as it is: see [`Point::GiveUp`].
     GiveUp {
-        /// One's own change.
+        /// The request's own change.
         own: Slot,
-        /// The reply where the status says neither that it is made nor that it isn't.
+        /// The reply if the status tells neither that the change is made nor that it is refused.
         undecided: Reply,
     },
-    /// The reply.
+    /// It replies.
     Reply(Reply),
 }
 
-/// Where a request is in its program: the next step, and what is known by then. Words and entries are
-/// those of the change that is worked on, its `target`, if nothing else is said.
+/// Where a request is in its program: its next step, and what it knows. Words, entries and statuses are those
+/// of the target, the `target` of a [`Task`], if nothing else is said.
 #[derive(Clone, Copy)]
 pub enum Point {
-    /// The request is a read, which has its own program.
+    /// The request is a read, and follows a program of its own.
     Read(Look),
-    /// Load the tenant's door.
+    /// Loads the tenant's door.
     ReadDoor,
-    /// Exchange the door for one that counts a slot more.
+    /// Exchanges the door for one that counts one slot more.
     Admit {
-        /// The door as it was read.
+        /// The door as it was loaded.
         from: Door,
         /// The door that counts one slot more.
         to: Door,
     },
-    /// Load a slot's gate, to find a slot that may be claimed.
+    /// Loads a slot's gate, to find a slot that it can claim.
     ScanGate {
         /// The slot.
         slot: u8,
-        /// A gate of this round was not taken, and its number is worn.
+        /// Whether this round found a gate that isn't taken and whose number is worn.
         saw_worn: bool,
     },
-    /// Exchange the gate for a claimed one.
+    /// Exchanges the gate for a claimed one.
     Claim {
         /// The slot.
         slot: u8,
-        /// A gate of this round was not taken, and its number is worn.
+        /// Whether this round found a gate that isn't taken and whose number is worn.
         saw_worn: bool,
-        /// The gate as it was read.
+        /// The gate as it was loaded.
         from: Gate,
-        /// The gate once it is claimed.
+        /// The claimed gate.
         to: Gate,
     },
-    /// Store the status of one's own slot as a draft.
+    /// Stores a draft as the status of its own slot.
     FillStatus(Slot),
-    /// Store the number of entries.
+    /// Stores the number of entries in its own slot.
     FillCount(Slot),
-    /// Store an entry's address.
+    /// Stores an entry's address.
     FillAddr {
-        /// One's own slot.
+        /// The request's own slot.
         own: Slot,
         /// The entry's index.
         entry: u8,
     },
-    /// Store the value that the entry expects.
+    /// Stores the value that the entry expects.
     FillExpected {
-        /// One's own slot.
+        /// The request's own slot.
         own: Slot,
         /// The entry's index.
         entry: u8,
     },
-    /// Store the value that the entry is to write.
+    /// Stores the value that the entry writes.
     FillNew {
-        /// One's own slot.
+        /// The request's own slot.
         own: Slot,
         /// The entry's index.
         entry: u8,
     },
-    /// Call the file to prepare one's own change, which opens it to all.
+    /// Calls the file to prepare its own change, which makes the change open.
     Prepare(Slot),
-    /// Load the status, and go on with the change from where it stands.
+    /// Loads the target's status, and goes on as the status tells.
     ReadTargetStatus(Task),
-    /// The change is open: load an entry's word.
+    /// The target is open: loads an entry's word.
     Inspect {
-        /// The changes.
+        /// The request's own change and its target.
         task: Task,
         /// The entry's index.
         entry: u8,
     },
-    /// The word has the expected value: store in one's own row which entry the next attempt is for.
+    /// The word has the expected value: stores in the worker's row which entry the next attempt is for.
     AnnounceRow {
-        /// The changes.
+        /// The request's own change and its target.
         task: Task,
         /// The entry's index.
         entry: u8,
         /// The number of the attempt.
         number: u64,
     },
-    /// Exchange the expected value for the attempt.
+    /// Exchanges the expected value for the attempt.
     Plant {
-        /// The changes.
+        /// The request's own change and its target.
         task: Task,
         /// The entry's index.
         entry: u8,
         /// The number of the attempt.
         number: u64,
     },
-    /// The word is an attempt: load the row of its worker.
+    /// The word has an attempt: loads the row of the attempt's worker.
     ReadOtherRow {
-        /// The changes.
+        /// The request's own change and its target.
         task: Task,
         /// The entry's index.
         entry: u8,
-        /// The attempt that the word is.
+        /// The attempt in the word.
         attempt: Attempt,
     },
-    /// Load the word again, to see that the row was of its attempt.
+    /// Loads the word again, to confirm that the row belonged to the attempt.
     ConfirmAttempt {
-        /// The changes.
+        /// The request's own change and its target.
         task: Task,
         /// The entry's index.
         entry: u8,
-        /// The attempt that the word was.
+        /// The attempt that was in the word.
         attempt: Attempt,
         /// The change that the row names.
         other: Slot,
     },
-    /// The word has the expected value from another change that is made: load that slot's gate.
+    /// The word has the expected value, written by another change that is made: loads the gate of that change's
+    /// slot.
     ReadDirtyGate {
-        /// The changes.
+        /// The request's own change and its target.
         task: Task,
         /// The entry's index.
         entry: u8,
@@ -183,87 +188,87 @@ pub enum Point {
         /// The word's value.
         value: u64,
     },
-    /// Load the word again, to see that the gate's number was of its change.
+    /// Loads the word again, to confirm that the gate's number belonged to the change that the word names.
     ConfirmDirty {
-        /// The changes.
+        /// The request's own change and its target.
         task: Task,
         /// The entry's index.
         entry: u8,
-        /// The change that the word names, by the gate's number.
+        /// The change that the word names, with the gate's number.
         other: Slot,
         /// The word's value.
         value: u64,
     },
-    /// Every word is held: exchange the open status for one that the change is to be made.
+    /// Every word is held: exchanges the status Open for YesDirty.
     DecideYes(Task),
-    /// A word has another value: exchange the open status for one that the change is not made.
+    /// A word has another value: exchanges the status Open for No.
     DecideNo {
-        /// The changes.
+        /// The request's own change and its target.
         task: Task,
         /// The entry's index.
         entry: u8,
         /// The word's value.
         value: u64,
     },
-    /// The word is an attempt for the change: load the status, on which it rests what becomes of it.
+    /// The word has an attempt for the target: loads the status, which decides what becomes of the attempt.
     CheckThenResolve {
-        /// The changes.
+        /// The request's own change and its target.
         task: Task,
         /// The entry's index.
         entry: u8,
-        /// The attempt that the word is.
+        /// The attempt in the word.
         attempt: Attempt,
     },
-    /// Exchange the attempt for the held word, or for the expected value.
+    /// Exchanges the attempt for the held word, or for the expected value.
     Resolve {
-        /// The changes.
+        /// The request's own change and its target.
         task: Task,
         /// The entry's index.
         entry: u8,
-        /// The attempt that the word is.
+        /// The attempt in the word.
         attempt: Attempt,
-        /// The status was open: the change is to hold the word.
+        /// Whether the status was Open, so that the target must hold the word.
         was_open: bool,
     },
-    /// Another change is in the way: load its gate.
+    /// Another change is in the way: loads its gate.
     ReadOtherGate {
-        /// The changes.
+        /// The request's own change and its target.
         task: Task,
         /// The other change.
         other: Slot,
     },
-    /// Exchange the gate for one with a pin more.
+    /// Exchanges the gate for one with one pin more.
     PinOther {
-        /// The changes.
+        /// The request's own change and its target.
         task: Task,
         /// The other change.
         other: Slot,
-        /// The gate as it was read.
+        /// The gate as it was loaded.
         from: Gate,
         /// The gate with one pin more.
         to: Gate,
     },
-    /// Load the number of entries of another's change.
+    /// Loads the number of entries of another's change.
     ReadCount(Task),
-    /// Load the address of its next entry.
+    /// Loads the address of its next entry.
     ReadAddr {
-        /// The changes.
+        /// The request's own change and its target.
         task: Task,
         /// The number of entries.
         count: u8,
     },
-    /// Load the value that the entry expects.
+    /// Loads the value that the entry expects.
     ReadExpected {
-        /// The changes.
+        /// The request's own change and its target.
         task: Task,
         /// The number of entries.
         count: u8,
         /// The entry's address.
         addr: u16,
     },
-    /// Load the value that the entry is to write.
+    /// Loads the value that the entry writes.
     ReadNew {
-        /// The changes.
+        /// The request's own change and its target.
         task: Task,
         /// The number of entries.
         count: u8,
@@ -272,99 +277,99 @@ pub enum Point {
         /// The value that the entry expects.
         expected: u64,
     },
-    /// The change is to be made: call the file to seal it.
+    /// It is decided that the target is made: calls the file to seal it.
     Seal(Task),
-    /// The change is decided: load an entry's word.
+    /// The target is decided: loads an entry's word.
     SweepWord {
-        /// The changes.
+        /// The request's own change and its target.
         task: Task,
-        /// The round.
+        /// The sweep.
         sweep: Sweep,
         /// The entry's index.
         entry: u8,
     },
-    /// The change holds the word: exchange it for the value that the decision gives it.
+    /// The word is held for the target: exchanges it for the value that the decision gives it.
     Release {
-        /// The changes.
+        /// The request's own change and its target.
         task: Task,
-        /// The round.
+        /// The sweep.
         sweep: Sweep,
         /// The entry's index.
         entry: u8,
     },
-    /// The word's value names the slot: exchange it for the value alone.
+    /// The word's value names the target's slot: exchanges it for the plain value.
     Clean {
-        /// The changes.
+        /// The request's own change and its target.
         task: Task,
         /// The entry's index.
         entry: u8,
         /// The word's value.
         value: u64,
     },
-    /// The word is an attempt: load the row of its worker.
+    /// The word has an attempt: loads the row of the attempt's worker.
     SweepRow {
-        /// The changes.
+        /// The request's own change and its target.
         task: Task,
-        /// The round.
+        /// The sweep.
         sweep: Sweep,
         /// The entry's index.
         entry: u8,
-        /// The attempt that the word is.
+        /// The attempt in the word.
         attempt: Attempt,
     },
-    /// Load the word again, to see that the row was of its attempt.
+    /// Loads the word again, to confirm that the row belonged to the attempt.
     SweepConfirm {
-        /// The changes.
+        /// The request's own change and its target.
         task: Task,
-        /// The round.
+        /// The sweep.
         sweep: Sweep,
         /// The entry's index.
         entry: u8,
-        /// The attempt that the word was.
+        /// The attempt that was in the word.
         attempt: Attempt,
         /// The change that the row names.
         other: Slot,
     },
-    /// The attempt is for this change: exchange it for the expected value.
+    /// The attempt is for the target: exchanges it for the expected value.
     SweepResolve {
-        /// The changes.
+        /// The request's own change and its target.
         task: Task,
-        /// The round.
+        /// The sweep.
         sweep: Sweep,
         /// The entry's index.
         entry: u8,
-        /// The attempt that the word is.
+        /// The attempt in the word.
         attempt: Attempt,
     },
-    /// No word is held any more, and the change is made: call the file to settle it.
+    /// The target is made, and after the sweep no word is held for it: calls the file to settle it.
     Settle(Task),
-    /// Every word was looked at once, and the change is not made: call the file to cancel it. A word may
-    /// be held anew by then, so all are looked at again afterwards.
+    /// The target is refused, and the sweep looked at each word once: calls the file to cancel it. A word may
+    /// be held again by then, so another sweep follows.
     Cancel(Task),
-    /// Take one's pin back from a slot's gate.
+    /// Takes the request's pin back from a slot's gate.
     Unpin {
-        /// The slot, under the number by which it was pinned.
+        /// The slot, with the number under which it was pinned.
         slot: Slot,
         /// What follows.
         after: After,
     },
-    /// It was the last pin: store the gate as a free one, with the next number.
+    /// The pin was the last one: stores a free gate with the next number.
     FreeSlot {
-        /// The slot, under the number by which it was pinned.
+        /// The slot, with the number under which it was pinned.
         slot: Slot,
         /// What follows.
         after: After,
     },
-    /// The slot is free: count it off the tenant's door.
+    /// The slot is free: counts it off the tenant's door.
     LowerDoor(After),
-    /// The file failed, or no attempt number is left: load the status of one's own change. It tells the
-    /// reply where it says that the change is made, or that it isn't. The slot's pin stays.
+    /// The file failed, or no attempt number is left: loads the status of the request's own change. If the
+    /// status tells that the change is made or refused, it decides the reply. The pin of the slot stays.
     GiveUp {
-        /// One's own change.
+        /// The request's own change.
         own: Slot,
-        /// The reply where the status says neither that it is made nor that it isn't.
+        /// The reply if the status tells neither that the change is made nor that it is refused.
         undecided: Reply,
     },
-    /// The reply stands. The machine asks for loads of the door, and stays as it is.
+    /// The request has its reply. It asks for loads of the door, and changes no more.
     Replied(Reply),
 }

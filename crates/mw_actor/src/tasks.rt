@@ -1,20 +1,22 @@
-//! Where a request goes by what it knows of the changes that it works on.
+//! Where a request goes, by what it knows of its own change and its target.
+//!
+//! Called by `actor.rt` and its two parts. Each function is proved to go where `specs/Program` says, or a page of it.
 ghost use Rattle.std.specs.Prelude.{◌≡◌};
 ghost use Rattle.mw_words.specs.Patterns.{IsGateInRange};
 ghost use Rattle.mw_words.specs.declared.words.Word.TheVariants.{Dirty};
 ghost use Rattle.mw_actor.specs.declared.points.Point.TheVariants.{CheckThenResolve, Plant};
-ghost use Rattle.mw_actor.specs.Acting as acting;
-ghost use Rattle.mw_actor.specs.Finishing as spec;
-ghost use Rattle.mw_actor.specs.Helping as helping;
-ghost use Rattle.mw_actor.specs.Inspecting as inspecting;
-ghost use Rattle.mw_actor.specs.Sweeping as sweeping;
+ghost use Rattle.mw_actor.specs.ActorState as acting;
+ghost use Rattle.mw_actor.specs.RequestEnds as spec;
+ghost use Rattle.mw_actor.specs.Help as helping;
+ghost use Rattle.mw_actor.specs.Inspection as inspecting;
+ghost use Rattle.mw_actor.specs.ReleasePhase as sweeping;
 
 use crate::points::{After, Attempt, Point, Slot, Sweep, Task};
 use mw_pool::pin;
 use mw_words::{Gate, MAX_ENTRIES, MAX_VALUE, MAX_WORDS, Reply, Row, Status, WORN_NUMBER, Word};
 
 impl Slot {
-    /// The change that a row names.
+    /// Returns the change that a row names.
     pub fn of_row(row: Row) -> Slot
         ensures { result ≡ acting.row_slot row }
     {
@@ -24,7 +26,7 @@ impl Slot {
         }
     }
 
-    /// The change of a slot whose gate this is.
+    /// Returns the change of a slot with this gate.
     pub(crate) fn of_gate(slot: u8, gate: Gate) -> Slot
         ensures { result ≡ record { slot = slot; seq = gate.seq } }
     {
@@ -34,7 +36,7 @@ impl Slot {
         }
     }
 
-    /// The word that is held for the change.
+    /// Returns the word that is held for the change.
     pub fn held(self) -> Word
         ensures { result ≡ acting.held self }
     {
@@ -44,7 +46,7 @@ impl Slot {
         }
     }
 
-    /// The word that has this value from the change.
+    /// Returns the word that has this value from the change.
     pub fn dirty(self, value: u64) -> Word
         ensures { result ≡ Dirty self.slot value }
     {
@@ -56,7 +58,7 @@ impl Slot {
 }
 
 impl Attempt {
-    /// The word that stands for the attempt.
+    /// Returns the word that has this attempt.
     pub fn word(self) -> Word
         ensures { result ≡ acting.planted self }
     {
@@ -68,7 +70,7 @@ impl Attempt {
 }
 
 impl After {
-    /// The point that follows.
+    /// Returns the point that follows.
     pub fn resumed(self) -> Point
         ensures { result ≡ spec.resumed self }
     {
@@ -79,7 +81,8 @@ impl After {
         }
     }
 
-    /// What follows once the pin was taken back from this gate: the last pin's slot is freed.
+    /// Returns the point after the pin was taken back from this gate. If it was the last pin, the slot is
+    /// freed.
     pub fn unpinned(self, slot: Slot, gate: Gate) -> Point
         ensures { result ≡ spec.unpinned slot self gate }
     {
@@ -92,21 +95,21 @@ impl After {
 }
 
 impl Task {
-    /// One's own change alone is worked on.
+    /// Makes the task of a request that works on its own change.
     pub fn alone(own: Slot) -> Task
         ensures { result ≡ acting.alone own }
     {
         Task { own, target: own }
     }
 
-    /// Whether the change that is worked on is one's own.
+    /// Tells whether the target is the request's own change.
     pub fn is_alone(self) -> bool
         ensures { result ≡ acting.is_alone self }
     {
         self.target == self.own
     }
 
-    /// Where the work on the target begins: another's change is read first.
+    /// Returns where the work on the target begins. Another's change is read first.
     pub fn works(self) -> Point
         ensures { result ≡ spec.works self }
     {
@@ -117,7 +120,8 @@ impl Task {
         }
     }
 
-    /// Where the request goes to give up: it gives back the pin of another's change, and keeps its own.
+    /// Returns where the request goes to give up. It gives back the pin of another's change, and keeps its own
+    /// pin.
     pub fn gives_up(self, undecided: Reply) -> Point
         ensures { result ≡ spec.gives_up self undecided }
     {
@@ -132,8 +136,8 @@ impl Task {
         }
     }
 
-    /// Where the request goes once its target is done with: back to its own change, or, if that was
-    /// it, to the reply.
+    /// Returns where the request goes after its target is done: from another's back to its own change, from its
+    /// own to the reply.
     pub fn finishes(self, reply: Reply) -> Point
         ensures { result ≡ spec.finishes self reply }
     {
@@ -150,8 +154,8 @@ impl Task {
         }
     }
 
-    /// Where the request goes to work on a change that is its own or that it has just pinned. Another's
-    /// that was the target is unpinned first.
+    /// Returns where the request goes to work on a change that is its own, or that it has just pinned. It first
+    /// unpins another's change that was its target.
     pub fn turns_to(self, other: Slot) -> Point
         ensures { result ≡ helping.turns_to self other }
     {
@@ -169,8 +173,8 @@ impl Task {
         }
     }
 
-    /// Where the request goes where a change is in its way: its own is pinned already, and another's
-    /// is to be.
+    /// Returns where the request goes when a change is in its way. Its own change is pinned already; another's
+    /// must be pinned first.
     pub fn helps(self, other: Slot) -> Point
         ensures { result ≡ helping.helps self other }
     {
@@ -181,10 +185,10 @@ impl Task {
         }
     }
 
-    /// Where the request goes from the gate of another's change: to a pin, where the gate is taken
-    /// under that change's number and has a pin already. Else it looks at its target again, as it
-    /// does where the gate has all the pins that it can have or the number is [`WORN_NUMBER`], which
-    /// no number follows. The gate's fields are in range.
+    /// Returns where the request goes from the gate of another's change. If the gate is taken under that
+    /// change's number and has a pin, it goes to the pin. Else it looks at its target again. It also does so if
+    /// the gate has all the pins that it can have, or if the number is [`WORN_NUMBER`], which has no successor.
+    /// The gate's fields must be in range.
     pub fn other_gate_read(self, other: Slot, gate: Gate) -> Point
         requires { IsGateInRange gate }
         ensures { result ≡ helping.other_gate_read self other gate }
@@ -200,8 +204,8 @@ impl Task {
         }
     }
 
-    /// Where the request goes from the number of entries of another's change. It stays where no change
-    /// has so many.
+    /// Returns where the request goes from the number of entries of another's change. It stays if no change has
+    /// so many.
     pub fn count_read(self, count: u64) -> Point
         ensures { result ≡ helping.count_read self count }
     {
@@ -215,7 +219,7 @@ impl Task {
         }
     }
 
-    /// Where the request goes from an entry's address. It stays where no tenant has such a word.
+    /// Returns where the request goes from an entry's address. It stays if no tenant has such a word.
     pub fn addr_read(self, count: u8, addr: u64) -> Point
         ensures { result ≡ helping.addr_read self count addr }
     {
@@ -230,7 +234,7 @@ impl Task {
         }
     }
 
-    /// Where the request goes from the value that an entry expects. It stays where no word has it.
+    /// Returns where the request goes from the value that an entry expects. It stays if no word has it.
     pub fn expected_read(self, count: u8, addr: u16, expected: u64) -> Point
         ensures { result ≡ helping.expected_read self count addr expected }
     {
@@ -250,7 +254,7 @@ impl Task {
         }
     }
 
-    /// Where the work goes on, by the target's status.
+    /// Returns where the work goes on, by the target's status.
     pub fn status_read(self, status: Status) -> Point
         ensures { result ≡ inspecting.status_read self status }
     {
@@ -268,7 +272,7 @@ impl Task {
         }
     }
 
-    // A round over the target's words begins.
+    // Begins a sweep over the target's words.
     fn sweeps(self, sweep: Sweep) -> Point
         ensures { result ≡ sweeping.sweeps self sweep }
     {
@@ -279,8 +283,8 @@ impl Task {
         }
     }
 
-    /// Where the request goes to hold a word by the attempt of this number, or to give up where the
-    /// number is worn.
+    /// Returns where the request goes to hold a word by the attempt of this number. If the number is worn, it
+    /// gives up.
     pub fn attempts(self, entry: u8, number: u64) -> Point
         ensures { result ≡ inspecting.attempts self entry number }
     {
@@ -295,7 +299,7 @@ impl Task {
         }
     }
 
-    /// Where the request goes once its row names the entry: to the attempt of this number.
+    /// Returns where the request goes once its row names the entry: it plants the attempt of this number.
     pub(crate) fn plants(self, entry: u8, number: u64) -> Point
         ensures { result ≡ Plant self entry number }
     {
@@ -306,8 +310,8 @@ impl Task {
         }
     }
 
-    /// Where the request goes from a word that is an attempt for its target: to the target's status, on
-    /// which it rests what becomes of the attempt.
+    /// Returns where the request goes from a word with an attempt for its target: it loads the target's status,
+    /// which decides what becomes of the attempt.
     pub(crate) fn checks(self, entry: u8, attempt: Attempt) -> Point
         ensures { result ≡ CheckThenResolve self entry attempt }
     {
@@ -318,8 +322,8 @@ impl Task {
         }
     }
 
-    /// Where the request goes from a word that has its expected value from a change that is made, which
-    /// this slot names.
+    /// Returns where the request goes from a word that has its expected value, written by a change that this
+    /// slot has.
     pub fn dirty_seen(self, entry: u8, slot: u8, value: u64) -> Point
         ensures { result ≡ inspecting.dirty_seen self entry slot value }
     {
@@ -337,8 +341,8 @@ impl Task {
         }
     }
 
-    /// Where the request goes from a word that was an attempt, by the change that its row named. The
-    /// word has to be the same still.
+    /// Returns where the request goes from a word that had an attempt, given the change that the row named. It
+    /// goes on with that change only if the word still has the attempt.
     pub fn attempt_confirmed(self, entry: u8, attempt: Attempt, other: Slot, word: Word) -> Point
         ensures { result ≡ inspecting.attempt_confirmed self entry attempt other word }
     {
@@ -351,8 +355,8 @@ impl Task {
         }
     }
 
-    /// Where the request goes from the gate of a slot that a word's value named. It has to be taken,
-    /// with a pin; its number is the change's.
+    /// Returns where the request goes from the gate of a slot that a dirty word named. It goes on only if the
+    /// slot is taken and has a pin. The gate's number is then the change's.
     pub fn dirty_gate_read(self, entry: u8, slot: u8, value: u64, gate: Gate) -> Point
         ensures { result ≡ inspecting.dirty_gate_read self entry slot value gate }
     {
@@ -368,8 +372,8 @@ impl Task {
         }
     }
 
-    /// Where the request goes from a word whose value named another change's slot. The word has to be
-    /// the same still.
+    /// Returns where the request goes from a dirty word that named another change's slot. It goes on with that
+    /// change only if the word is still the same.
     pub fn dirty_confirmed(self, other: Slot, value: u64, word: Word) -> Point
         ensures { result ≡ inspecting.dirty_confirmed self other value word }
     {
@@ -380,7 +384,7 @@ impl Task {
         }
     }
 
-    /// Where the request goes once the file was called to seal or settle the target.
+    /// Returns where the request goes after a call on the file to seal or settle the target.
     pub fn filed(self, went_well: bool) -> Point
         ensures { result ≡ sweeping.filed self went_well }
     {

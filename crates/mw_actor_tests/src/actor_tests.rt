@@ -19,15 +19,15 @@ const WORD: At = At::Data {
     address: 6,
 };
 
-// It is held for slot 1 under number 7, and dirty by slot 1 with the value 8. The gate of that slot
-// has one pin. The held word and that gate have the same bits.
+// The word held for slot 1 under number 7, and dirty by slot 1 with the value 8. The gate of that slot has
+// one pin. The held word and that gate have the same bits.
 const HELD: u64 = 0x8001_0000_0000_0007;
 
 const DIRTY: u64 = 0xc001_0000_0000_0008;
 
 const TAKEN: u64 = 0x8001_0000_0000_0007;
 
-// It is attempt 9 of worker 2.
+// The word with attempt 9 of worker 2.
 const PLANTED: u64 = 0x4002_0000_0000_0009;
 
 fn load(at: At, found: u64) -> (Op, Got) {
@@ -47,7 +47,7 @@ fn file(call: Call, slot: u8, went_well: bool) -> (Op, Got) {
     (Op::File { call, slot }, Got::File(went_well))
 }
 
-// Whether the actor asks for these steps, in this order, and has no reply before they are made.
+// Tells whether the actor asks for these steps, in this order, and has no reply before they are made.
 fn follows(actor: &mut Actor, script: &[(Op, Got)]) -> bool {
     for (op, got) in script {
         if actor.ask() != *op || actor.reply().is_some() {
@@ -67,7 +67,8 @@ fn ends<R: Abort>(rt: &R, actor: &mut Actor, parts: &[&[(Op, Got)]], reply: Opti
     same(rt, &actor.reply(), &reply);
 }
 
-// Worker 2 is to change the word from 5 to 8, for tenant 3 with a quota of 4, in a pool of 2 slots.
+// Makes a request of worker 2 to change the word from 5 to 8, for tenant 3 with a quota of 4, in a pool of
+// 2 slots.
 fn change_of_one_word() -> Actor {
     let mut entries = Entries::new();
     entries.push(Entry {

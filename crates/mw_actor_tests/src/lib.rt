@@ -1,5 +1,5 @@
-//! Tests of the core's moves and machines: paths through the programs, and each public function once on its
-//! way. They stand apart from the crates that they test, so that those are proved once.
+//! Tests the core's moves and machines: paths through the programs, and each public function once. The
+//! tests are apart from the crates that they test, so that those are proved once.
 #![tactic(auto)]
 
 #[cfg(test)]

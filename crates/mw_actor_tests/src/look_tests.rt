@@ -76,8 +76,8 @@ fn new(entry: u8, value: u64) -> Play {
     load(At::New { slot: 3, entry }, value)
 }
 
-// Plays these steps from where the read is. Whether it asked for each of them, and none of them had
-// a reply before it.
+// Plays these steps from where the read is. Tells whether it asked for each of them, and had no reply
+// before any of them.
 fn plays(look: &mut Look, script: &[Play]) -> bool {
     for (asked, got) in script {
         if look.ask() != *asked || look.reply().is_some() {
@@ -88,7 +88,8 @@ fn plays(look: &mut Look, script: &[Play]) -> bool {
     true
 }
 
-// The reply of a read of word 7 of tenant 2 that asks for these steps. None if it asks for others.
+// Gives the reply of a read of word 7 of tenant 2 that asks for these steps, and None if it asks for
+// others.
 fn answer(script: &[Play]) -> Option<Reply> {
     let mut look = Look::new(2, 7);
     if plays(&mut look, script) {
@@ -98,12 +99,12 @@ fn answer(script: &[Play]) -> Option<Reply> {
     }
 }
 
-// A read that has come to its pin.
+// Gives the steps of a read that has come to its pin.
 fn pinned() -> [Play; 4] {
     [door(), load(WORD, HELD), load(GATE, ONE_PIN), pin(Got::Won)]
 }
 
-// A read that begins again, and finds the value 5.
+// Gives the steps of a read that begins again, and finds the value 5.
 fn again() -> [Play; 2] {
     [door(), load(WORD, PLAIN_5)]
 }

@@ -1,14 +1,15 @@
--- A book shows all files that say the same of what it keeps.
+-- A book that represents a file represents every file that is alike. Used by: mw_core, the law files_that_are_alike. Its
+-- statements may change with mw_core; its proofs may change freely.
 use Rattle.std.proofs.Common.{ℕ, List, length, sym, ap, subst, ◌∙◌}
 use Rattle.mw_words.specs.declared.jobs.Entry.{Entry}
 use Rattle.mw_disk.specs.Facts.{Facts}
 use Rattle.mw_record.specs.Layout.{pairs_of}
 use Rattle.mw_world_file.specs.Devices.{stage_told}
 use Rattle.mw_world_file.specs.Files.{Place, entries_in, is_empty}
-use Rattle.mw_book.specs.Alike.{ShowsAlike}
-use Rattle.mw_book.specs.Held.{StandsFor}
+use Rattle.mw_book.specs.Alike.{RepresentsAlike}
+use Rattle.mw_book.specs.OpenFile.{FileRecoversTo}
 
-pub shows_alike : {D : Type 0} (facts : D → Facts) → ShowsAlike facts
+pub shows_alike : {D : Type 0} (facts : D → Facts) → RepresentsAlike facts
 shows_alike facts book one other shows alike = record {
   same_words = ap length (sym alike.contents) ∙ shows.same_words;
   same_places = record {
@@ -20,6 +21,6 @@ shows_alike facts book one other shows alike = record {
   };
   same_place_of = λ slot low. sym (alike.same_place_of slot low) ∙ shows.same_place_of slot low;
   same_failed = sym alike.same_failed ∙ shows.same_failed;
-  stands = subst (λ (doubt : List Entry). StandsFor facts book.held other.contents (pairs_of doubt)) alike.same_doubt
-      (subst (λ (contents : List ℕ). StandsFor facts book.held contents (pairs_of one.doubt)) alike.contents shows.stands);
+  stands = subst (λ (doubt : List Entry). FileRecoversTo facts book.held other.contents (pairs_of doubt)) alike.same_doubt
+      (subst (λ (contents : List ℕ). FileRecoversTo facts book.held contents (pairs_of one.doubt)) alike.contents shows.stands);
 }

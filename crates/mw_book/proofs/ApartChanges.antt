@@ -1,4 +1,5 @@
--- Changes that have no word in common, and the change that may be sealed.
+-- If the world's file lets a prepared change be sealed, the open file lets it be sealed too. Used by: PermittedCalls. It may
+-- change freely as long as this crate checks.
 use Rattle.std.proofs.Common.{◌≡◌, ℕ, zero, suc, ◌<◌, ◌==◌, ◌&&◌, ◌||◌, not, Bool, true, false, List, [], ◌∷◌, refl, sym, ap, ◌∙◌, inl, inr, arith}
 use Rattle.std.specs.List.{list_any}
 use Rattle.std.proofs.lemmas.Bool.{cases_eq, cases_lt, and_parts, or_cases, eqb-true}
@@ -10,9 +11,9 @@ use Rattle.mw_file.specs.declared.place_states.Stage.TheVariants.{Free as FreeSt
 use Rattle.mw_file.specs.PlaceStates.{MaySeal}
 use Rattle.mw_world_file.specs.Devices.{stage_told}
 use Rattle.mw_world_file.specs.Files.{File, Place, Empty, Prepared, Sealed, is_empty, is_prepared, is_sealed, entries_in, entries_at, share_a_word, is_apart}
-use Rattle.mw_book.specs.Shown.{ArePlaced}
+use Rattle.mw_book.specs.Representation.{ArePlaced}
 
--- the test of all places, at one of them
+-- what the test says of all places it says of each
 apart_at : (file : File) (entries : List Entry) (n k : ℕ) → is_apart file entries n ≡ true → k < n → not (is_sealed (file.places k) && share_a_word entries (entries_at file k)) ≡ true
 apart_at file entries zero k all lt = absurd (let e : ⊥ = omega (arith, lt) in e)
 apart_at file entries (suc n) k all lt =
@@ -22,7 +23,7 @@ apart_at file entries (suc n) k all lt =
       | inr other ↦ apart_at file entries n k both.0 (omega (arith, lt, other))
     ]
 
--- an address among the entries of a change
+-- the change has an address among its entries
 holds_word : (entries : List Entry) (a : ℕ) → holds (pairs_of entries) a ≡ list_any (λ other. other.addr == a) entries
 holds_word [] a = refl
 holds_word (e ∷ entries) a = ap (λ b. (e.addr == a) || b) (holds_word entries a)
@@ -61,7 +62,7 @@ busy_prepared Empty is = absurd (let e : false ≡ true = is in cc)
 busy_prepared (Prepared entries) is = refl
 busy_prepared (Sealed entries) is = refl
 
--- a place that is told as prepared, or as sealed
+-- the stage of a prepared place, and of a sealed one
 pub prepared_stage : (p : Place) → is_prepared p ≡ true → stage_told p ≡ PreparedStage
 prepared_stage Empty is = absurd (let e : false ≡ true = is in cc)
 prepared_stage (Prepared entries) is = refl
@@ -72,7 +73,7 @@ sealed_stage Empty is = absurd (let e : false ≡ true = is in cc)
 sealed_stage (Prepared entries) is = absurd (let e : false ≡ true = is in cc)
 sealed_stage (Sealed entries) is = refl
 
--- the change of a prepared place, apart from the sealed ones, may be sealed
+-- if no sealed place shares a word with a prepared change, the change may be sealed
 pub may_seal : (states : List PlaceState) (places : ℕ) (file : File) (place : ℕ) → ArePlaced states places file.places → place < places
     → is_prepared (file.places place) ≡ true → is_apart file (entries_at file place) places ≡ true → MaySeal states place
 may_seal states places file place placed within prepared all = record {

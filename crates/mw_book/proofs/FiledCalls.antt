@@ -1,4 +1,5 @@
--- Calls on a book that are made, and calls in which the device fails.
+-- Each call on a book ends as its contract says, if the call on the file goes well and if the device fails in it.
+-- Used by: the proofs of all calls of Book. It may change freely as long as this crate checks.
 use Rattle.std.proofs.Common.{◌≡◌, ℕ, ◌+◌, ◌<◌, ◌≤◌, Bool, true, false, List, [], length, Some, Result, Ok, Err, is_err, slice_set, nat_le, IsTrue, refl, sym, ap, subst, ◌∙◌, arith}
 use Rattle.std.proofs.lemmas.Bool.{and_from, le-leb}
 use Rattle.std.proofs.lemmas.Option.{same_Some}
@@ -20,7 +21,7 @@ use Rattle.mw_file.specs.declared.tenant_file.TenantFile.{TenantFile}
 use Rattle.mw_file.specs.declared.tenant_file.FileFault.{FileFault}
 use Rattle.mw_file.specs.declared.tenant_file.FileFault.TheVariants.{Disk, Failed}
 use Rattle.mw_file.specs.File.{disk_of, states_of, has_failed, WentWell, MetFault, Ends as FileEnds}
-use Rattle.mw_file.specs.Keeps.{Keeps, CrashSafe, ContentsStay, ChangeIsSealed}
+use Rattle.mw_file.specs.RecoveryInvariant.{RecoversTo, CrashSafe, ContentsStay, ChangeIsSealed}
 use Rattle.mw_file.specs.PlaceStates.{is_free_stage, free_place, stage_of, writes_of_place, IsStaged}
 use Rattle.mw_world_file.specs.Calls.{fails_on, place_for, device_calls, is_made, doubt_of}
 use Rattle.mw_world_file.specs.Crashes.{at_stake}
@@ -29,24 +30,24 @@ use Rattle.mw_world_file.specs.Maps.{upd}
 use Rattle.mw_world_file.proofs.KeptPlaces.{set_number}
 use Rattle.mw_book.specs.declared.answers.Filed.{Filed}
 use Rattle.mw_book.specs.declared.answers.Filed.TheVariants.{Made, Broken, Untouched}
-use Rattle.mw_book.specs.declared.kept.Book.{Book}
+use Rattle.mw_book.specs.declared.book.Book.{Book}
 use Rattle.mw_book.specs.Answers.{is_refused, NoFault, OneFault}
 use Rattle.mw_book.specs.Crashes.{LeavesEither}
 use Rattle.mw_book.specs.Ends.{FailedAt}
-use Rattle.mw_book.specs.Filed.{IsFiled}
+use Rattle.mw_book.specs.CallOutcome.{IsFiled}
 use Rattle.mw_book.specs.Permits.{HasPlace}
-use Rattle.mw_book.specs.Held.{states_in, disk_in}
-use Rattle.mw_book.specs.Shown.{ArePlaced, Shows, HasParts, place_at}
+use Rattle.mw_book.specs.OpenFile.{states_in, disk_in}
+use Rattle.mw_book.specs.Representation.{ArePlaced, Represents, HasParts, place_at}
 use Rattle.mw_book.proofs.FoundPlaces.{found_at}
-use Rattle.mw_book.proofs.ShownFiles.{shows_parts, on_disk, on_same, leaves_either, untouched, there_held, failed_as, placed_in, keeps_in, certain, same_place, place_within, writes_called, as_many}
+use Rattle.mw_book.proofs.RepresentedFiles.{shows_parts, on_disk, on_same, leaves_either, untouched, there_held, failed_as, placed_in, keeps_in, certain, same_place, place_within, writes_called, as_many}
 use Rattle.mw_book.proofs.StagedPlaces.{placed_on, placed_as}
 
--- a call that is known by another name
+-- the same fact, if the call is known by another name
 pub filed_as : {D : Type 0} (facts : D → Facts) (call other : Call) (slot : ℕ) (entries : List Entry) (old new : Book D) (result : Filed) → call ≡ other → IsFiled facts other slot entries old new result
     → IsFiled facts call slot entries old new result
 filed_as facts call other slot entries old new result same is = subst (λ k. IsFiled facts k slot entries old new result) (sym same) is
 
--- a call that is no cancel is refused where the book has failed
+-- a call that is not a cancel is refused exactly if the book has failed
 refused_so : (call : Call) (failed : Bool) → (call ≡ CancelCall → ⊥) → is_refused call failed ≡ failed
 refused_so PrepareCall failed other = refl
 refused_so SealCall failed other = refl
@@ -66,26 +67,26 @@ refused facts call slot entries old failed fails other = record {
   places = refl;
 }
 
--- a call that answered no Ok on a file that hadn't failed met the fault
+-- a call that answered an error on a file that hadn't failed met a fault
 pub met_fault : {D T : Type 0} (facts : D → Facts) (calls : ℕ) (held now : TenantFile D) (r : Result T FileFault) → is_err r ≡ true → has_failed held ≡ false → FileEnds facts calls held now r
     → MetFault facts calls held now
 met_fault facts calls held now (Ok x) bad sound ends = absurd (let e : false ≡ true = bad in cc)
 met_fault facts calls held now (Err Disk) bad sound ends = ends
 met_fault facts calls held now (Err Failed) bad sound ends = absurd (let e : true ≡ false = sym ends.before ∙ sound in cc)
 
--- what a seal leaves, by its answer
+-- what a crash after a seal leaves, by the answer of the seal
 sealed_well : {D : Type 0} (facts : D → Facts) (held now : TenantFile D) (w : Pairs) (r : Result (Unit {0}) FileFault) → is_err r ≡ false → ChangeIsSealed facts held now w r
-    → IsTrue (facts (disk_of held)).honest → (contents : List ℕ) (doubt : Pairs) → Keeps facts held contents doubt → CrashSafe facts held now contents w (put_pairs w contents) []
+    → IsTrue (facts (disk_of held)).honest → (contents : List ℕ) (doubt : Pairs) → RecoversTo facts held contents doubt → CrashSafe facts held now contents w (put_pairs w contents) []
 sealed_well facts held now w (Ok x) well safe honest contents doubt keeps = safe honest contents doubt keeps
 sealed_well facts held now w (Err fault) well safe honest contents doubt keeps = absurd (let e : true ≡ false = well in cc)
 
 sealed_badly : {D : Type 0} (facts : D → Facts) (calls : ℕ) (held now : TenantFile D) (w : Pairs) (r : Result (Unit {0}) FileFault) → is_err r ≡ true → has_failed held ≡ false → FileEnds facts calls held now r
-    → ChangeIsSealed facts held now w r → IsTrue (facts (disk_of held)).honest → (contents : List ℕ) (doubt : Pairs) → Keeps facts held contents doubt → CrashSafe facts held now contents w contents w
+    → ChangeIsSealed facts held now w r → IsTrue (facts (disk_of held)).honest → (contents : List ℕ) (doubt : Pairs) → RecoversTo facts held contents doubt → CrashSafe facts held now contents w contents w
 sealed_badly facts calls held now w (Ok x) bad sound ends safe honest contents doubt keeps = absurd (let e : false ≡ true = bad in cc)
 sealed_badly facts calls held now w (Err Disk) bad sound ends safe honest contents doubt keeps = safe honest contents doubt keeps
 sealed_badly facts calls held now w (Err Failed) bad sound ends safe honest contents doubt keeps = absurd (let e : true ≡ false = sym ends.before ∙ sound in cc)
 
--- the number of the call that failed is one of them
+-- the number of the call that failed is one of the run's
 failed_within : (calls well : ℕ) → well < calls → is_made calls (well + 1) ≡ true
 failed_within calls well fewer = and_from (nat_le 1 (well + 1)) (nat_le (well + 1) calls) (le-leb 1 (well + 1) (omega arith)) (le-leb (well + 1) calls (omega (arith, fewer)))
 
@@ -94,18 +95,18 @@ pub busy_in : {D : Type 0} (old : Book D) (held : TenantFile D) (slot : ℕ) (st
     → is_free_stage (stage_of (states_of held) (place_at old slot)) ≡ false
 busy_in old held slot stage is_old at busy = ap (λ h. is_free_stage (stage_of (states_in h) (place_at old slot))) (sym is_old) ∙ ap is_free_stage at ∙ busy
 
--- The file in memory that the old book holds has become the one that the new book holds.
+-- The old book holds one open file, and the new book holds what a call made of it.
 module _ {D : Type 0} (facts : D → Facts) (old new : Book D) (held now : TenantFile D) (is_old : old.held ≡ Some held) (later : Later (facts (disk_of held)) (facts (disk_of now))) where
-  -- what it stands for is asked on a disk that is honest still
-  still : (contents : List ℕ) (doubt : Pairs) → (IsTrue (facts (disk_of held)).honest → Keeps facts now contents doubt) → IsTrue (facts (disk_of now)).honest → Keeps facts now contents doubt
+  -- the disk is still honest, so a fact of an honest disk may be used
+  still : (contents : List ℕ) (doubt : Pairs) → (IsTrue (facts (disk_of held)).honest → RecoversTo facts now contents doubt) → IsTrue (facts (disk_of now)).honest → RecoversTo facts now contents doubt
   still contents doubt keeps honest = keeps (was_honest (facts (disk_of held)) (facts (disk_of now)) later honest)
 
-  -- a device call of it failed
+  -- a device call failed
   module _ (parts : HasParts new (Some now) old.words old.places old.place_of true) (sound : old.has_failed ≡ false) (calls : ℕ) (met : MetFault facts calls held now)
       (call : Call) (slot : ℕ) (entries : List Entry) (other : call ≡ CancelCall → ⊥) (fails : (file : File) → fails_on call file ≡ file.has_failed) where
-    pub broke : ((file : File) → Shows facts old file → calls ≡ device_calls call (entries_at file (place_for call file old.places slot)))
-        → ((file : File) → Shows facts old file → IsTrue (facts (disk_of held)).honest → Keeps facts now file.contents (pairs_of (doubt_of call (entries_at file (place_for call file old.places slot)))))
-        → ((file : File) → Shows facts old file → LeavesEither file.contents (at_stake call file (place_for call file old.places slot)) (facts (disk_of held)) (facts (disk_of now)))
+    pub broke : ((file : File) → Represents facts old file → calls ≡ device_calls call (entries_at file (place_for call file old.places slot)))
+        → ((file : File) → Represents facts old file → IsTrue (facts (disk_of held)).honest → RecoversTo facts now file.contents (pairs_of (doubt_of call (entries_at file (place_for call file old.places slot)))))
+        → ((file : File) → Represents facts old file → LeavesEither file.contents (at_stake call file (place_for call file old.places slot)) (facts (disk_of held)) (facts (disk_of now)))
         → IsFiled facts call slot entries old new Broken
     broke many keeps leaves = record {
       ends = λ file shows.
@@ -135,19 +136,19 @@ module _ {D : Type 0} (facts : D → Facts) (old new : Book D) (held now : Tenan
       places = parts.is_places;
     }
 
-  -- a call that leaves the words, and the change in doubt
+  -- a call that keeps the words and the change in doubt
   module _ (safe : ContentsStay facts held now) where
-    stays : (file : File) → Shows facts old file → IsTrue (facts (disk_of held)).honest → CrashSafe facts held now file.contents (pairs_of file.doubt) file.contents (pairs_of file.doubt)
+    stays : (file : File) → Represents facts old file → IsTrue (facts (disk_of held)).honest → CrashSafe facts held now file.contents (pairs_of file.doubt) file.contents (pairs_of file.doubt)
     stays file shows honest = safe honest file.contents (pairs_of file.doubt) (keeps_in facts old held is_old file shows honest)
 
-    stays_safe : (file : File) → Shows facts old file → LeavesEither file.contents file.doubt (facts (disk_of held)) (facts (disk_of now))
+    stays_safe : (file : File) → Represents facts old file → LeavesEither file.contents file.doubt (facts (disk_of held)) (facts (disk_of now))
     stays_safe file shows honest = leaves_either (facts (disk_of held)) (facts (disk_of now)) (length (states_of held)) file.contents file.doubt (stays file shows honest).moments
 
-    stays_certain : old.has_failed ≡ false → (file : File) → Shows facts old file → IsTrue (facts (disk_of held)).honest → Keeps facts now file.contents []
+    stays_certain : old.has_failed ≡ false → (file : File) → Represents facts old file → IsTrue (facts (disk_of held)).honest → RecoversTo facts now file.contents []
     stays_certain sound file shows honest =
-        subst (λ doubt. Keeps facts now file.contents doubt) (certain facts old held is_old file shows sound honest) (stays file shows honest).after
+        subst (λ doubt. RecoversTo facts now file.contents doubt) (certain facts old held is_old file shows sound honest) (stays file shows honest).after
 
-    -- a prepare
+    -- a prepare in which the device failed
     pub prepare_broken : (slot : ℕ) (entries : List Entry) → HasParts new (Some now) old.words old.places old.place_of true → old.has_failed ≡ false → MetFault facts 2 held now
         → IsFiled facts PrepareCall slot entries old new Broken
     prepare_broken slot entries parts sound met =
@@ -164,7 +165,7 @@ module _ {D : Type 0} (facts : D → Facts) (old new : Book D) (held now : Tenan
           record {
             began = shows.same_failed ∙ sound;
             made = on_disk facts (Good 2) old.held new.held held now is_old parts.is_held went.made;
-            shows = subst (λ p. Shows facts new (prepared file slot p entries)) (sym same)
+            shows = subst (λ p. Represents facts new (prepared file slot p entries)) (sym same)
                 (shows_parts facts new (Some now) old.words old.places (slice_set old.place_of slot place) old.has_failed (prepared file slot place entries) parts (record {
                   same_words = shows.same_words;
                   same_places = placed_on (states_of held) (states_of now) old.places place file.places (Prepared entries) PreparedStage (pairs_of entries) placed staged (let lt = room.within in omega (arith, one, lt)) refl (λ busy. refl);
@@ -181,13 +182,13 @@ module _ {D : Type 0} (facts : D → Facts) (old new : Book D) (held now : Tenan
       places = parts.is_places;
     }
 
-    -- A place that is empty again.
+    -- A settle or a cancel, after which the place is free.
     module _ (slot : ℕ) (within : slot < MAX_POOL) (busy : is_free_stage (stage_of (states_of held) (place_at old slot)) ≡ false) (w : Pairs)
         (staged : IsStaged (states_of held) (states_of now) (place_at old slot) FreeStage w) (parts : HasParts new (Some now) old.words old.places old.place_of old.has_failed) where
-      emptied_shown : (file : File) → Shows facts old file → Shows facts new (emptied file (file.place_of slot))
+      emptied_shown : (file : File) → Represents facts old file → Represents facts new (emptied file (file.place_of slot))
       emptied_shown file shows =
           let place : ℕ = place_at old slot in
-          subst (λ p. Shows facts new (emptied file p)) (sym (same_place facts old held is_old file shows slot within busy))
+          subst (λ p. Represents facts new (emptied file p)) (sym (same_place facts old held is_old file shows slot within busy))
           (shows_parts facts new (Some now) old.words old.places old.place_of old.has_failed (emptied file place) parts (record {
             same_words = shows.same_words;
             same_places = placed_on (states_of held) (states_of now) old.places place file.places Empty FreeStage w (placed_in facts old held is_old file shows) staged
@@ -239,10 +240,10 @@ module _ {D : Type 0} (facts : D → Facts) (old new : Book D) (held now : Tenan
         broke parts sound (length (writes_of_place (states_of held) (place_at old slot)) + 3) met SettleCall slot entries (λ is. let e : SettleCall ≡ CancelCall = is in cc) (λ file. refl)
         (λ file shows. ap (λ n. n + 3) (as_many facts old held is_old file shows slot within busy)) (stays_certain sound) stays_safe
 
-  -- A seal.
+  -- A seal, by its answer.
   module _ (slot : ℕ) (within : slot < MAX_POOL) (busy : is_free_stage (stage_of (states_of held) (place_at old slot)) ≡ false) (sound : old.has_failed ≡ false) (r : Result (Unit {0}) FileFault)
       (safe : ChangeIsSealed facts held now (writes_of_place (states_of held) (place_at old slot)) r) where
-    safe_as : (file : File) → Shows facts old file → ChangeIsSealed facts held now (pairs_of (entries_at file (file.place_of slot))) r
+    safe_as : (file : File) → Represents facts old file → ChangeIsSealed facts held now (pairs_of (entries_at file (file.place_of slot))) r
     safe_as file shows = subst (λ w. ChangeIsSealed facts held now w r) (writes_called facts old held is_old file shows slot within busy) safe
 
     pub seal_broken : (entries : List Entry) → is_err r ≡ true → FileEnds facts 2 held now r → HasParts new (Some now) old.words old.places old.place_of true → IsFiled facts SealCall slot entries old new Broken
@@ -250,7 +251,7 @@ module _ {D : Type 0} (facts : D → Facts) (old new : Book D) (held now : Tenan
         broke parts sound 2 (met_fault facts 2 held now r bad (failed_as facts old held is_old ∙ sound) ends) SealCall slot entries (λ is. let e : SealCall ≡ CancelCall = is in cc) (λ file. refl)
         (λ file shows. refl) (λ file shows honest. (left file shows honest).after)
         (λ file shows honest. leaves_either (facts (disk_of held)) (facts (disk_of now)) (length (states_of held)) file.contents (entries_at file (file.place_of slot)) (left file shows honest).moments) where
-          left : (file : File) → Shows facts old file → IsTrue (facts (disk_of held)).honest
+          left : (file : File) → Represents facts old file → IsTrue (facts (disk_of held)).honest
               → CrashSafe facts held now file.contents (pairs_of (entries_at file (file.place_of slot))) file.contents (pairs_of (entries_at file (file.place_of slot)))
           left file shows honest =
               sealed_badly facts 2 held now (pairs_of (entries_at file (file.place_of slot))) r bad (failed_as facts old held is_old ∙ sound) ends (safe_as file shows) honest
@@ -272,18 +273,18 @@ module _ {D : Type 0} (facts : D → Facts) (old new : Book D) (held now : Tenan
       words = parts.is_words;
       places = parts.is_places;
     } where
-      done : (file : File) → Shows facts old file → IsTrue (facts (disk_of held)).honest
+      done : (file : File) → Represents facts old file → IsTrue (facts (disk_of held)).honest
           → CrashSafe facts held now file.contents (pairs_of (entries_at file (file.place_of slot))) (put_pairs (pairs_of (entries_at file (file.place_of slot))) file.contents) []
       done file shows honest =
           sealed_well facts held now (pairs_of (entries_at file (file.place_of slot))) r well (safe_as file shows) honest
           file.contents (pairs_of file.doubt) (keeps_in facts old held is_old file shows honest)
 
-      stands : (file : File) (shows : Shows facts old file) → IsTrue (facts (disk_of held)).honest → Keeps facts now (put file.contents (entries_at file (file.place_of slot))) (pairs_of file.doubt)
+      stands : (file : File) (shows : Represents facts old file) → IsTrue (facts (disk_of held)).honest → RecoversTo facts now (put file.contents (entries_at file (file.place_of slot))) (pairs_of file.doubt)
       stands file shows honest =
-          subst (λ doubt. Keeps facts now (put file.contents (entries_at file (file.place_of slot))) doubt) (sym (certain facts old held is_old file shows sound honest))
-          (subst (λ words. Keeps facts now words []) (sym (put-put_pairs (entries_at file (file.place_of slot)) file.contents)) (done file shows honest).after)
+          subst (λ doubt. RecoversTo facts now (put file.contents (entries_at file (file.place_of slot))) doubt) (sym (certain facts old held is_old file shows sound honest))
+          (subst (λ words. RecoversTo facts now words []) (sym (put-put_pairs (entries_at file (file.place_of slot)) file.contents)) (done file shows honest).after)
 
-      shown : (file : File) → Shows facts old file → Shows facts new (sealed file (file.place_of slot))
+      shown : (file : File) → Represents facts old file → Represents facts new (sealed file (file.place_of slot))
       shown file shows =
           let at = same_place facts old held is_old file shows slot within busy in
           let es : List Entry = entries_at file (file.place_of slot) in

@@ -1,4 +1,5 @@
--- The lowest empty place of a file, as the file in memory finds it.
+-- The lowest free place of the open file is the lowest empty place of the file that the book represents. Used by: FiledCalls,
+-- NewBooks, PermittedCalls, the proof of Book::has_place. It may change freely as long as this crate checks.
 use Rattle.std.proofs.Common.{◌≡◌, ℕ, zero, suc, ◌+◌, ◌<◌, ◌≤◌, ◌||◌, Bool, true, false, List, [], ◌∷◌, length, take, Option, Some, None, nat_lt, if◌then◌else◌, refl, sym, ap, subst, ◌∙◌, inl, inr, arith}
 use Rattle.std.specs.List.{list_any}
 use Rattle.std.proofs.lemmas.Bool.{cond-true, cond-false, lt-ltb, le-ltb, ltb-true, cases_Bool}
@@ -7,11 +8,11 @@ use Rattle.mw_file.specs.declared.place_states.Stage.TheVariants.{Free}
 use Rattle.mw_file.specs.PlaceStates.{is_free_stage, is_free, free_from, free_place, stage_of}
 use Rattle.mw_world_file.specs.Devices.{stage_told}
 use Rattle.mw_book.specs.Permits.{HasPlace}
-use Rattle.mw_book.specs.Shown.{ArePlaced}
+use Rattle.mw_book.specs.Representation.{ArePlaced}
 use Rattle.mw_world_file.specs.Files.{File, Place, Empty, Prepared, Sealed, is_empty, empty_from}
 
--- The first empty place of so many from a first one on is the first free one of all, where that is one of these; else it is the place
--- past the last of these, and free if there is one.
+-- What the open file found tells the lowest empty one of the `left` places from `first` on: it is the place that was found, or the one
+-- past them if none was found.
 abbrev pub Finds : File → ℕ → ℕ → Option ℕ → Type 0
 Finds file first left None = empty_from file first left ≡ first + left
 Finds file first left (Some place) = empty_from file first left ≡ place
@@ -27,7 +28,7 @@ free_told Empty = refl
 free_told (Prepared entries) = refl
 free_told (Sealed entries) = refl
 
--- the first so many places from a first one on are as far as a file says, and all further ones are free
+-- the first places have the stages that a file says of its places from `first` on, and all further ones are free
 record AreFrom (states : List PlaceState) (file : File) (first left : ℕ) : Type 0 where
   there : left ≤ length states
   stages : (k : ℕ) → k < left → stage_of states k ≡ stage_told (file.places (first + k))
@@ -69,7 +70,7 @@ any_from (s ∷ states) file first (suc left) are = elim (cases_Bool (is_free s)
       ∙ ap (λ n. nat_lt (empty_from file (first + 1) left) n) same ∙ ap (λ n. nat_lt n (first + suc left)) (sym at)
 ]
 
--- the first free place, where one of the first so many is free
+-- the lowest free place is one of the first places
 record IsFree (states : List PlaceState) (first left : ℕ) : Type 0 where
   place : ℕ
   free : free_from first states ≡ Some place
@@ -90,7 +91,7 @@ free_among (s ∷ states) first (suc left) any = elim (cases_Bool (is_free s)) [
       }
 ]
 
--- the lowest free place is one of the first so many, where one of these is free
+-- if one of the first places is free, the lowest free place is one of them
 pub has_place_among : (states : List PlaceState) (places : ℕ) → list_any is_free (take places states) ≡ true → HasPlace states places
 has_place_among states places any =
     let found = free_among states 0 places any in
@@ -107,11 +108,11 @@ module _ (states : List PlaceState) (places : ℕ) (file : File) (there : places
   by : (found : Option ℕ) → free_place states ≡ found → Finds file 0 places found
   by found is = subst (λ f. Finds file 0 places f) is (finds_from states file 0 places are)
 
-  -- the place that is found is the lowest empty one
+  -- the place that the file finds is the lowest empty one
   pub found_at : (place : ℕ) → free_place states ≡ Some place → empty_from file 0 places ≡ place
   found_at place found = by (Some place) found
 
-  -- where one of them is empty, the lowest free one is that one
+  -- if one of the places is empty, the lowest free place is the lowest empty one
   pub found_where_empty : nat_lt (empty_from file 0 places) places ≡ true → free_place states ≡ Some (empty_from file 0 places)
   found_where_empty empty = at (free_place states) refl where
     at : (found : Option ℕ) → free_place states ≡ found → free_place states ≡ Some (empty_from file 0 places)
@@ -120,6 +121,6 @@ module _ (states : List PlaceState) (places : ℕ) (file : File) (there : places
         absurd (let lt = ltb-true (empty_from file 0 places) places empty in let e : ⊥ = omega (arith, past, lt) in e)
     at (Some place) found = found ∙ ap Some (sym (by (Some place) found))
 
-  -- one of them is free where one is empty
+  -- one of the places is free exactly if one is empty
   pub any_free : list_any is_free (take places states) ≡ nat_lt (empty_from file 0 places) places
   any_free = any_from states file 0 places are ∙ ap (nat_lt (empty_from file 0 places)) (let e : 0 + places ≡ places = omega arith in e)

@@ -4,5 +4,5 @@ pub mod FiledCalls
 pub mod FoundPlaces
 pub mod NewBooks
 pub mod PermittedCalls
-pub mod ShownFiles
+pub mod RepresentedFiles
 pub mod StagedPlaces

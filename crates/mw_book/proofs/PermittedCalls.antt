@@ -1,4 +1,5 @@
--- A book takes the calls that can be made on a file which it shows.
+-- If a call can be made on a file, it may be made on a book that represents the file. Used by: mw_core, the law calls_that_can_be_made.
+-- They use `permits` alone, at the end; the rest may be changed freely.
 use Rattle.std.proofs.Common.{◌≡◌, ℕ, ◌<◌, ◌≤◌, ◌&&◌, true, false, List, length, Option, Some, None, nat_lt, refl, sym, ap, subst, ◌∙◌}
 use Rattle.std.proofs.lemmas.Bool.{and_parts, ltb-true}
 use Rattle.mw_words.specs.declared.limits.TheConstants.{MAX_POOL}
@@ -12,20 +13,20 @@ use Rattle.mw_file.specs.declared.place_states.Stage.TheVariants.{Prepared as Pr
 use Rattle.mw_file.specs.PlaceStates.{stage_of, MaySeal}
 use Rattle.mw_world_file.specs.Calls.{fails_on, place_for, can_be_made}
 use Rattle.mw_world_file.specs.Files.{File, empty_from, is_prepared, is_sealed, is_apart, entries_at}
-use Rattle.mw_book.specs.declared.kept.Book.{Book}
-use Rattle.mw_book.specs.Held.{states_in, places_in, has_failed_in}
+use Rattle.mw_book.specs.declared.book.Book.{Book}
+use Rattle.mw_book.specs.OpenFile.{states_in, places_in, has_failed_in}
 use Rattle.mw_book.specs.Permits.{MayCall, HasRoom, PermitsCalls}
-use Rattle.mw_book.specs.Shown.{Shows, place_at}
+use Rattle.mw_book.specs.Representation.{Represents, place_at}
 use Rattle.mw_book.proofs.ApartChanges.{may_seal, prepared_stage, sealed_stage}
 use Rattle.mw_book.proofs.FoundPlaces.{found_where_empty}
 
--- so many places are there, where there is a file
+-- a file that has not failed is open, so it has the places that the book uses
 there_in : {D : Type 0} (held : Option (TenantFile D)) (places : ℕ) → has_failed_in held ≡ false → places ≤ places_in places held → places ≤ length (states_in held)
 there_in None places sound room = absurd (let e : true ≡ false = sound in cc)
 there_in (Some file) places sound room = room
 
-module _ {D : Type 0} (facts : D → Facts) (book : Book D) (file : File) (slot : ℕ) (within : slot < MAX_POOL) (shows : Shows facts book file) where
-  -- the file says the same place
+module _ {D : Type 0} (facts : D → Facts) (book : Book D) (file : File) (slot : ℕ) (within : slot < MAX_POOL) (shows : Represents facts book file) where
+  -- the file and the book name the same place
   same_place : file.place_of slot ≡ place_at book slot
   same_place = shows.same_place_of slot within
 

@@ -1,4 +1,5 @@
--- The places of a file after one of them has gone on.
+-- If one place of the open file and the same place of the world's file get a new stage, the places still match. Used by:
+-- FiledCalls. It may change freely as long as this crate checks.
 use Rattle.std.proofs.Common.{◌≡◌, ◌<◌, ℕ, false, List, sym, ap, subst, ◌∙◌, inl, inr, arith}
 use Rattle.std.proofs.lemmas.Bool.{cases_eq}
 use Rattle.mw_record.specs.Records.{Pairs}
@@ -10,11 +11,11 @@ use Rattle.mw_world_file.specs.Devices.{stage_told}
 use Rattle.mw_world_file.specs.Files.{Place, is_empty, entries_in}
 use Rattle.mw_world_file.specs.Maps.{upd}
 use Rattle.mw_world_file.proofs.KeptPlaces.{upd_here, upd_there}
-use Rattle.mw_book.specs.Shown.{ArePlaced}
+use Rattle.mw_book.specs.Representation.{ArePlaced}
 
 module _ (old new : List PlaceState) (places number : ℕ) (at : ℕ → Place) (p : Place) (stage : Stage) (w : Pairs)
     (placed : ArePlaced old places at) (staged : IsStaged old new number stage w) (within : number < places) where
-  -- one place has gone on, in the file in memory and in what it is told as
+  -- one place has a new stage in both files
   pub placed_on : stage ≡ stage_told p → (is_empty p ≡ false → w ≡ pairs_of (entries_in p)) → ArePlaced new places (upd at number p)
   placed_on is writes = record {
     stages = λ k lt. elim (cases_eq k number) [
@@ -32,6 +33,6 @@ module _ (old new : List PlaceState) (places number : ℕ) (at : ℕ → Place) 
     ];
   }
 
--- places that are as they were
+-- places that are what they were
 pub placed_as : (old new : List PlaceState) (places : ℕ) (at : ℕ → Place) → new ≡ old → ArePlaced old places at → ArePlaced new places at
 placed_as old new places at same placed = subst (λ states. ArePlaced states places at) (sym same) placed

@@ -1,12 +1,13 @@
--- Files that a book can't tell apart.
+-- Which files a book can't tell apart.
+-- Used by: the contracts of laws.rt. A change here changes the law files_that_are_alike.
 use Rattle.std.specs.Prelude.{ℕ, ◌≡◌, ◌<◌}
 use Rattle.mw_words.specs.declared.limits.TheConstants.{MAX_POOL}
 use Rattle.mw_disk.specs.Facts.{Facts}
 use Rattle.mw_world_file.specs.Files.{File}
-use Rattle.mw_book.specs.declared.kept.Book.{Book}
-use Rattle.mw_book.specs.Shown.{Shows}
+use Rattle.mw_book.specs.declared.book.Book.{Book}
+use Rattle.mw_book.specs.Representation.{Represents}
 
--- Two files say the same of so many places, and of the slots that there can be; and of all else.
+-- Two files are alike if they are equal in the first places, in the places of the slots that there can be, and in all else.
 pub record IsAlike (places : ℕ) (one other : File) : Type 0 where
   pub contents : one.contents ≡ other.contents
   pub same_places : (place : ℕ) → place < places → one.places place ≡ other.places place
@@ -14,6 +15,6 @@ pub record IsAlike (places : ℕ) (one other : File) : Type 0 where
   pub same_failed : one.has_failed ≡ other.has_failed
   pub same_doubt : one.doubt ≡ other.doubt
 
--- A book that shows a file shows every one like it.
-abbrev pub ShowsAlike : {D : Type 0} → (D → Facts) → Type 0
-ShowsAlike {D} facts = (book : Book D) (one other : File) → Shows facts book one → IsAlike book.places one other → Shows facts book other
+-- If a book represents a file, it represents every file that is alike.
+abbrev pub RepresentsAlike : {D : Type 0} → (D → Facts) → Type 0
+RepresentsAlike {D} facts = (book : Book D) (one other : File) → Represents facts book one → IsAlike book.places one other → Represents facts book other

@@ -1,4 +1,6 @@
--- What a crash in the midst of a call on a book leaves.
+-- What a crash during a call on a book, or between two calls, leaves.
+-- Used by: CallOutcome, mw_core, mw_engine, the contracts of calls.rt and laws.rt. A change here changes what is promised of a
+-- crash during a call.
 use Rattle.std.specs.Prelude.{ℕ, List, IsTrue}
 use Rattle.mw_words.specs.declared.jobs.Entry.{Entry}
 use Rattle.mw_look.specs.declared.steps.Call.{Call}
@@ -9,28 +11,29 @@ use Rattle.mw_world_file.specs.Crashes.{IsFileOfEither, at_stake}
 use Rattle.mw_world_file.specs.Files.{File}
 use Rattle.mw_book.specs.declared.answers.Filed.{Filed}
 use Rattle.mw_book.specs.declared.answers.Filed.TheVariants.{Made, Broken, Untouched}
-use Rattle.mw_book.specs.declared.kept.Book.{Book}
-use Rattle.mw_book.specs.Held.{disk_in, OnDisk}
-use Rattle.mw_book.specs.Shown.{Shows}
+use Rattle.mw_book.specs.declared.book.Book.{Book}
+use Rattle.mw_book.specs.OpenFile.{disk_in, OnDisk}
+use Rattle.mw_book.specs.Representation.{Represents}
 
--- Whenever a crash came between these two moments of an honest disk, it left a file of these words, or of these with this change put
--- over them.
+-- If the disk is honest, a crash at any moment between these two leaves a file of these words, or of these with this change put over
+-- them.
 abbrev pub LeavesEither : List ℕ → List Entry → Facts → Facts → Type 0
 LeavesEither words change old new = IsTrue old.honest → LeavesOnly old new (IsFileOfEither words change)
 
--- the change at stake while a call about a place is made: the one that is sealed, else the one that is in doubt, if there is one
+-- The change at stake in a call on a place: the one that the call seals, else the one in doubt, if there is one. If the call did
+-- nothing, it is the one in doubt.
 abbrev pub stake_of : Filed → Call → File → ℕ → List Entry
 stake_of Untouched call file place = file.doubt
 stake_of Made call file place = at_stake call file place
 stake_of Broken call file place = at_stake call file place
 
--- Whenever a crash came since the call on this book began, it left a file of the words before the call, or of these with the change at
--- stake put over them.
+-- A crash at any moment since the call began left a file of the words before the call, or of these with the change at stake put over
+-- them. This holds of each file that the book represented before the call.
 abbrev pub IsCrashSafe : {D : Type 0} → (D → Facts) → Call → ℕ → Book D → Book D → Filed → Type 0
-IsCrashSafe facts call slot old new result = (file : File) → Shows facts old file
+IsCrashSafe facts call slot old new result = (file : File) → Represents facts old file
     → OnDisk facts (LeavesEither file.contents (stake_of result call file (place_for call file old.places slot))) (disk_in old.held) (disk_in new.held)
 
--- A crash between two calls on a book leaves of an honest disk a file of the words of every file that the book shows, or of these with
--- its change in doubt put over them.
+-- On an honest disk, a crash between two calls leaves a file of the words that the book represents, or of these with the change in
+-- doubt put over them.
 abbrev pub LeavesWords : {D : Type 0} → (D → Facts) → Type 0
-LeavesWords {D} facts = (book : Book D) (file : File) → Shows facts book file → OnDisk facts (LeavesEither file.contents file.doubt) (disk_in book.held) (disk_in book.held)
+LeavesWords {D} facts = (book : Book D) (file : File) → Represents facts book file → OnDisk facts (LeavesEither file.contents file.doubt) (disk_in book.held) (disk_in book.held)

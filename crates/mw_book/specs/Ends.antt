@@ -1,4 +1,6 @@
--- How a call on a book ends, for a file that the book showed.
+-- How a call on a book ends, for each file that the book represented before it.
+-- Used by: CallOutcome, mw_core, the contracts of calls.rt. A change here changes what a call promises of the file as the world
+-- knows it.
 use Rattle.std.specs.Prelude.{◌≡◌, ◌+◌, ℕ, true, false, List}
 use Rattle.mw_words.specs.declared.jobs.Entry.{Entry}
 use Rattle.mw_look.specs.declared.steps.Call.{Call}
@@ -8,39 +10,39 @@ use Rattle.mw_world_file.specs.Calls.{fails_on, place_for, device_calls, is_made
 use Rattle.mw_world_file.specs.Files.{File, entries_at, broken}
 use Rattle.mw_book.specs.declared.answers.Filed.{Filed}
 use Rattle.mw_book.specs.declared.answers.Filed.TheVariants.{Made, Broken, Untouched}
-use Rattle.mw_book.specs.declared.kept.Book.{Book}
-use Rattle.mw_book.specs.Held.{disk_in, OnDisk}
-use Rattle.mw_book.specs.Shown.{Shows}
+use Rattle.mw_book.specs.declared.book.Book.{Book}
+use Rattle.mw_book.specs.OpenFile.{disk_in, OnDisk}
+use Rattle.mw_book.specs.Representation.{Represents}
 
--- A run of so many device calls went well up to the one with this number, counted from 1; that one failed, and none was made after it.
--- The outcomes of an honest disk tell the number. Of any other disk it is some number of these calls.
+-- A run of so many device calls failed at the call with this number, counted from 1. The calls before it went well, and none was made
+-- after it. The outcomes of an honest disk tell the number. Of any other disk it is the number of some call of the run.
 pub record FailedAt (calls number : ℕ) (old new : Facts) : Type 0 where
   pub failed : Bad calls old new
   pub at : failed.well + 1 ≡ number
 
 module _ {D : Type 0} (facts : D → Facts) (call : Call) (slot : ℕ) (entries : List Entry) (file : File) (old new : Book D) where
-  -- the place that the call is about, and how many device calls it makes
+  -- the place that the call is for, and how many device calls it makes
   abbrev pub place_called : ℕ
   place_called = place_for call file old.places slot
 
   abbrev pub calls_to_make : ℕ
   calls_to_make = device_calls call (entries_at file place_called)
 
-  -- The call was made: all its device calls went well, as an honest disk counts them, and the book shows the file after it.
+  -- The call was made. All its device calls went well, as an honest disk counts them, and the book represents the file after the call.
   pub record WasMade : Type 0 where
     pub began : fails_on call file ≡ false
     pub made : OnDisk facts (Good calls_to_make) (disk_in old.held) (disk_in new.held)
-    pub shows : Shows facts new (filed call file slot place_called entries)
+    pub shows : Represents facts new (filed call file slot place_called entries)
 
-  -- One of its device calls failed, and the book shows the file that has failed so.
+  -- One of the device calls failed, and the book represents the file after this failure.
   pub record WasBroken : Type 0 where
     pub began : fails_on call file ≡ false
     pub number : ℕ
     pub within : is_made calls_to_make number ≡ true
     pub made : OnDisk facts (FailedAt calls_to_make number) (disk_in old.held) (disk_in new.held)
-    pub shows : Shows facts new (broken file (doubt_of call (entries_at file place_called)))
+    pub shows : Represents facts new (broken file (doubt_of call (entries_at file place_called)))
 
-  -- The file had failed before. Nothing was done.
+  -- The file had failed before, and the call did nothing.
   pub record WasRefused : Type 0 where
     pub refused : fails_on call file ≡ true
     pub same : new ≡ old

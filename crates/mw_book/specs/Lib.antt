@@ -2,7 +2,7 @@ pub mod Alike
 pub mod Answers
 pub mod Crashes
 pub mod Ends
-pub mod Filed
-pub mod Held
+pub mod CallOutcome
+pub mod OpenFile
 pub mod Permits
-pub mod Shown
+pub mod Representation

@@ -1,4 +1,5 @@
--- Which calls a book takes.
+-- Which calls may be made on a book.
+-- Used by: mw_core, the contracts of calls.rt, laws.rt and queries.rt. A change here changes when a caller may make a call.
 use Rattle.std.specs.Prelude.{◌≡◌, ◌<◌, ℕ, true, false, List, Some, IsTrue}
 use Rattle.mw_words.specs.declared.limits.TheConstants.{MAX_POOL}
 use Rattle.mw_words.specs.declared.jobs.Entry.{Entry}
@@ -11,31 +12,32 @@ use Rattle.mw_file.specs.declared.place_states.Stage.TheVariants.{Prepared, Seal
 use Rattle.mw_file.specs.PlaceStates.{free_place, stage_of, MaySeal}
 use Rattle.mw_world_file.specs.Calls.{fails_on, place_for, can_be_made}
 use Rattle.mw_world_file.specs.Files.{File}
-use Rattle.mw_book.specs.declared.kept.Book.{Book}
-use Rattle.mw_book.specs.Held.{states_in}
-use Rattle.mw_book.specs.Shown.{Shows, place_at}
+use Rattle.mw_book.specs.declared.book.Book.{Book}
+use Rattle.mw_book.specs.OpenFile.{states_in}
+use Rattle.mw_book.specs.Representation.{Represents, place_at}
 
--- one of so many places is the lowest free one
+-- the lowest free place is one of the first `places` places
 pub record HasPlace (states : List PlaceState) (places : ℕ) : Type 0 where
   pub place : ℕ
   pub free : free_place states ≡ Some place
   pub within : place < places
 
--- there is a place for a change, and these entries are a well-formed one of so many words
+-- one of the first places is free, and these entries are a well-formed change of so many words
 pub record HasRoom (states : List PlaceState) (places words : ℕ) (entries : List Entry) : Type 0 where
   pub room : HasPlace states places
   pub formed : IsTrue (is_change words entries)
 
 module _ {D : Type 0} where
-  -- A call may be made for the change of a slot: on a book that has failed any but a cancel, since nothing is done; else one that the
-  -- slot's place suits, and a prepare where there is room for its change.
+  -- A call may be made for the change of a slot. A prepare needs a free place and a well-formed change. A seal needs a change that the
+  -- file may seal, a settle a sealed one, a cancel a prepared one. On a book that has failed every call but a cancel may be made,
+  -- because it does nothing.
   abbrev pub MayCall : Book D → Call → ℕ → List Entry → Type 0
   MayCall book PrepareCall slot entries = book.has_failed ≡ false → HasRoom (states_in book.held) book.places book.words entries
   MayCall book SealCall slot entries = book.has_failed ≡ false → MaySeal (states_in book.held) (place_at book slot)
   MayCall book SettleCall slot entries = book.has_failed ≡ false → stage_of (states_in book.held) (place_at book slot) ≡ Sealed
   MayCall book CancelCall slot entries = stage_of (states_in book.held) (place_at book slot) ≡ Prepared
 
--- What can be made on a file may be called on a book that shows it.
+-- If a call can be made on a file, it may be made on each book that represents the file.
 abbrev pub PermitsCalls : {D : Type 0} → (D → Facts) → Type 0
-PermitsCalls {D} facts = (book : Book D) (file : File) (call : Call) (slot : ℕ) (entries : List Entry) → slot < MAX_POOL → Shows facts book file
+PermitsCalls {D} facts = (book : Book D) (file : File) (call : Call) (slot : ℕ) (entries : List Entry) → slot < MAX_POOL → Represents facts book file
     → (fails_on call file ≡ false → can_be_made call file book.places (place_for call file book.places slot) entries ≡ true) → MayCall book call slot entries

@@ -1,12 +1,15 @@
-//! What a call on a tenant's file comes to.
+//! How a call on a tenant's file ended.
+//!
+//! A call on a book gives it, and mw_core tells the request by it whether the call went well. A new way to end needs
+//! a case in `specs/Answers` and `specs/Ends`, and in mw_core.
 
-/// What a call on a tenant's file comes to.
+/// How a call on a tenant's file ended.
 #[derive(Clone, Copy, Debug, PartialEq, Eq)]
 pub enum Filed {
     /// The call was made: all its device calls went well.
     Made,
-    /// A device call of it failed, the last that was made. The file has failed from now on.
+    /// One of its device calls failed, and it was the last one. From now on the file has failed.
     Broken,
-    /// The file had failed before. Nothing was done.
+    /// The file had failed before. The call did nothing.
     Untouched,
 }

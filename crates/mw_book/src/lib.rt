@@ -1,24 +1,28 @@
-//! A tenant's file as running threads keep it: the file itself, on any disk, beside the place of each
-//! slot's change.
+//! A tenant's open file as running threads keep it: the file itself, on any disk, and the place of each slot's
+//! change.
 //!
-//! A call on it is made in place, by whoever holds the tenant's lock, and tells whether the device failed.
-//! From the first failure on nothing but a cancel is done, until the file is opened again.
+//! Whoever holds the tenant's lock makes the calls on it. Each call tells whether the device failed. After the
+//! first failure only a cancel does anything, until the file is opened again.
 //!
-//! A book shows files, as the world's definitions know them (`File` of `mw_world_file`): the words, the
-//! places with their changes, the place of each slot, whether the file has failed, and the change in
-//! doubt. For every file that a book showed before a call it shows afterwards the file that the world
-//! has after that call, whether the device failed or not; and a call that the world can make may be made
-//! here. What is said of bytes, of how many device calls were made, and of which one failed, is said of a
-//! disk that keeps the model of [`mw_disk::Disk`]; what is said of answers and of faults, of every disk.
+//! A book represents files as the world's definitions know them (`File` of `mw_world_file`): the words, the
+//! places with their changes, the place of each slot, whether the file has failed, and the change in doubt. If
+//! a book represents a file before a call, it represents after the call the file that the world has then,
+//! whether the device failed or not. A call that the world can make on the file may be made on the book.
+//!
+//! What is said of bytes, of the number of device calls, and of which one failed holds on a disk that keeps the
+//! model of [`mw_disk::Disk`]. What is said of answers and of faults holds on every disk.
+//!
+//! mw_engine keeps a book for each tenant under its lock, and mw_core makes the calls. A change of a contract changes
+//! what mw_core is promised of the file.
 #![tactic(auto)]
 
 mod answers;
-mod filing;
-mod kept;
+mod book;
+mod calls;
 mod laws;
-mod making;
-mod telling;
+mod new_books;
+mod queries;
 
 pub use answers::Filed;
-pub use kept::Book;
+pub use book::Book;
 pub use laws::{calls_that_can_be_made, crash_between_calls, files_that_are_alike};

@@ -1,5 +1,5 @@
 pub mod Widths
 pub mod Printed
-pub mod Replying
-pub mod Sending
-pub mod Asking
+pub mod ReplyTexts
+pub mod RequestLineLaws
+pub mod Retries

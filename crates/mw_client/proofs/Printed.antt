@@ -1,4 +1,5 @@
--- The text of an entry, as it is printed.
+-- An entry and a GET that are printed piece by piece have the text that the grammar gives them. Used by: the proofs of
+-- put_entry and put_get. They use entry_from and get_from.
 use Rattle.std.proofs.Common.{◌≡◌, ℕ, ◌^◌, ◌<◌, ◌≤◌, ◌++◌, List, [], ◌∷◌, decimal, sym, ap, ap₂, ◌∙◌, arith, append_assoc}
 use Rattle.std.specs.Prelude.{codes}
 use Rattle.mw_words.specs.declared.jobs.Entry.{Entry}

@@ -1,4 +1,4 @@
--- How long numbers are, once printed.
+-- A printed value has at most 15 digits, and a printed address at most 5. Used by: the proofs of mw_client.
 use Rattle.std.proofs.Common.{ℕ, ◌^◌, ◌<◌, ◌≤◌, length, decimal, arith}
 use Rattle.std.proofs.lemmas.Fmt.{length-decimal-le}
 

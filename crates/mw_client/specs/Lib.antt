@@ -1,3 +1,3 @@
-pub mod Sending
-pub mod Reading
-pub mod Talking
+pub mod RequestLines
+pub mod ReplyGrammar
+pub mod Exchanges

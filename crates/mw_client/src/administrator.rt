@@ -1,8 +1,11 @@
 //! A client of the administrator.
+//!
+//! `wire` makes one by a socket. A new call of the administrator belongs here, and what it sends and reads in
+//! `specs/Exchanges`.
 ghost use Rattle.std.specs.Prelude.{◌≡◌, true, false, Err, IfOk, IfSome};
 ghost use Rattle.mw_line.specs.declared.requests.Request.TheVariants.{Admin};
 ghost use Rattle.mw_line.specs.declared.replies.Say.TheVariants.{OkAdmin};
-ghost use Rattle.mw_client.specs.Talking.{Exchanged, Reported};
+ghost use Rattle.mw_client.specs.Exchanges.{Exchanged, Reported};
 
 use crate::conversation::exchange;
 use crate::meanings::Failure;
@@ -12,24 +15,24 @@ use mw_line::{Request, Say};
 use mw_report::Figures;
 use std::io::{Read, Write};
 
-/// A session for the administrator, who may ask how all tenants are. It holds a worker of the server until its
-/// connection is closed.
+/// A session for the administrator, who may ask how all tenants are. It holds a worker of the server until
+/// its connection is closed.
 #[derive(Drop)]
 pub struct Administrator<R, W> {
-    /// Where the replies come from, a byte at a time.
+    /// The reader of the replies. It is asked for a byte at a time.
     pub reader: R,
-    /// Where the lines go. What it takes is sent at once.
+    /// The writer of the lines. It must send at once what it takes.
     pub writer: W,
-    /// Whether the connection stands. Of a closed client each call fails, and nothing is sent.
+    /// Whether the connection is open. After it is closed each call fails, and nothing is sent.
     pub connected: bool,
 }
 
 impl<R: Read + Drop, W: Write + Drop> Administrator<R, W> {
-    /// Speaks for the administrator, as the first line of a session.
+    /// Begins a session for the administrator, by its first line.
     ///
     /// # Errors
     ///
-    /// [`Failure::Refused`] where the server refuses the line; [`Failure::Lost`]. The connection is closed.
+    /// [`Failure::Refused`] if the server refuses the line, or [`Failure::Lost`]. The connection is closed.
     pub fn begin(reader: R, writer: W) -> Result<Administrator<R, W>, Failure>
         ensures bound { IfOk result (λ client. Exchanged (R.remaining reader) (R.remaining client.reader)
             (W.contents writer) (W.contents client.writer) Admin OkAdmin) }
@@ -47,13 +50,14 @@ impl<R: Read + Drop, W: Write + Drop> Administrator<R, W> {
         }
     }
 
-    /// The report: of each tenant its name, its words, its quota, how many places its file has, how many slots it uses
-    /// and whether its file takes changes; and how many slots of the pool are free. These figures are just what the text
-    /// tells that came.
+    /// Asks for the report. It tells, for each tenant, its name, its words, its quota, how many places its
+    /// file has, how many slots it uses, and whether its file takes changes. It also tells how many slots
+    /// of the pool are free. The text that came is just the report of these figures.
     ///
     /// # Errors
     ///
-    /// [`Failure::Closed`]: nothing was sent. [`Failure::Lost`], also where what came isn't the text of a report.
+    /// [`Failure::Closed`]: nothing was sent. [`Failure::Lost`], also if what came isn't the text of a
+    /// report.
     pub fn report(&mut self) -> Result<Figures, Failure>
         ensures closed { self.old.connected ≡ false → (result ≡ Err Failure.Closed) × (self.new ≡ self.old) }
         ensures told { IfOk result (Reported (R.remaining self.old.reader) (R.remaining self.new.reader)

@@ -1,12 +1,16 @@
 //! A client of one tenant.
+//!
+//! `wire.rt` makes clients over sockets; programs use those, as mw_load does. What a call promises is said with
+//! `specs/Exchanges`, and what a reply means is in `meanings.rt`. `docs/CLIENTS.md` describes these calls for users:
+//! change it with them.
 ghost use Rattle.std.specs.Prelude.{◌≡◌, true, false, Ok, Err, IfOk, IfSome, IsTrue};
 ghost use Rattle.std.specs.List.{list_all};
 ghost use Rattle.mw_words.specs.declared.jobs.Job.TheVariants.{Get, Cas};
 ghost use Rattle.mw_line.specs.declared.requests.Request.TheVariants.{Tenant, Job as AskedJob};
 ghost use Rattle.mw_line.specs.declared.replies.Say.TheVariants.{Ok as Bound};
-ghost use Rattle.mw_client.specs.Sending.{IsSendable};
-ghost use Rattle.mw_client.specs.Talking as spec;
-ghost use Rattle.mw_client.specs.Talking.{Exchanged, IsAnswered, IsAnsweredAtLast, IsConfirmed};
+ghost use Rattle.mw_client.specs.RequestLines.{IsSendable};
+ghost use Rattle.mw_client.specs.Exchanges as spec;
+ghost use Rattle.mw_client.specs.Exchanges.{Exchanged, IsAnswered, IsAnsweredAtLast, IsConfirmed};
 
 use crate::conversation::exchange;
 use crate::meanings::{Failure, Outcome, is_busy, outcome_told, value_told};
@@ -16,27 +20,27 @@ use mw_words::{Entries, Entry, Job, MAX_WORDS, Name, copy_of, copy_of_name, is_n
 use std::io::{Read, Write};
 use std::time::{Clock, Duration};
 
-/// A session for one tenant, whose words it reads and changes. It holds a worker of the server until its
-/// connection is closed.
+/// A session for one tenant, which reads and changes the tenant's words. It holds a worker of the server
+/// until its connection is closed.
 #[derive(Drop)]
 pub struct Client<R, W> {
-    /// Where the replies come from, a byte at a time.
+    /// The reader of the replies. It is asked for a byte at a time.
     pub reader: R,
-    /// Where the lines go. What it takes is sent at once.
+    /// The writer of the lines. It must send at once what it takes.
     pub writer: W,
-    /// How many words the tenant has, from 1 to [`MAX_WORDS`]. Its addresses are below.
+    /// How many words the tenant has, from 1 to [`MAX_WORDS`]. Each address is below this number.
     pub words: u16,
-    /// Whether the connection stands. Of a closed client each call fails, and nothing is sent.
+    /// Whether the connection is open. After it is closed each call fails, and nothing is sent.
     pub connected: bool,
 }
 
 impl<R: Read + Drop, W: Write + Drop> Client<R, W> {
-    /// Speaks for the tenant of this name, as the first line of a session.
+    /// Begins a session for the tenant of this name, by its first line.
     ///
     /// # Errors
     ///
-    /// [`Failure::Argument`] where it is no name, and nothing was sent; [`Failure::Refused`] where no
-    /// tenant has the name; [`Failure::Lost`]. The connection is closed.
+    /// [`Failure::Argument`] if it isn't a name; nothing was sent. [`Failure::Refused`] if no tenant has
+    /// the name, or [`Failure::Lost`]. The connection is closed.
     pub fn begin(reader: R, writer: W, name: &Name) -> Result<Client<R, W>, Failure>
         ensures bound { IfOk result (λ client. Exchanged (R.remaining reader) (R.remaining client.reader)
             (W.contents writer) (W.contents client.writer) (Tenant name.now) (Bound client.words)) }
@@ -59,11 +63,11 @@ impl<R: Read + Drop, W: Write + Drop> Client<R, W> {
         }
     }
 
-    /// The value of the word at an address, which is durable.
+    /// Reads the word at an address. The value is durable.
     ///
     /// # Errors
     ///
-    /// [`Failure::Argument`] where the tenant has no such word, [`Failure::Closed`]: nothing was sent.
+    /// [`Failure::Argument`] if the tenant has no such word, and [`Failure::Closed`]: nothing was sent.
     /// [`Failure::Lost`], [`Failure::Fault`].
     pub fn get(&mut self, address: u16) -> Result<u64, Failure>
         ensures closed { self.old.connected ≡ false → (result ≡ Err Failure.Closed) × (self.new ≡ self.old) }
@@ -90,15 +94,14 @@ impl<R: Read + Drop, W: Write + Drop> Client<R, W> {
         told
     }
 
-    /// Compares and swaps: writes each entry's new value if all the words have the values that are
-    /// expected of them, and nothing otherwise. Where the server is busy it isn't asked again.
+    /// Compares and swaps: writes each entry's new value if all words have their expected values, and
+    /// writes nothing otherwise. If the server is busy, it doesn't ask again.
     ///
     /// # Errors
     ///
-    /// [`Failure::Argument`] where the entries are no change of this tenant, [`Failure::Closed`]:
-    /// nothing was sent. [`Failure::Busy`], [`Failure::Refused`]: nothing was changed.
-    /// [`Failure::MadeOrNot`], [`Failure::Fault`], [`Failure::Worn`]: it was made or not, wholly or not
-    /// at all.
+    /// [`Failure::Argument`] if the entries are no change of this tenant, and [`Failure::Closed`]: nothing
+    /// was sent. [`Failure::Busy`], [`Failure::Refused`]: nothing was changed. [`Failure::MadeOrNot`],
+    /// [`Failure::Fault`], [`Failure::Worn`]: the change was made or not, wholly or not at all.
     pub fn try_cas(&mut self, entries: &Entries) -> Result<Outcome, Failure>
         ensures closed { self.old.connected ≡ false → (result ≡ Err Failure.Closed) × (self.new ≡ self.old) }
         ensures argument { self.old.connected ≡ true → spec.may_ask self.old.words (Cas entries.now) ≡ false
@@ -119,8 +122,9 @@ impl<R: Read + Drop, W: Write + Drop> Client<R, W> {
         self.change(entries, &Request::Job(job))
     }
 
-    /// The same, but where the server is busy it is asked again, with pauses that grow, until this much
-    /// time has gone by. Where it is busy still, that is [`Failure::Busy`].
+    /// Compares and swaps as [`Client::try_cas`] does. If the server is busy, it asks again, with pauses
+    /// that grow, until the time `patience` has passed. If the server is still busy then, it gives
+    /// [`Failure::Busy`].
     ///
     /// # Errors
     ///
@@ -174,17 +178,17 @@ impl<R: Read + Drop, W: Write + Drop> Client<R, W> {
     }
 
     /// Reads several words, all as they were at one moment: as many as a change may have, at rising
-    /// addresses. Gives an entry for each, with the value that the word had as what it expects and as what
-    /// it writes: these entries as a change, which changes nothing, were answered `YES`.
+    /// addresses. Gives an entry for each word, whose expected value and new value are both the word's.
+    /// These entries, as a change that changes nothing, were answered `YES`.
     ///
-    /// The values are guessed one by one, then confirmed by that change. So this costs the server's disk
-    /// as much as a change does, and a single word is better read by [`Client::get`]. Guesses that have
-    /// gone stale are mended and confirmed anew, with pauses that grow, until this much time has gone by.
+    /// It first reads the words one by one, and then asks for that change. So it costs the server's disk as
+    /// much as a change; read a single word by [`Client::get`]. If a value is no longer right, it corrects
+    /// it and asks again, with pauses that grow, until the time `patience` has passed.
     ///
     /// # Errors
     ///
-    /// [`Failure::Argument`] where these are no addresses of a change, [`Failure::Closed`]: nothing was
-    /// sent. [`Failure::Busy`] where the server was busy, or the words kept changing, for so long.
+    /// [`Failure::Argument`] if these are not addresses of a change, and [`Failure::Closed`]: nothing was
+    /// sent. [`Failure::Busy`] if the server was busy, or the words kept changing, for so long.
     /// [`Failure::Lost`], [`Failure::Fault`], [`Failure::Worn`], [`Failure::Refused`]. Nothing was changed.
     pub fn read<K: Clock>(
         &mut self,
@@ -213,7 +217,7 @@ impl<R: Read + Drop, W: Write + Drop> Client<R, W> {
         Err(Failure::Busy)
     }
 
-    /// The words at these addresses, read one by one, as entries that change nothing.
+    /// Reads the words at these addresses one by one. Gives them as entries that change nothing.
     fn guess(&mut self, addresses: &[u16]) -> Result<Entries, Failure>
         ensures { IfOk result (λ seen. IsTrue (list_all spec.keeps seen.items)) }
     {
@@ -273,14 +277,15 @@ impl<R: Read + Drop, W: Write + Drop> Client<R, W> {
     }
 }
 
-/// Whether a tenant with so many words may ask for this, whatever that number is.
+/// Tells whether a tenant with so many words may ask for this job, also if no tenant can have so many
+/// words.
 fn may_ask(words: u16, job: &Job) -> bool
     ensures { result ≡ spec.may_ask words job.now }
 {
     job.is_well_formed(usize::from(MAX_WORDS)) && job.is_well_formed(usize::from(words))
 }
 
-/// An entry for each address, with no values; None where a change has no room for so many.
+/// Makes an entry for each address, without values. Gives None if a change has no room for so many.
 fn blank(addresses: &[u16]) -> Option<Entries> {
     let mut entries = Entries::new();
     for address in addresses {
@@ -296,7 +301,7 @@ fn blank(addresses: &[u16]) -> Option<Entries> {
     Some(entries)
 }
 
-/// Puts an entry behind the others that keeps this value, where there is room for it.
+/// Appends an entry that expects and writes this value, if there is room for it.
 fn note(seen: &mut Entries, addr: u16, value: u64)
     requires { IsTrue (list_all spec.keeps seen.old.items) }
     ensures { IsTrue (list_all spec.keeps seen.new.items) }
@@ -308,7 +313,7 @@ fn note(seen: &mut Entries, addr: u16, value: u64)
     });
 }
 
-/// The entries, with this value for the word at an address.
+/// Gives the entries with this value for the word at an address.
 fn mended(seen: &Entries, addr: u16, value: u64) -> Entries
     ensures { IsTrue (list_all spec.keeps result.items) }
 {

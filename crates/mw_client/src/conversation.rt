@@ -1,10 +1,12 @@
-//! A request over a connection, and its reply.
+//! Sends a request over a connection, and reads its reply.
+//!
+//! Used by: `administrator`, `client`, `report`, mw_load.
 ghost use Rattle.std.specs.Prelude.{◌≡◌, ◌++◌, [], ◌∷◌, codes, IfSome};
 ghost use Rattle.std.specs.Io.KnownBytes.{Consumes};
 ghost use Rattle.mw_line.specs.Replies.{text_of};
-ghost use Rattle.mw_client.specs.Sending.{IsSendable};
-ghost use Rattle.mw_client.specs.Reading.{IsReply};
-ghost use Rattle.mw_client.specs.Talking.{Exchanged};
+ghost use Rattle.mw_client.specs.RequestLines.{IsSendable};
+ghost use Rattle.mw_client.specs.ReplyGrammar.{IsReply};
+ghost use Rattle.mw_client.specs.Exchanges.{Exchanged};
 
 use crate::replies::read_reply;
 use crate::requests::request_text;
@@ -15,12 +17,12 @@ use std::io::{Read, Write};
 /// The byte that ends a line.
 pub(crate) const LINE_FEED: u8 = b'\n';
 
-/// Sends a request and reads its reply, of one line: any request but that for a report. Where nothing
-/// comes this waits, for as long as the reader does. The reader is asked for a byte at a time, so it
-/// should be one with a buffer.
+/// Sends a request and reads its reply of one line. It is for any request but that for a report. If nothing
+/// comes it waits as long as the reader does. It asks the reader for a byte at a time, so the reader should
+/// have a buffer.
 ///
-/// None where the line could not be sent whole, no line came whole, or the line is no reply. What was
-/// sent and read then isn't known, so the connection is of no use any more.
+/// Gives None if the line couldn't be sent whole, no whole line came, or the line is no reply. Then it
+/// isn't known what was sent and read, so the connection must not be used again.
 pub fn exchange<R: Read, W: Write>(reader: &mut R, writer: &mut W, request: &Request) -> Option<Say>
     requires { IsSendable request.now }
     ensures { IfSome result (Exchanged (R.remaining reader.old) (R.remaining reader.new)
@@ -33,7 +35,7 @@ pub fn exchange<R: Read, W: Write>(reader: &mut R, writer: &mut W, request: &Req
     next_reply(reader)
 }
 
-/// Reads the next reply. None where no line came whole, or the line is none.
+/// Reads the next reply. Gives None if no whole line came, or the line is no reply.
 pub fn next_reply<R: Read>(reader: &mut R) -> Option<Say>
     ensures heard { IfSome result (λ said. Consumes (R.remaining reader.old) (R.remaining reader.new) (text_of said)) }
     ensures reply { IfSome result IsReply }
@@ -44,7 +46,7 @@ pub fn next_reply<R: Read>(reader: &mut R) -> Option<Say>
     read_reply(&line)
 }
 
-/// Reads the next line, and gives it without its line feed. None where the reader ends or fails before,
+/// Reads the next line, and gives it without its line feed. Gives None if the reader ends or fails before,
 /// or the line is longer than a reply may be.
 fn next_line<R: Read>(reader: &mut R) -> Option<ArrayVec<u8, MAX_REPLY>>
     ensures { IfSome result (λ line. Consumes (R.remaining reader.old) (R.remaining reader.new) (line.items ++ codes "\n")) }
@@ -60,7 +62,7 @@ fn next_line<R: Read>(reader: &mut R) -> Option<ArrayVec<u8, MAX_REPLY>>
     None
 }
 
-/// Reads the next byte. None where the reader ends or fails before.
+/// Reads the next byte. Gives None if the reader ends or fails before.
 pub(crate) fn next_byte<R: Read>(reader: &mut R) -> Option<u8>
     ensures { IfSome result (λ byte. Consumes (R.remaining reader.old) (R.remaining reader.new) (byte ∷ [])) }
 {

@@ -1,8 +1,11 @@
-//! What holds of every request and of what the server makes of it: a fact for proofs to cite. The
-//! function does nothing.
-ghost use Rattle.mw_client.specs.Sending.{WhatIsSentIsRead};
+//! States what holds of every request, and of what the server makes of it.
+//!
+//! The function does nothing, and nothing calls it: its contract is the fact, proved in `proofs/laws`. To
+//! change the fact, change its definition in `specs`, and then its proof.
+ghost use Rattle.mw_client.specs.RequestLines.{WhatIsSentIsRead};
 
-/// Whoever reads the line of a request as the server does ([`mw_line::read_line`]) has that request.
+/// States that whoever reads the line of a request as the server does ([`mw_line::read_line`]) gets that
+/// request.
 pub fn what_is_sent_is_read()
     ensures { WhatIsSentIsRead }
 {}

@@ -1,11 +1,14 @@
-//! A client of the server, for programs in Rattle: what is sent for each call, and what each reply
-//! means.
+//! A client of the server, for programs in Rattle: what each call sends, and what each reply means.
 //!
-//! [`Client`] is a session for one tenant, over any reader and writer; [`connect`] makes one by a socket. Below it, [`exchange`] sends one
-//! request and reads its reply. [`Administrator`] is a session for the administrator, who may ask for the
-//! report; [`connect_administrator`] makes one by a socket. [`request_text`] is the line of a request, which the server's own reader
-//! reads as that request ([`what_is_sent_is_read`]). [`read_reply`] says which reply a line is, if it is
-//! one.
+//! [`Client`] is a session for one tenant, over any reader and writer; [`connect`] makes one by a socket.
+//! [`Administrator`] is a session for the administrator, who may ask for the report;
+//! [`connect_administrator`] makes one by a socket.
+//!
+//! Below both, [`exchange`] sends one request and reads its reply. [`request_text`] gives the line of a
+//! request, which the server's own reader reads as that request ([`what_is_sent_is_read`]). [`read_reply`]
+//! tells which reply a line is, if it is one.
+//!
+//! Used by: mw_load, mw_serving_tests.
 #![tactic(auto)]
 
 mod administrator;

@@ -1,47 +1,49 @@
 //! What the replies to a call mean.
+//!
+//! Used by: `administrator`, `client`, `wire`, mw_load.
 ghost use Rattle.std.specs.Prelude.{◌≡◌};
-ghost use Rattle.mw_client.specs.Talking as spec;
+ghost use Rattle.mw_client.specs.Exchanges as spec;
 
 use mw_line::{ErrCode, Say};
 use mw_words::{Entry, Reply};
 
-/// What became of a change.
+/// Tells what became of a change.
 #[derive(Clone, Copy, PartialEq, Eq)]
 pub enum Outcome {
-    /// Every word had its expected value, and every new value is there durably.
+    /// Every word had its expected value, and every new value is written durably.
     Made,
-    /// Nothing was written: the word at this address, which is one of the change's, had this value and
-    /// not the one expected.
+    /// Nothing was written. The word at this address, one of the change's, had this value and not the
+    /// expected one.
     Differs(u16, u64),
 }
 
-/// Why a call has no answer.
+/// Tells why a call has no answer.
 #[derive(Clone, Copy, PartialEq, Eq)]
 pub enum Failure {
-    /// An argument is out of its range. Nothing was sent, and the client is as before.
+    /// An argument is out of its range. Nothing was sent, and the client is unchanged.
     Argument,
     /// The client was closed before. Nothing was sent.
     Closed,
-    /// There is no connection, or it ended, broke or was silent for too long before the reply, or what
-    /// came was no reply to the call. Nothing was changed by this call. The client is closed.
+    /// There is no connection; or it ended, broke or was silent for too long before the reply; or what came
+    /// was no reply to the call. This call changed nothing. The client is closed.
     Lost,
-    /// The same, after a change was sent: it was made or not, wholly or not at all, and where it was
-    /// not, the server may still make it. The client is closed.
+    /// The same, after a change was sent. The change was made or not, wholly or not at all. If it was not,
+    /// the server may still make it. The client is closed.
     MadeOrNot,
-    /// The tenant has as many changes under way as its quota allows. Nothing was changed, and the client
-    /// is as before.
+    /// The tenant has as many changes under way as its quota allows. Nothing was changed, and the client is
+    /// unchanged.
     Busy,
-    /// The tenant's file has failed. A change answered so is found after a later start wholly or not at
-    /// all. The client is as before.
+    /// The tenant's file has failed. After a later start, a change answered so is found wholly or not at
+    /// all. The client is unchanged.
     Fault,
-    /// A number of the server is used up, and it has to be started again. A change answered so was made
-    /// or not. The client is as before.
+    /// A number of the server is used up, and the server must be started again. A change answered so was
+    /// made or not. The client is unchanged.
     Worn,
-    /// The server refuses the line. Nothing was changed, and the client is as before.
+    /// The server refuses the line. Nothing was changed, and the client is unchanged.
     Refused(ErrCode),
 }
 
-/// What a reply to the question for a word means: its value, or why there is none.
+/// Gives what a reply to a read means: the word's value, or why there is none.
 pub fn value_told(said: Say) -> Result<u64, Failure>
     ensures { result ≡ spec.value_told said }
 {
@@ -51,7 +53,7 @@ pub fn value_told(said: Say) -> Result<u64, Failure>
     }
 }
 
-/// What a reply to a change of these entries means: what became of it, or why that isn't known.
+/// Gives what a reply to a change of these entries means: what became of it, or why that isn't known.
 pub fn outcome_told(entries: &[Entry], said: Say) -> Result<Outcome, Failure>
     ensures { result ≡ spec.outcome_told entries.now said }
 {
@@ -68,7 +70,7 @@ pub fn outcome_told(entries: &[Entry], said: Say) -> Result<Outcome, Failure>
     }
 }
 
-/// Whether the server was too busy for a change.
+/// Tells whether the server was too busy for a change.
 pub fn is_busy(told: &Result<Outcome, Failure>) -> bool
     ensures { result ≡ spec.is_busy told.now }
 {

@@ -1,14 +1,16 @@
-//! Pauses between one try and the next.
+//! Pauses between two tries.
+//!
+//! Used by: `client`, between two tries of a change, and of a read of several words.
 use std::thread;
 use std::time::{Clock, Duration, Instant};
 
-/// How long the first pause is, in milliseconds.
+/// The length of the first pause, in milliseconds.
 const FIRST_PAUSE: u64 = 1;
 
-/// How long a pause is at most, in milliseconds.
+/// The most that a pause lasts, in milliseconds.
 const LONGEST_PAUSE: u64 = 100;
 
-/// Pauses that grow, each twice as long as the one before, for so much time in all.
+/// Pauses that grow, each twice as long as the one before, for a limited time in all.
 #[derive(Drop)]
 pub struct Pauses {
     begun: Option<Instant>,
@@ -17,7 +19,7 @@ pub struct Pauses {
 }
 
 impl Pauses {
-    /// Pauses for so much time from now on.
+    /// Makes pauses for so much time from now on.
     pub fn begin<K: Clock>(clock: &K, patience: Duration) -> Pauses {
         let begun = match Instant::now(clock) {
             Ok(now) => Some(now),
@@ -30,8 +32,8 @@ impl Pauses {
         }
     }
 
-    /// Waits for the next pause, and gives true. Gives false at once where the time has gone by, or the
-    /// clock can't be read.
+    /// Waits for the next pause, and gives true. Gives false at once if the time has passed, or the clock
+    /// can't be read.
     pub fn wait<K: Clock>(&mut self, clock: &K) -> bool {
         if !self.has_time(clock) {
             return false;

@@ -1,24 +1,27 @@
-//! Which reply a line is.
+//! Reads a reply from a line.
+//!
+//! Used by: `conversation`, `report`. A new reply of the server needs a case here and in
+//! `specs/ReplyGrammar`.
 ghost use Rattle.std.specs.Prelude.{◌≡◌, IfSome, None};
 ghost use Rattle.mw_line.specs.declared.replies.Say.{Say as SayRead};
-ghost use Rattle.mw_client.specs.Reading as spec;
-ghost use Rattle.mw_client.specs.Reading.{Says};
+ghost use Rattle.mw_client.specs.ReplyGrammar as spec;
+ghost use Rattle.mw_client.specs.ReplyGrammar.{Says};
 
 use mw_line::{ErrCode, Say, address_at, behind, value_at};
 use mw_words::{MAX_VALUE, MAX_WORDS, Reply};
 
-/// The reply that a line is, which comes without its line feed. None where it is none: each reply has
-/// one text, with its numbers within the limits of the protocol.
+/// Gives the reply that a line is. The line comes without its line feed. Gives None if it is no reply: each
+/// reply has one text, with its numbers within the limits of the protocol.
 pub fn read_reply(line: &[u8]) -> Option<Say>
-    // What is read has this line as its text.
+    // The reply that is given has this line as its text.
     ensures read { IfSome result (λ say. Says say line.now) }
-    // A line that is the text of a reply is read as that reply.
+    // A line that is the text of a reply gives that reply.
     ensures whole { (say : SayRead) → Says say line.now → result ≡ Some say }
 {
     reply_of(line)
 }
 
-#[tactic(auto, unfolding(crate::specs::Reading::reading))]
+#[tactic(auto, unfolding(crate::specs::ReplyGrammar::reading))]
 fn reply_of(line: &[u8]) -> Option<Say>
     ensures { result ≡ spec.reading line.now }
 {
@@ -40,7 +43,7 @@ fn reply_of(line: &[u8]) -> Option<Say>
     None
 }
 
-#[tactic(auto, unfolding(crate::specs::Reading::plain_read))]
+#[tactic(auto, unfolding(crate::specs::ReplyGrammar::plain_read))]
 fn plain(line: &[u8]) -> Option<Say>
     ensures { result ≡ spec.plain_read line.now }
 {
@@ -54,8 +57,8 @@ fn plain(line: &[u8]) -> Option<Say>
     }
 }
 
-/// The number that is all of the text. One of more than 64 bits is `u64::MAX`.
-#[tactic(auto, unfolding(crate::specs::Reading::number_of))]
+/// Gives the number that is the whole text. A number of more than 64 bits is `u64::MAX`.
+#[tactic(auto, unfolding(crate::specs::ReplyGrammar::number_of))]
 pub(crate) fn number(text: &[u8]) -> Option<u64>
     ensures { result ≡ spec.number_of text.now }
 {
@@ -65,7 +68,7 @@ pub(crate) fn number(text: &[u8]) -> Option<u64>
     }
 }
 
-#[tactic(auto, unfolding(crate::specs::Reading::value_read))]
+#[tactic(auto, unfolding(crate::specs::ReplyGrammar::value_read))]
 fn value(text: &[u8]) -> Option<Say>
     ensures { result ≡ spec.value_read text.now }
 {
@@ -75,7 +78,7 @@ fn value(text: &[u8]) -> Option<Say>
     }
 }
 
-#[tactic(auto, unfolding(crate::specs::Reading::bound_read))]
+#[tactic(auto, unfolding(crate::specs::ReplyGrammar::bound_read))]
 fn bound(text: &[u8]) -> Option<Say>
     ensures { result ≡ spec.bound_read text.now }
 {
@@ -95,7 +98,7 @@ fn admin(text: &[u8]) -> Option<Say>
     }
 }
 
-#[tactic(auto, unfolding(crate::specs::Reading::miss_read))]
+#[tactic(auto, unfolding(crate::specs::ReplyGrammar::miss_read))]
 fn miss(text: &[u8]) -> Option<Say>
     ensures { result ≡ spec.miss_read text.now }
 {
@@ -108,7 +111,7 @@ fn miss(text: &[u8]) -> Option<Say>
     }
 }
 
-#[tactic(auto, unfolding(crate::specs::Reading::fault_read))]
+#[tactic(auto, unfolding(crate::specs::ReplyGrammar::fault_read))]
 fn fault(text: &[u8]) -> Option<Say>
     ensures { result ≡ spec.fault_read text.now }
 {
@@ -116,7 +119,7 @@ fn fault(text: &[u8]) -> Option<Say>
     Some(Say::Err(fault))
 }
 
-#[tactic(auto, unfolding(crate::specs::Reading::fault_numbered))]
+#[tactic(auto, unfolding(crate::specs::ReplyGrammar::fault_numbered))]
 fn fault_numbered(number: u64) -> Option<ErrCode>
     ensures { result ≡ spec.fault_numbered number }
 {

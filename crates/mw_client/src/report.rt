@@ -1,10 +1,12 @@
-//! Which figures a report tells.
+//! Reads the figures of a report.
+//!
+//! Used by: `administrator`.
 ghost use Rattle.std.specs.Prelude.{◌≡◌, ◌≤◌, All, IfSome, length};
 ghost use Rattle.std.specs.Io.KnownBytes.{Consumes};
 ghost use Rattle.mw_words.specs.declared.limits.TheConstants.{MAX_POOL};
 ghost use Rattle.mw_report.specs.Table as table;
 ghost use Rattle.mw_report.specs.Table.{IsWithinLimits};
-ghost use Rattle.mw_client.specs.Talking.{GoesOn};
+ghost use Rattle.mw_client.specs.Exchanges.{GoesOn};
 
 use crate::conversation::{LINE_FEED, next_byte};
 use crate::replies::number;
@@ -13,17 +15,17 @@ use mw_report::{Figures, MAX_REPORT, TenantFigures, report_text};
 use mw_words::{MAX_PLACES, MAX_POOL, MAX_QUOTA, MAX_TENANTS, MAX_WORDS, Name};
 use std::io::Read;
 
-/// What the last line of a report begins with.
+/// The first characters of the last line of a report.
 const FREE: &[u8] = b"free ";
 
-/// A report as it is read.
+/// The text of a report that is read.
 type Text = ArrayVec<u8, MAX_REPORT>;
 
-/// The figures of tenants that were read so far.
+/// The figures of the tenants that were read so far.
 type Tenants = ArrayVec<TenantFigures, MAX_TENANTS>;
 
-/// Reads a report. None where it didn't come whole, or what came isn't just the text of a report: then it isn't known
-/// what was read.
+/// Reads a report. Gives None if it didn't come whole, or what came isn't just the text of a report. Then
+/// it isn't known what was read.
 pub fn next_report<R: Read>(reader: &mut R) -> Option<Figures>
     ensures { IfSome result (λ figures. Consumes (R.remaining reader.old) (R.remaining reader.new) (table.report figures.tenants.items figures.pool_free)) }
 {
@@ -49,7 +51,8 @@ pub fn next_report<R: Read>(reader: &mut R) -> Option<Figures>
     None
 }
 
-/// Puts the next line behind a text, with its line feed. False where none came whole, or there is no room for it.
+/// Appends the next line to a text, with its line feed. Gives false if no whole line came, or there is no
+/// room for it.
 fn put_line<R: Read>(reader: &mut R, text: &mut Text) -> bool
     ensures read { GoesOn result (R.remaining reader.old) (R.remaining reader.new) text.old.items text.new.items }
     ensures longer { length text.old.items ≤ length text.new.items }
@@ -69,7 +72,7 @@ fn put_line<R: Read>(reader: &mut R, text: &mut Text) -> bool
     false
 }
 
-/// These figures, if the text is just the report of them.
+/// Gives these figures if the text is just their report.
 fn told(tenants: Tenants, pool_free: u16, text: &[u8]) -> Option<Figures>
     requires tenants { All IsWithinLimits tenants.items }
     requires free { pool_free ≤ MAX_POOL }
@@ -83,7 +86,7 @@ fn told(tenants: Tenants, pool_free: u16, text: &[u8]) -> Option<Figures>
     }
 }
 
-/// How many slots a line tells that are free, if it is the last of a report.
+/// Gives how many slots are free by a line, if it is the last of a report.
 fn free_of(line: &[u8]) -> Option<u16>
     ensures { IfSome result (λ count. count ≤ MAX_POOL) }
 {
@@ -93,7 +96,7 @@ fn free_of(line: &[u8]) -> Option<u16>
     }
 }
 
-/// The figures that a line tells of a tenant, if it does.
+/// Gives the figures that a line tells of a tenant, if it is such a line.
 fn tenant_of(line: &[u8]) -> Option<TenantFigures>
     ensures { IfSome result IsWithinLimits }
 {
@@ -113,7 +116,7 @@ fn tenant_of(line: &[u8]) -> Option<TenantFigures>
     })
 }
 
-/// The first field of a text, and what is behind it. Fields have spaces between them.
+/// Splits a text into its first field and what follows. Fields have spaces between them.
 fn field(text: &[u8]) -> (&[u8], &[u8]) {
     let text = text.trim_ascii_start();
     match text.iter().position(|byte| byte.is_ascii_whitespace()) {
@@ -122,7 +125,7 @@ fn field(text: &[u8]) -> (&[u8], &[u8]) {
     }
 }
 
-/// The name that is all of a text, if it isn't too long.
+/// Gives the name that is the whole text, if it isn't too long.
 fn name_of(text: &[u8]) -> Option<Name> {
     let mut name = Name::new();
     match name.try_extend_from_slice(text) {
@@ -131,7 +134,7 @@ fn name_of(text: &[u8]) -> Option<Name> {
     }
 }
 
-/// The number of slots or of places that is all of a text, up to the most.
+/// Gives the number of slots or of places that is the whole text, if it is at most `most`.
 fn few(text: &[u8], most: u8) -> Option<u8>
     ensures { IfSome result (λ count. count ≤ most) }
 {
@@ -141,7 +144,7 @@ fn few(text: &[u8], most: u8) -> Option<u8>
     }
 }
 
-/// The number that is all of a text, up to the most.
+/// Gives the number that is the whole text, if it is at most `most`.
 fn within(text: &[u8], most: u16) -> Option<u16>
     ensures { IfSome result (λ count. count ≤ most) }
 {
@@ -151,7 +154,7 @@ fn within(text: &[u8], most: u16) -> Option<u16>
     }
 }
 
-/// Whether a tenant is told to be up or down; None where it is neither.
+/// Tells whether a text says that a tenant is up. Gives None if it says neither up nor down.
 fn is_up(text: &[u8]) -> Option<bool> {
     match text {
         b"up" => Some(true),

@@ -1,28 +1,30 @@
-//! The line of a request.
+//! Writes the line of a request.
+//!
+//! Used by: `administrator`, `conversation`, mw_load.
 ghost use Rattle.std.specs.Prelude.{◌≡◌, ◌+◌, ◌*◌, ◌≤◌, ◌<◌, ◌++◌, [], All, decimal, flat_map, length};
 ghost use Rattle.mw_line.specs.Grammar.{Get, spaced, spelling};
 ghost use Rattle.mw_line.specs.Limits.{command_of};
-ghost use Rattle.mw_client.specs.Sending.{HasValues, IsSendable, request_line};
+ghost use Rattle.mw_client.specs.RequestLines.{HasValues, IsSendable, request_line};
 
 use arrayvec::ArrayVec;
 use itoa::Buffer;
 use mw_line::Request;
 use mw_words::{Entry, Job, MAX_ENTRIES, MAX_LINE};
 
-/// Room for the line of a request, with its line feed.
+/// The room for the line of a request with its line feed, in bytes.
 pub const MAX_SENT: usize = MAX_LINE + 1;
 
-/// The bytes of the command of a change, which stand before its entries.
+/// The bytes of a change's command, before its entries.
 const COMMAND: usize = 3;
 
-/// The most bytes of an entry with the space that stands before it.
+/// The most bytes of an entry with the space before it.
 const MAX_ENTRY: usize = 38;
 
 /// A line that is sent, with its line feed.
 pub type LineText = ArrayVec<u8, MAX_SENT>;
 
-/// The line of a request, with its line feed. The request keeps the limits of the protocol: a name is
-/// one, and a job is well formed for a tenant of the most words.
+/// Gives the line of a request, with its line feed. The request must keep the limits of the protocol: its
+/// name is a name, and its job is well formed for a tenant with the most words.
 pub fn request_text(request: &Request) -> LineText
     requires { IsSendable request.now }
     ensures { result.items ≡ request_line request.now }

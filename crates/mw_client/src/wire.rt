@@ -1,4 +1,6 @@
-//! Connections over TCP, and by local sockets.
+//! Connects to a server over TCP, or by a local socket.
+//!
+//! Used by: mw_load, tests.
 use crate::administrator::Administrator;
 use crate::client::Client;
 use crate::meanings::Failure;
@@ -10,18 +12,19 @@ use std::os::fd::OwnedFd;
 use std::os::unix::net::UnixStream;
 use std::time::Duration;
 
-/// What an address of a local socket begins with. The path of the socket follows.
+/// The first characters of the address of a local socket. Its path follows.
 const LOCAL: &str = "unix:";
 
 /// A client by a socket.
 pub type SocketClient = Client<BufReader<TcpStream>, TcpStream>;
 
-/// A client of the server at an address, such as `127.0.0.1:7000` or `unix:/run/mondlexi/socket`, which
-/// speaks for the tenant of this name. Each reply is waited for as long as `patience`, which isn't 0.
+/// Connects to the server at an address, such as `127.0.0.1:7000` or `unix:/run/mondlexi/socket`, and
+/// begins a session for the tenant of this name. It waits for each reply as long as `patience`, which isn't
+/// 0.
 ///
 /// # Errors
 ///
-/// As [`Client::begin`], and [`Failure::Lost`] too where nobody serves there, or memory was refused.
+/// As [`Client::begin`], and [`Failure::Lost`] also if nobody serves there, or memory was refused.
 pub fn connect<R: Net<Stream = TcpStream>>(
     rt: &R,
     alloc: Global,
@@ -38,12 +41,13 @@ pub fn connect<R: Net<Stream = TcpStream>>(
 /// An administrator's client by a socket.
 pub type SocketAdministrator = Administrator<BufReader<TcpStream>, TcpStream>;
 
-/// A client of the server at an address, as [`connect`] takes them, which speaks for the administrator. The server's
-/// option `--admin` names an address at which the administrator waits for nobody.
+/// Connects to the server at an address, of the form that [`connect`] takes, and begins a session for the
+/// administrator. The server's option `--admin` gives an address at which the administrator waits for no
+/// other client.
 ///
 /// # Errors
 ///
-/// As [`Administrator::begin`], and [`Failure::Lost`] too where nobody serves there, or memory was refused.
+/// As [`Administrator::begin`], and [`Failure::Lost`] also if nobody serves there, or memory was refused.
 pub fn connect_administrator<R: Net<Stream = TcpStream>>(
     rt: &R,
     alloc: Global,
@@ -56,7 +60,7 @@ pub fn connect_administrator<R: Net<Stream = TcpStream>>(
     }
 }
 
-/// Where the replies of the server at an address come from, and where lines to it go.
+/// Connects to the server at an address. Gives the reader of its replies and the writer of lines to it.
 ///
 /// # Errors
 ///

@@ -1,3 +1,3 @@
-pub mod Spelled
-pub mod Taken
+pub mod LineTextLaws
+pub mod FirstLines
 mod OneAnswer

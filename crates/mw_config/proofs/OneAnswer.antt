@@ -1,4 +1,5 @@
--- A text has one answer.
+-- A text of a tenants file has only one answer. Used by: the proof of one_answer. It may change freely as long as this crate
+-- checks.
 use Rattle.std.proofs.Common.{◌≡◌, ◌≢◌, ℕ, suc, ◌+◌, ◌<◌, ◌≤◌, leb, le-leb, ltb, lt-ltb, le-ltb, Bool, true, false, not, cond, List, [], ◌∷◌, ◌++◌, length, Option, Some, None, refl, sym, ap, ap₂, subst, ◌∙◌, inl, inr, ◌⊎◌, arith, append_assoc, append-nil, ◌&&◌}
 use Rattle.std.specs.Prelude.{flat_map, All, bytes_eq, Result, Ok, Err}
 use Rattle.std.specs.List.{list_all, AllPairs, slice_index_or}
@@ -12,13 +13,13 @@ use Rattle.std.proofs.lemmas.Slice.Eq.{bytes_eq-Decides}
 use Rattle.mw_words.specs.declared.limits.TheConstants.{MAX_QUOTA}
 use Rattle.mw_config.specs.declared.refusals.Refusal.{Refusal}
 use Rattle.mw_config.specs.declared.refusals.Refusal.TheVariants as refusal
-use Rattle.mw_config.specs.Spelling.{Line, IsLine, HasNoLine, spelling}
+use Rattle.mw_config.specs.LineTexts.{Line, IsLine, HasNoLine, spelling}
 use Rattle.mw_config.specs.Limits.{HasWords, HasQuota, Differ, IsNew, IsTwice, AreFine, differ, quota_sum}
-use Rattle.mw_config.specs.Judging.{Answers, HasLineRefused, IsAtLine, IsOutside, IsRefused}
-use Rattle.mw_config.specs.Reading.{line_at, is_within}
-use Rattle.mw_config.proofs.Spelled.{line_again, line_found}
+use Rattle.mw_config.specs.Refusals.{Answers, HasLineRefused, IsAtLine, IsOutside, IsRefused}
+use Rattle.mw_config.specs.LineReader.{line_at, is_within}
+use Rattle.mw_config.proofs.LineTextLaws.{line_again, line_found}
 
--- ---- a line in front of a text is one line
+-- ---- a text begins with at most one line
 
 -- a number as it is
 abbrev as_it_is : ℕ → ℕ
@@ -44,7 +45,7 @@ none_read_of text (Some r) e none =
 none_read : (text : List ℕ) → HasNoLine text → line_at as_it_is text ≡ None
 none_read text none = none_read_of text (line_at as_it_is text) refl none
 
--- ---- two lists of lines in front of a text: one of them goes on where the other ends
+-- ---- two lists of lines that begin a text: one of them goes on after the other ends
 
 pub record GoesOn (lines longer : List Line) (rest : List ℕ) : Type 0 where
   pub line : Line
@@ -54,7 +55,7 @@ pub record GoesOn (lines longer : List Line) (rest : List ℕ) : Type 0 where
   pub is : longer ≡ lines ++ (line ∷ more)
   pub spelled : rest ≡ spelling line ++ after
 
--- the second list goes on, or the first does, or they are one
+-- the second list goes on, or the first does, or they are the same
 abbrev Fork : List Line → List Line → List ℕ → List ℕ → Type 0
 Fork ls ms r s = ((ls ≡ ms) × (r ≡ s)) ⊎ (GoesOn ls ms r ⊎ GoesOn ms ls s)
 
@@ -194,7 +195,7 @@ not_over pool ls more m r after (Err (refusal.Quota n)) fine formed e h = not_re
 not_over pool ls more m r after (Err (refusal.Twice n)) fine formed e h = not_refused_here ls more m r after (refusal.Twice n) fine formed e h.2
 not_over pool ls more m r after (Err (refusal.Many n)) fine formed e h = not_refused_here ls more m r after (refusal.Many n) fine formed e h.2
 
--- ---- what ends at one place is one answer
+-- ---- two answers that end at one place are the same
 
 and_false : (a b : Bool) → b ≡ false → (a && b) ≡ false
 and_false true b h = h
@@ -237,7 +238,7 @@ twice_test ls line (inr c) =
     let low : c.0 < length ls = omega (arith, c.1, length-map ls (λ x. x.path)) in
     list_all_at (λ e. differ e line) ls c.0 line low (path_test (slice_index_or ls c.0 line) line (sym (get_or-map (λ (x : Line). x.path) ls c.0 line line.path low) ∙ c.2))
 
--- the refusal of a line behind these
+-- the verdict on a line after these
 abbrev line_verdict : List Line → Line → Result (List Line) Refusal
 line_verdict ls line =
     cond (is_within 4096 line.words)

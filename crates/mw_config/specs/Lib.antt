@@ -1,6 +1,6 @@
-pub mod Spelling
+pub mod LineTexts
 pub mod Limits
-pub mod Judging
-pub mod Reading
+pub mod Refusals
+pub mod LineReader
 pub mod Forms
 pub mod CommandLine

@@ -1,10 +1,12 @@
 -- Which lines a tenants file may have.
+-- Used by: LineReader, Refusals, mw_engine, mw_programs, mw_engine_tests, the contracts of laws.rt, lines.rt and tenants.rt. A
+-- change here changes which tenants files are refused: docs/OPERATING changes with it.
 use Rattle.std.specs.Prelude.{ℕ, ◌≡◌, ◌≢◌, ◌≤◌, ◌⊎◌, ◌&&◌, Bool, not, List, length, map, All, flat_map, sum_by, bytes_eq, IsTrue}
 use Rattle.std.specs.List.{AllPairs, Contains}
 use Rattle.mw_words.specs.declared.limits.TheConstants.{MAX_WORDS, MAX_QUOTA, MAX_TENANTS, MAX_TENANTS_FILE}
 use Rattle.mw_words.specs.Name.{is_name}
 use Rattle.mw_config.specs.declared.lines.TenantLine.{TenantLine}
-use Rattle.mw_config.specs.Spelling.{Line, IsLine, spelling}
+use Rattle.mw_config.specs.LineTexts.{Line, IsLine, spelling}
 
 -- a tenant has 1 to MAX_WORDS words
 abbrev pub HasWords : Line → Type 0
@@ -26,7 +28,7 @@ IsNew lines line = All (λ earlier. Differ earlier line) lines
 abbrev pub IsTwice : List Line → Line → Type 0
 IsTwice lines line = Contains (map (λ earlier. earlier.name) lines) line.name ⊎ Contains (map (λ earlier. earlier.path) lines) line.path
 
--- whether two lines have different names and different paths
+-- the test whether two lines have different names and different paths
 abbrev pub differ : Line → Line → Bool
 differ earlier later = not (bytes_eq earlier.name later.name) && not (bytes_eq earlier.path later.path)
 
@@ -38,12 +40,12 @@ pub record AreFine (lines : List Line) : Type 0 where
   pub differ : AllPairs Differ lines
   pub count : length lines ≤ MAX_TENANTS
 
--- what all quotas come to
+-- the sum of all quotas
 abbrev pub quota_sum : List Line → ℕ
 quota_sum lines = sum_by (λ line. line.quota) lines
 
--- The text is that of these lines, and a server with a pool of so many slots serves them: the text isn't
--- too long, there is a line, nothing is wrong with any, and the pool has the slots of all quotas.
+-- The text is that of these lines, and a server with a pool of so many slots serves them: the text isn't too long,
+-- there is a line, nothing is wrong with any, and the pool has slots for all quotas.
 pub record IsTenantsFile (pool : ℕ) (lines : List Line) (text : List ℕ) : Type 0 where
   pub short : length text ≤ MAX_TENANTS_FILE
   pub spelled : text ≡ flat_map spelling lines
@@ -51,8 +53,8 @@ pub record IsTenantsFile (pool : ℕ) (lines : List Line) (text : List ℕ) : Ty
   pub some : 1 ≤ length lines
   pub slots : quota_sum lines ≤ pool
 
--- What callers may rely on of the tenants that were read: how many there are, that each is within the limits,
--- that the pool has the slots of all quotas, and that no two have one name or one path.
+-- What callers may rely on of the tenants that were read. There are 1 to MAX_TENANTS of them, each is within the
+-- limits, the pool has slots for all quotas, and no two have the same name or the same path.
 pub record ArePermitted (pool : ℕ) (tenants : List TenantLine) : Type 0 where
   pub some : 1 ≤ length tenants
   pub count : length tenants ≤ MAX_TENANTS

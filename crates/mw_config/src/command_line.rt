@@ -1,4 +1,7 @@
-//! The command line of `mwserve`.
+//! Reads the command line of `mwserve`.
+//!
+//! mw_programs calls [`read_args`] for `mwserve`. A new option needs a field here, its use in mw_programs, a clause
+//! in `specs/CommandLine` if it has limits, and its row in docs/OPERATING.
 ghost use Rattle.std.specs.Prelude.{◌≤◌, IfOk, IfSome};
 ghost use Rattle.mw_config.specs.CommandLine.{ArePermittedArgs, IsPermittedMode, IsUpTo};
 
@@ -19,21 +22,21 @@ pub struct Args {
     pub pool: u16,
     /// How many workers there are, 1 to [`MAX_WORKERS`].
     pub workers: u8,
-    /// Whether nothing is served where a tenant's file doesn't open.
+    /// If set, nothing is served if a tenant's file doesn't open.
     pub strict: bool,
-    /// Whether each note is followed by one that says which file or address it is about, and what the
+    /// If set, each note is followed by one that says which file or address it is about, and what the
     /// system told.
     pub verbose: bool,
     /// Where the sessions come from.
     pub mode: Mode,
 }
 
-/// Where a server's sessions come from.
+/// Says where a server's sessions come from.
 #[derive(Debug, Drop)]
 pub enum Mode {
-    /// From connections.
+    /// They come from connections.
     Listen(Listening),
-    /// From the script with this path, which is one session.
+    /// The one session is the script at this path.
     Script(String),
 }
 
@@ -42,36 +45,37 @@ pub enum Mode {
 pub struct Listening {
     /// The address.
     pub address: String,
-    /// A second address, for the administrator, whose clients have a worker of their own.
+    /// A second address, for the administrator. Its clients have a worker of their own.
     pub admin: Option<String>,
-    /// After how many connections to the first address the server ends, 1 to [`MAX_CONNECTIONS`].
+    /// The server ends after so many connections to the first address, 1 to [`MAX_CONNECTIONS`]. None: it
+    /// serves on.
     pub connections: Option<u32>,
-    /// After how many seconds in which a client sends nothing, or takes nothing of a reply, its session
-    /// is ended, 1 to [`MAX_IDLE`].
+    /// A session ends after so many seconds in which its client sends nothing, or takes nothing of a reply,
+    /// 1 to [`MAX_IDLE`]. None: it waits for ever.
     pub idle: Option<u32>,
-    /// The file mode of each local socket, at most [`MAX_SOCKET_MODE`]: who may write to the socket's file
+    /// The file mode of each local socket, at most [`MAX_SOCKET_MODE`]. Who may write to the socket's file
     /// may connect.
     pub socket_mode: u32,
 }
 
-/// The most seconds that a session may be told to be idle: a day.
+/// The largest limit of silence, in seconds: a day.
 pub const MAX_IDLE: u32 = 86_400;
 
-/// The file mode of local sockets where none is given: the server's own user may connect.
+/// The file mode of local sockets if none is given: only the server's own user may connect.
 const OWNERS_MODE: u32 = 0o600;
 
-/// The most that the file mode of a local socket may be told to be: everybody may do everything.
+/// The largest file mode of a local socket: everybody may do everything.
 pub const MAX_SOCKET_MODE: u32 = 0o777;
 
-/// Why a command line is not served.
+/// Tells why a command line is not served.
 #[derive(Debug, Drop, Error)]
 pub enum ArgFault {
-    /// It isn't of the form that the help tells, a number is out of range, or it asks for the help or
-    /// the version.
+    /// It isn't of the form that the help tells, a number is out of range, or it asks for the help or the
+    /// version.
     #[error("{0}")]
     Refused(clap::Error),
-    /// It hasn't exactly one of `--listen` and `--script`, has `--admin`, `--connections`, `--idle` or
-    /// `--mode` with `--script`, or a `--mode` that is no file mode.
+    /// It hasn't exactly one of `--listen` and `--script`; or it has `--admin`, `--connections`, `--idle`
+    /// or `--mode` with `--script`; or its `--mode` is no file mode.
     #[error("mwserve: refused 1 command")]
     Mode,
     /// Memory was refused.
@@ -94,19 +98,21 @@ impl From<clap::Error> for ArgFault {
     }
 }
 
-/// Reads the command line `args`, the program's own name first:
-/// `mwserve --tenants FILE [--pool P] [--workers N] [--strict] [--verbose]` with either
-/// `--listen ADDR [--admin ADDR] [--connections C] [--idle SECONDS] [--mode MODE]` or `--script FILE`. P
-/// is 1 to [`MAX_POOL`], and that where it isn't given; N is 1 to [`MAX_WORKERS`], and 4 where it isn't
-/// given; C is 1 to [`MAX_CONNECTIONS`], SECONDS 1 to [`MAX_IDLE`]; MODE has octal digits, is at most
-/// [`MAX_SOCKET_MODE`], and 0600 where it isn't given.
+/// Reads the command line `args`. Its first argument is the program's own name.
+///
+/// The form is `mwserve --tenants FILE [--pool P] [--workers N] [--strict] [--verbose]` with either
+/// `--listen ADDR [--admin ADDR] [--connections C] [--idle SECONDS] [--mode MODE]` or `--script FILE`.
+/// - P is 1 to [`MAX_POOL`], and [`MAX_POOL`] if it isn't given.
+/// - N is 1 to [`MAX_WORKERS`], and 4 if it isn't given.
+/// - C is 1 to [`MAX_CONNECTIONS`], and SECONDS 1 to [`MAX_IDLE`].
+/// - MODE has octal digits, is at most [`MAX_SOCKET_MODE`], and 0600 if it isn't given.
 ///
 /// # Errors
 ///
-/// [`ArgFault::Refused`] where clap refuses them, or they ask for the help or the version;
-/// [`ArgFault::Mode`] where they haven't exactly one of `--listen` and `--script`, have `--admin`,
-/// `--connections`, `--idle` or `--mode` with `--script`, or a `--mode` that is no file mode;
-/// [`ArgFault::Memory`] where memory was refused. `args` is only read.
+/// [`ArgFault::Refused`] if clap refuses them, or they ask for the help or the version. [`ArgFault::Mode`]
+/// if they haven't exactly one of `--listen` and `--script`, have `--admin`, `--connections`, `--idle` or
+/// `--mode` with `--script`, or have a `--mode` that is no file mode. [`ArgFault::Memory`] if memory was
+/// refused. `args` is only read.
 pub fn read_args(alloc: Global, args: &[String]) -> Result<Args, ArgFault>
     ensures permitted { IfOk result (λ args. ArePermittedArgs args) }
 {
@@ -114,7 +120,7 @@ pub fn read_args(alloc: Global, args: &[String]) -> Result<Args, ArgFault>
     args_of(alloc, &matches)
 }
 
-/// What the options ask for.
+/// Gives what the options ask for.
 fn args_of(alloc: Global, matches: &ArgMatches<'_>) -> Result<Args, ArgFault>
     ensures { IfOk result (λ args. ArePermittedArgs args) }
 {
@@ -147,7 +153,7 @@ fn mode_of(alloc: Global, matches: &ArgMatches<'_>) -> Result<Mode, ArgFault>
     }
 }
 
-/// Whether there is an option that is for connections alone, beside `--listen`.
+/// Tells whether there is an option for connections only, other than `--listen`.
 fn tell_of_connections(matches: &ArgMatches<'_>) -> bool {
     matches.get_str("admin").is_some()
         || matches.get_one::<u32>("connections").is_some()
@@ -155,7 +161,7 @@ fn tell_of_connections(matches: &ArgMatches<'_>) -> bool {
         || matches.get_str("mode").is_some()
 }
 
-/// Sessions from connections to this address, and what the other options tell of them.
+/// Gives the mode for connections to this address, with what the other options say of them.
 fn listen_mode(alloc: Global, matches: &ArgMatches<'_>, address: &str) -> Result<Mode, ArgFault>
     ensures { IfOk result (λ mode. IsPermittedMode mode) }
 {
@@ -170,7 +176,7 @@ fn listen_mode(alloc: Global, matches: &ArgMatches<'_>, address: &str) -> Result
     }))
 }
 
-/// The file mode that a text of octal digits tells, or that of the owner alone where there is no text.
+/// Gives the file mode of a text of octal digits, or that of the owner alone if there is no text.
 fn socket_mode_of(text: Option<&str>) -> Result<u32, ArgFault>
     ensures { IfOk result (λ mode. mode ≤ MAX_SOCKET_MODE) }
 {
@@ -183,7 +189,7 @@ fn socket_mode_of(text: Option<&str>) -> Result<u32, ArgFault>
     }
 }
 
-/// A copy of a text, where there is one.
+/// Copies a text, if there is one.
 fn copy_of(alloc: Global, text: Option<&str>) -> Result<Option<String>, AllocError> {
     match text {
         Some(text) => Ok(Some(String::from_str(alloc, text)?)),
@@ -191,8 +197,8 @@ fn copy_of(alloc: Global, text: Option<&str>) -> Result<Option<String>, AllocErr
     }
 }
 
-/// The number of an option, where it was given or has a default. It is 1 to `most`, as the option's
-/// parser has seen to.
+/// Gives the number of an option, if it was given or has a default. It is 1 to `most`; the option's parser
+/// checks the range too.
 fn number_of(matches: &ArgMatches<'_>, name: &str, most: u32) -> Option<u32>
     ensures { IfSome result (λ number. IsUpTo most number) }
 {
@@ -204,30 +210,30 @@ fn number_of(matches: &ArgMatches<'_>, name: &str, most: u32) -> Option<u32>
 /// An option of the command line, as the help tells it.
 #[derive(Clone, Copy)]
 struct Choice {
-    /// What it is called, without the two dashes.
+    /// Its name, without the two dashes.
     name: &'static str,
-    /// What is given behind it.
+    /// What is given after it.
     given: Given,
     /// What it is for.
     help: &'static str,
 }
 
-/// What is given behind an option.
+/// Says what is given after an option.
 #[derive(Clone, Copy)]
 enum Given {
-    /// A text, which the help calls so, and which has to be there.
+    /// A text, which the help calls so, and which must be given.
     Needed(&'static str),
     /// A text, which the help calls so.
     Text(&'static str),
-    /// A number from 1 to the second part, which the help calls by the first.
+    /// A number from 1 to the second part. The help calls it by the first part.
     Number(&'static str, u32),
-    /// The same, and the third part where none is given.
+    /// The same. If none is given, it is the third part.
     NumberOr(&'static str, u32, &'static str),
     /// Nothing.
     Flag,
 }
 
-/// The options, in the order in which the help tells them.
+/// The options, in the order of the help.
 const CHOICES: [Choice; 11] = [
     Choice {
         name: "tenants",
@@ -293,7 +299,7 @@ fn command<'a>(alloc: Global) -> Result<Command<'a>, AllocError> {
     with_choices(alloc, command, &CHOICES)
 }
 
-/// The command with these options.
+/// Gives the command with these options.
 fn with_choices<'a>(
     alloc: Global,
     command: Command<'a>,
@@ -306,7 +312,7 @@ fn with_choices<'a>(
     Ok(command)
 }
 
-/// The argument that clap makes of an option.
+/// Gives clap's argument for an option.
 fn arg_of<'a>(alloc: Global, choice: Choice) -> Arg<'a> {
     let arg = Arg::new(alloc, choice.name)
         .long(choice.name)
@@ -320,7 +326,7 @@ fn arg_of<'a>(alloc: Global, choice: Choice) -> Arg<'a> {
     }
 }
 
-/// The argument with a number from 1 to `most`.
+/// Gives the argument with a number from 1 to `most`.
 fn arg_to<'a>(arg: Arg<'a>, value: &'static str, most: u32) -> Arg<'a> {
     arg.value_name(value)
         .action(ArgAction::Set)

@@ -1,4 +1,7 @@
-//! Which rule of its form a line of a tenants file breaks.
+//! Tells which rule of its form a line of a tenants file breaks.
+//!
+//! mw_programs calls [`broken_rule`] for the note about a refused line. It may change with `specs/Forms`: it decides
+//! the text of a note alone, and not what is refused.
 ghost use Rattle.std.specs.Prelude.{◌≡◌};
 ghost use Rattle.std.specs.List.{list_all};
 ghost use Rattle.mw_config.specs.Forms as spec;
@@ -12,22 +15,22 @@ use mw_words::is_name;
 pub enum FormRule {
     /// A line ends with a line feed.
     LineFeed,
-    /// Each byte in front of it is a space or a visible character, ` ` to `~`.
+    /// Each byte before it is a space or a visible character, ` ` to `~`.
     Bytes,
     /// There are four fields, none of them empty, with a single space between each two.
     Fields,
     /// The name is a letter `a` to `z`, and then up to 15 of `a` to `z`, `0` to `9` and `-`.
     Name,
-    /// The number of words has digits alone, and no 0 in front of another.
+    /// The number of words has only digits, and no 0 before another digit.
     Words,
-    /// So has the quota.
+    /// The same holds for the quota.
     Quota,
     /// The path has at most [`mw_words::MAX_PATH`] bytes.
     Path,
 }
 
 impl FormRule {
-    /// What a line does that breaks it, as a note tells it behind the line's number.
+    /// Gives what a line does that breaks the rule, as a note says it after the line's number.
     pub fn broken(self) -> &'static str {
         match self {
             FormRule::LineFeed => "has no line feed at its end",
@@ -41,8 +44,8 @@ impl FormRule {
     }
 }
 
-/// The first rule of its form that the line in front of `text` breaks, if it breaks one. The rules are
-/// looked at in the order of [`FormRule`].
+/// Gives the first rule of its form that the first line of `text` breaks, if it breaks one. It checks the
+/// rules in the order of [`FormRule`].
 pub fn broken_rule(text: &[u8]) -> Option<FormRule>
     ensures { result ≡ spec.rule_in_front text.now }
 {
@@ -52,7 +55,7 @@ pub fn broken_rule(text: &[u8]) -> Option<FormRule>
     }
 }
 
-/// The first rule that a line without its line feed breaks.
+/// Gives the first rule that a line without its line feed breaks.
 fn rule_of_line(line: &[u8]) -> Option<FormRule>
     ensures { result ≡ spec.rule_of_line line.now }
 {
@@ -71,7 +74,7 @@ fn rule_of_line(line: &[u8]) -> Option<FormRule>
     rule_of_fields(name, words, quota, path)
 }
 
-/// The first rule that these fields break.
+/// Gives the first rule that these fields break.
 fn rule_of_fields(name: &[u8], words: &[u8], quota: &[u8], path: &[u8]) -> Option<FormRule>
     ensures { result ≡ spec.rule_of_fields name.now words.now quota.now path.now }
 {
@@ -90,7 +93,7 @@ fn rule_of_fields(name: &[u8], words: &[u8], quota: &[u8], path: &[u8]) -> Optio
     }
 }
 
-/// Whether none of these fields is empty, and no space is in the last one.
+/// Tells whether none of these fields is empty, and the last one has no space.
 fn are_fields(words: &[u8], quota: &[u8], path: &[u8]) -> bool
     ensures { result ≡ spec.are_fields words.now quota.now path.now }
 {

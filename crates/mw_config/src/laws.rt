@@ -1,12 +1,14 @@
 //! What holds of tenants files, whatever reads them.
+//!
+//! No code calls it, and no other crate cites it. It says that `specs/Refusals` leaves `read_tenants` one answer.
 ghost use Rattle.std.specs.Prelude.{◌≡◌, ◌↔◌, ℕ, List, Result, Ok};
 ghost use Rattle.mw_config.specs.declared.refusals.Refusal.{Refusal};
-ghost use Rattle.mw_config.specs.Spelling.{Line};
+ghost use Rattle.mw_config.specs.LineTexts.{Line};
 ghost use Rattle.mw_config.specs.Limits.{IsTenantsFile};
-ghost use Rattle.mw_config.specs.Judging.{Answers};
+ghost use Rattle.mw_config.specs.Refusals.{Answers};
 
-/// A text has one answer: it is not both accepted and refused, nor refused for two reasons or at two
-/// lines, and it tells one list of lines.
+/// States that a text has one answer. It is not both accepted and refused, it is not refused for two
+/// reasons or at two lines, and it gives one list of lines.
 pub fn one_answer()
     ensures { (pool : ℕ) (text : List ℕ) (one other : Result (List Line) Refusal)
         → Answers pool text one → Answers pool text other → one ≡ other }

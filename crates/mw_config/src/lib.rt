@@ -1,4 +1,7 @@
-//! What a server is started with: the tenants file and the command line.
+//! Reads what a server is started with: the tenants file and the command line.
+//!
+//! mw_programs calls [`read_tenants`] and [`read_args`] when a server starts. A change of what they accept changes
+//! docs/OPERATING.
 #![tactic(auto)]
 
 mod command_line;

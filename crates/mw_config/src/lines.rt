@@ -1,13 +1,16 @@
-//! The lines of a tenants file, before any limit is looked at.
+//! Reads the lines of a tenants file, before any limit is checked.
+//!
+//! `tenants.rt` calls it, and `forms.rt` uses its tests of a path. mw_programs and mw_engine open each tenant by its
+//! [`TenantLine`]. A new field needs a place in `specs/LineTexts`.
 ghost use Rattle.std.specs.Prelude.{◌≡◌, MatchOption, true, false};
 ghost use Rattle.std.specs.List.{list_all};
-ghost use Rattle.mw_line.specs.Reading.{Gives, narrow};
+ghost use Rattle.mw_line.specs.LineReader.{Gives, narrow};
 ghost use Rattle.mw_words.specs.Name as name_spec;
-ghost use Rattle.mw_config.specs.Spelling as spelling;
-ghost use Rattle.mw_config.specs.Spelling.{line_of};
+ghost use Rattle.mw_config.specs.LineTexts as spelling;
+ghost use Rattle.mw_config.specs.LineTexts.{line_of};
 ghost use Rattle.mw_config.specs.Limits as limits;
-ghost use Rattle.mw_config.specs.Reading as spec;
-ghost use Rattle.mw_config.specs.Reading.{told_line};
+ghost use Rattle.mw_config.specs.LineReader as spec;
+ghost use Rattle.mw_config.specs.LineReader.{line_of_fields};
 
 use arrayvec::ArrayString;
 use mw_line::{address_at as number_at, behind, field};
@@ -17,7 +20,7 @@ use std::str;
 /// A tenant, as its line in the tenants file tells it.
 #[derive(Debug, Default, Drop)]
 pub struct TenantLine {
-    /// Its name.
+    /// The tenant's name.
     pub name: Name,
     /// How many words it has, 1 to [`mw_words::MAX_WORDS`].
     pub words: u16,
@@ -27,28 +30,32 @@ pub struct TenantLine {
     pub path: ArrayString<MAX_PATH>,
 }
 
-/// The fields of a line. A number of more than 16 bits is told as `u16::MAX`.
+/// The fields of a line. A number of more than 16 bits is `u16::MAX` here.
 #[derive(Drop)]
 pub struct Told {
+    /// The tenant's name.
     pub name: Name,
+    /// How many words it has.
     pub words: u16,
+    /// How many changes it may have under way at a time.
     pub quota: u16,
+    /// The path of its file.
     pub path: ArrayString<MAX_PATH>,
 }
 
 impl Told {
-    /// Whether a tenant has another name and another path.
+    /// Tells whether a tenant has another name and another path.
     pub fn differs_from(&self, tenant: &TenantLine) -> bool
-        ensures { result ≡ limits.differ (line_of tenant.now) (told_line self.now) }
+        ensures { result ≡ limits.differ (line_of tenant.now) (line_of_fields self.now) }
     {
         tenant.name.as_slice() != self.name.as_slice() && tenant.path.as_str() != self.path.as_str()
     }
 }
 
-/// The line in front of `text`, and the bytes behind it.
-#[tactic(auto, unfolding(crate::specs::Reading::line_at))]
-pub fn told_at(text: &[u8]) -> Option<(Told, &[u8])>
-    ensures { Gives (λ x. (told_line x.0, x.1.now)) result (spec.line_at narrow.addr text.now) }
+/// Reads the first line of `text`. Gives its fields and the bytes after it.
+#[tactic(auto, unfolding(crate::specs::LineReader::line_at))]
+pub fn fields_at(text: &[u8]) -> Option<(Told, &[u8])>
+    ensures { Gives (λ x. (line_of_fields x.0, x.1.now)) result (spec.line_at narrow.addr text.now) }
 {
     let (name, rest) = field(b' ', text)?;
     let (words, rest) = number_at(rest)?;

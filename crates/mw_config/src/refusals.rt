@@ -1,8 +1,11 @@
 //! Why a tenants file is refused.
+//!
+//! `read_tenants` gives it, and mw_programs writes its note. A new refusal needs a case in `specs/Refusals`, and its
+//! text in mw_programs.
 
 use thiserror::Error;
 
-/// Why a tenants file is refused. Lines are numbered from 1; no number is above
+/// Tells why a tenants file is refused. Lines are numbered from 1; no number is above
 /// [`mw_words::MAX_TENANTS`] + 1.
 #[derive(Clone, Copy, Debug, PartialEq, Eq, Error)]
 pub enum Refusal {
@@ -12,7 +15,7 @@ pub enum Refusal {
     /// A line isn't `name words quota path` with single spaces, or has no LF.
     #[error("mwserve: refused 3 form line {0}")]
     Form(u16),
-    /// A line has no words, or more than [`mw_words::MAX_WORDS`].
+    /// A line has 0 words, or more than [`mw_words::MAX_WORDS`].
     #[error("mwserve: refused 4 words line {0}")]
     Words(u16),
     /// A line has a quota of 0, or one above [`mw_words::MAX_QUOTA`].
@@ -21,13 +24,13 @@ pub enum Refusal {
     /// A line has a name or a path that an earlier line has.
     #[error("mwserve: refused 6 twice line {0}")]
     Twice(u16),
-    /// A line stands behind [`mw_words::MAX_TENANTS`] others.
+    /// A line comes after [`mw_words::MAX_TENANTS`] others.
     #[error("mwserve: refused 7 many line {0}")]
     Many(u16),
     /// There is no line.
     #[error("mwserve: refused 8 none")]
     None,
-    /// The quotas of all lines are more than the pool.
+    /// The quotas of all lines add up to more than the pool.
     #[error("mwserve: refused 9 pool")]
     Pool,
 }

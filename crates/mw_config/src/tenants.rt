@@ -1,28 +1,31 @@
-//! The tenants file: which tenants are served, and from which files.
+//! Reads the tenants file: which tenants are served, and from which files.
+//!
+//! mw_programs calls [`read_tenants`] when a server starts; tests of the engine call it too. Which file is refused,
+//! and why, is in `specs/Limits` and `specs/Refusals`: a change there changes docs/OPERATING.
 ghost use Rattle.std.specs.Prelude.{◌≡◌, ◌≤◌, ◌↔◌, [], length, sum_by, IfOk, IfErr};
 ghost use Rattle.std.specs.List.{list_all};
 ghost use Rattle.mw_words.specs.declared.limits.TheConstants.{MAX_TENANTS as most_tenants, MAX_TENANTS_FILE as longest};
-ghost use Rattle.mw_config.specs.Spelling.{line_of, lines_of};
+ghost use Rattle.mw_config.specs.LineTexts.{line_of, lines_of};
 ghost use Rattle.mw_config.specs.Limits as limits;
-ghost use Rattle.mw_config.specs.Judging.{Answers, as_lines, FailsAtLine, Reaches};
-ghost use Rattle.mw_config.specs.Reading as spec;
-ghost use Rattle.mw_config.specs.Reading.{Takes, told_line};
+ghost use Rattle.mw_config.specs.Refusals.{Answers, as_lines, FailsAtLine, Reaches};
+ghost use Rattle.mw_config.specs.LineReader as spec;
+ghost use Rattle.mw_config.specs.LineReader.{Takes, line_of_fields};
 
-use crate::lines::{TenantLine, Told, told_at};
+use crate::lines::{TenantLine, Told, fields_at};
 use crate::refusals::Refusal;
 use arrayvec::ArrayVec;
 use mw_words::{MAX_QUOTA, MAX_TENANTS, MAX_TENANTS_FILE, MAX_WORDS};
 
-/// The tenants that a tenants file tells, in order. `pool` is how many slots all tenants share.
+/// Reads the tenants of a tenants file, in order. `pool` is how many slots all tenants share.
 ///
-/// Each line is `name words quota path` with single spaces and a line feed. A name is a letter `a` to
-/// `z`, and then up to 15 of `a` to `z`, `0` to `9` and `-`; numbers have no 0 in front of other
-/// digits, and any number of digits; a path is 1 to [`mw_words::MAX_PATH`] bytes from `!` to `~`.
+/// Each line is `name words quota path` with single spaces and a line feed. A name is a letter `a` to `z`,
+/// and then up to 15 of `a` to `z`, `0` to `9` and `-`. A number has any number of digits, and no 0 before
+/// other digits. A path is 1 to [`mw_words::MAX_PATH`] bytes from `!` to `~`.
 ///
 /// # Errors
 ///
-/// The first refusal: lines are judged in order, and each line by the refusals in their order.
-/// [`Refusal::File`] is looked at before, [`Refusal::None`] and [`Refusal::Pool`] after all lines.
+/// The first refusal. It judges lines in order, and each line by the refusals in their order. It checks
+/// [`Refusal::File`] before all lines, and [`Refusal::None`] and [`Refusal::Pool`] after them.
 pub fn read_tenants(text: &[u8], pool: u16) -> Result<ArrayVec<TenantLine, MAX_TENANTS>, Refusal>
     ensures answers { Answers pool text.now (as_lines (λ tenants. lines_of tenants.items) result) }
     ensures limits { IfOk result (λ tenants. limits.ArePermitted pool tenants.items) }
@@ -55,13 +58,14 @@ fn read_lines(text: &[u8]) -> Result<ArrayVec<TenantLine, MAX_TENANTS>, Refusal>
     Ok(tenants)
 }
 
-/// The line in front of `text`, which stands behind those of `earlier`, and the bytes behind it.
+/// Reads the first line of `text`, which comes after those of `earlier`. Gives its tenant and the bytes
+/// after it.
 fn read_line<'a>(text: &'a [u8], earlier: &[TenantLine]) -> Result<(TenantLine, &'a [u8]), Refusal>
     requires { length earlier.now ≤ most_tenants }
     ensures { Takes (lines_of earlier.now) text.now result }
 {
     let number = earlier.len() as u16 + 1;
-    let Some((told, after)) = told_at(text) else {
+    let Some((told, after)) = fields_at(text) else {
         return Err(Refusal::Form(number));
     };
     if !is_within(MAX_WORDS, told.words) {
@@ -92,7 +96,7 @@ fn is_within(most: u16, number: u16) -> bool
 }
 
 fn is_new(earlier: &[TenantLine], told: &Told) -> bool
-    ensures { result ≡ list_all (λ tenant. limits.differ (line_of tenant) (told_line told.now)) earlier.now }
+    ensures { result ≡ list_all (λ tenant. limits.differ (line_of tenant) (line_of_fields told.now)) earlier.now }
 {
     earlier.iter().all(|tenant| told.differs_from(tenant))
 }

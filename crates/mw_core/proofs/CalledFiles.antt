@@ -1,4 +1,5 @@
--- A call on a file by a pass that has the right to it, from the load of its change's status on.
+-- A pass that has its file meets what each step of the call requires, from the load of the status on.
+-- Used by: the proof of Core::make_call.
 use Rattle.std.specs.Prelude.{ℕ, ◌≡◌, ◌≢◌, ◌≤◌, ◌⊎◌, Bool, true, false, List, [], ◌∷◌, Option, Some, None}
 use Rattle.std.proofs.Common.{sym, ap, subst, ◌∙◌, inl, inr}
 use Rattle.mw_words.specs.declared.limits.TheConstants.{MAX_POOL}
@@ -8,30 +9,30 @@ use Rattle.mw_words.specs.Patterns.{unpacked_status}
 use Rattle.mw_look.specs.declared.steps.Call.{Call}
 use Rattle.mw_look.specs.declared.steps.Op.TheVariants.{File as FileCall}
 use Rattle.mw_look.specs.Steps.{op_of}
-use Rattle.mw_actor.specs.Acting.{Acting, own_entries}
+use Rattle.mw_actor.specs.ActorState.{ActorState, own_entries}
 use Rattle.mw_actor.specs.Asks.{asks}
 use Rattle.mw_disk.specs.Facts.{Facts}
 use Rattle.mw_world_file.specs.declared.outcomes.Outcome.TheVariants.{Good}
 use Rattle.mw_world_file.specs.Files.{File}
 use Rattle.mw_world.specs.Definition.Calls.{Called as CallOn, called_at, starts_from}
-use Rattle.mw_world.specs.Definition.Happenings.{File as FileEvent}
+use Rattle.mw_world.specs.Definition.Events.{File as FileEvent}
 use Rattle.mw_book.specs.declared.answers.Filed.{Filed}
 use Rattle.mw_book.specs.declared.answers.Filed.TheVariants.{Made, Broken, Untouched}
-use Rattle.mw_book.specs.declared.kept.Book.{Book}
+use Rattle.mw_book.specs.declared.book.Book.{Book}
 use Rattle.mw_book.specs.Crashes.{IsCrashSafe}
 use Rattle.mw_book.specs.Ends.{Ends}
 use Rattle.mw_book.specs.Permits.{MayCall}
-use Rattle.mw_book.specs.Shown.{Shows}
+use Rattle.mw_book.specs.Representation.{Represents}
 use Rattle.mw_table.specs.FromRule.{Calls, FoundStatus, IsReadyAt, Loaded, LoadedAs, Starts, WentOn, events_loaded, fails, file_told, starts_by}
 use Rattle.mw_table.proofs.FromRule.{requests_go_on_from_calls}
 use Rattle.mw_table.specs.declared.shared.Pass.{Pass}
-use Rattle.mw_table.specs.Carried.{IsCarried}
-use Rattle.mw_table.specs.Filing.{EndsInFault, EndsWell, FindsStatus, GoesOnByCall, GoesOnByFault, GoesOnByLoad, HasFailed, IsAtFile, MayExchange, MayFault, MayFind}
-use Rattle.mw_table.specs.Holding.{HasFile}
-use Rattle.mw_table.specs.Meeting.{IsSamePass}
-use Rattle.mw_table.proofs.Called.{calls_so, carried_so}
+use Rattle.mw_table.specs.CarriedRequest.{IsCarried}
+use Rattle.mw_table.specs.FileCalls.{EndsInFault, EndsWell, FindsStatus, AddsCallEvent, AddsFaultEvent, AddsLoadEvent, HasFailed, IsAtFile, MayExchange, MayFault, MayFind}
+use Rattle.mw_table.specs.HeldFiles.{HasFile}
+use Rattle.mw_table.specs.Meet.{IsSamePass}
+use Rattle.mw_table.proofs.RequestsOverCalls.{calls_so, carried_so}
 use Rattle.mw_core.specs.Books.{AgreesHeld}
-use Rattle.mw_core.specs.Filing.{AreTaken, MakesCall}
+use Rattle.mw_core.specs.FileCalls.{AreTaken, MakesCall}
 use Rattle.mw_core.proofs.MadeCalls.{agrees_first, book_takes, call_failed, ends_here, found_by, loaded_starts, made_badly, made_skips, made_well, safe_here, same_call, same_slot, skips_agrees, some_call}
 
 -- one of two answers is not the third
@@ -42,11 +43,11 @@ not_made answer (inr is) same = absurd (let e : Untouched ≡ Made = sym is ∙ 
 abbrev found_as : Status → ℕ → Option FoundStatus
 found_as status worker = Some (record { worker = worker; status = status })
 
--- the words with which the call may end are there
-words_so : (pass : Pass) (actor : Acting) (called : CallOn) → IsCarried pass actor → called_at actor.point ≡ Some called → IsReadyAt pass.seat.me.0.config actor (Some called)
+-- the words that the call's end may use are there
+words_so : (pass : Pass) (actor : ActorState) (called : CallOn) → IsCarried pass actor → called_at actor.point ≡ Some called → IsReadyAt pass.seat.me.0.config actor (Some called)
 words_so pass actor called carried comes = subst (IsReadyAt pass.seat.me.0.config actor) comes (carried.ready (requests_go_on_from_calls actor called comes).unreplied)
 
-module _ {D : Type 0} (facts : D → Facts) (old between : Pass) (actor : Acting) (book : Book D) (call : Call) (slot : ℕ) (none : called_at actor.point ≢ None) (carried : IsCarried old actor)
+module _ {D : Type 0} (facts : D → Facts) (old between : Pass) (actor : ActorState) (book : Book D) (call : Call) (slot : ℕ) (none : called_at actor.point ≢ None) (carried : IsCarried old actor)
     (has : HasFile old.seat.me.0 actor.tenant) (agrees : AgreesHeld facts book old.seat.me.0 actor.tenant) (is : op_of (asks actor) ≡ FileCall call slot) where
   abbrev called : CallOn
   called = (some_call (called_at actor.point) none).0
@@ -86,7 +87,7 @@ module _ {D : Type 0} (facts : D → Facts) (old between : Pass) (actor : Acting
           loaded_starts old.worker actor called has.held bits status old.seat.me.0 between.seat.me.0 loaded read starts (ap (λ (one : Call). starts_from one status) call_is ∙ test)
 
       -- The call doesn't start.
-      pub skipped : starts_from call status ≡ false → GoesOnByLoad bits old.seat.me.0 between.seat.me.0 → MakesCall facts old.worker old.seat.me.0 between.seat.me.0 actor book book true
+      pub skipped : starts_from call status ≡ false → AddsLoadEvent bits old.seat.me.0 between.seat.me.0 → MakesCall facts old.worker old.seat.me.0 between.seat.me.0 actor book book true
       skipped test event =
           let starts_not = ap (λ (one : Call). starts_from one status) call_is ∙ test in
           made_skips facts old.worker old.seat.me.0 between.seat.me.0 actor called has.held book status comes has.only has.idle agrees starts_not (as_loaded false test)
@@ -95,7 +96,7 @@ module _ {D : Type 0} (facts : D → Facts) (old between : Pass) (actor : Acting
       pub skipped_agrees : starts_from call status ≡ false → AgreesHeld facts book between.seat.me.0 actor.tenant
       skipped_agrees test = skips_agrees facts old.seat.me.0 between.seat.me.0 actor.tenant has.held book has.only (as_loaded false test) agrees
 
-      -- It starts.
+      -- The call starts.
       module _ (same : IsSamePass old between) (test : starts_from call status ≡ true) where
         starts : Starts old.worker actor called has.held status old.seat.me.0 between.seat.me.0
         starts = as_loaded true test
@@ -104,7 +105,7 @@ module _ {D : Type 0} (facts : D → Facts) (old between : Pass) (actor : Acting
         starts_here = ap (λ (one : Call). starts_from one status) call_is ∙ test
 
         carried_then : IsCarried between actor
-        carried_then = carried_so old between actor same starts.same_reins starts.files.goes_on.same_config carried
+        carried_then = carried_so old between actor same starts.same_token starts.files.goes_on.same_config carried
 
         calls_then : Calls between.seat.me.0 between.worker actor called (found_by has.held old.worker status)
         calls_then = calls_so between actor called (found_by has.held old.worker status) carried_then comes starts.keeps has.its
@@ -122,9 +123,9 @@ module _ {D : Type 0} (facts : D → Facts) (old between : Pass) (actor : Acting
         may_call entries few given =
             book_takes facts old.seat.me.0 between.seat.me.0 actor called has.held book status old.worker comes has.only has.its words.slot agrees starts_here starts call slot entries few call_is slot_is given
 
-        -- It was made on the book.
+        -- The book has answered.
         module _ (after : Book D) (entries : List Entry) (given : AreTaken call entries (own_entries actor)) (answer : Filed) (as_before : after.places ≡ book.places)
-            (told : (file : File) → Shows facts book file → Ends facts call slot entries file book after answer) (moments : IsCrashSafe facts call slot book after answer) where
+            (told : (file : File) → Represents facts book file → Ends facts call slot entries file book after answer) (moments : IsCrashSafe facts call slot book after answer) where
           safe : IsCrashSafe facts called.call called.change.slot book after answer
           safe =
               safe_here facts old.seat.me.0 between.seat.me.0 actor called has.held book status old.worker comes has.only has.its words.slot agrees starts_here starts after call slot answer call_is slot_is moments
@@ -159,14 +160,14 @@ module _ {D : Type 0} (facts : D → Facts) (old between : Pass) (actor : Acting
             failed = call_failed facts old.seat.me.0 between.seat.me.0 actor called has.held book status old.worker comes has.only has.its words.slot agrees starts_here starts after answer other ends;
           }
 
-          pub ended_well : (last : Pass) → answer ≡ Made → EndsWell between.seat.me.0 last.seat.me.0 → GoesOnByCall between.seat.me.0 last.seat.me.0
+          pub ended_well : (last : Pass) → answer ≡ Made → EndsWell between.seat.me.0 last.seat.me.0 → AddsCallEvent between.seat.me.0 last.seat.me.0
               → MakesCall facts old.worker old.seat.me.0 last.seat.me.0 actor book after true × AgreesHeld facts after last.seat.me.0 actor.tenant
           ended_well last it_is went event =
               made_well facts old.seat.me.0 between.seat.me.0 actor called has.held book status old.worker comes has.only has.its words.slot agrees starts_here starts after last.seat.me.0 as_before answer it_is ends safe
               (went between.worker actor called (found_by has.held old.worker status) calls_then)
               (subst (λ (worker : ℕ). WentOn (FileEvent worker Good ∷ []) between.seat.me.0 last.seat.me.0) same.same_worker (event between.worker actor called (found_by has.held old.worker status) calls_then))
 
-          pub ended_badly : (last : Pass) → answer ≢ Made → EndsInFault between.seat.me.0 last.seat.me.0 → GoesOnByFault between.seat.me.0 last.seat.me.0
+          pub ended_badly : (last : Pass) → answer ≢ Made → EndsInFault between.seat.me.0 last.seat.me.0 → AddsFaultEvent between.seat.me.0 last.seat.me.0
               → MakesCall facts old.worker old.seat.me.0 last.seat.me.0 actor book after false × AgreesHeld facts after last.seat.me.0 actor.tenant
           ended_badly last other went event =
               made_badly facts old.seat.me.0 between.seat.me.0 actor called has.held book status old.worker comes has.only has.its words.slot agrees starts_here starts after last.seat.me.0 as_before answer other ends safe

@@ -1,10 +1,10 @@
-pub mod Agreeing
+pub mod Agreement
 pub mod CalledFiles
-pub mod Driven
+pub mod StepEnds
 pub mod FromTable
-pub mod Lent
+pub mod CallWithItsFile
 pub mod MadeCalls
-pub mod Reasoned
-pub mod Turned
-pub mod Walking
+pub mod RetryReasons
+pub mod StepsLeft
+pub mod ReadRoundLaws
 pub mod WholeCalls

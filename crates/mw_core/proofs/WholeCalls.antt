@@ -1,19 +1,19 @@
--- The steps of a whole call on a file, put together.
+-- The steps of a call on a file together are one whole call. Used by: CallWithItsFile, MadeCalls.
 use Rattle.std.specs.Prelude.{ℕ, ◌≡◌, ◌<◌, ◌++◌, Bool, [], ◌∷◌, map, Some, None}
 use Rattle.std.proofs.Common.{sym, ap, subst, ◌∙◌}
 use Rattle.mw_words.specs.declared.statuses.Status.{Status}
-use Rattle.mw_look.specs.declared.news.News.TheVariants.{Filed}
-use Rattle.mw_actor.specs.Acting.{Acting}
+use Rattle.mw_look.specs.declared.observations.Observation.TheVariants.{Filed}
+use Rattle.mw_actor.specs.ActorState.{ActorState}
 use Rattle.mw_actor.specs.Program.{tells}
 use Rattle.mw_world.specs.declared.config.Config.{Config}
 use Rattle.mw_world.specs.Definition.Calls.{Called as CallOn, called_at}
 use Rattle.mw_world.specs.Definition.State.{tenants_of}
-use Rattle.mw_table.specs.FromRule.{FileRights, GoesOn, Held, LeavesRest, Reins, Serves, Starts, View, Went, after_call, bereft, borrows, entrusted, first_held, other_held, seen_at, went as went_of}
-use Rattle.mw_table.proofs.FromRule.{begins_on, bereft_right, calls_borrow, calls_file, calls_give_back, on_again}
-use Rattle.mw_core.specs.Filing.{HasFiled}
+use Rattle.mw_table.specs.FromRule.{FileToken, ExtendsWithLearned, HeldFile, LeavesRest, WorkerToken, Serves, Starts, View, LearnsFileCall, after_call, without_file, takes_files, with_file_given, first_held, other_held, seen_at, went as went_of}
+use Rattle.mw_table.proofs.FromRule.{begins_on, without_file_right, calls_take_files, calls_file, calls_give_back, on_again}
+use Rattle.mw_core.specs.FileCalls.{HasFiled}
 
--- what goes on goes on from before
-goes_on_on : (first between last : View) → GoesOn first between → GoesOn between last → GoesOn first last
+-- knowledge that has grown twice has grown
+goes_on_on : (first between last : View) → ExtendsWithLearned first between → ExtendsWithLearned between last → ExtendsWithLearned first last
 goes_on_on first between last one two =
     let there = λ (tenant : ℕ) (low : tenant < tenants_of first.config). subst (λ (c : Config). tenant < tenants_of c) (sym one.same_config) low in
     record {
@@ -23,7 +23,7 @@ goes_on_on first between last one two =
       same_told = two.same_told ∙ one.same_told;
       seen = λ tenant low. begins_on (seen_at first.seen tenant) (seen_at between.seen tenant) (seen_at last.seen tenant) (one.seen tenant low) (two.seen tenant (there tenant low));
       told = λ tenant low. begins_on (seen_at first.told tenant) (seen_at between.seen tenant) (seen_at last.seen tenant) (one.told tenant low) (two.seen tenant (there tenant low));
-      course = on_again first.course between.course last.course one.course two.course;
+      known_run = on_again first.known_run between.known_run last.known_run one.known_run two.known_run;
     }
 
 files_on : (first between last : View) → LeavesRest first between → LeavesRest between last → LeavesRest first last
@@ -34,22 +34,22 @@ files_on first between last one two = record {
 }
 
 -- A call that ended after its status was found is one call since before that.
-pub went_since : (old between last : View) (worker : ℕ) (actor : Acting) (called : CallOn) (held found : Held) (status : Status) (well : Bool) (after : FileRights)
-    → Starts worker actor called held status old between → Went well found after between last → Went well found after old last
+pub went_since : (old between last : View) (worker : ℕ) (actor : ActorState) (called : CallOn) (held found : HeldFile) (status : Status) (well : Bool) (after : FileToken)
+    → Starts worker actor called held status old between → LearnsFileCall well found after between last → LearnsFileCall well found after old last
 went_since old between last worker actor called held found status well after starts went = record {
   files = files_on old between last starts.files went.files;
-  reins = went.reins ∙ ap (map (went_of well)) starts.same_reins;
+  token = went.token ∙ ap (map (went_of well)) starts.same_token;
   ready = went.ready;
   keeps = went.keeps;
 }
 
--- A thread that has no rights to files takes one before a call, and gives it back after it.
-module _ (old its last : View) (held found : Held) (well : Bool) (after : FileRights) (none : old.files ≡ []) (its_one : its.files ≡ held ∷ []) (made : Went well found after (borrows old its) last) where
-  -- the right that it gives back, and no other, which it hasn't
-  pub kept_then : (entrusted last).files ≡ record found { file = after; found = None } ∷ []
+-- A thread without files takes one before a call, and gives it back after it.
+module _ (old its last : View) (held found : HeldFile) (well : Bool) (after : FileToken) (none : old.files ≡ []) (its_one : its.files ≡ held ∷ []) (made : LearnsFileCall well found after (takes_files old its) last) where
+  -- it gives back that file and no other
+  pub kept_then : (with_file_given last).files ≡ record found { file = after; found = None } ∷ []
   kept_then = ap first_held made.keeps
 
-  pub has_filed : HasFiled well old (bereft last)
+  pub has_filed : HasFiled well old (without_file last)
   has_filed = record {
     files = record {
       goes_on = record {
@@ -59,23 +59,23 @@ module _ (old its last : View) (held found : Held) (well : Bool) (after : FileRi
         same_told = made.files.goes_on.same_told;
         seen = made.files.goes_on.seen;
         told = made.files.goes_on.told;
-        course = made.files.goes_on.course;
+        known_run = made.files.goes_on.known_run;
       };
-      right = bereft_right last made.files.right;
+      right = without_file_right last made.files.right;
       same_mine = made.files.same_mine;
     };
-    reins = made.reins;
+    token = made.token;
     ready = made.ready;
     same_files = ap other_held made.keeps ∙ sym none;
   }
 
-  -- the thread serves its request still
-  pub serves_on : (actor : Acting) (called : CallOn) → called_at actor.point ≡ Some called → (first : View) (reins : Reins) → Serves first old reins actor
-      → Serves first (bereft last) (after_call well reins actor) (tells actor (Filed well) reins.attempt)
-  serves_on actor called comes_to first reins serves =
-      calls_give_back first last (after_call well reins actor) (tells actor (Filed well) reins.attempt)
-      (calls_file first (borrows old its) last reins actor called well found after (calls_borrow first old its reins actor serves) comes_to made)
+  -- the thread still serves its request
+  pub serves_on : (actor : ActorState) (called : CallOn) → called_at actor.point ≡ Some called → (first : View) (token : WorkerToken) → Serves first old token actor
+      → Serves first (without_file last) (after_call well token actor) (tells actor (Filed well) token.attempt)
+  serves_on actor called comes_to first token serves =
+      calls_give_back first last (after_call well token actor) (tells actor (Filed well) token.attempt)
+      (calls_file first (takes_files old its) last token actor called well found after (calls_take_files first old its token actor serves) comes_to made)
 
--- it has no right to another file then
-pub only_taken : (old its : View) (held : Held) → old.files ≡ [] → its.files ≡ held ∷ [] → (borrows old its).files ≡ held ∷ []
+-- it has no other file then
+pub only_taken : (old its : View) (held : HeldFile) → old.files ≡ [] → its.files ≡ held ∷ [] → (takes_files old its).files ≡ held ∷ []
 only_taken old its held none its_one = λ i. none i ++ its_one i

@@ -1,6 +1,6 @@
-pub mod Advancing
+pub mod Steps
 pub mod Books
-pub mod Filing
+pub mod FileCalls
 pub mod FromTable
-pub mod Looking
+pub mod ReadRounds
 pub mod Reasons

@@ -1,23 +1,27 @@
 //! One atomic step of a request at a time.
+//!
+//! mw_engine serves requests by these calls, and tests use them without an engine. `specs/Steps` has the
+//! words of the contracts.
 ghost use Rattle.std.specs.Prelude.{◌≡◌, false, None};
 ghost use Rattle.mw_table.specs.FromRule.{MayCome};
-ghost use Rattle.mw_table.specs.Carried.{IsCarried};
+ghost use Rattle.mw_table.specs.CarriedRequest.{IsCarried};
 ghost use Rattle.mw_table.specs.Passes.{IsOf, IsOfSameWorker};
 ghost use Rattle.mw_actor.specs.Program.{replied};
-ghost use Rattle.mw_core.specs.Advancing.{Advances, Begins, Steps, answer_of};
+ghost use Rattle.mw_core.specs.Steps.{Advances, Begins, Steps, answer_of};
 
 use mw_actor::Actor;
 use mw_look::{Call, Got, Op, Told};
 use mw_table::{Pass, Shared};
 
-/// How a call of [`Core::advance`] ended.
+/// What a call of [`Core::advance`] did.
 #[derive(Clone, Copy, Debug, PartialEq, Eq)]
 pub enum Advance {
-    /// One step was made, and no reply stands yet.
+    /// It made one step, and the request has no reply yet.
     Stepped,
-    /// A call on the tenant's file is next. Nothing was done.
+    /// It did nothing, because a call on the tenant's file is next.
     NeedsFile,
-    /// The reply stands. One step was made, which brought it, or none, where it stood before.
+    /// The request has its reply. The call made the one step that brought it, or no step if the reply was there
+    /// before.
     Finished,
 }
 
@@ -28,22 +32,22 @@ pub struct Core {
 }
 
 impl Core {
-    /// A core on these shared words.
+    /// Makes a core on these shared words.
     pub fn new(shared: Shared) -> Core
         ensures { result.shared ≡ shared }
     {
         Core { shared }
     }
 
-    /// The shared words.
+    /// Returns the shared words.
     pub fn shared(&self) -> &Shared
         ensures { result.now ≡ self.now.shared }
     {
         &self.shared
     }
 
-    /// A request comes to the pass's worker, which has none, and makes its first step, a load of its
-    /// tenant's door, of which the machine is told. From then on the pass carries it, and isn't idle.
+    /// Brings a request to the pass's worker, which has none, and makes its first step: a load of its tenant's door,
+    /// which it tells the machine. From then on the pass carries the request, and isn't idle.
     pub fn begin(&self, pass: &mut Pass, actor: &mut Actor)
         requires own { IsOf self.now.shared pass.old }
         requires may { MayCome pass.old.seat.me.0 pass.old.worker actor.old }
@@ -60,9 +64,9 @@ impl Core {
         });
     }
 
-    /// Makes one atomic step of the request that the pass carries, which has no reply yet, on one shared word, and
-    /// tells the machine what it found. The machine is asked for its step once. If a call on the tenant's file is
-    /// next, nothing is done, and that call is the answer.
+    /// Makes one atomic step, on one shared word, of the request that the pass carries, which has no reply yet. It
+    /// tells the machine what the step found. It asks the machine for its step once. If a call on the tenant's file
+    /// is next, it does nothing and returns that call.
     pub fn step(&self, pass: &mut Pass, actor: &mut Actor) -> Option<Call>
         requires own { IsOf self.now.shared pass.old }
         requires carried { IsCarried pass.old actor.old }
@@ -87,8 +91,8 @@ impl Core {
         None
     }
 
-    /// Makes one step as [`Core::step`] does, of a request that may have its reply. Then nothing is done. As long as
-    /// no reply stands the pass is as idle as it was, which is not at all.
+    /// Makes one step as [`Core::step`] does, of a request that may have its reply. If it has its reply, nothing is
+    /// done. While there is no reply the pass stays as idle as it was, which is not idle.
     pub fn advance(&self, pass: &mut Pass, actor: &mut Actor) -> Advance
         requires own { IsOf self.now.shared pass.old }
         requires carried { IsCarried pass.old actor.old }
@@ -108,7 +112,7 @@ impl Core {
     }
 }
 
-/// How a call ended that made a step, by the reply that stands after it.
+/// Returns what a call did that made a step, by the reply that is there after it.
 fn ended(actor: &Actor) -> Advance
     ensures { result ≡ answer_of (replied actor.now) }
 {

@@ -1,18 +1,22 @@
-//! Laws of books and of the rights to their files. None of these functions does anything.
-ghost use Rattle.mw_core.specs.Books.{BooksFollowRights, BooksTakeCalls, OpenedBooksAgree, UnopenedBooksAgree};
+//! States facts about books and their file tokens.
+//!
+//! The functions do nothing, and nothing calls them: each contract is a fact, proved in `proofs/laws`. Proofs
+//! of crates above import other pages of `proofs`, by which these facts are proved. To change a fact, change
+//! its definition in `specs`, and then its proof.
+ghost use Rattle.mw_core.specs.Books.{BooksFollowFileTokens, BooksTakeCalls, OpenedBooksAgree, UnopenedBooksAgree};
 
 use mw_disk::Disk;
 
-/// Where a call starts by the right to a file, it may be made on a book that agrees with the right. After the
-/// call the book agrees with the right after it: as after a call that was made, after one in which the device
-/// failed, or as before, by the answer.
-pub fn books_follow_rights<D: Disk>()
+/// If a call starts by a file token, it may be made on a book that agrees with the token. After the call the book
+/// agrees with the token after it. By the answer, that is the token after a call that was made, or after one in which
+/// the device failed, or the same token.
+pub fn books_follow_file_tokens<D: Disk>()
     ensures start { BooksTakeCalls D.facts }
-    ensures after { BooksFollowRights D.facts }
+    ensures after { BooksFollowFileTokens D.facts }
 {}
 
-/// The book of a file that just opened agrees with the right that there is to it then, and so does the book of
-/// one that didn't open.
+/// The book of a file that just opened agrees with the file token that there is then. So does the book of a file that
+/// didn't open.
 pub fn new_books_agree<D: Disk>()
     ensures opened { OpenedBooksAgree D.facts }
     ensures unopened { UnopenedBooksAgree D.facts }

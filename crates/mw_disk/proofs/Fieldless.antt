@@ -1,4 +1,5 @@
--- A value without bytes: the machine's value of a struct of which contracts alone see fields, and what it owns.
+-- A struct whose fields only contracts see has no bytes and owns nothing, and can be made anywhere.
+-- Used by: the proofs of Block and History. It may change freely as long as this crate checks.
 use Rattle.std.proofs.Common.{List, [], ◌∷◌, refl}
 use seplogic.Ra.Ura.{Ura}
 use mir.Val.{Val, vstruct, vnil}
@@ -14,7 +15,7 @@ none = vstruct vnil
 abbrev pub fieldless : RattleType
 fieldless = Struct (record { name = []; args = []; types = []; fields = [] })
 
--- it owns nothing, so it can be added anywhere
+-- it owns nothing, so it can be made anywhere
 pub none_made : {M : Type 1} {𝓤 : Ura M} {𝓛 : Logic 𝓤} {K : Type 0} {Γ : List (Item 𝓤)} {G : Goal 𝓤 𝓛.H} → K → Step K 𝓛 (‵ (fieldless.own_val tt (none ∷ [])) ∷ Γ) G Γ G
 none_made t = step (λ s.
     nothing t $ feq_i t (List Val) (none ∷ []) (none ∷ []) refl $ fjoin t $

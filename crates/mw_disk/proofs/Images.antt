@@ -1,4 +1,5 @@
--- Bytes that differ from those of now in the unsynced ranges alone are an image.
+-- Bytes that differ from what a read gives in the unsynced ranges alone are an image. Used by: TornBytes. It may change freely as
+-- long as this crate checks.
 use Rattle.std.proofs.Common.{◌≡◌, ◌<◌, ◌≤◌, ℕ, ◌+◌, true, false, cond, List, [], ◌∷◌, ◌++◌, length, min, max, map, get_or, sym, ◌∙◌, inl, inr, ◌⊎◌, arith, ltb, leb}
 use Rattle.std.specs.List.{range_with_len}
 use Rattle.std.proofs.lemmas.List.{ext_get_or}
@@ -14,7 +15,7 @@ use Rattle.mw_disk.specs.declared.event.Event.{Event}
 use Rattle.mw_disk.specs.declared.event.Call.{Call}
 use Rattle.mw_disk.specs.declared.event.Call.TheVariants.{Quiet, Wrote, Tore, Synced}
 
--- how far a file that ends at n may reach
+-- where a file of n bytes ends at most after writes to the ranges
 abbrev pub reach : List Span → ℕ → ℕ
 reach [] n = n
 reach (s ∷ spans) n = max (s.at + s.len) (reach spans n)
@@ -50,19 +51,19 @@ within_push spans s k is = elim (or_cases (is_within spans k) (is_within (s ∷ 
   | inr last ↦ elim (or_cases (covers k s) false last) [ inl here ↦ inr here | inr never ↦ cc ]
 ]
 
--- The same bytes outside the ranges, no shorter than they are and no longer than the ranges allow.
+-- The bytes are the same outside the ranges, and no fewer than they are and no more than the ranges allow.
 pub record Differs (spans : List Span) (now c : List ℕ) : Type 0 where
   pub no_shorter : length now ≤ length c
   pub no_longer : length c ≤ reach spans (length now)
   pub outside : (k : ℕ) → k < length now → (is_within spans k ≡ true → ⊥) → get_or c k 0 ≡ get_or now k 0
 
--- all such bytes may be left
+-- a crash may leave all such bytes
 pub record Roams (spans : List Span) (s : State) : Type 0 where
   pub each : (c : List ℕ) → Differs spans s.bytes c → s.left c
 
--- ---- a write: the bytes before it, of which these may be made
+-- ---- a write: bytes before it, from which it makes these
 
--- what is left of them: in the range what was there, else what is there now
+-- one of those bytes: in the range the one that was there, else the one that is there now
 abbrev before_byte : Span → List ℕ → List ℕ → ℕ → ℕ
 before_byte span was c k = cond (covers k span) (get_or was k 0) (get_or c k 0)
 
@@ -78,7 +79,7 @@ not_covered k s out = elim (cases_lt k s.at) [
   ]
 ]
 
--- outside a range torn bytes are those that were there
+-- outside the range a torn write leaves the bytes
 torn_outside : (s : Span) (old new : List ℕ) (k : ℕ) → Torn s.at s.len old new → k < length old → (covers k s ≡ true → ⊥) → get_or new k 0 ≡ get_or old k 0
 torn_outside s old new k torn there out = elim (not_covered k s out) [
   | inl below ↦ torn.before k below there
@@ -94,7 +95,7 @@ uncovered_byte s was c n k lt out = at_byte s was c n k lt ∙ elim (cases_Bool 
   | inr isnt ↦ cond-false (covers k s) (get_or was k 0) (get_or c k 0) isnt
 ]
 
--- in the range they are those that were there, and outside it those that are there in both
+-- outside the ranges, those bytes are the ones that were there before the write
 old_byte : (spans : List Span) (s : Span) (was now c : List ℕ) (n k : ℕ) → Torn s.at s.len was now → Differs (spans ++ s ∷ []) now c
     → k < n → k < length was → (is_within spans k ≡ true → ⊥) → get_or (bytes_before s was c n) k 0 ≡ get_or was k 0
 old_byte spans s was now c n k torn differs lt there out = elim (cases_Bool (covers k s)) [
@@ -107,7 +108,7 @@ old_byte spans s was now c n k torn differs lt there out = elim (cases_Bool (cov
       ∙ torn_outside s was now k torn there uncovered)
 ]
 
--- bytes that differ after a write are a write cut short of bytes that differed before it
+-- bytes that differ after a write are a torn write over bytes that differed before it
 one_write : (spans : List Span) (s : Span) (was now c : List ℕ) → Torn s.at s.len was now → Differs (spans ++ s ∷ []) now c
     → (d : List ℕ) × Differs spans was d × Torn s.at s.len d c
 one_write spans s was now c torn differs =

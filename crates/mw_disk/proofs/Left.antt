@@ -1,4 +1,5 @@
--- What a disk in memory keeps at run time goes along with what contracts see of its calls.
+-- What a disk in memory keeps at run time matches the calls that contracts see. Used by: the proofs of put, note_torn, note_sync
+-- and note_quiet. It may change freely as long as this crate checks.
 use Rattle.std.proofs.Common.{◌≡◌, ℕ, List, [], ◌∷◌, ◌++◌, refl, sym, ap, ◌∙◌, subst}
 use Rattle.mw_disk.specs.Facts.{patched}
 use Rattle.mw_disk.specs.Memory.{State, only, padded, after, run}
@@ -9,9 +10,9 @@ use Rattle.mw_disk.specs.declared.event.Call.{Call}
 use Rattle.mw_disk.specs.declared.event.Call.TheVariants.{Quiet, Wrote, Tore, Synced}
 use Rattle.mw_disk.specs.declared.history.History.{History}
 use Rattle.mw_disk.proofs.Remembered.{run_push}
-use Rattle.mw_disk.proofs.Tearing.{spans_push}
+use Rattle.mw_disk.proofs.TornBytes.{spans_push}
 
--- the bytes that a read gives once this call was made too
+-- the bytes that a read gives after this call
 abbrev pub bytes_after : List ℕ → Call → List ℕ
 bytes_after bytes (Quiet well) = bytes
 bytes_after bytes (Wrote at block) = patched (padded bytes at) at block
@@ -32,7 +33,7 @@ left_after first log e bytes spans left = record {
   written = ap (λ (l : List Span). spans_after l e.call) left.written ∙ sym (spans_push [] log e);
 }
 
--- a call was made, and the bytes and the ranges are as it leaves them
+-- after this call the bytes and the ranges match the calls with it
 pub goes_on : (old new : History) (missed : ℕ) (call : Call) (bytes next : List ℕ) (spans ranges : List Span)
     → new ≡ record { first = old.first; log = old.log ++ record { missed = missed; call = call } ∷ [] }
     → IsLeftBy old.first old.log bytes spans → next ≡ bytes_after bytes call → ranges ≡ spans_after spans call → IsLeftBy new.first new.log next ranges

@@ -4,4 +4,4 @@ mod Left
 pub mod Plans
 pub mod Remembered
 pub mod RunLaws
-pub mod Tearing
+pub mod TornBytes

@@ -1,4 +1,5 @@
--- What a disk in memory knows of the calls to come.
+-- A disk in memory ends its calls as its script and its stop say. Used by: Remembered. It may change freely as long as this crate
+-- checks.
 use Rattle.std.proofs.Common.{◌≡◌, ◌≤◌, ℕ, ◌+◌, suc, Bool, true, false, cond, List, min, refl, sym, ap, ◌∙◌, inl, inr, arith, Option, Some, None}
 use Rattle.std.specs.Prelude.{◌==◌, ◌&&◌, nat_lt}
 use Rattle.std.specs.List.{list_any}
@@ -37,7 +38,7 @@ plan_begun m k =
 
 -- ---- the next call
 
--- what its turn tells of it
+-- what the turn of a call tells of it
 abbrev told : Turn → Option Bool
 told Goes = Some true
 told Fails = Some false
@@ -58,7 +59,7 @@ plan_now m =
     ∙ (ap (λ (n : ℕ). known (is_stopped m.stop) (names_number m.script n)) (let e : m.calls + 0 ≡ m.calls = omega arith in e)
     ∙ told_by (is_stopped m.stop) (is_named m))
 
--- a call that can go well was not known to fail
+-- a call that may go well was not known to fail
 pub not_doomed : (m : Memory) → next_turn m ≡ Goes → plan_of m 0 ≡ Some false → ⊥
 not_doomed m goes doomed = let e = plan_now m in let f = ap (λ (t : Turn). told t) goes in cc
 
@@ -67,6 +68,6 @@ goes_told Goes is = refl
 goes_told Fails is = cc
 goes_told Stopped is = cc
 
--- a call that was known to go well can go well
+-- a call that was known to go well may go well
 pub goes_now : (m : Memory) → plan_of m 0 ≡ Some true → next_turn m ≡ Goes
 goes_now m is = goes_told (next_turn m) (sym (plan_now m) ∙ is)

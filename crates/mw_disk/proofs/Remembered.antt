@@ -1,10 +1,11 @@
--- A disk in memory obeys the disk model: lemmas on the calls that it remembers.
+-- A disk in memory keeps the crash model: each call that it remembers or forgets meets the contract of Disk.
+-- Used by: Images, Left, the proofs of all calls of MemDisk. It may change freely as long as this crate checks.
 use Rattle.std.proofs.Common.{◌≡◌, ◌<◌, ◌≤◌, ◌-◌, ℕ, ◌+◌, ◌^◌, Bool, true, false, cond, Some, Result, Ok, Err, List, [], ◌∷◌, ◌++◌, length, take, drop, min, max, replicate, get_or, refl, sym, ap, ◌∙◌, subst, inl, inr, ◌⊎◌, leb, arith, append_assoc, length-append}
 use Rattle.std.specs.List.{flat_map}
 use Rattle.std.specs.Result.{IsErr, is_ok}
 use Rattle.std.proofs.lemmas.List.{append-nil, take_all, take-append-le, drop_all, length-replicate, length-take, length-drop, get_or_append_left, get_or-take, get_or-drop, get_or-append_right, replicate_more, replicate-append-replicate}
 use Rattle.std.proofs.lemmas.Bool.{cases_lt, false≢true, leb-true, le-leb}
-use Rattle.mw_disk.specs.Facts.{MayLeave, IsAtRest, Torn, Called, Spares, NothingNew, TearsAt, patched, most_counted}
+use Rattle.mw_disk.specs.Facts.{MayLeave, IsSynced, Torn, Called, Spares, NothingNew, TearsAt, patched, most_counted}
 use Rattle.mw_disk.specs.Memory.{begun, next_turn, plan_of, State, only, padded, after, run, went_well, outcomes_of, Memory, state_at, bytes_of, memory_facts, logged, missed_once, refused_once, FailsAs, only_if}
 use Rattle.mw_disk.proofs.Plans.{plan_begun, not_doomed, goes_now}
 use Rattle.mw_disk.specs.declared.event.Event.{Event}
@@ -13,7 +14,7 @@ use Rattle.mw_disk.specs.declared.event.Call.TheVariants.{Quiet, Wrote, Tore, Sy
 use Rattle.mw_disk.specs.declared.event.Turn.{Turn}
 use Rattle.mw_disk.specs.declared.event.Turn.TheVariants.{Goes, Fails, Stopped}
 
--- the call is remembered, and of the facts nothing else has changed
+-- the disk remembers the call, and no other fact has changed
 pub record Logs (call : Call) (old new : Memory) : Type 0 where
   pub first : new.first ≡ old.first
   pub log : new.log ≡ old.log ++ record { missed = old.missed; call = call } ∷ []
@@ -58,7 +59,7 @@ refused_from old new is = record {
   plan = λ k. ap (λ (m : Memory). plan_of m k) is;
 }
 
--- the call has failed, and is remembered or not
+-- the call has failed, and the disk remembers it or not
 abbrev pub FailsBy : Call → Memory → Memory → Type 0
 FailsBy call old new = Misses old new ⊎ Logs call old new
 
@@ -105,7 +106,7 @@ length-patched old at block fits =
     let d = length-drop (at + length block) old in
     omega arith
 
--- bytes written, and the bytes that were there
+-- the bytes before and after a block that was written
 patched_before : (old : List ℕ) (at : ℕ) (block : List ℕ) (k : ℕ) → k < at → k < length old → get_or (patched old at block) k 0 ≡ get_or old k 0
 patched_before old at block k below there =
     let t = length-take at old in
@@ -119,7 +120,7 @@ patched_after old at block k fits above =
     ∙ (get_or-drop (at + length block) old (k - at - length block) 0
     ∙ ap (λ (i : ℕ). get_or old i 0) (let e : at + length block + (k - at - length block) ≡ k = omega arith in e)))
 
--- a write that went well, of the bytes that were there
+-- a write that went well is a case of a torn write
 pub torn_patched : (old : List ℕ) (at : ℕ) (block : List ℕ) → Torn at (length block) old (patched (padded old at) at block)
 torn_patched old at block =
     let p = length-padded old at in
@@ -133,13 +134,13 @@ torn_patched old at block =
       no_longer = omega arith;
     }
 
--- a write that starts among the bytes needs no zeros
+-- a write that begins within the bytes needs no zeros
 pub padded_none : (old : List ℕ) (at : ℕ) → at ≤ length old → padded old at ≡ old
 padded_none old at fits =
     let z : at - length old ≡ 0 = omega arith in
     rw z (append-nil old)
 
--- ---- what a read gives is one of the images
+-- ---- what a read gives is an image of now
 
 stays_left : (s : State) (call : Call) → s.left s.bytes → (after s call).left (after s call).bytes
 stays_left s (Quiet well) left = left
@@ -151,7 +152,7 @@ run_left : (s : State) (es : List Event) → s.left s.bytes → (run s es).left 
 run_left s [] left = left
 run_left s (e ∷ es) left = run_left (after s e.call) es (stays_left s e.call left)
 
--- the images of now, by all the calls
+-- the images of now are those after all calls
 pub from_now : (m : Memory) (c : List ℕ) → MayLeave (memory_facts m) c → (run (only m.first) m.log).left c
 from_now m c left = subst (λ (l : List Event). (run (only m.first) l).left c) (take_all (length m.log) m.log (omega arith)) left
 
@@ -178,7 +179,7 @@ logs_left call old new logs c left = subst (λ (s : State). s.left c) (logs_stat
 longer_log : (call : Call) (old new : Memory) → Logs call old new → length new.log ≡ length old.log + 1
 longer_log call old new logs = ap length logs.log ∙ length-append old.log (record { missed = old.missed; call = call } ∷ [])
 
--- a moment past is what it was
+-- the state of a past moment stays
 logs_past : (call : Call) (old new : Memory) → Logs call old new → (k : ℕ) → k ≤ length old.log → state_at new k ≡ state_at old k
 logs_past call old new logs k past =
     ap (λ (l : List Event). run (only new.first) (take k l)) logs.log
@@ -194,7 +195,7 @@ logs_outcomes call old new logs =
     ∙ (outcomes_push old.log e
     ∙ sym (append_assoc (flat_map outcomes_of old.log) (replicate old.missed false) (went_well call ∷ [])))))
 
--- the facts once such a call was begun and remembered; one that goes well was not to fail
+-- the facts after a call was begun and remembered; if it goes well it was not known to fail
 pub logs_called : (call : Call) (ok : Bool) (old new : Memory) → went_well call ≡ ok → (plan_of old 0 ≡ Some false → ok ≡ false) → Logs call (begun old) new
     → Called (memory_facts old) (memory_facts new) ok
 logs_called call ok old new is doomed logs = record {
@@ -253,7 +254,7 @@ misses_called old new misses = record {
   seen = λ honest. reads_left new;
 }
 
--- ---- the clauses of each call: mid is the disk once the call was begun
+-- ---- the clauses of each call: mid is the disk after the call was begun
 
 quiet_logs_nothing : (well : Bool) (old new : Memory) → Logs (Quiet well) old new → NothingNew (memory_facts old) (memory_facts new)
 quiet_logs_nothing well old new logs c left = to_now old c (logs_left (Quiet well) old new logs c left)
@@ -284,12 +285,12 @@ fails_called call turn old mid new failed is fails = elim (fails_begun call turn
   | inr logs ↦ logs_called call false old new failed (λ doomed. refl) logs
 ]
 
--- a result that is an error didn't go well
+-- a fact of a call that failed is a fact of its error
 pub on_err : {T E : Type 0} (P : Bool → Type 0) (r : Result T E) → IsErr r → P false → P (is_ok r)
 on_err P (Ok x) is p = absurd (false≢true is)
 on_err P (Err e) is p = p
 
--- one that was refused memory
+-- a call that was refused memory
 pub refused_called : (old mid new : Memory) → mid ≡ begun old → new ≡ refused_once mid → Called (memory_facts old) (memory_facts new) false
 refused_called old mid new is refused = misses_called old new (refused_begun old mid new is refused)
 
@@ -354,7 +355,7 @@ quiet_nothing old mid new is logs = quiet_logs_nothing true (begun old) new (log
 pub quiet_same : (old mid new : Memory) → mid ≡ begun old → new ≡ logged mid (Quiet true) → (memory_facts new).reads ≡ (memory_facts old).reads
 quiet_same old mid new is logs = logs_reads (Quiet true) (begun old) new (logs_begun (Quiet true) old mid new is logs)
 
--- where it can go well, its turn is that of the disk
+-- if a call with a condition may go well, the disk lets the next call go well
 goes_turn : (fits : Bool) (turn : Turn) → only_if fits turn ≡ Goes → turn ≡ Goes
 goes_turn true turn is = is
 goes_turn false Goes is = refl
@@ -367,7 +368,7 @@ pub read_called : (turn asked : Turn) (fits : Bool) (old mid new : Memory) → t
 read_called turn asked fits old mid new its made goes is logs =
     went_called (Quiet true) turn old mid new refl its (goes_turn fits turn (sym made ∙ goes)) is logs
 
--- a read that failed, of bytes that are there
+-- a read that failed, if the bytes are there
 pub read_spared : (at n : ℕ) (turn asked : Turn) (fits : Bool) (old mid new : Memory) → turn ≡ next_turn old → asked ≡ only_if fits turn
     → fits ≡ leb (at + n) (length (memory_facts mid).reads) → mid ≡ begun old → FailsAs (Quiet false) asked mid new
     → at + n ≤ length (memory_facts old).reads → Spares (memory_facts old) (memory_facts new) false
@@ -376,14 +377,14 @@ read_spared at n turn asked fits old mid new its made tests is fails there =
     let holds : leb (at + n) (length (memory_facts mid).reads) ≡ true = le-leb (at + n) (length (memory_facts mid).reads) (omega arith) in
     fails_spared (Quiet false) asked old mid new (made ∙ (ap (λ (b : Bool). only_if b turn) (tests ∙ holds) ∙ its)) is fails
 
--- a call that goes well can go well
+-- a call that goes well meets its condition
 goes_if : (fits : Bool) (turn : Turn) → only_if fits turn ≡ Goes → fits ≡ true
 goes_if true turn is = refl
 goes_if false Goes is = cc
 goes_if false Fails is = cc
 goes_if false Stopped is = cc
 
--- what a read that goes well asks for is there, before it and after it
+-- the bytes of a read that goes well are there, before it and after it
 pub read_there : (at n : ℕ) (turn asked : Turn) (fits : Bool) (old mid new : Memory) → mid ≡ begun old → new ≡ logged mid (Quiet true)
     → fits ≡ leb (at + n) (length (memory_facts mid).reads) → asked ≡ only_if fits turn → asked ≡ Goes
     → (at + n ≤ length (memory_facts old).reads) × (at + n ≤ length (memory_facts new).reads)
@@ -396,7 +397,7 @@ read_there at n turn asked fits old mid new is logs tests made goes =
 pub sync_same : (old mid new : Memory) → mid ≡ begun old → new ≡ logged mid Synced → (memory_facts new).reads ≡ (memory_facts old).reads
 sync_same old mid new is logs = logs_reads Synced (begun old) new (logs_begun Synced old mid new is logs)
 
-pub sync_rest : (old mid new : Memory) → mid ≡ begun old → new ≡ logged mid Synced → IsAtRest (memory_facts new)
+pub sync_rest : (old mid new : Memory) → mid ≡ begun old → new ≡ logged mid Synced → IsSynced (memory_facts new)
 sync_rest old mid new is logs c left =
     logs_left Synced (begun old) new (logs_begun Synced old mid new is logs) c left ∙ sym (sync_same old mid new is logs)
 

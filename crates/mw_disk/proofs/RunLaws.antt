@@ -1,9 +1,11 @@
--- Runs of device calls one after the other: what they touch, what a crash since leaves, and how their calls are counted.
+-- Runs of device calls follow each other: what they touch, what a crash since leaves, and how their calls are counted. Used by:
+-- mw_file, mw_book, mw_world_file, mw_plain, mw_simulator. Its statements may change with those crates; its proofs may change
+-- freely.
 use Rattle.std.specs.Prelude.{◌≡◌, ◌<◌, ◌≤◌, ℕ, suc, ◌+◌, ◌-◌, ◌^◌, Bool, true, false, Some, List, [], ◌∷◌, ◌++◌, length, min, replicate, IsTrue}
 use Rattle.std.proofs.Common.{refl, sym, ap, ◌∙◌, subst, inl, inr, arith, append_assoc, length-append}
 use Rattle.std.proofs.lemmas.List.{get_or_past, length-replicate, replicate-append-replicate, append-nil}
 use Rattle.std.proofs.lemmas.Bool.{cases_lt, false≢true}
-use Rattle.mw_disk.specs.Facts.{Facts, MayLeave, IsAtRest, Torn, Called, Spares, NothingNew, TearsAt, most_counted}
+use Rattle.mw_disk.specs.Facts.{Facts, MayLeave, IsSynced, Torn, Called, Spares, NothingNew, TearsAt, most_counted}
 use Rattle.mw_disk.specs.Runs.{SameBut, Later, Touched, Fits, LeavesOnly, Good, Bad}
 
 pub same_but_refl : (S : ℕ → Type 0) (bytes : List ℕ) → SameBut S bytes bytes
@@ -32,14 +34,14 @@ later_trans a b c ab bc = record {
 pub called_later : (old new : Facts) (ok : Bool) → Called old new ok → Later old new
 called_later old new ok call = record { later = call.later; honest = call.honest; past = call.past; kept = call.kept }
 
--- an honest disk stays honest, and was so before
+-- an honest disk stays honest, and was honest before
 pub still_honest : (old new : Facts) → Later old new → IsTrue old.honest → IsTrue new.honest
 still_honest old new later honest = subst (λ (b : Bool). IsTrue b) (sym later.honest) honest
 
 pub was_honest : (old new : Facts) → Later old new → IsTrue new.honest → IsTrue old.honest
 was_honest old new later honest = subst (λ (b : Bool). IsTrue b) later.honest honest
 
--- at one moment, what a crash may leave is what it might have left then
+-- the images of one moment, known by two names
 image_at : (f : Facts) (j k : ℕ) (c : List ℕ) → j ≡ k → f.image j c → f.image k c
 image_at f j k c same left = subst (λ (m : ℕ). f.image m c) same left
 
@@ -74,7 +76,7 @@ touched_wider S T old new wider touched = record {
   seen = same_but_wider S T old.reads new.reads wider touched.seen;
 }
 
--- a write that is cut short, among bytes that are there
+-- a write within the bytes that was cut short changes only bytes of its range
 pub torn_same : (S : ℕ → Type 0) (at n : ℕ) (old new : List ℕ) → ((k : ℕ) → at ≤ k → k < at + n → S k) → at + n ≤ length old → Torn at n old new → SameBut S old new
 torn_same S at n old new within fits torn = record {
   size = let l = torn.no_shorter in let m = torn.no_longer in omega arith;
@@ -92,7 +94,7 @@ torn_same S at n old new within fits torn = record {
   ];
 }
 
--- what a call may have left: at its start, or at its end
+-- what a crash during a call may leave is what it may leave at its start or at its end
 call_each : (S : ℕ → Type 0) (old new : Facts) (ok : Bool) → Called old new ok
     → ((c : List ℕ) → MayLeave new c → (d : List ℕ) × MayLeave old d × SameBut S d c)
     → (k : ℕ) (c : List ℕ) → old.moment ≤ k → k ≤ new.moment → new.image k c → (d : List ℕ) × MayLeave old d × SameBut S d c
@@ -101,7 +103,7 @@ call_each S old new ok call now k c low high left = elim (cases_lt old.moment k)
   | inr at_start ↦ (c, image_at old k old.moment c (omega arith) (call.past k c at_start left), same_but_refl S c)
 ]
 
--- a write among bytes that are there, whether it went well or not
+-- a write within the bytes, whether it went well or not
 pub touched_write : (S : ℕ → Type 0) (old new : Facts) (ok : Bool) → Called old new ok
     → (at n : ℕ) → TearsAt at n old new → Torn at n old.reads new.reads → ((k : ℕ) → at ≤ k → k < at + n → S k) → Fits old (at + n) → Touched S old new
 touched_write S old new ok call at n tears torn within fits = record {
@@ -119,11 +121,11 @@ touched_quiet S old new ok call nothing same = record {
   seen = subst (λ (bytes : List ℕ). SameBut S old.reads bytes) (sym same) (same_but_refl S old.reads);
 }
 
--- at rest it stays at rest through such a call
-pub rest_quiet : (old new : Facts) → IsAtRest old → NothingNew old new → new.reads ≡ old.reads → IsAtRest new
+-- a synced disk stays synced through such a call
+pub rest_quiet : (old new : Facts) → IsSynced old → NothingNew old new → new.reads ≡ old.reads → IsSynced new
 rest_quiet old new rest nothing same = λ c left. rest c (nothing c left) ∙ sym same
 
-pub fits_rest : (f : Facts) (n : ℕ) → IsAtRest f → n ≤ length f.reads → Fits f n
+pub fits_rest : (f : Facts) (n : ℕ) → IsSynced f → n ≤ length f.reads → Fits f n
 fits_rest f n rest long = record { reads = long; left = λ c left. let e = ap length (rest c left) in omega arith }
 
 pub fits_after : (S : ℕ → Type 0) (old new : Facts) (n : ℕ) → Touched S old new → Fits old n → Fits new n
@@ -142,7 +144,7 @@ fits_less f m n less fits = record {
   left = λ c left. let l = fits.left c left in omega arith;
 }
 
--- where all that a crash might have left before, changed at these offsets, has P
+-- if P holds of each old image with any bytes at these offsets, a crash leaves only bytes with P
 pub leaves_touched : (S : ℕ → Type 0) (old new : Facts) {P : List ℕ → Type 0} → Touched S old new
     → ((d c : List ℕ) → MayLeave old d → SameBut S d c → P c) → LeavesOnly old new P
 leaves_touched S old new touched has = record {
@@ -150,13 +152,13 @@ leaves_touched S old new touched has = record {
   each = λ c left. let t = touched.each left.0 c left.1 left.2 left.3 in has t.0 c t.1 t.2;
 }
 
--- from a disk at rest
-pub leaves : (S : ℕ → Type 0) (old new : Facts) {P : List ℕ → Type 0} → IsAtRest old → Touched S old new
+-- the same from a synced disk, of what a read gave
+pub leaves : (S : ℕ → Type 0) (old new : Facts) {P : List ℕ → Type 0} → IsSynced old → Touched S old new
     → ((c : List ℕ) → SameBut S old.reads c → P c) → LeavesOnly old new P
 leaves S old new rest touched has = leaves_touched S old new touched
     (λ d c left same. has c (subst (λ (bytes : List ℕ). SameBut S bytes c) (rest d left) same))
 
--- where nothing was called
+-- the same if no call was made
 pub leaves_same : (f : Facts) {P : List ℕ → Type 0} → ((c : List ℕ) → MayLeave f c → P c) → LeavesOnly f f P
 leaves_same f has = record {
   later = later_refl f;
@@ -166,7 +168,7 @@ leaves_same f has = record {
 pub leaves_wider : (old new : Facts) {P Q : List ℕ → Type 0} → ((c : List ℕ) → P c → Q c) → LeavesOnly old new P → LeavesOnly old new Q
 leaves_wider old new wider only = record { later = only.later; each = λ c left. wider c (only.each c left) }
 
--- one run after the other
+-- the same of one run after the other
 pub leaves_more : (a b c : Facts) {P : List ℕ → Type 0} → LeavesOnly a b P → LeavesOnly b c P → LeavesOnly a c P
 leaves_more a b c ab bc = record {
   later = later_trans a b c ab.later bc.later;
@@ -176,11 +178,11 @@ leaves_more a b c ab bc = record {
   ];
 }
 
--- a crash now
+-- the same of a crash now
 pub leaves_now : (old new : Facts) {P : List ℕ → Type 0} → LeavesOnly old new P → (c : List ℕ) → MayLeave new c → P c
 leaves_now old new only c left = only.each c (new.moment, only.later.later, omega arith, left)
 
--- the plan of one call, by its number
+-- what is known of one call, by two names of its number
 plan_at : (f : Facts) (j k : ℕ) → j ≡ k → f.plan j ≡ f.plan k
 plan_at f j k same = ap (λ (n : ℕ). f.plan n) same
 
@@ -216,7 +218,7 @@ bad_call old new call spares = record {
   plan = λ k. call.plan k ∙ plan_at old (suc k) (0 + suc k) (omega arith);
 }
 
--- the calls of one run and then those of another, in one list
+-- the outcomes of one run and then those of another are one list
 joined : (xs : List Bool) (m n : ℕ) → (xs ++ replicate m true) ++ replicate n true ≡ xs ++ replicate (m + n) true
 joined xs m n = append_assoc xs (replicate m true) (replicate n true) ∙ ap (λ (l : List Bool). xs ++ l) (replicate-append-replicate m n true)
 
@@ -229,11 +231,11 @@ longer xs ys m n is fits =
 still : (b c : Bool) → c ≡ b → IsTrue b → IsTrue c
 still b c same honest = subst (λ (v : Bool). IsTrue v) (sym same) honest
 
--- behind a run that went well, the calls of the next one have these numbers
+-- after a run that went well, the calls of the next one have these numbers
 plan_behind : (m : ℕ) (a b : Facts) → Good m a b → (k : ℕ) → m ≤ k → b.plan (k - m) ≡ a.plan k
 plan_behind m a b ab k low = ab.plan (k - m) ∙ plan_at a (m + (k - m)) k (omega arith)
 
--- in two runs none was known to fail
+-- no call of two runs was known to fail
 none_doomed_trans : (m n : ℕ) (a b : Facts) → Good m a b → ((k : ℕ) → k < n → b.plan k ≡ Some false → ⊥) → (k : ℕ) → k < m + n → a.plan k ≡ Some false → ⊥
 none_doomed_trans m n a b ab none k low doomed = elim (cases_lt k m) [
   | inl before ↦ ab.none_doomed k before doomed

@@ -1,4 +1,6 @@
--- A disk of which nothing is known but how often it has failed.
+-- The facts of a disk of which nothing is known but how often it has failed.
+-- Used by: mw_programs, the contracts of file.rt. A real file has these facts (src/file.rt), so that nothing else is promised of
+-- it.
 use Rattle.std.specs.Prelude.{ℕ, false, None, []}
 use Rattle.mw_disk.specs.Facts.{Facts}
 

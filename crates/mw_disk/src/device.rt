@@ -1,6 +1,10 @@
-//! The trait of a disk, and what each of its calls promises.
+//! The trait of a disk, with what each of its calls promises.
+//!
+//! mw_file makes its calls, on a [`FileDisk`](crate::FileDisk) in the server and on a [`MemDisk`](crate::MemDisk)
+//! elsewhere. These contracts are the disk model, on which all that is said of crashes rests: a change of one changes
+//! what the server assumes.
 ghost use Rattle.std.specs.Prelude.{◌≡◌, ◌+◌, ◌≤◌, length, slice_range, is_ok, IsTrue, OnOk, IfOk};
-ghost use Rattle.mw_disk.specs.Facts.{Facts, Called, Spares, NothingNew, TearsAt, Torn, IsAtRest, patched};
+ghost use Rattle.mw_disk.specs.Facts.{Facts, Called, Spares, NothingNew, TearsAt, Torn, IsSynced, patched};
 
 /// The device failed in this call.
 #[derive(Clone, Copy, Debug, PartialEq, Eq)]
@@ -8,21 +12,24 @@ pub struct DiskFault;
 
 /// One file on a device that may fail at any call, and stop at any moment.
 ///
-/// What an honest disk promises: between two syncs each written range, that of a failed write too,
-/// and the part past the old end may hold any bytes after a crash, and the file may end anywhere
-/// from its old end to its new one. Bytes outside stay. After a sync that went well a crash leaves
-/// what a read gives. In the range of a failed write a read may give any bytes. Of a disk that isn't
-/// honest nothing but the count of its faults, and what its facts tell of calls to come, is promised.
+/// An honest disk keeps this model of crashes:
 ///
-/// The facts may also tell of calls to come, by their numbers from 0 on. A call that was known to fail
-/// fails. One that was known to go well goes well, unless it is refused memory, which the facts
-/// count, or is a read past the end.
+/// - Between two syncs, each range that was written, also by a failed write, may hold any bytes after a crash.
+///   So may the part past the old end. The file may end anywhere from its old end to its new one.
+/// - Bytes outside these ranges stay.
+/// - After a sync that went well, a crash leaves what a read gives.
+/// - In the range of a failed write a read may give any bytes.
+///
+/// A disk that isn't honest promises only the count of its faults, and what its facts tell of calls to come.
+///
+/// The facts may tell of calls to come, by their numbers from 0 on. A call that is known to fail fails. A call
+/// that is known to go well goes well, unless it is refused memory, which the facts count, or is a read past
+/// the end.
 pub trait Disk {
     /// What can be said of the disk at this moment.
     ghost facts: { Self → Facts };
 
-    /// Fills the whole slice with the bytes from `at` on, or fails. After a fault the slice may hold
-    /// anything.
+    /// Fills the whole slice with the bytes from `at` on. After a fault the slice may hold anything.
     fn read_at(&mut self, at: u64, out: &mut [u8]) -> Result<(), DiskFault>
         ensures call { Called (facts self.old) (facts self.new) (is_ok result) }
         ensures spared { at + length out.old ≤ length (facts self.old).reads
@@ -33,7 +40,8 @@ pub trait Disk {
             → (at + length out.old ≤ length (facts self.old).reads)
             × (out.new ≡ slice_range (facts self.old).reads at (at + length out.old))) };
 
-    /// Writes these bytes from `at` on, over what is there and past the end.
+    /// Writes these bytes from `at` on, over what is there and past the end. If `at` itself is past the end,
+    /// the bytes from the old end on may be any.
     fn write_at(&mut self, at: u64, bytes: &[u8]) -> Result<(), DiskFault>
         ensures call { Called (facts self.old) (facts self.new) (is_ok result) }
         ensures spared { Spares (facts self.old) (facts self.new) (is_ok result) }
@@ -45,15 +53,15 @@ pub trait Disk {
             → at ≤ length (facts self.old).reads
             → (facts self.new).reads ≡ patched (facts self.old).reads at bytes.now) };
 
-    /// If it goes well, a crash leaves what a read gives from then on.
+    /// Makes what was written durable. If it goes well, a crash then leaves what a read gives.
     fn sync(&mut self) -> Result<(), DiskFault>
         ensures call { Called (facts self.old) (facts self.new) (is_ok result) }
         ensures spared { Spares (facts self.old) (facts self.new) (is_ok result) }
         ensures crash { IsTrue (facts self.old).honest → NothingNew (facts self.old) (facts self.new) }
         ensures same { IsTrue (facts self.old).honest → (facts self.new).reads ≡ (facts self.old).reads }
-        ensures durable { OnOk result (IsTrue (facts self.old).honest → IsAtRest (facts self.new)) };
+        ensures durable { OnOk result (IsTrue (facts self.old).honest → IsSynced (facts self.new)) };
 
-    /// The number of bytes.
+    /// Returns the number of bytes.
     fn len(&mut self) -> Result<u64, DiskFault>
         ensures call { Called (facts self.old) (facts self.new) (is_ok result) }
         ensures spared { Spares (facts self.old) (facts self.new) (is_ok result) }
@@ -61,7 +69,7 @@ pub trait Disk {
         ensures same { IsTrue (facts self.old).honest → (facts self.new).reads ≡ (facts self.old).reads }
         ensures length { IfOk result (λ n. IsTrue (facts self.old).honest → n ≡ length (facts self.old).reads) };
 
-    /// How often the device has failed. The count stays at its last value, `2^64 - 1`.
+    /// Returns how often the device has failed. The count stays at `2^64 - 1` once it is reached.
     fn faults(&self) -> u64
         ensures { result ≡ (facts self.now).faults };
 }

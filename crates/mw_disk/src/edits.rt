@@ -1,11 +1,13 @@
-//! Bytes put over others.
+//! Writes over the bytes of a disk in memory.
+//!
+//! Used by `memory.rt` and `spans.rt` alone: it may change freely as long as both check.
 ghost use Rattle.std.specs.Prelude.{◌≡◌, ◌+◌, ◌≤◌, length, OnOk, OnErr};
 ghost use Rattle.mw_disk.specs.Facts.{patched};
 ghost use Rattle.mw_disk.specs.Memory.{padded};
 
 use std::alloc::AllocError;
 
-// Puts the block over what is there, and past the end, with zeros in a gap.
+// Writes the block over what is there and past the end, with zeros in a gap.
 pub(crate) fn overwrite(bytes: &mut Vec<u8>, at: u64, block: &[u8]) -> Result<(), AllocError>
     ensures ok { OnOk result (bytes.new.items ≡ patched (padded bytes.old.items at) at block.now) }
     ensures err { OnErr result (bytes.new.items ≡ bytes.old.items) }
@@ -18,7 +20,7 @@ pub(crate) fn overwrite(bytes: &mut Vec<u8>, at: u64, block: &[u8]) -> Result<()
     Ok(())
 }
 
-// Puts zeros behind the bytes, up to this length.
+// Appends zeros to the bytes, up to this length.
 pub(crate) fn lengthen(bytes: &mut Vec<u8>, len: usize) -> Result<(), AllocError>
     ensures ok { OnOk result (bytes.new.items ≡ padded bytes.old.items len) }
     ensures err { OnErr result (bytes.new.items ≡ bytes.old.items) }

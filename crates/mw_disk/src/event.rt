@@ -1,10 +1,14 @@
-//! What contracts say of the calls of a disk in memory.
+//! The calls of a disk in memory, as its history remembers them, and how a call is to end.
+//!
+//! Used by `memory.rt` and `history.rt`. Only contracts look at a [`Call`] or an [`Event`]; a [`Turn`] is looked at
+//! when a program runs. A new kind of `Call` needs a case in `specs/Memory` and `specs/Crash`, a new `Turn` one in
+//! `specs/Memory`.
 ghost use Rattle.std.specs.Prelude.{◌≡◌, ℕ, List};
 ghost use Rattle.std.specs.Borrow.{ftrue};
 
 use std::marker::Model;
 
-/// The bytes of a write. Contracts alone read them: a block takes no memory.
+/// The bytes of a write. Only contracts read them: a block takes no memory.
 #[derive(Drop)]
 pub(crate) struct Block {
     ghost bytes: { List ℕ },
@@ -26,41 +30,41 @@ impl Block {
     }
 }
 
-/// A call that left a trace.
+/// A call of a disk in memory that left a trace.
 #[derive(Drop)]
 pub(crate) enum Call {
-    /// A read or a look at the length, or a sync that failed: whether it went well.
+    /// A read, a look at the length, or a sync that failed. It says whether the call went well.
     Quiet(bool),
-    /// A write that went well: its offset and bytes.
+    /// A write that went well, with its offset and bytes.
     Wrote(u64, Block),
-    /// A write that failed: its offset and number of bytes.
+    /// A write that failed, with its offset and number of bytes.
     Tore(u64, u64),
     /// A sync that went well.
     Synced,
 }
 
-/// A call that left a trace, and how many calls failed before it, since the last such call, without one.
+/// A call that left a trace, and how many calls failed without a trace since the one before it.
 #[derive(Drop)]
 pub(crate) struct Event {
     pub(crate) missed: u64,
     pub(crate) call: Call,
 }
 
-/// What becomes of a call.
+/// How a call is to end.
 #[derive(Clone, Copy, Debug, PartialEq, Eq)]
 pub(crate) enum Turn {
     /// It goes well, if there is memory for it.
     Goes,
-    /// It fails, and what it wrote counts as written.
+    /// It fails. The range of a write counts as written.
     Fails,
-    /// All has stopped: it fails, and changes nothing.
+    /// The disk has stopped: the call fails and changes nothing.
     Stopped,
 }
 
 impl Turn {
     ghost use Rattle.mw_disk.specs.Memory.{only_if};
 
-    /// That of a call that can't go well unless this holds.
+    /// Returns the turn of a call that can go well only if this holds.
     pub(crate) fn only_if(self, fits: bool) -> Turn
         ensures { result ≡ only_if fits self }
     {

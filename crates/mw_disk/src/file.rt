@@ -1,4 +1,7 @@
 //! A disk over a file.
+//!
+//! mw_programs opens each tenant's file as one. Its facts are those of `specs/Unknown`, so that contracts promise
+//! nothing of the bytes of a real file.
 ghost use Rattle.std.specs.Prelude.{◌≡◌, ◌+◌, min, is_ok, IsErr, MatchResult, if◌then◌else◌};
 ghost use Rattle.mw_disk.specs.Facts.{most_counted};
 ghost use Rattle.mw_disk.specs.Unknown.{unknown};
@@ -9,11 +12,10 @@ use std::io;
 use std::io::ErrorKind;
 use std::os::unix::fs::FileExt;
 
-/// A disk over a file, such as a `std::fs::File`. No contract knows its bytes, and its calls take no
-/// memory.
+/// A disk over a file, such as a `std::fs::File`. No contract knows its bytes. Its calls take no memory.
 ///
-/// A read or a write that stops short is continued, and an interrupted call is made again. A range
-/// that ends past `2^63 - 1`, the greatest size of a file, is a fault.
+/// It continues a read or a write that stops short, and makes an interrupted call again. A range that ends
+/// past `2^63 - 1`, the greatest size of a file, is a fault.
 #[derive(Drop)]
 pub struct FileDisk<F> {
     file: F,
@@ -21,14 +23,14 @@ pub struct FileDisk<F> {
 }
 
 impl<F> FileDisk<F> {
-    /// A disk over a file that is open for reading and writing.
+    /// Makes a disk over a file that is open for reading and writing.
     pub fn new(file: F) -> Self
         ensures { result ≡ record { file = file; faults = 0 } }
     {
         FileDisk { file, faults: 0 }
     }
 
-    /// The file.
+    /// Gives the file back.
     pub fn into_file(self) -> F
         ensures { result ≡ self.file }
     {
@@ -90,7 +92,7 @@ impl<F: FileExt + OpenFile> Disk for FileDisk<F> {
     }
 }
 
-// A file may have a range of so many bytes there.
+// Tells whether a file may have a range of so many bytes at this offset.
 fn is_in_file(at: u64, len: usize) -> bool {
     match at.checked_add(len as u64) {
         Some(end) => end <= i64::MAX as u64,
@@ -98,7 +100,7 @@ fn is_in_file(at: u64, len: usize) -> bool {
     }
 }
 
-// As `OpenFile::sync_data`, and made again where it is interrupted.
+// Does what `OpenFile::sync_data` does, and does it again if it is interrupted.
 fn sync_data(file: &impl OpenFile) -> io::Result<()> {
     for _ in 0..u64::MAX {
         match file.sync_data() {
@@ -109,7 +111,7 @@ fn sync_data(file: &impl OpenFile) -> io::Result<()> {
     Err(io::Error::from(ErrorKind::Interrupted))
 }
 
-// As `OpenFile::metadata`, and made again where it is interrupted.
+// Does what `OpenFile::metadata` does, and does it again if it is interrupted.
 fn metadata(file: &impl OpenFile) -> io::Result<Metadata> {
     for _ in 0..u64::MAX {
         match file.metadata() {

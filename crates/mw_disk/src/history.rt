@@ -1,5 +1,7 @@
-//! What a disk in memory went through. Contracts alone read it: it takes no memory, and at run time
-//! nothing is done with it.
+//! The past of a disk in memory. Only contracts read it: it takes no memory, and nothing happens to it at run
+//! time.
+//!
+//! Only `memory.rt` has one. It may change with `specs/Memory`, which says what follows from a history.
 ghost use Rattle.std.specs.Prelude.{◌≡◌, ℕ, List, [], ◌∷◌, ◌++◌};
 ghost use Rattle.std.specs.Borrow.{ftrue};
 ghost use Rattle.mw_disk.specs.declared.event.Event.{Event as Remembered};
@@ -24,28 +26,28 @@ unsafe impl Send for History {}
 unsafe impl Sync for History {}
 
 impl History {
-    /// That of a disk with these bytes, of which no call was made.
+    /// The history of a disk with these bytes, before its first call.
     pub(crate) fn new(_first: &[u8]) -> History
         ensures { result ≡ record { first = _first.now; log = [] } }
     {
         History {}
     }
 
-    /// An equal one.
+    /// Copies the history.
     pub(crate) fn copy(&self) -> History
         ensures { result ≡ self.now }
     {
         History {}
     }
 
-    /// That of the disk once this call was made too.
+    /// Returns the history after this call.
     fn with(&self, _event: &Event) -> History
         ensures { result ≡ record { first = self.now.first; log = self.now.log ++ _event.now ∷ [] } }
     {
         History {}
     }
 
-    /// That of the disk once this call was made too, and so many before it have failed without a trace.
+    /// Returns the history after this call, if so many calls before it failed without a trace.
     pub(crate) fn after(&self, missed: u64, call: Call) -> History
         ensures { result ≡ record {
           first = self.now.first;

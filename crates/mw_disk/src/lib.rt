@@ -1,4 +1,10 @@
-//! A disk as a tenant's file sees it: what a read gives, and what a crash may leave.
+//! A disk as a tenant's file uses it: what a read gives, and what a crash may leave.
+//!
+//! [`Disk`] is the trait. [`MemDisk`] is such a disk in memory, for tests. [`FileDisk`] is a disk over a
+//! real file.
+//!
+//! A file (mw_file) makes all calls on its disk. The server uses [`FileDisk`]; tests and the simulated files of
+//! mw_world_file use [`MemDisk`].
 #![tactic(auto)]
 
 mod device;

@@ -1,7 +1,10 @@
-//! A disk in memory, whose calls fail where they are told to.
+//! A disk in memory, whose calls fail as a test tells them to.
+//!
+//! Used by tests, and by the simulated files of mw_world_file; the server uses `FileDisk`. A change of a contract
+//! here is no change of the disk model, which is in `device.rt`.
 ghost use Rattle.std.specs.Prelude.{◌≡◌, ◌+◌, ◌≤◌, ℕ, min, [], length, slice_range, nat_le, nat_lt, true, false, Some, None, is_ok, IfOk, OnOk, OnErr};
 ghost use Rattle.mw_disk.specs.Crash.{Tears, unsynced as unsynced_spans};
-ghost use Rattle.mw_disk.specs.Facts.{most_counted, Called, Spares, IsAtRest, MayLeave, NothingNew, TearsAt, Torn, patched};
+ghost use Rattle.mw_disk.specs.Facts.{most_counted, Called, Spares, IsSynced, MayLeave, NothingNew, TearsAt, Torn, patched};
 ghost use Rattle.mw_disk.specs.Memory.{Memory, memory_facts, next_turn, read_turn, begun, logged, missed_once, refused_once, Answers, FailsAs, with_name, scripted, with_fault, with_stop, sooner};
 ghost use Rattle.mw_disk.specs.declared.event.Call.TheVariants.{Quiet, Wrote, Tore, Synced};
 
@@ -13,18 +16,22 @@ use crate::spans::{Span, tear};
 use std::alloc::{AllocError, Global};
 use std::marker::Model;
 
-/// A disk in memory. Contracts see a record of all its calls, of which nothing is kept at run time.
+/// A disk in memory. Contracts see a record of all its calls, which takes no memory at run time.
 ///
-/// Its script names the numbers of the calls that fail, counted from 1 since `new`, reads and looks
-/// at the length too. A write that fails leaves the bytes, and its range counts as written; a sync
-/// that fails syncs nothing. A call that is refused memory, for the record or for the bytes, fails
-/// too and leaves everything as it was; later calls go on as before. No other call fails, save a
-/// read past the end. A write that starts past the end fills the gap with zeros.
+/// Its script names the numbers of the calls that fail. Calls are counted from 1 since `new`, reads and looks
+/// at the length too. A write that fails leaves the bytes, and its range counts as written. A sync that fails
+/// syncs nothing.
+///
+/// A write that is refused memory, for its range or for the bytes, fails too. It leaves the bytes and the
+/// ranges, and later calls go on as usual. Any other call fails only if it is a read past the end, or comes
+/// after a stop ([`MemDisk::stop_next`]).
+///
+/// A write that starts past the end fills the gap with zeros.
 #[derive(Drop)]
 pub struct MemDisk {
     alloc: Global,
     bytes: Vec<u8>,
-    /// The ranges written since the last sync, those of failed writes too.
+    /// The ranges written since the last sync, also by failed writes.
     spans: Vec<Span>,
     history: History,
     script: Vec<u64>,
@@ -57,7 +64,7 @@ impl Model for MemDisk {
 }
 
 impl MemDisk {
-    /// A disk of these bytes, which a crash now leaves. The only error is want of memory.
+    /// Makes a disk of these bytes, which is synced. The only error is that memory is out.
     pub fn new(alloc: Global, bytes: Vec<u8>, script: Vec<u64>) -> Result<MemDisk, AllocError>
         ensures made { IfOk result (λ disk. disk ≡ record {
           first = bytes.items;
@@ -69,7 +76,7 @@ impl MemDisk {
           script = script.items;
           stop = None;
         }) }
-        ensures at_rest { IfOk result (λ disk. IsAtRest (memory_facts disk)) }
+        ensures at_rest { IfOk result (λ disk. IsSynced (memory_facts disk)) }
         ensures seen { IfOk result (λ disk. MayLeave (memory_facts disk) (memory_facts disk).reads) }
         ensures plan { IfOk result (λ disk. (k : ℕ) → (memory_facts disk).plan k ≡ scripted script.items k) }
     {
@@ -88,9 +95,9 @@ impl MemDisk {
         })
     }
 
-    /// A disk of these bytes, which a crash now leaves, after [`MemDisk::stop_next`]: `k` calls go well,
-    /// save for want of memory or a read past the end, and each one after them fails and changes nothing.
-    /// The only error is want of memory.
+    /// Makes a disk of these bytes, which is synced, and stops it as [`MemDisk::stop_next`] does. Its next `k`
+    /// calls go well, unless memory is out or a read is past the end. Each call after them fails and changes
+    /// nothing. The only error is that memory is out.
     pub fn stop_after(alloc: Global, bytes: Vec<u8>, k: u64) -> Result<MemDisk, AllocError>
         ensures made { IfOk result (λ disk. disk ≡ record {
           first = bytes.items;
@@ -102,7 +109,7 @@ impl MemDisk {
           script = [];
           stop = Some k;
         }) }
-        ensures at_rest { IfOk result (λ disk. IsAtRest (memory_facts disk)) }
+        ensures at_rest { IfOk result (λ disk. IsSynced (memory_facts disk)) }
         ensures seen { IfOk result (λ disk. MayLeave (memory_facts disk) (memory_facts disk).reads) }
         ensures plan { IfOk result (λ disk. (j : ℕ) → (memory_facts disk).plan j ≡ Some (nat_lt j k)) }
     {
@@ -111,14 +118,15 @@ impl MemDisk {
         Ok(disk)
     }
 
-    /// How many calls were refused memory. The count stays at its last value, `2^64 - 1`.
+    /// Returns how many calls were refused memory. The count stays at `2^64 - 1` once it is reached.
     pub fn refused(&self) -> u64
         ensures { result ≡ self.now.refused }
     {
         self.refused
     }
 
-    /// The `k`-th call from now fails too. An error, for want of memory, leaves the disk as it was.
+    /// Makes the `k`-th call from now fail too, unless its number is above `2^64 - 1`. If memory is out it
+    /// returns an error and leaves the disk as it was.
     pub fn fail_next(&mut self, k: u64) -> Result<(), AllocError>
         ensures ok { OnOk result (self.new ≡ record self.old { script = with_name self.old k }) }
         ensures err { OnErr result (self.new ≡ self.old) }
@@ -130,7 +138,7 @@ impl MemDisk {
         Ok(())
     }
 
-    /// After `k` more calls every call fails and changes nothing. An earlier stop stays.
+    /// Makes every call after the next `k` fail and change nothing. An earlier stop stays.
     pub fn stop_next(&mut self, k: u64)
         ensures stop { self.new ≡ record self.old { stop = Some (sooner self.old.stop k) } }
         ensures plan { (j : ℕ) → (memory_facts self.new).plan j ≡ with_stop self.old k j }
@@ -142,7 +150,7 @@ impl MemDisk {
         self.stop = Some(left);
     }
 
-    /// An equal one. The only error is want of memory.
+    /// Copies the disk. The only error is that memory is out.
     pub fn copy(&self) -> Result<MemDisk, AllocError>
         ensures { IfOk result (λ disk. disk ≡ self.now) }
     {
@@ -161,10 +169,10 @@ impl MemDisk {
         })
     }
 
-    /// What a crash now leaves. The bytes of all ranges written since the last sync, those of failed
-    /// writes too, are taken from `torn`, in rising order of offset and each offset once. Where
-    /// `torn` is at its end they are the bytes of now, and none past the end. What is left of
-    /// `torn` is not looked at. The only error is want of memory.
+    /// Returns what a crash now leaves. The bytes of all ranges written since the last sync, also by failed
+    /// writes, are taken from `torn`, in rising order of offset and each offset once. After the end of `torn`
+    /// they are the bytes of now, and no byte past the end is added. The rest of `torn` is not looked at. The
+    /// only error is that memory is out.
     pub fn crash(&self, torn: &[u8]) -> Result<Vec<u8>, AllocError>
         ensures torn { IfOk result (λ bytes. Tears (unsynced_spans self.now.log) torn.now (length torn.now)
             (memory_facts self.now).reads bytes.items) }
@@ -177,7 +185,7 @@ impl MemDisk {
         Ok(bytes)
     }
 
-    // Counts a call, and says what becomes of it.
+    // Counts a call, and returns how it is to end.
     fn begin(&mut self) -> Turn
         ensures turn { result ≡ next_turn self.old }
         ensures begun { self.new ≡ begun self.old }
@@ -210,7 +218,7 @@ impl MemDisk {
         DiskFault
     }
 
-    // The same, for want of memory.
+    // The same, if memory is out.
     fn refuse(&mut self) -> DiskFault
         ensures { self.new ≡ refused_once self.old }
     {
@@ -218,7 +226,7 @@ impl MemDisk {
         self.miss()
     }
 
-    // Remembers a call that leaves the bytes and the ranges as they are.
+    // Remembers a call that leaves the bytes and the ranges.
     fn note_quiet(&mut self, well: bool)
         ensures { self.new ≡ logged self.old (Quiet well) }
     {
@@ -250,7 +258,7 @@ impl MemDisk {
         Ok(())
     }
 
-    // A call that is to fail, and is no write.
+    // Ends a call that is to fail and is not a write.
     fn fail(&mut self, turn: Turn) -> DiskFault
         requires { turn ≡ Turn.Goes → ⊥ }
         ensures { FailsAs (Quiet false) turn self.old self.new }
@@ -262,7 +270,7 @@ impl MemDisk {
         DiskFault
     }
 
-    // A write that is to fail.
+    // Ends a write that is to fail.
     fn fail_write(&mut self, turn: Turn, at: u64, len: u64) -> DiskFault
         requires { turn ≡ Turn.Goes → ⊥ }
         ensures { FailsAs (Tore at len) turn self.old self.new }
@@ -282,7 +290,7 @@ impl MemDisk {
         self.bytes.len() as u64
     }
 
-    // So many bytes are there.
+    // Tells whether so many bytes are there.
     fn holds(&self, at: u64, len: usize) -> bool
         ensures { result ≡ nat_le (at + len) (length (memory_facts self.now).reads) }
     {
@@ -369,7 +377,7 @@ impl Disk for MemDisk {
         ensures spared { Spares (memory_facts self.old) (memory_facts self.new) (is_ok result) }
         ensures crash { NothingNew (memory_facts self.old) (memory_facts self.new) }
         ensures same { (memory_facts self.new).reads ≡ (memory_facts self.old).reads }
-        ensures durable { OnOk result (IsAtRest (memory_facts self.new)) }
+        ensures durable { OnOk result (IsSynced (memory_facts self.new)) }
         ensures answers { Answers result (next_turn self.old) Synced (Quiet false) self.old self.new }
     {
         let turn = self.begin();

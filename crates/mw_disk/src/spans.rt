@@ -1,4 +1,6 @@
-//! Ranges of a disk in memory.
+//! Ranges of a disk in memory, and the torn bytes that a crash leaves in them.
+//!
+//! Used by `memory.rt` alone. What a crash leaves is defined in `specs/Crash`.
 ghost use Rattle.std.specs.Prelude.{◌≡◌, ◌+◌, [], ◌∷◌, length, slice_set, IfOk, OnOk};
 ghost use Rattle.mw_disk.specs.Memory.{padded};
 ghost use Rattle.mw_disk.specs.Crash.{IsNext, nearer as nearer_of, Tears};
@@ -6,7 +8,7 @@ ghost use Rattle.mw_disk.specs.Crash.{IsNext, nearer as nearer_of, Tears};
 use crate::edits::lengthen;
 use std::alloc::AllocError;
 
-/// A range of offsets: its first and their number.
+/// A range of offsets: the first one, and how many there are.
 #[derive(Clone, Copy, Debug, PartialEq, Eq)]
 pub(crate) struct Span {
     pub(crate) at: u64,
@@ -14,7 +16,7 @@ pub(crate) struct Span {
 }
 
 impl Span {
-    // The least of its offsets that is not below this one.
+    // Returns the least offset of the range that is not below this one.
     fn first_from(self, from: u64) -> Option<u64>
         ensures { IsNext (self ∷ []) from result }
     {
@@ -27,7 +29,7 @@ impl Span {
     }
 }
 
-/// Puts these bytes at the offsets of the ranges, in rising order and each once.
+/// Puts these bytes at the offsets of the ranges, in rising order of offset and each offset once.
 pub(crate) fn tear(bytes: &mut Vec<u8>, spans: &[Span], torn: &[u8]) -> Result<(), AllocError>
     ensures { OnOk result (Tears spans.now torn.now (length torn.now) bytes.old.items bytes.new.items) }
 {
@@ -41,7 +43,7 @@ pub(crate) fn tear(bytes: &mut Vec<u8>, spans: &[Span], torn: &[u8]) -> Result<(
     Ok(())
 }
 
-// The least offset in the ranges that is not below this one.
+// Returns the least offset in the ranges that is not below this one.
 fn next_in(spans: &[Span], from: u64) -> Option<u64>
     ensures { IsNext spans.now from result }
 {
@@ -62,7 +64,7 @@ fn nearer(one: Option<u64>, other: Option<u64>) -> Option<u64>
     }
 }
 
-// Puts a byte there, with zeros in a gap, and gives the offset behind it.
+// Puts a byte at an offset, with zeros in a gap, and returns the offset after it.
 fn put(bytes: &mut Vec<u8>, at: u64, byte: u8) -> Result<u64, AllocError>
     ensures behind { IfOk result (λ behind. behind ≡ at + 1) }
     ensures bytes { OnOk result (bytes.new.items ≡ slice_set (padded bytes.old.items (at + 1)) at byte) }

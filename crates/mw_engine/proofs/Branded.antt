@@ -1,18 +1,19 @@
--- The tenants' words, and what stays of the engine that has them, say the same of passes and requests.
+-- An engine's identity and its table agree on lines, places, slots, passes and requests. Used by: nearly all calls of
+-- Engine.
 use Rattle.std.specs.Prelude.{ℕ, ◌≡◌, ◌<◌, List, map}
 use Rattle.std.proofs.Common.{sym, ap, subst, ◌∙◌}
 use Rattle.mw_words.specs.declared.jobs.Job.{Job}
-use Rattle.mw_actor.specs.Acting.{first}
+use Rattle.mw_actor.specs.ActorState.{first}
 use Rattle.mw_world.specs.declared.config.Config.{Config}
-use Rattle.mw_core.specs.FromTable.{IsFree, IsOf, IsRested, Pass, config_of, openings_of}
+use Rattle.mw_core.specs.FromTable.{IsFree, IsOf, IsIdleAfter, Pass, config_of, openings_of}
 use Rattle.mw_engine.specs.declared.tenant_words.TenantWords.{TenantWords}
-use Rattle.mw_engine.specs.Agreeing.{places_told}
-use Rattle.mw_engine.specs.Branding.{Identity, identity_on}
+use Rattle.mw_engine.specs.LinesOfWorld.{places_told}
+use Rattle.mw_engine.specs.Brand.{Identity, identity_on}
 use Rattle.mw_engine.specs.Identity.{IsFor, Line, quota_told}
 use Rattle.mw_engine.specs.Passes.{IsPassOf}
 use Rattle.mw_engine.specs.Requests.{request_of}
 use Rattle.mw_engine.specs.TenantWords.{HasPass, lines_told, places_kept}
-use Rattle.mw_engine.proofs.Passing.{one_free, one_on}
+use Rattle.mw_engine.proofs.PassAfterCall.{one_free, one_on}
 
 module _ (words : TenantWords) (identity : Identity) (same : identity_on words.core.shared (lines_told words) ≡ identity) where
   pub same_lines : lines_told words ≡ identity.lines
@@ -24,21 +25,21 @@ module _ (words : TenantWords) (identity : Identity) (same : identity_on words.c
   same_openings : openings_of words.core.shared.table.shared.key ≡ identity.openings
   same_openings = ap (λ (one : Identity). one.openings) same
 
-  -- so many places for changes of each file
+  -- they agree on the number of places of each file
   pub same_places : places_kept words ≡ map places_told identity.openings
   same_places = words.places_are ∙ ap (map places_told) same_openings
 
   same_table : words.core.shared.table.shared.table_id ≡ identity.table
   same_table = ap (λ (one : Identity). one.table) same
 
-  -- so many slots
+  -- they agree on the number of slots
   pub same_pool : words.core.shared.pool ≡ identity.config.pool
   same_pool = words.core.shared.pool_is ∙ ap (λ (config : Config). config.pool) same_config
 
   pub same_slots : words.pool ≡ identity.config.pool
   same_slots = words.agrees.slots ∙ ap (λ (config : Config). config.pool) same_config
 
-  -- a pass of the engine is one of its words, and the other way round
+  -- a pass of the engine is one of its table, and the other way round
   pub in_words : (pass : Pass) → IsPassOf identity pass → HasPass words pass
   in_words pass own = record {
     own = record { table = own.table ∙ sym same_table; config = own.config ∙ sym same_config; openings = own.openings ∙ sym same_openings };
@@ -55,7 +56,7 @@ module _ (words : TenantWords) (identity : Identity) (same : identity_on words.c
     free = own.free;
   }
 
-  -- it is the engine's still after a step on its words, and where it has no right to a file
+  -- after a step on its words, and after a call that leaves it no file pass, a pass is still the engine's
   pub still_of : (old new : Pass) → IsPassOf identity old → IsOf words.core.shared new → new.worker ≡ old.worker → new.seat.me.0.files ≡ old.seat.me.0.files → IsPassOf identity new
   still_of old new own is worker files = of_engine new (one_on words.core.shared old new (in_words old own) is worker files)
 
@@ -69,8 +70,8 @@ module _ (words : TenantWords) (identity : Identity) (same : identity_on words.c
   pub formed_there : (tenant : ℕ) (job : Job) → IsFor identity.lines tenant job → IsFor (lines_told words) tenant job
   formed_there tenant job formed = subst (λ (lines : List Line). IsFor lines tenant job) (sym same_lines) formed
 
--- a pass of the engine that rests is its own still
-pub rested_of : (identity : Identity) (old new : Pass) → IsPassOf identity old → IsRested old new → IsPassOf identity new
+-- a pass of the engine that becomes idle is still the engine's
+pub rested_of : (identity : Identity) (old new : Pass) → IsPassOf identity old → IsIdleAfter old new → IsPassOf identity new
 rested_of identity old new own rested = record {
   table = (λ i. (rested.same_seat i).table_id) ∙ own.table;
   config = (λ i. (rested.same_seat i).me.0.config) ∙ own.config;

@@ -1,4 +1,5 @@
--- The world of these lines, and what its start gives.
+-- The lines and fitting files make a valid configuration and a valid start of a world. Used by: PartsAgree, the proof of
+-- EngineParts::new.
 use Rattle.std.specs.Prelude.{◌≡◌, ◌≤◌, ◌<◌, ◌+◌, ℕ, zero, suc, All, List, [], ◌∷◌, length, map, slice_get, slice_index_or, sum_by, IsTrue, Option, Some, None, Vec}
 use Rattle.std.specs.declared.alloc.Global.{Global}
 use Rattle.std.proofs.Common.{refl, sym, ap, subst, ◌∙◌, arith}
@@ -15,23 +16,23 @@ use Rattle.mw_world.specs.declared.config.Config.{Config}
 use Rattle.mw_world.specs.declared.config.Tenant.{Tenant}
 use Rattle.mw_world.specs.Definition.State.{IsConfig, IsStart, may_be_old, no_tenant, quotas_together, tenants_of}
 use Rattle.mw_core.specs.FromTable.{opening_at}
-use Rattle.mw_engine.specs.Agreeing.{line_given}
-use Rattle.mw_engine.specs.Opened.{FitLines, FitsLine, line_read, opening_read, openings_read, tenant_read}
-use Rattle.mw_engine.specs.Starting.{world_read}
+use Rattle.mw_engine.specs.LinesOfWorld.{line_given}
+use Rattle.mw_engine.specs.OpenedFiles.{FitLines, FitsLine, line_read, opening_read, openings_read, tenant_read}
+use Rattle.mw_engine.specs.Parts.{world_read}
 
--- the quotas of the lines together
+-- the sum of the quotas is the same for lines and tenants
 quotas_so : (lines : List TenantLine) → sum_by (λ (tenant : Tenant). tenant.quota) (map tenant_read lines) ≡ sum_by (λ (line : TenantLine). line.quota) lines
 quotas_so [] = refl
 quotas_so (line ∷ lines) =
     sum_by-cons (λ (tenant : Tenant). tenant.quota) (tenant_read line) (map tenant_read lines)
     ∙ (ap (λ (n : ℕ). line.quota + n) (quotas_so lines) ∙ sym (sum_by-cons (λ (one : TenantLine). one.quota) line lines))
 
--- the world is that of these lines
+-- the configuration is that of these lines
 pub world_is : (config : Config) (lines : List TenantLine) (pool workers : ℕ) → config.tenants.items ≡ map tenant_read lines → config.pool ≡ pool → config.workers ≡ workers → config.seq ≡ 0
     → config ≡ world_read pool workers lines
 world_is config lines pool workers tenants is_pool is_workers is_seq = λ i. record { pool = is_pool i; workers = is_workers i; seq = is_seq i; tenants = record { items = tenants i } }
 
--- a world may be made of permitted lines
+-- permitted lines make a valid configuration
 pub configured : (config : Config) (lines : List TenantLine) (pool workers : ℕ) → config.tenants.items ≡ map tenant_read lines → config.pool ≡ pool → config.workers ≡ workers → config.seq ≡ 0
     → (1 ≤ pool) × (pool ≤ MAX_POOL) → (1 ≤ workers) × (workers ≤ MAX_WORKERS) → ArePermitted pool lines → IsConfig config
 configured config lines pool workers tenants is_pool is_workers is_seq pools some permitted =
@@ -107,7 +108,7 @@ module _ {D : Type 0} (facts : D → Facts) where
       let rest = together_so lines files fit.1 in
       first ∙ ((λ i. one i + rest i) ∙ sym (sum_by-cons (λ (each : TenantLine). each.quota) line lines))
 
-  -- the start gives this of fitting files
+  -- fitting files make a valid start
   pub starts_so : (config : Config) (lines : List TenantLine) (files : List (Option (TenantFile D × Vec ℕ Global))) (pool : ℕ) → config.tenants.items ≡ map tenant_read lines → config.pool ≡ pool
       → FitLines facts lines files → ArePermitted pool lines → IsStart config (opening_at (openings_read lines files))
   starts_so config lines files pool tenants is_pool fit permitted =
@@ -123,7 +124,7 @@ module _ {D : Type 0} (facts : D → Facts) where
         words = λ tenant. words_at lines files tenant fit;
       }
 
-  -- what a line tells is given
+  -- the line that is given is the line that was read
   line_at : (lines : List TenantLine) (files : List (Option (TenantFile D × Vec ℕ Global))) (tenant : ℕ) → FitLines facts lines files → tenant < length lines
       → slice_get (map line_read lines) tenant ≡ Some (record {
         name = (slice_index_or (map tenant_read lines) tenant no_tenant).name.items;

@@ -1,21 +1,22 @@
--- The disks at the end of an engine.
+-- Each disk at the end of an engine is given for its tenant. Used by: the proofs of Engine::into_disks and
+-- GuardedFile::into_disk.
 use Rattle.std.specs.Prelude.{◌≡◌, ℕ, zero, suc, is_some, List, [], ◌∷◌, ◌++◌, length, slice_get, Option, Some, None, IsTrue}
 use Rattle.std.proofs.Common.{refl, sym, ap, subst, ◌∙◌}
 use Rattle.mw_disk.specs.Facts.{Facts}
 use Rattle.mw_record.specs.Layout.{pairs_of}
 use Rattle.mw_file.specs.declared.tenant_file.TenantFile.{TenantFile}
 use Rattle.mw_file.specs.File.{disk_of}
-use Rattle.mw_file.specs.Keeps.{Keeps}
+use Rattle.mw_file.specs.RecoveryInvariant.{RecoversTo}
 use Rattle.mw_words.specs.declared.jobs.Entry.{Entry}
-use Rattle.mw_book.specs.declared.kept.Book.{Book}
-use Rattle.mw_book.specs.Held.{StandsFor, disk_in}
-use Rattle.mw_core.specs.FromTable.{FileRight, IsSoOfWorld, file_kept, file_told, opening_at}
-use Rattle.mw_engine.specs.Branding.{Identity}
-use Rattle.mw_engine.specs.Ending.{EachIsGiven, GivenAs}
-use Rattle.mw_engine.specs.Kept.{IsKept}
-use Rattle.mw_engine.proofs.Once.{agrees_of}
+use Rattle.mw_book.specs.declared.book.Book.{Book}
+use Rattle.mw_book.specs.OpenFile.{FileRecoversTo, disk_in}
+use Rattle.mw_core.specs.FromTable.{FilePass, IsSoOfWorld, file_kept, file_told, opening_at}
+use Rattle.mw_engine.specs.Brand.{Identity}
+use Rattle.mw_engine.specs.DisksAtEnd.{EachIsGiven, GivenAs}
+use Rattle.mw_engine.specs.GuardedFile.{IsKept}
+use Rattle.mw_engine.proofs.AgreementForms.{agrees_of}
 
--- what is so of each of a list, by number, is so with one more
+-- a fact of each element of a list, by number, goes on to a list with one more
 abbrev some_in : {A : Type 0} → A → Option A → A
 some_in other None = other
 some_in other (Some one) = one
@@ -40,21 +41,21 @@ module _ {D : Type 0} (facts : D → Facts) (identity : Identity) where
       subst (EachIsGiven facts identity) (sym is)
       (by_number (GivenAs facts identity) old one all (subst (λ (n : ℕ). GivenAs facts identity n one) (sym many) so))
 
-  -- where there is a file, it stands for the words that it has in the world
-  stands_so : (tenant : ℕ) (right : FileRight) (so : IsSoOfWorld identity.config identity.openings right.seat.me.0.course tenant (file_kept right)) (file : TenantFile D)
-      → StandsFor facts (Some file) (file_told (file_kept right)).contents (pairs_of (file_told (file_kept right)).doubt)
-      → IsTrue (facts (disk_of file)).honest → Keeps facts file (so.state.accounts tenant).file.contents (pairs_of (so.state.accounts tenant).file.doubt)
+  -- if there is a file, it represents the words that it has in the world
+  stands_so : (tenant : ℕ) (right : FilePass) (so : IsSoOfWorld identity.config identity.openings right.seat.me.0.known_run tenant (file_kept right)) (file : TenantFile D)
+      → FileRecoversTo facts (Some file) (file_told (file_kept right)).contents (pairs_of (file_told (file_kept right)).doubt)
+      → IsTrue (facts (disk_of file)).honest → RecoversTo facts file (so.state.tenant_states tenant).file.contents (pairs_of (so.state.tenant_states tenant).file.doubt)
   stands_so tenant right so file stands honest =
-      subst (λ (words : List ℕ). Keeps facts file words (pairs_of (so.state.accounts tenant).file.doubt)) (sym so.tells.contents)
-      (subst (λ (change : List Entry). Keeps facts file (file_kept right).contents (pairs_of change)) (sym so.tells.doubt) (stands honest))
+      subst (λ (words : List ℕ). RecoversTo facts file words (pairs_of (so.state.tenant_states tenant).file.doubt)) (sym so.tells.contents)
+      (subst (λ (change : List Entry). RecoversTo facts file (file_kept right).contents (pairs_of change)) (sym so.tells.doubt) (stands honest))
 
-  -- what is given of the book that was kept for a tenant
-  pub given_as : (book : Book D) (right : FileRight) (tenant : ℕ) (result : Option D) → result ≡ disk_in book.held → IsKept facts identity book right → right.tenant ≡ tenant
-      → IsSoOfWorld identity.config identity.openings right.seat.me.0.course right.tenant (file_kept right) → GivenAs facts identity tenant result
+  -- what the book that was kept for a tenant gives
+  pub given_as : (book : Book D) (right : FilePass) (tenant : ℕ) (result : Option D) → result ≡ disk_in book.held → IsKept facts identity book right → right.tenant ≡ tenant
+      → IsSoOfWorld identity.config identity.openings right.seat.me.0.known_run right.tenant (file_kept right) → GivenAs facts identity tenant result
   given_as book right tenant result is kept its so = subst (GivenAs facts identity tenant) (sym is) (by book.held refl)
     where
-      here : IsSoOfWorld identity.config identity.openings right.seat.me.0.course tenant (file_kept right)
-      here = subst (λ (n : ℕ). IsSoOfWorld identity.config identity.openings right.seat.me.0.course n (file_kept right)) its so
+      here : IsSoOfWorld identity.config identity.openings right.seat.me.0.known_run tenant (file_kept right)
+      here = subst (λ (n : ℕ). IsSoOfWorld identity.config identity.openings right.seat.me.0.known_run n (file_kept right)) its so
 
       by : (held : Option (TenantFile D)) → book.held ≡ held → GivenAs facts identity tenant (disk_in held)
       by None none = sym (ap (λ (one : Option (TenantFile D)). is_some one) (sym none) ∙ (kept.opened ∙ ap (λ (n : ℕ). (opening_at identity.openings n).is_up) its))
@@ -68,6 +69,6 @@ module _ {D : Type 0} (facts : D → Facts) (identity : Identity) where
         on = refl;
         so = here;
         stands = stands_so tenant right here file
-            (subst (λ (one : Option (TenantFile D)). StandsFor facts one (file_told (file_kept right)).contents (pairs_of (file_told (file_kept right)).doubt)) there
+            (subst (λ (one : Option (TenantFile D)). FileRecoversTo facts one (file_told (file_kept right)).contents (pairs_of (file_told (file_kept right)).doubt)) there
             (agrees_of facts book (file_kept right) (opening_at identity.openings right.tenant).quota identity.config.pool kept.agrees).shows.stands);
       }

@@ -1,3 +1,4 @@
--- Definitions of the crates below that whoever uses the engine needs too, passed on: crates above then name this crate alone.
-pub use Rattle.mw_actor.specs.Acting.{Acting}
+-- Definitions of mw_actor and mw_core that users of the engine need, so that the crates above name only this crate.
+-- Used by: mw_programs, mw_engine_tests. Add and take out names as these crates need them.
+pub use Rattle.mw_actor.specs.ActorState.{ActorState}
 pub use Rattle.mw_core.specs.FromTable.{IsCarried, IsOfSameWorker, Pass, View}

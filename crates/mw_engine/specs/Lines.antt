@@ -1,4 +1,6 @@
 -- The tenants' lines, as an engine keeps them.
+-- Used by: the contracts of src/new_parts.rt and src/tenant_words.rt, specs/TenantWords. A change here changes what
+-- these contracts say.
 use Rattle.std.specs.Prelude.{◌≤◌, ℕ, All, List}
 use Rattle.mw_words.specs.declared.limits.TheConstants.{MAX_PLACES}
 use Rattle.mw_engine.specs.declared.listed.Listed.{Listed}
@@ -8,10 +10,10 @@ use Rattle.mw_engine.specs.Identity.{Line}
 abbrev pub line_of : Listed → Line
 line_of listed = record { name = listed.name.items; words = listed.words; quota = listed.quota }
 
--- how many places for changes is kept that the tenant's file has
+-- how many places for changes the tenant's file has, as kept
 abbrev pub places_of : Listed → ℕ
 places_of listed = listed.places
 
--- no file has more places than a file may have
+-- no file has more than `MAX_PLACES` places
 abbrev pub HasFewPlaces : List Listed → Type 0
 HasFewPlaces lines = All (λ listed. listed.places ≤ MAX_PLACES) lines

@@ -1,4 +1,6 @@
 -- Which replies a job can have, whatever a tenant's words are.
+-- Used by: the contracts of src/reads.rt, src/serving.rt and src/steps.rt, mw_programs. A change here changes what
+-- these contracts say.
 use Rattle.std.specs.Prelude.{◌≡◌, ◌≢◌, ℕ, Any, IfSome}
 use Rattle.mw_words.specs.declared.jobs.Entry.{Entry}
 use Rattle.mw_words.specs.declared.jobs.Job.{Job}
@@ -11,14 +13,13 @@ use Rattle.mw_actor.specs.declared.points.Point.{Point}
 use Rattle.mw_actor.specs.declared.points.Point.TheVariants.{Read}
 use Rattle.mw_actor.specs.Program.{reply_at}
 
--- a change with this entry is refused where the word at this address has this value: the entry is of that word, and
--- expects another value
+-- This entry explains a NO with this address and value: it is of that address, and expects another value.
 pub record IsRefusedBy (addr value : ℕ) (entry : Entry) : Type 0 where
   pub address : entry.addr ≡ addr
   pub other : value ≢ entry.expected
 
--- Whoever asks for a word is told a value or a fault. Whoever asks for a change is told that it is made, that all slots are
--- in use, a fault, that numbers are used up, or, by one of its entries, a word that hasn't the value that was expected.
+-- The reply to a read is a value or FAULT. The reply to a change is YES, BUSY, FAULT, WORN, or a NO that one of its
+-- entries explains.
 abbrev pub IsReplyTo : Job → Reply → Type 0
 IsReplyTo (Get addr) (Val value) = Unit {0}
 IsReplyTo (Get addr) Yes = ⊥
@@ -33,12 +34,13 @@ IsReplyTo (Cas entries) Busy = Unit {0}
 IsReplyTo (Cas entries) Fault = Unit {0}
 IsReplyTo (Cas entries) Worn = Unit {0}
 
--- A read comes to no other reply.
+-- at this point of a read, its reply, if it has one, is one that the read can have
 abbrev pub SaysInRead : ℕ → ReadPoint → Type 0
 SaysInRead address (Replied reply) = IsReplyTo (Get address) reply
 SaysInRead address point = Unit {0}
 
--- A read is at points of a read, and on the way to a reply that it can have. The reply to a change, once it stands, is one that it can have.
+-- A read is at a point of a read, and its reply, if it has one, is one that it can have. A change's reply, if it has
+-- one, is one that it can have.
 abbrev pub IsOnItsWay : Job → Point → Type 0
 IsOnItsWay (Get address) (Read look) = SaysInRead address look.point
 IsOnItsWay (Get address) point = ⊥

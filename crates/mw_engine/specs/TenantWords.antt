@@ -1,4 +1,6 @@
--- The tenants' words: their lines, and the passes by which workers change them.
+-- The tenants' words: their lines, and the passes of their table.
+-- Used by: the contracts of src/engine.rt, src/figures.rt and src/parts.rt, specs/Parts. A change here changes what
+-- these contracts say.
 use Rattle.std.specs.Prelude.{ℕ, List, map}
 use Rattle.mw_core.specs.FromTable.{Pass}
 use Rattle.mw_engine.specs.declared.tenant_words.TenantWords.{TenantWords}
@@ -14,6 +16,6 @@ lines_told words = map line_of words.lines.items
 abbrev pub places_kept : TenantWords → List ℕ
 places_kept words = map places_of words.lines.items
 
--- the pass is one of its table's
+-- the pass is one of the table's
 abbrev pub HasPass : TenantWords → Pass → Type 0
 HasPass words pass = IsOneOf words.core.shared pass

@@ -1,16 +1,18 @@
-//! What names an engine.
+//! The name of an engine, as a type.
+//!
+//! Used by: `engine` and all that works on one. mw_programs and tests are generic in it.
 use std::marker::Brand;
 
-/// Names one engine: its identity is what stays of it for its whole life. What is under a lock is known
-/// by its type alone, so the types of the engine and of what it guards have this name.
+/// Names one engine. Its identity is what stays the same for the engine's whole life. What is under a lock is known
+/// by its type alone, so the types of the engine and of what its locks guard have this name.
 pub trait EngineBrand {
-    ghost use Rattle.mw_engine.specs.Branding.{Identity};
+    ghost use Rattle.mw_engine.specs.Brand.{Identity};
 
     ghost identity: { Identity };
 }
 
 impl EngineBrand for Brand {
-    ghost use Rattle.mw_engine.specs.Branding.{of_none};
+    ghost use Rattle.mw_engine.specs.Brand.{of_none};
 
     ghost identity = { of_none };
 }

@@ -1,21 +1,23 @@
 //! An engine that serves.
+//!
+//! `start` makes it of its parts. Workers call it: mw_programs in its service, and tests.
 ghost use Rattle.std.specs.Prelude.{◌≡◌, length};
-ghost use Rattle.mw_engine.specs.Branding.{identity_on};
+ghost use Rattle.mw_engine.specs.Brand.{identity_on};
 ghost use Rattle.mw_engine.specs.TenantWords.{lines_told};
 
 use crate::brand::EngineBrand;
-use crate::kept::Kept;
+use crate::guarded_file::GuardedFile;
 use crate::tenant_words::TenantWords;
 use mw_disk::Disk;
 use std::sync::Mutex;
 
-/// The tenants' words, of which many workers are asked at once. What they share are atomic words, and, each under a
-/// lock of its own, the tenants' files.
+/// The tenants' words, which many workers change at once. The workers share atomic words, and the tenants' files,
+/// each under a lock of its own.
 #[derive(Drop)]
 pub struct Engine<J: EngineBrand, D: Disk, H> {
     pub(crate) words: TenantWords,
     pub(crate) hold: H,
-    pub(crate) books: Vec<Mutex<Kept<J, D>>>,
+    pub(crate) books: Vec<Mutex<GuardedFile<J, D>>>,
     ghost same: { identity_on words.core.shared (lines_told words) ≡ J.identity },
     ghost a_book_each: { length books.items ≡ length (lines_told words) },
 }

@@ -1,9 +1,11 @@
-//! Where a worker may be held.
+//! The points of a request at which tests can hold a worker.
+//!
+//! `serving` tells the points. `mwserve` holds nobody ([`NoHold`]). A new point needs a call in `serving`.
 
-/// A point of a request at which a worker can be held, outside every lock.
+/// A point of a request at which a worker can be held. No lock is taken there.
 #[derive(Clone, Copy, Debug, PartialEq, Eq)]
 pub enum Point {
-    /// A change was planted.
+    /// The request has planted a change.
     Planted,
     /// The tenant's file is about to seal a change.
     BeforeSeal,
@@ -13,9 +15,9 @@ pub enum Point {
     BeforeReply,
 }
 
-/// What is told of each point that a worker comes to, and may hold it there.
+/// Is told of each [`Point`] that a worker comes to, and may hold the worker there.
 pub trait Hold {
-    /// The worker of this number is at this point, and goes on when the call returns.
+    /// The worker of this number is at this point. It goes on when the call returns.
     fn at(&self, worker: u8, point: Point);
 }
 

@@ -1,40 +1,43 @@
-//! The engine on shared words: the tenants' words, of which many workers are asked at once, without a lock round
-//! them.
+//! The engine: the tenants' words, which many workers change at once, without a lock around them.
 //!
-//! [`EngineParts`] are made of the tenants' lines and files, with a pass for each worker, and become an [`Engine`]
-//! by [`EngineParts::into_engine`]. Each worker serves one request at a time with its pass, by [`Engine::serve`]: a lock
-//! is taken for a call on a tenant's file alone, which [`Engine::file`] makes. All other calls take none: steps of a
-//! request, one at a time, reads, figures, and the meeting of two passes. Which tenants there are, and how many words
-//! each has, stays for the engine's whole life, so a job that was judged by what [`Engine::find`] told is well formed
-//! whenever it is asked for. [`Engine::into_disks`] ends the engine.
+//! [`EngineParts`] are made of the tenants' lines and files, with a pass for each worker.
+//! [`EngineParts::into_engine`] makes them an [`Engine`]. Each worker serves one request at a time with its pass,
+//! by [`Engine::serve`]. A lock is taken only for a call on a tenant's file, which [`Engine::file`] makes.
+//! Everything else takes none: one step of a request, a read, the figures, the meeting of two passes. The tenants
+//! and their numbers of words stay the same for the engine's whole life. So a job that was judged by what
+//! [`Engine::find`] told is well formed whenever it is asked for. [`Engine::into_disks`] ends the engine.
 //!
-//! `specs/Branding` says what it is that stays of an engine, its identity; `specs/Passes` which passes are its own, and
-//! `specs/Requests` which requests they may bring; `specs/Identity` what a tenant's line is, and which jobs are for it;
-//! `specs/Agreeing` how these lines are those of the world on which the shared words rest; `specs/History` what a
-//! request comes to that was answered, and `specs/Replies` which replies a job can have; `specs/Ending` what the disks
-//! stand for that are given at the end.
+//! Where to read:
+//! - `specs/Brand`: an engine's identity, which stays for its whole life.
+//! - `specs/Passes`: which passes are its own. `specs/Requests`: which requests they may bring.
+//! - `specs/Identity`: what a tenant's line is, and which jobs are for it.
+//! - `specs/LinesOfWorld`: how these lines agree with the world of the shared words.
+//! - `specs/History`: what is known of a request that was answered. `specs/Replies`: which replies a job can have.
+//! - `specs/DisksAtEnd`: which words are on the disks that are given at the end.
+//!
+//! Used by: mw_programs, mw_engine_tests.
 #![tactic(auto)]
 
 mod brand;
-mod calling;
-mod ending;
+mod end;
 mod engine;
-mod finding;
+mod figures;
+mod file_calls;
+mod guarded_file;
 mod hold;
-mod kept;
 mod listed;
-mod making;
-mod meeting;
+mod meet;
+mod new_parts;
 mod parts;
-mod reading;
-mod reporting;
+mod reads;
 mod serving;
-mod starting;
-mod stepping;
+mod start;
+mod steps;
 mod tenant_words;
+mod tenants;
 
 pub use brand::EngineBrand;
-pub use ending::NoDisks;
+pub use end::NoDisks;
 pub use engine::Engine;
 pub use hold::{Hold, NoHold, Point};
 pub use mw_actor::Actor;

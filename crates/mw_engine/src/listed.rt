@@ -1,8 +1,10 @@
-//! The tenants' lines, as an engine keeps them.
+//! A tenant's line, as an engine keeps it.
+//!
+//! Used by: `new_parts`, `tenant_words`.
 use mw_words::Name;
 
-/// A tenant's line without the path: its name, its number of words and its quota; and how many places for changes its
-/// file has, 0 where it didn't open.
+/// A tenant's line without the path: its name, its number of words and its quota. With it, how many places for
+/// changes the tenant's file has: 0 if the file didn't open.
 #[derive(Debug, Default, Drop)]
 pub(crate) struct Listed {
     pub(crate) name: Name,

@@ -1,22 +1,24 @@
 //! The parts of an engine.
+//!
+//! `new_parts` makes them, and `start` makes an engine of them.
 ghost use Rattle.std.specs.Prelude.{◌≡◌, length};
-ghost use Rattle.mw_engine.specs.Branding.{identity_on};
-ghost use Rattle.mw_engine.specs.Kept.{AreKept};
+ghost use Rattle.mw_engine.specs.Brand.{identity_on};
+ghost use Rattle.mw_engine.specs.GuardedFile.{AreKept};
 ghost use Rattle.mw_engine.specs.TenantWords.{lines_told};
 
 use crate::tenant_words::TenantWords;
 use mw_book::Book;
-use mw_core::FileRight;
+use mw_core::FilePass;
 use mw_disk::Disk;
 
-/// What an engine is made of, which has no brand yet. [`EngineParts::into_engine`] gives it one.
+/// The parts of an engine, which has no brand yet. [`EngineParts::into_engine`] gives it one.
 #[derive(Drop)]
 pub struct EngineParts<D: Disk, H> {
     pub(crate) words: TenantWords,
     pub(crate) hold: H,
     pub(crate) books: Vec<Book<D>>,
-    pub(crate) rights: Vec<FileRight>,
-    ghost kept: { AreKept D.facts (identity_on words.core.shared (lines_told words)) books.items rights.items },
+    pub(crate) file_passes: Vec<FilePass>,
+    ghost kept: { AreKept D.facts (identity_on words.core.shared (lines_told words)) books.items file_passes.items },
     ghost a_book_each: { length books.items ≡ length words.lines.items },
-    ghost a_right_each: { length rights.items ≡ length words.lines.items },
+    ghost a_right_each: { length file_passes.items ≡ length words.lines.items },
 }

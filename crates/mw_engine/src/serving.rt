@@ -1,14 +1,17 @@
-//! Requests that are served whole.
+//! Requests, each served to its reply.
+//!
+//! mw_programs answers each request of a session by `Engine::serve`. docs/PROMISES.md cites its contract: a
+//! change of it, or of `specs/History` or `specs/Replies`, changes what clients are promised.
 ghost use Rattle.std.specs.Prelude.{◌≡◌, ◌≢◌, true, None};
 ghost use Rattle.mw_actor.specs.Program.{replied};
 ghost use Rattle.mw_core.specs.FromTable.{IsCarried, IsOfSameWorker, IsSamePass, View as Knowledge};
 ghost use Rattle.mw_world.specs.Definition.Calls.{called_at};
-ghost use Rattle.mw_engine.specs.Filing.{FilesOne};
-ghost use Rattle.mw_engine.specs.History.{IsAnswered, IsServed};
+ghost use Rattle.mw_engine.specs.FileCalls.{FilesOne};
+ghost use Rattle.mw_engine.specs.History.{IsAnswered, IsInProgress};
 ghost use Rattle.mw_engine.specs.Identity.{IsFor};
 ghost use Rattle.mw_engine.specs.Passes.{IsPassOf};
 ghost use Rattle.mw_engine.specs.Replies.{IsOnItsWay, IsReplyTo};
-ghost use Rattle.mw_engine.specs.Stepping.{IsSameRequest};
+ghost use Rattle.mw_engine.specs.Steps.{IsSameRequest};
 
 use crate::brand::EngineBrand;
 use crate::engine::Engine;
@@ -21,9 +24,10 @@ use mw_words::{Job, Reply};
 use std::sync::Wait;
 
 impl<J: EngineBrand, D: Disk + Drop, H: Hold + Drop> Engine<J, D, H> {
-    /// The reply to a tenant's job, one that the job can have. The request is noted with it, at a place that is right
-    /// and no smaller than what the pass had seen when it came; BUSY, FAULT and WORN have their ground in what its
-    /// steps found. Locks are taken for calls on the tenant's file alone.
+    /// Serves one job of a tenant and gives its reply, one that the job can have. The request is noted with its
+    /// reply, at a place that is right and no smaller than what the pass had seen when the request came. It is
+    /// answered BUSY or FAULT only if one of its own steps observed the cause. WORN has such a cause, or all
+    /// attempt numbers of the worker are used up. A lock is taken only for a call on the tenant's file.
     pub fn serve(&self, rt: &impl Wait, pass: &mut Pass, tenant: u8, job: &Job) -> Reply
         requires own { IsPassOf J.identity pass.old }
         requires formed { IsFor J.identity.lines tenant job.now }
@@ -55,7 +59,7 @@ impl<J: EngineBrand, D: Disk + Drop, H: Hold + Drop> Engine<J, D, H> {
         ensures own { IsPassOf J.identity pass.new }
         ensures worker { IsOfSameWorker pass.old pass.new }
         ensures request { IsSameRequest actor.old actor.new }
-        ensures call { (first : Knowledge) → IsServed first pass.old.seat.me.0 actor.old → IsServed first pass.new.seat.me.0 actor.new }
+        ensures call { (first : Knowledge) → IsInProgress first pass.old.seat.me.0 actor.old → IsInProgress first pass.new.seat.me.0 actor.new }
         ensures way { IsOnItsWay actor.old.job actor.old.point → IsOnItsWay actor.new.job actor.new.point }
         ensures carried { IsCarried pass.new actor.new }
     {
@@ -68,7 +72,7 @@ impl<J: EngineBrand, D: Disk + Drop, H: Hold + Drop> Engine<J, D, H> {
         }
     }
 
-    /// Tells the hold of a seal or a settle that is next.
+    /// Tells the hold that a seal or a settle is next.
     fn hold_before(&self, pass: &Pass, call: Call) {
         match call {
             Call::Seal => self.hold.at(pass.worker(), Point::BeforeSeal),
@@ -77,7 +81,7 @@ impl<J: EngineBrand, D: Disk + Drop, H: Hold + Drop> Engine<J, D, H> {
         }
     }
 
-    /// The call on its tenant's file to which the pass's request has come. It waits for the lock of that file.
+    /// Makes the call on its tenant's file to which the pass's request has come. Waits for the lock of that file.
     pub fn file(&self, rt: &impl Wait, pass: &mut Pass, actor: &mut Actor)
         requires own { IsPassOf J.identity pass.old }
         requires carried { IsCarried pass.old actor.old }
@@ -88,10 +92,10 @@ impl<J: EngineBrand, D: Disk + Drop, H: Hold + Drop> Engine<J, D, H> {
         ensures files { FilesOne D.facts J.identity pass.old pass.new actor.old actor.new }
         ensures request { IsSameRequest actor.old actor.new }
         ensures way { IsOnItsWay actor.old.job actor.old.point → IsOnItsWay actor.new.job actor.new.point }
-        ensures call { (first : Knowledge) → IsServed first pass.old.seat.me.0 actor.old → IsServed first pass.new.seat.me.0 actor.new }
+        ensures call { (first : Knowledge) → IsInProgress first pass.old.seat.me.0 actor.old → IsInProgress first pass.new.seat.me.0 actor.new }
     {
-        // The first lock that is taken is the tenant's own. The loop is there since no index can have a type that
-        // says so: the locks of a list are all of one type, and that type says the same of what each of them guards.
+        // The first lock that is taken is the tenant's own. The loop is needed because no type of an index can say
+        // so: all locks of a list have one type, and it says the same of what each of them guards.
         let mut index = usize::from(actor.tenant());
         for _ in rt.forever() {
             if index >= self.books.len() {
@@ -113,7 +117,7 @@ fn is_planting(actor: &Actor) -> bool {
     matches!(actor.point(), Step::Plant { .. })
 }
 
-/// Whether an attempt to hold a word, which was the step before, has won.
+/// Whether the last step was an attempt to hold a word, and won.
 fn has_planted(actor: &Actor) -> bool {
     matches!(actor.point(), Step::CheckThenResolve { .. })
 }

@@ -1,7 +1,9 @@
-//! The tenants' words, which no lock guards.
+//! The tenants' words. No lock guards them.
+//!
+//! Used by: `parts`, `engine`, `new_parts`, `figures`.
 ghost use Rattle.std.specs.Prelude.{◌≡◌, map};
 ghost use Rattle.mw_core.specs.FromTable.{openings_of};
-ghost use Rattle.mw_engine.specs.Agreeing.{Agrees, places_told};
+ghost use Rattle.mw_engine.specs.LinesOfWorld.{Agrees, places_told};
 ghost use Rattle.mw_engine.specs.Lines.{HasFewPlaces, line_of, places_of};
 
 use crate::listed::Listed;
@@ -9,8 +11,8 @@ use arrayvec::ArrayVec;
 use mw_core::Core;
 use mw_words::MAX_TENANTS;
 
-/// The tenants' words and slots, which workers change by atomic steps alone, and which tenant has which of them:
-/// the tenants' lines, and how many slots there are.
+/// The tenants' words and slots, which workers change by atomic steps alone. With them, whose they are: the
+/// tenants' lines, and how many slots there are.
 #[derive(Drop)]
 pub struct TenantWords {
     pub(crate) core: Core,

@@ -1,4 +1,4 @@
--- Files that fit their tenants' lines for an engine fit them for the plain store too.
+-- Files that fit their tenants' lines for an engine also fit them for the plain store. Used by: the proof of new_plain.
 use Rattle.std.specs.Prelude.{◌≡◌, ◌≤◌, ℕ, All, List, [], ◌∷◌, Option, Some, None, Vec}
 use Rattle.std.specs.declared.alloc.Global.{Global}
 use Rattle.std.proofs.Common.{sym, subst}
@@ -8,7 +8,7 @@ use Rattle.mw_disk.specs.Facts.{Facts}
 use Rattle.mw_config.specs.declared.lines.TenantLine.{TenantLine}
 use Rattle.mw_config.specs.Limits.{ArePermitted}
 use Rattle.mw_file.specs.declared.tenant_file.TenantFile.{TenantFile}
-use Rattle.mw_engine.specs.Opened.{FitsLine, FitLines}
+use Rattle.mw_engine.specs.OpenedFiles.{FitsLine, FitLines}
 use Rattle.mw_plain.specs.Lines.{FitsLine as FitsOne, FitLines as FitAll}
 
 abbrev HasWords : TenantLine → Type 0
@@ -32,7 +32,7 @@ module _ {D : Type 0} (facts : D → Facts) where
     fit_all lines files (All-tail HasWords line lines words) (All-tail HasQuota line lines quotas) fit.1,
   )
 
-  -- the same of a slice of the lines, told once more
+  -- the same, if both slices of the lines are named otherwise
   pub fit_plain : (pool : ℕ) (lines told again : List TenantLine) (files : List (Option (TenantFile D × Vec ℕ Global))) → told ≡ lines → again ≡ lines
       → ArePermitted pool lines → FitLines facts told files → FitAll again files
   fit_plain pool lines told again files is is_again permitted fit =

@@ -1,17 +1,17 @@
--- A file that was opened fits a line that says the same of it.
+-- A file that was opened with its line's words and places fits that line. Used by: the proof of opened.
 use Rattle.std.specs.Prelude.{◌≡◌, ◌≤◌, ℕ, length, Vec, IsTrue}
 use Rattle.std.specs.declared.alloc.Global.{Global}
 use Rattle.std.proofs.Common.{sym, subst, ◌∙◌}
 use Rattle.mw_words.specs.Change.{AreWords}
-use Rattle.mw_disk.specs.Facts.{Facts, IsAtRest}
+use Rattle.mw_disk.specs.Facts.{Facts, IsSynced}
 use Rattle.mw_record.proofs.Sound.{undamaged_words}
 use Rattle.mw_file.specs.declared.tenant_file.TenantFile.{TenantFile}
 use Rattle.mw_file.specs.File.{states_of}
-use Rattle.mw_file.specs.Opening.{IsOpened}
+use Rattle.mw_file.specs.OpeningEnds.{IsOpened}
 use Rattle.mw_config.specs.declared.lines.TenantLine.{TenantLine}
-use Rattle.mw_engine.specs.Opened.{IsFresh}
+use Rattle.mw_engine.specs.OpenedFiles.{IsFresh}
 
-pub fits : {D : Type 0} (facts : D → Facts) (line : TenantLine) (disk : D) (file : TenantFile D) (words : Vec ℕ Global) → IsOpened facts disk file words.items → (IsTrue (facts disk).honest → IsAtRest (facts disk))
+pub fits : {D : Type 0} (facts : D → Facts) (line : TenantLine) (disk : D) (file : TenantFile D) (words : Vec ℕ Global) → IsOpened facts disk file words.items → (IsTrue (facts disk).honest → IsSynced (facts disk))
     → length words.items ≡ line.words → line.quota ≤ length (states_of file) → IsFresh facts line (file, words)
 fits facts line disk file words opened rests long room =
     record {

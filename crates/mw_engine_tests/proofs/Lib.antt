@@ -1,4 +1,4 @@
-pub mod Asking
+pub mod TenantsMayAsk
 pub mod Beside
-pub mod Fitting
+pub mod FilesFitLines
 pub mod Fresh

@@ -1,9 +1,12 @@
 //! Cases: tenants with new files, what the workers of an engine do, and the files afterwards.
+//!
+//! Used by: `disks`, `held_tests`, `plain_tests`, `race_tests`, `session_tests`, `socket_tests`, `starts`,
+//! other modules.
 ghost use Rattle.std.specs.Prelude.{◌≡◌, ◌≤◌, All, IfSome};
 ghost use Rattle.mw_config.specs.Limits.{ArePermitted};
 ghost use Rattle.mw_words.specs.declared.limits.TheConstants.{MAX_POOL};
 ghost use Rattle.mw_engine.specs.Passes.{IsNew};
-ghost use Rattle.mw_engine.specs.Starting.{identity_of};
+ghost use Rattle.mw_engine.specs.Parts.{identity_of};
 
 use crate::disks::{have_words, new_disks};
 use crate::latch::{ByLatch, Latch, LatchedDisk, Place};
@@ -22,21 +25,22 @@ use std::marker::Brand;
 use std::sync::Wait;
 use std::thread::Threads;
 
-/// How a tenant's disk is.
+/// Says how a tenant's disk behaves.
 #[derive(Clone, Copy)]
 pub(crate) enum Device {
-    /// Its calls go well.
+    /// Its calls succeed.
     Sound,
-    /// The call of this number fails, counted from 1 behind the opening.
+    /// The call of this number fails, counted from 1 after the opening.
     Fails(u64),
-    /// It stops after so many calls behind the opening. Afterwards the power goes, and these bytes are found in rising
-    /// order of offset where bytes were written and not synced; where they are at their end, what a read gave.
+    /// It stops after so many calls after the opening. Then the power fails. These bytes are found, in
+    /// rising order of offset, where bytes were written and not synced; after the last of them, what a read
+    /// gave is found.
     Stops(u64, &'static [u8]),
-    /// There is none.
+    /// There is no disk.
     Missing,
 }
 
-/// What the workers do.
+/// Says what the workers do.
 #[derive(Drop)]
 pub(crate) enum Play<'c> {
     /// Each has its session, one after the other.
@@ -47,11 +51,12 @@ pub(crate) enum Play<'c> {
     Story(Story<'c>),
     /// They count up words at once.
     Race(Race),
-    /// They make requests by turns, all made from this number, and the plain store over files of its own replies the same.
+    /// They make requests by turns, all made from this number, and the plain store over files of its own
+    /// must reply the same.
     Beside(&'c u64),
 }
 
-/// Tenants with new files, what the workers of an engine do, and what it leaves.
+/// Tenants with new files, what the workers of an engine do, and the files that it leaves.
 #[derive(Drop)]
 pub(crate) struct Case<'c> {
     /// The text of the tenants file.
@@ -63,7 +68,8 @@ pub(crate) struct Case<'c> {
     pub(crate) words: &'c [&'c [u64]],
 }
 
-/// The lines of a case's tenants file, whose quotas its pool has room for. None where one of them isn't permitted.
+/// Reads the lines of a case's tenants file. The pool has room for their quotas. Gives None if one of them
+/// isn't permitted.
 pub(crate) fn lines_of(case: &Case<'_>) -> Option<ArrayVec<TenantLine, MAX_TENANTS>>
     ensures permitted { IfSome result (λ lines. ArePermitted case.now.pool lines.items) }
     ensures pool { IfSome result (λ _. (1 ≤ case.now.pool) × (case.now.pool ≤ MAX_POOL)) }
@@ -74,7 +80,7 @@ pub(crate) fn lines_of(case: &Case<'_>) -> Option<ArrayVec<TenantLine, MAX_TENAN
     read_tenants(case.tenants, case.pool).ok()
 }
 
-/// Where the latch of a case is.
+/// Gives where the latch of a case is.
 fn latch_of(case: &Case<'_>) -> Latch {
     match &case.play {
         Play::Story(story) => Latch::new(story.place),
@@ -82,7 +88,7 @@ fn latch_of(case: &Case<'_>) -> Latch {
     }
 }
 
-/// Whether a case is so. False as well where memory is refused.
+/// Tells whether a case comes out as it says. Gives false also if memory is refused.
 pub(crate) fn is_so<R: Threads + Wait + Sync>(rt: &R, alloc: Global, case: &Case<'_>) -> bool {
     let latch = latch_of(case);
     let Some(disks) = new_disks(alloc, case, &latch) else {
@@ -96,7 +102,7 @@ pub(crate) fn is_so<R: Threads + Wait + Sync>(rt: &R, alloc: Global, case: &Case
     }
 }
 
-/// Whether a case is so of the engine of these parts.
+/// Tells whether a case comes out as it says on the engine of these parts.
 fn is_so_of<'l, J: EngineBrand + Send + Sync, R: Threads + Wait + Sync>(
     rt: &R,
     alloc: Global,
@@ -121,7 +127,7 @@ fn is_so_of<'l, J: EngineBrand + Send + Sync, R: Threads + Wait + Sync>(
     }
 }
 
-/// Whether the workers do as they are to.
+/// Tells whether the workers do what the case says.
 fn is_done<J: EngineBrand + Send + Sync, R: Threads + Wait + Sync>(
     rt: &R,
     alloc: Global,

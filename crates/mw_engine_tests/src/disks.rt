@@ -1,4 +1,6 @@
-//! Tenants' files in memory.
+//! Makes tenants' files in memory.
+//!
+//! Used by: `cases`, `socket_tests`, `twins`.
 use crate::cases::{Case, Device, lines_of};
 use crate::latch::{Latch, LatchedDisk};
 use mw_config::TenantLine;
@@ -8,17 +10,18 @@ use mw_record::{FIRST_PLACES, header, size};
 use mw_words::MAX_WORDS;
 use std::alloc::Global;
 
-/// How many calls are made until a new file is open: a sync, then its length, a read, and five that give it its second layout.
+/// How many calls open a new file: a sync, its length, a read, and five that give it its second layout.
 const OPENING: u64 = 8;
 
-/// A disk of these bytes whose call of this number behind the opening fails. None where memory is refused.
+/// Makes a disk of these bytes, whose call of this number after the opening fails. Gives None if memory is
+/// refused.
 fn failing_disk(alloc: Global, bytes: Vec<u8>, number: u64) -> Option<MemDisk> {
     let failing = vec![in alloc; number.saturating_add(OPENING); 1].ok()?;
     MemDisk::new(alloc, bytes, failing).ok()
 }
 
-/// A new file for a tenant's line, all words 0 and with as many places as the quota. None where memory is refused, or no
-/// file is of that size.
+/// Makes a new file for a tenant's line, with all words 0 and as many places as the quota. Gives None if
+/// memory is refused, or no file has that size.
 fn new_file(alloc: Global, words: u16, places: u16) -> Option<Vec<u8>> {
     if !(1..=MAX_WORDS).contains(&words) || !(1..=FIRST_PLACES).contains(&places) {
         return None;
@@ -28,7 +31,8 @@ fn new_file(alloc: Global, words: u16, places: u16) -> Option<Vec<u8>> {
     Some(bytes)
 }
 
-/// A disk with a new file for a tenant's line. None where the device is missing, or there is no such file.
+/// Makes a disk with a new file for a tenant's line. Gives None if the device is missing, or there is no
+/// such file.
 fn new_disk(alloc: Global, line: &TenantLine, device: Device) -> Option<MemDisk> {
     let bytes = new_file(alloc, line.words, u16::from(line.quota))?;
     match device {
@@ -52,7 +56,7 @@ fn new_latched<'l>(
     Some(LatchedDisk { disk, latch })
 }
 
-/// A disk with a new file for each tenant of a case. None where memory is refused.
+/// Makes a disk with a new file for each tenant of a case. Gives None if memory is refused.
 pub(crate) fn new_disks<'l>(
     alloc: Global,
     case: &Case<'_>,
@@ -66,8 +70,8 @@ pub(crate) fn new_disks<'l>(
     Some(disks)
 }
 
-/// Whether the files on these disks have the first words that the case tells, once they are opened anew. Of a disk that is
-/// missing none are wanted.
+/// Tells whether the files on these disks, opened again, have the first words that the case says. A missing
+/// disk needs none.
 pub(crate) fn have_words(
     alloc: Global,
     disks: Vec<Option<LatchedDisk<'_>>>,
@@ -85,7 +89,7 @@ pub(crate) fn have_words(
     true
 }
 
-/// Whether the file on a disk has these first words.
+/// Tells whether the file on a disk has these first words.
 fn has_words(alloc: Global, disk: Option<LatchedDisk<'_>>, device: Device, wanted: &[u64]) -> bool {
     match disk {
         Some(disk) => match left_of(alloc, disk.disk, device) {
@@ -96,7 +100,7 @@ fn has_words(alloc: Global, disk: Option<LatchedDisk<'_>>, device: Device, wante
     }
 }
 
-/// The disk as it is found afterwards. None where memory is refused.
+/// Gives the disk as it is found afterwards. Gives None if memory is refused.
 fn left_of(alloc: Global, disk: MemDisk, device: Device) -> Option<MemDisk> {
     match device {
         Device::Stops(_, torn) => {
@@ -107,7 +111,7 @@ fn left_of(alloc: Global, disk: MemDisk, device: Device) -> Option<MemDisk> {
     }
 }
 
-/// Whether the file on a disk opens, with these first words.
+/// Tells whether the file on a disk opens, with these first words.
 fn opens_with(alloc: Global, disk: MemDisk, wanted: &[u64]) -> bool {
     match TenantFile::open(alloc, disk) {
         Ok(opened) => opened.1.as_slice().starts_with(wanted),

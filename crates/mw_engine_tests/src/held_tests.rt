@@ -1,5 +1,5 @@
-//! A request that is held, while others are served. Nobody waits for who is held: neither who asks for the words that
-//! its change holds, nor who asks another tenant.
+//! Holds a request while others are served. Nobody waits for a worker that is held: neither one that asks
+//! for the words that its change holds, nor one that asks another tenant.
 use crate::cases::{Case, Device, Play, is_so};
 use crate::latch::Place;
 use crate::talks::{Story, Talk};
@@ -8,20 +8,21 @@ use std::alloc::Global;
 use std::sync::Wait;
 use std::thread::Threads;
 
-/// What happens: worker 0 is held in its session. Meanwhile worker 1 has its own, and worker 2 asks `u` for a change.
+/// What happens. Worker 0 is held in its session. Meanwhile worker 1 has its own session, and worker 2 asks
+/// `u` for a change.
 #[derive(Drop)]
 struct Meanwhile<'c> {
     /// The tenants: `t` of two words, `u` of one.
     tenants: &'c [u8],
     held: Talk,
     beside: Talk,
-    /// What is in the tenants' files afterwards.
+    /// The words of the tenants' files afterwards.
     words: &'c [&'c [u64]],
 }
 
 const TENANTS: &[u8] = b"t 2 2 t.mw\nu 1 1 u.mw\n";
 
-/// Where `t` may have one change under way.
+/// `t` may have only one change under way.
 const TENANTS_OF_ONE: &[u8] = b"t 2 1 t.mw\nu 1 1 u.mw\n";
 
 /// What `u` says meanwhile.
@@ -30,7 +31,7 @@ const NEIGHBOUR: Talk = Talk {
     told: b"OK 1\nYES\n",
 };
 
-/// Whether all this happens where worker 0 is held at a place to which so many come before.
+/// Tells whether all this happens if worker 0 is held at a place to which so many come before it.
 fn happens<R: Threads + Wait + Sync>(
     rt: &R,
     alloc: Global,
@@ -53,10 +54,10 @@ fn happens<R: Threads + Wait + Sync>(
     is_so(rt, alloc, &case)
 }
 
-/// How often each story with threads is told.
+/// How many times each story with threads is run.
 const TIMES: u8 = 100;
 
-/// Whether it happens each time, where worker 0 is held when it comes to this place first.
+/// Tells whether it happens each time, if worker 0 is held when it comes to this place first.
 fn happens_always<R: Threads + Wait + Sync>(
     rt: &R,
     alloc: Global,
@@ -71,7 +72,8 @@ fn happens_always<R: Threads + Wait + Sync>(
     true
 }
 
-/// A change of both words that is held, and who reads and changes word 0 meanwhile and is told this.
+/// A change of both words that is held. Meanwhile another client reads and changes word 0, and is told
+/// this.
 fn change_beside(told: &'static [u8]) -> Meanwhile<'static> {
     let held = Talk {
         says: b"TENANT t\nCAS 0:0:1 1:0:1\nGET 1\n",
@@ -127,7 +129,7 @@ fn own_quota_busy(rt: HostRuntime) {
     assert!(rt; happens(&rt, rt.alloc(), Place::At(Point::Planted), 0, &meanwhile));
 }
 
-/// A change of word 0, and who reads both words meanwhile and is told this.
+/// A change of word 0 that is held. Meanwhile another client reads both words, and is told this.
 fn read_beside(told: &'static [u8]) -> Meanwhile<'static> {
     let held = Talk {
         says: b"TENANT t\nCAS 0:0:1\n",
@@ -145,14 +147,14 @@ fn read_beside(told: &'static [u8]) -> Meanwhile<'static> {
     }
 }
 
-/// Workers that serve one request after the other are caught.
+/// The test catches workers that serve one request after the other.
 #[test]
 fn serial_workers(rt: HostRuntime) {
     let meanwhile = read_beside(b"OK 2\nVAL 0\nVAL 0\n");
     assert!(rt; happens_always(&rt, rt.alloc(), Place::Write, &meanwhile));
 }
 
-/// The change is sealed by its second sync.
+/// A read waits for no sync. The change is sealed by its second sync.
 #[test]
 fn reads_wait_for_no_sync(rt: HostRuntime) {
     for (before, told) in [

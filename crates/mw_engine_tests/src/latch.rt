@@ -1,4 +1,6 @@
-//! What stops a worker in the middle of its request.
+//! A latch, which stops a worker in the middle of its request.
+//!
+//! Used by: `cases`, `disks`, `held_tests`, `socket_tests`, `starts`, `talks`, `twins`, other modules.
 ghost use Rattle.mw_disk.specs.Memory.{memory_facts};
 
 use mw_disk::{Disk, DiskFault, MemDisk};
@@ -6,30 +8,30 @@ use mw_engine::{Hold, Point};
 use std::sync::atomic::{AtomicBool, AtomicU64, Ordering};
 use std::thread;
 
-/// How often who waits looks again: for ten seconds or more, since the machine's host may take a processor away for
-/// longer than the others' requests last.
+/// How many times a waiting worker looks again: for ten seconds or more, because the machine's host may
+/// take a processor away for longer than the others' requests last.
 const MOST_TURNS: u32 = 30_000_000;
 
-/// Where a worker comes to the latch.
+/// Says where a worker comes to the latch.
 #[derive(Clone, Copy, PartialEq, Eq)]
 pub(crate) enum Place {
-    /// Nowhere: all go on.
+    /// Nowhere: nobody is stopped.
     Nowhere,
     /// Worker 0 is at a point of its request.
     At(Point),
-    /// Any worker is.
+    /// Any worker is at this point.
     Anyone(Point),
-    /// Somebody is about to write to a disk.
+    /// A worker is about to write to a disk.
     Write,
-    /// Somebody is about to sync a disk.
+    /// A worker is about to sync a disk.
     Sync,
 }
 
-/// Stops who comes to it as the one of a number, until all others have left or the turns are over. So a test on workers
-/// that wait for who is stopped fails, and ends.
+/// Stops the worker that comes to it as the one of a number, until all others have left or the turns are
+/// used up. So a test fails, and ends, if workers wait for the one that is stopped.
 #[derive(Drop)]
 pub(crate) struct Latch {
-    /// Where it is.
+    /// The place of the latch.
     place: Place,
     /// How many come before the one that is stopped.
     before: AtomicU64,
@@ -42,7 +44,7 @@ pub(crate) struct Latch {
 }
 
 impl Latch {
-    /// One at a place that stops nobody until it is set.
+    /// Makes a latch at a place. It stops nobody until it is set.
     pub(crate) fn new(place: Place) -> Latch {
         Latch {
             place,
@@ -55,21 +57,21 @@ impl Latch {
         }
     }
 
-    /// From now on so many come before the one that is stopped. It opens once so many others have left.
+    /// Sets the latch: so many come before the one that is stopped. It opens when so many others have left.
     pub(crate) fn set(&self, before: u64, others: u64) {
         self.others.store(others, Ordering::SeqCst);
         self.came.store(0, Ordering::SeqCst);
         self.before.store(before, Ordering::SeqCst);
     }
 
-    /// A worker is at a place.
+    /// Comes to the latch if this is its place.
     fn meet(&self, place: Place) {
         if place == self.place {
             self.pass();
         }
     }
 
-    /// Comes to it.
+    /// Comes to the latch.
     fn pass(&self) {
         if self.came.fetch_add(1, Ordering::SeqCst) != self.before.load(Ordering::SeqCst) {
             return;
@@ -80,25 +82,25 @@ impl Latch {
         }
     }
 
-    /// Waits until somebody was stopped. False if nobody was.
+    /// Waits until a worker was stopped. Gives false if none was.
     pub(crate) fn stops_one(&self) -> bool {
         comes_true(&self.has_stopped)
     }
 
-    /// One of the others leaves.
+    /// Records that one of the others leaves. The last one opens the latch.
     pub(crate) fn leave(&self) {
         if self.others.fetch_sub(1, Ordering::SeqCst) == 1 {
             self.is_open.store(true, Ordering::SeqCst);
         }
     }
 
-    /// Whether somebody was stopped, and went on only when all others had left.
+    /// Tells whether a worker was stopped, and went on only when all others had left.
     pub(crate) fn has_held(&self) -> bool {
         self.has_stopped.load(Ordering::SeqCst) && !self.has_expired.load(Ordering::SeqCst)
     }
 }
 
-/// Waits until the flag is set. False if the turns are over before.
+/// Waits until the flag is set. Gives false if the turns are used up before.
 fn comes_true(flag: &AtomicBool) -> bool {
     for _ in 0..MOST_TURNS {
         if flag.load(Ordering::SeqCst) {

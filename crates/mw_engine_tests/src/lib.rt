@@ -1,5 +1,6 @@
-//! Tests of the engine: whole sessions by one worker, requests of several threads at once, and requests that are held
-//! while others go on. They stand apart from the crates that they test, so that those are proved once.
+//! Tests the engine: whole sessions by one worker, requests of several threads at once, and requests that
+//! are held while others go on. The tests are apart from the crates that they test, so that those are
+//! proved once.
 #![tactic(auto)]
 
 #[cfg(test)]

@@ -1,10 +1,11 @@
-//! The engine beside the plain store, which serves one request at a time.
+//! Compares the engine with the plain store, which serves one request at a time.
 use crate::cases::{Case, Device, Play, is_so};
 use std::alloc::Global;
 use std::sync::Wait;
 use std::thread::Threads;
 
-/// Whether an engine and the plain store answer alike to requests made from this number, where `t`'s device is so.
+/// Tells whether an engine and the plain store answer alike to requests made from this number, if `t` has
+/// this device.
 fn is_alike<R: Threads + Wait + Sync>(rt: &R, alloc: Global, device: Device, first: u64) -> bool {
     let devices = [device, Device::Sound];
     let words: [&[u64]; 2] = [&[], &[]];

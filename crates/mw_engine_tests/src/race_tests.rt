@@ -1,4 +1,4 @@
-//! Requests of several threads at once.
+//! Makes requests by several threads at once.
 use crate::cases::{Case, Device, Play, is_so};
 use crate::races::Race;
 

@@ -1,4 +1,6 @@
 //! Workers that count up words at once.
+//!
+//! Used by: `cases`, `race_tests`.
 use crate::workers::{Worker, change};
 use mw_engine::EngineBrand;
 use mw_words::{Job, MAX_VALUE, Reply};
@@ -6,23 +8,23 @@ use std::sync::Wait;
 use std::thread;
 use std::thread::Threads;
 
-/// How many changes each worker is to make.
+/// How many changes each worker makes.
 const CHANGES: u64 = 100;
 
 /// The most requests for changes that a worker makes.
 const MOST_REQUESTS: u32 = 100_000;
 
-/// A race of the workers, each in a thread of its own: each counts up word 0 of its tenant.
+/// A race of the workers, each in a thread of its own. Each counts up word 0 of its tenant.
 #[derive(Clone, Copy, Drop)]
 pub(crate) struct Race {
     /// The name of each worker's tenant.
     pub(crate) names: &'static [&'static [u8]],
-    /// What the words come to.
+    /// The last value of the words.
     pub(crate) word: u64,
 }
 
-/// Reads word 0 of a tenant, and changes it to one more: by a whole request, or by its steps, if the worker has an odd
-/// number. True if it was so.
+/// Reads word 0 of a tenant, and changes it to one more. A worker with an odd number makes each step by
+/// itself. Gives true if the change was made.
 fn adds_one<J: EngineBrand, R: Wait>(worker: &mut Worker<'_, '_, J, R>, name: &[u8]) -> bool {
     match worker.ask(name, &Job::Get(0)) {
         Some(Reply::Val(value)) if value < MAX_VALUE => {
@@ -38,7 +40,7 @@ fn adds_one<J: EngineBrand, R: Wait>(worker: &mut Worker<'_, '_, J, R>, name: &[
     }
 }
 
-/// Counts up word 0 of a tenant. True once all changes are made.
+/// Counts up word 0 of a tenant. Gives true when all changes are made.
 fn counts_up<J: EngineBrand, R: Wait>(worker: &mut Worker<'_, '_, J, R>, name: &[u8]) -> bool {
     let mut made = 0u64;
     for _ in 0..MOST_REQUESTS {
@@ -52,7 +54,7 @@ fn counts_up<J: EngineBrand, R: Wait>(worker: &mut Worker<'_, '_, J, R>, name: &
     false
 }
 
-/// The worker, once it has counted up its tenant's word. None if it didn't come to that.
+/// Gives the worker after it has counted up its tenant's word, and None if it couldn't.
 fn counted<'a, 'l, J: EngineBrand, R: Wait>(
     mut worker: Worker<'a, 'l, J, R>,
     race: Race,
@@ -65,7 +67,7 @@ fn counted<'a, 'l, J: EngineBrand, R: Wait>(
     }
 }
 
-/// Whether a worker reads what its tenant's word comes to.
+/// Tells whether a worker reads the last value of its tenant's word.
 fn reads_all<J: EngineBrand, R: Wait>(worker: &mut Worker<'_, '_, J, R>, race: Race) -> bool {
     match race.names.get(worker.number()) {
         Some(name) => worker.read(name, 0) == Some(Reply::Val(race.word)),
@@ -73,7 +75,8 @@ fn reads_all<J: EngineBrand, R: Wait>(worker: &mut Worker<'_, '_, J, R>, race: R
     }
 }
 
-/// Whether a worker that has counted reads what its tenant's word comes to, once it has met the last one.
+/// Tells whether a worker that has counted reads the last value of its tenant's word, after it has met the
+/// last worker.
 fn agrees<'a, 'l, J: EngineBrand, R: Wait>(
     last: &mut Worker<'a, 'l, J, R>,
     counter: &mut Option<Worker<'a, 'l, J, R>>,
@@ -88,7 +91,8 @@ fn agrees<'a, 'l, J: EngineBrand, R: Wait>(
     }
 }
 
-/// Whether each has counted, and reads what its tenant's word comes to, once it has met the last one.
+/// Tells whether each worker has counted, and reads the last value of its tenant's word, after it has met
+/// the last worker.
 fn all_agree<J: EngineBrand, R: Wait>(
     counters: Vec<Option<Worker<'_, '_, J, R>>>,
     race: Race,
@@ -105,7 +109,7 @@ fn all_agree<J: EngineBrand, R: Wait>(
     reads_all(&mut last, race)
 }
 
-/// Whether these workers all make their changes, and read them.
+/// Tells whether these workers all make their changes, and read them.
 pub(crate) fn is_run<J: EngineBrand + Send + Sync, R: Threads + Wait + Sync>(
     rt: &R,
     workers: Vec<Worker<'_, '_, J, R>>,

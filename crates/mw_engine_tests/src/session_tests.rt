@@ -1,4 +1,4 @@
-//! Sessions of the workers of an engine, one after the other, and the tenants' files after them.
+//! Runs sessions of an engine's workers, one after the other, and checks the tenants' files after them.
 use crate::cases::{Case, Device, Play, is_so};
 use crate::talks::Talk;
 use std::alloc::Global;
@@ -108,7 +108,7 @@ fn report_places(rt: HostRuntime) {
     assert!(rt; is_so(&rt, rt.alloc(), &case));
 }
 
-/// Each kind of reply is given back, where a worker doesn't serve for ever.
+/// Each kind of reply is given back. A worker that serves for ever is caught.
 #[test]
 fn endless_serve(rt: HostRuntime) {
     let case = Case {
@@ -134,8 +134,8 @@ fn endless_serve(rt: HostRuntime) {
     assert!(rt; is_so(&rt, rt.alloc(), &case));
 }
 
-/// Whether `t`, on this device, is told this at a change of two words and a read, and has these words in its file
-/// afterwards, and its neighbour, with as many words, is served all the same.
+/// Tells whether `t`, on this device, is told this at a change of two words and a read, and has these words
+/// in its file afterwards. Its neighbour, with as many words, must be served all the same.
 fn goes_on<R: Threads + Wait + Sync>(
     rt: &R,
     alloc: Global,
@@ -169,8 +169,8 @@ const BEFORE: &[u64] = &[0, 0];
 
 const CHANGED: &[u64] = &[1, 2];
 
-/// Each of the nine calls of a change of two words fails in turn. From the fifth on it is told YES, since it is sealed;
-/// and from the fourth on it is found when the file is opened anew.
+/// Each of the nine calls of a change of two words fails in turn. From the fifth call on the client is told
+/// YES, because the change is sealed. From the fourth on the change is found when the file is opened again.
 #[test]
 fn each_device_call_fails(rt: HostRuntime) {
     for number in 1..=9u64 {
@@ -185,10 +185,10 @@ fn each_device_call_fails(rt: HostRuntime) {
     }
 }
 
-/// More bytes than are ever not synced: a place of a file that is prepared has 263.
+/// More bytes than are ever unsynced: a prepared place of a file has 263.
 const ZEROS: &[u8] = &[0; 300];
 
-/// What `t` is told whose device stops after so many calls.
+/// Gives what `t` is told if its device stops after so many calls.
 fn told_before_stop(calls: u64) -> &'static [u8] {
     match calls {
         ..=3 => b"OK 2\nFAULT\nFAULT\n",
@@ -197,8 +197,8 @@ fn told_before_stop(calls: u64) -> &'static [u8] {
     }
 }
 
-/// The device stops behind each of these calls in turn, and the power goes. Where only the commit byte is not synced, it
-/// may be found or not.
+/// The device stops after each of these calls in turn, and the power fails. If only the commit byte is not
+/// synced, it may be found or not.
 #[test]
 fn stop_sweep(rt: HostRuntime) {
     for calls in 0..=9u64 {

@@ -1,7 +1,7 @@
-//! A request that is held over sockets, while another client is served.
+//! Holds a request over sockets, while another client is served.
 ghost use Rattle.std.specs.Prelude.{◌≡◌, ◌<◌, All, vec_len};
 ghost use Rattle.mw_engine.specs.Passes.{IsNew};
-ghost use Rattle.mw_engine.specs.Starting.{identity_of};
+ghost use Rattle.mw_engine.specs.Parts.{identity_of};
 
 use crate::cases::{Case, Device, Play};
 use crate::disks::{have_words, new_disks};
@@ -37,7 +37,7 @@ const BESIDE: &[u8] = b"TENANT t\nCAS 0:1:2\nQUIT\n";
 /// What both are told.
 const TOLD: [u8; 13] = *b"OK 2\nYES\nBYE\n";
 
-/// A client of the server at a port, who has said this.
+/// Connects a client to the server at a port, and sends this.
 fn client<R: Net<Listener = TcpListener, Stream = TcpStream>>(
     rt: &R,
     port: u16,
@@ -49,13 +49,13 @@ fn client<R: Net<Listener = TcpListener, Stream = TcpStream>>(
     Ok(stream)
 }
 
-/// Whether a client is told what both are to be told.
+/// Tells whether a client is told what both must be told.
 fn is_told(mut client: TcpStream) -> bool {
     let mut told = [0; TOLD.len()];
     client.read_exact(&mut told).is_ok() && told == TOLD
 }
 
-/// Whether both clients are told what they are to be told: the second one while the first is held.
+/// Tells whether both clients are told what they must be told: the second one while the first is held.
 fn are_told<R: Net<Listener = TcpListener, Stream = TcpStream>>(
     rt: &R,
     port: u16,
@@ -68,7 +68,7 @@ fn are_told<R: Net<Listener = TcpListener, Stream = TcpStream>>(
     Ok(has_stopped && beside && is_told(held) && latch.has_held())
 }
 
-/// The same. Then two clients more come and go, so that a server which still waits for some has them.
+/// The same. Then two more clients come and go, so that a server that still waits for some gets them.
 fn come_and_go<R: Net<Listener = TcpListener, Stream = TcpStream>>(
     rt: &R,
     port: u16,
@@ -76,13 +76,13 @@ fn come_and_go<R: Net<Listener = TcpListener, Stream = TcpStream>>(
 ) -> io::Result<bool> {
     let told = are_told(rt, port, latch);
     for _ in 0..CONNECTIONS {
-        // Nobody listens any more where the server has ended.
+        // If the server has ended, nobody listens.
         let _ = client(rt, port, b"");
     }
     told
 }
 
-/// Whether two of these workers serve both clients so.
+/// Tells whether two of these workers serve both clients so.
 fn serve_both<J, R>(
     rt: &R,
     alloc: Global,
@@ -115,7 +115,7 @@ where
     Ok(told? && served.0 == ServeEnd::Served)
 }
 
-/// Whether all this happens to an engine of these parts.
+/// Tells whether all this happens to an engine of these parts.
 fn happens_to<'l, J, R>(
     rt: &R,
     alloc: Global,
@@ -148,7 +148,7 @@ where
     }
 }
 
-/// Whether all this happens to an engine with new files.
+/// Tells whether all this happens to an engine with new files.
 fn happens<R>(rt: &R, alloc: Global) -> bool
 where
     R: Files<File = File>
@@ -177,7 +177,7 @@ where
     }
 }
 
-/// How often it is tried.
+/// How many times it is tried.
 const TIMES: u8 = 100;
 
 #[test]

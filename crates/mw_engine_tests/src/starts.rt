@@ -1,8 +1,10 @@
-//! The start of an engine.
+//! Starts an engine.
+//!
+//! Used by: `cases`, `socket_tests`, `twins`.
 ghost use Rattle.std.specs.Prelude.{All, IfSome};
-ghost use Rattle.mw_engine.specs.Opened.{FitLines, FitsLine};
+ghost use Rattle.mw_engine.specs.OpenedFiles.{FitLines, FitsLine};
 ghost use Rattle.mw_engine.specs.Passes.{IsNew};
-ghost use Rattle.mw_engine.specs.Starting.{identity_of};
+ghost use Rattle.mw_engine.specs.Parts.{identity_of};
 
 use crate::cases::{Case, lines_of};
 use crate::latch::{ByLatch, Latch, LatchedDisk};
@@ -12,10 +14,11 @@ use mw_engine::{EngineParts, Pass};
 use mw_file::TenantFile;
 use std::alloc::Global;
 
-/// A tenant's file with the words that it was opened with.
+/// A tenant's file, and the words that it had when it was opened.
 type Opened<D> = (TenantFile<D>, Vec<u64>);
 
-/// The file on a disk, which is synced before. None where it doesn't open, or isn't as the tenant's line says.
+/// Opens the file on a disk, which it syncs first. Gives None if the file doesn't open, or isn't as the
+/// tenant's line says.
 fn opened<D: Disk + Drop>(alloc: Global, line: &TenantLine, mut disk: D) -> Option<Opened<D>>
     ensures { FitsLine D.facts line.now result }
 {
@@ -35,7 +38,7 @@ fn opened<D: Disk + Drop>(alloc: Global, line: &TenantLine, mut disk: D) -> Opti
     }
 }
 
-/// The same on the disk that is next, if there is one.
+/// The same on the next disk, if there is one.
 fn opened_next<D: Disk + Drop>(
     alloc: Global,
     line: &TenantLine,
@@ -49,7 +52,7 @@ fn opened_next<D: Disk + Drop>(
     }
 }
 
-/// The files of the tenants with these lines, on these disks. None where memory is refused.
+/// Opens the files of the tenants with these lines, on these disks. Gives None if memory is refused.
 pub(crate) fn all_opened<D: Disk + Drop>(
     alloc: Global,
     lines: &[TenantLine],
@@ -78,7 +81,7 @@ pub(crate) struct Started<'l> {
 /// How many workers an engine has.
 const WORKERS: u8 = 4;
 
-/// An engine of a case's tenants, whose files are on these disks. None where memory is refused.
+/// Starts an engine of a case's tenants, whose files are on these disks. Gives None if memory is refused.
 pub(crate) fn start<'l>(
     alloc: Global,
     case: &Case<'_>,

@@ -1,4 +1,6 @@
-//! Requests whose steps are made one by one from outside the engine.
+//! Makes the steps of a request one by one, from outside the engine.
+//!
+//! Used by: `workers`.
 ghost use Rattle.std.specs.Prelude.{◌≡◌, true};
 ghost use Rattle.mw_engine.specs.Identity.{IsFor};
 ghost use Rattle.mw_engine.specs.Passes.{IsPassOf};
@@ -8,7 +10,7 @@ use mw_engine::{Advance, EngineBrand, Pass};
 use mw_words::{Job, Reply};
 use std::sync::Wait;
 
-/// The reply to a tenant's job, of which each step and each call on the tenant's file is made here.
+/// Gives the reply to a tenant's job. It makes each step, and each call on the tenant's file, here.
 pub(crate) fn by_steps<J: EngineBrand>(
     engine: &LatchedEngine<'_, J>,
     rt: &impl Wait,

@@ -1,4 +1,4 @@
-//! Sessions whose peers say and take single bytes and break off, each with a new session behind it.
+//! Runs sessions whose peers say and take single bytes and break off, and a new session after each.
 use crate::cases::{Case, Device, Play, is_so};
 use crate::peers::Peer;
 use mw_session::Ended;
@@ -10,8 +10,8 @@ use std::thread::Threads;
 /// More bytes than are written.
 const ALL: usize = usize::MAX;
 
-/// Whether this peer of `t`, which has two words, is told what it is to be told, and afterwards a new session and the
-/// file have this value as the first word.
+/// Tells whether this peer of `t`, which has two words, is told what it must be told. Afterwards the first
+/// word must have this value in a new session and in the file.
 fn leaves<R: Threads + Wait + Sync>(rt: &R, alloc: Global, peer: Peer<'_>, is_made: bool) -> bool {
     let told: &[u8] = if is_made {
         b"OK 2\nVAL 1\n"
@@ -69,7 +69,7 @@ fn failing_writer(rt: HostRuntime) {
     assert!(rt; leaves(&rt, rt.alloc(), peer, true));
 }
 
-/// Whether a peer is told as much as it takes. The change is made as soon as the reply before it was taken.
+/// Tells whether a peer is told as much as it takes. The change is made when the reply before it was taken.
 fn is_cut_off<R: Threads + Wait + Sync>(
     rt: &R,
     alloc: Global,
@@ -96,8 +96,8 @@ fn writer_sweep(rt: HostRuntime) {
     }
 }
 
-/// Whether a peer who says so many bytes of the whole is told the replies to the lines among them. The change is made as
-/// soon as its line was said.
+/// Tells whether a peer that says so many bytes of the whole is told the replies to the lines among them.
+/// The change is made when its line was said.
 fn breaks_off<R: Threads + Wait + Sync>(
     rt: &R,
     alloc: Global,

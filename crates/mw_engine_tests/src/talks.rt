@@ -1,4 +1,6 @@
 //! What sessions say and are told, one after the other, or while one of them is held.
+//!
+//! Used by: `cases`, `held_tests`, `session_tests`.
 use crate::latch::{Latch, Place};
 use crate::peers::Peer;
 use crate::workers::Worker;
@@ -8,14 +10,15 @@ use std::sync::Wait;
 use std::thread;
 use std::thread::Threads;
 
-/// What a session says, and what it is to be told.
+/// What a session says, and what it must be told.
 #[derive(Clone, Copy, Drop)]
 pub(crate) struct Talk {
     pub(crate) says: &'static [u8],
     pub(crate) told: &'static [u8],
 }
 
-/// Whether a worker is told what it is to be told in its session: the talk of its number, if there is one.
+/// Tells whether a worker is told what it must be told in its session: that of the talk of its number, if
+/// there is one.
 fn is_told<J: EngineBrand, R: Wait>(
     alloc: Global,
     worker: &mut Worker<'_, '_, J, R>,
@@ -27,7 +30,7 @@ fn is_told<J: EngineBrand, R: Wait>(
     }
 }
 
-/// Whether a session of each worker, one after the other, is told what it is to be told.
+/// Tells whether a session of each worker, one after the other, is told what it must be told.
 pub(crate) fn are_told<J: EngineBrand, R: Wait>(
     alloc: Global,
     workers: Vec<Worker<'_, '_, J, R>>,
@@ -42,7 +45,8 @@ pub(crate) fn are_told<J: EngineBrand, R: Wait>(
     true
 }
 
-/// Whether a session of each worker with the peer of its number, one after the other, goes as it is to.
+/// Tells whether a session of each worker with the peer of its number, one after the other, goes as it
+/// must.
 pub(crate) fn are_served<J: EngineBrand, R: Wait>(
     alloc: Global,
     workers: Vec<Worker<'_, '_, J, R>>,
@@ -59,18 +63,19 @@ pub(crate) fn are_served<J: EngineBrand, R: Wait>(
     true
 }
 
-/// Sessions at once, each in a thread of its own. Worker 0 is held in its session until the others have had theirs.
+/// Sessions at once, each in a thread of its own. Worker 0 is held in its session until the others have had
+/// theirs.
 #[derive(Drop)]
 pub(crate) struct Story<'c> {
     /// Where worker 0 is held.
     pub(crate) place: Place,
-    /// How many come there before.
+    /// How many come there before it.
     pub(crate) before: u64,
-    /// Each of another worker.
+    /// The talks, each of another worker.
     pub(crate) talks: &'c [Talk],
 }
 
-/// Whether a worker of a story is told what it is to be told. All but worker 0 wait until it is held.
+/// Tells whether a worker of a story is told what it must be told. All but worker 0 wait until it is held.
 fn plays<J: EngineBrand, R: Wait>(
     alloc: Global,
     mut worker: Worker<'_, '_, J, R>,
@@ -86,7 +91,8 @@ fn plays<J: EngineBrand, R: Wait>(
     has_stopped && told
 }
 
-/// Whether all workers of a story are told what they are to be told, and worker 0 was held until the others were.
+/// Tells whether all workers of a story are told what they must be told, and worker 0 was held until the
+/// others were.
 pub(crate) fn is_played<J: EngineBrand + Send + Sync, R: Threads + Wait + Sync>(
     rt: &R,
     alloc: Global,

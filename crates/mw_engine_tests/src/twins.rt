@@ -1,4 +1,6 @@
-//! The same requests of an engine's workers and of the plain store, one after the other.
+//! Makes the same requests of an engine's workers and of the plain store, one after the other.
+//!
+//! Used by: `cases`.
 use crate::cases::{Case, lines_of};
 use crate::disks::new_disks;
 use crate::latch::{Latch, LatchedDisk};
@@ -14,17 +16,17 @@ use std::sync::Wait;
 /// How many requests each worker makes of each tenant.
 const REQUESTS: u8 = 100;
 
-/// The names of the tenants, of which the plain store knows the numbers.
+/// The tenants' names, and their numbers in the plain store.
 const NAMES: [(u8, &[u8]); 2] = [(0, b"t"), (1, b"u")];
 
-/// Numbers that look like chance, each made of the one before.
+/// Pseudorandom numbers, each made from the one before.
 #[derive(Drop)]
 struct Numbers {
     last: u64,
 }
 
 impl Numbers {
-    /// One of so many, from 0.
+    /// Gives a number below `count`.
     fn below(&mut self, count: u16) -> u16 {
         self.last = self
             .last
@@ -33,12 +35,12 @@ impl Numbers {
         u16::try_from(self.last >> 48).unwrap_or(0) % count.max(1)
     }
 
-    /// A word's value: one of two, so that what a change expects is often right, and often not.
+    /// Gives a word's value, one of two, so that a change's expected value is often right and often wrong.
     fn value(&mut self) -> u64 {
         if self.below(2) == 0 { 0 } else { MAX_VALUE }
     }
 
-    /// A read of one of so many words, or a change of it and of some behind it.
+    /// Makes a read of one of so many words, or a change of it and of some after it.
     fn job(&mut self, words: u16) -> Job {
         let first = self.below(words);
         if self.below(2) == 0 {
@@ -58,7 +60,7 @@ impl Numbers {
     }
 }
 
-/// The plain store of a case's tenants, over new files. None where memory is refused.
+/// Makes the plain store of a case's tenants, over new files. Gives None if memory is refused.
 fn new_plain<'l>(
     alloc: Global,
     case: &Case<'_>,
@@ -70,7 +72,7 @@ fn new_plain<'l>(
     Plain::new(alloc, &lines, files, case.pool).ok()
 }
 
-/// How many words a tenant of the plain store has.
+/// Gives how many words a tenant of the plain store has.
 fn words_of(plain: &Plain<LatchedDisk<'_>>, tenant: u8) -> u16 {
     if usize::from(tenant) < plain.len() {
         plain.words_of(tenant)
@@ -79,7 +81,7 @@ fn words_of(plain: &Plain<LatchedDisk<'_>>, tenant: u8) -> u16 {
     }
 }
 
-/// The plain store's reply to a job. None where there is no such tenant, or it may not ask for this.
+/// Gives the plain store's reply to a job, and None if there is no such tenant, or it may not ask for this.
 fn plain_reply(plain: &mut Plain<LatchedDisk<'_>>, tenant: u8, job: &Job) -> Option<Reply> {
     if usize::from(tenant) >= plain.len()
         || !job.is_well_formed(usize::from(plain.words_of(tenant)))
@@ -89,7 +91,7 @@ fn plain_reply(plain: &mut Plain<LatchedDisk<'_>>, tenant: u8, job: &Job) -> Opt
     Some(plain.ask(tenant, job))
 }
 
-/// Whether a worker and the plain store reply the same to a job of a tenant.
+/// Tells whether a worker and the plain store reply the same to a job of a tenant.
 fn reply_the_same<J: EngineBrand, R: Wait>(
     worker: &mut Worker<'_, '_, J, R>,
     plain: &mut Plain<LatchedDisk<'_>>,
@@ -100,7 +102,7 @@ fn reply_the_same<J: EngineBrand, R: Wait>(
     reply.is_some() && reply == plain_reply(plain, tenant.0, job)
 }
 
-/// The same of each word of a tenant.
+/// Tells whether they reply the same to a read of each word of a tenant.
 fn have_the_same_words<J: EngineBrand, R: Wait>(
     worker: &mut Worker<'_, '_, J, R>,
     plain: &mut Plain<LatchedDisk<'_>>,
@@ -114,7 +116,8 @@ fn have_the_same_words<J: EngineBrand, R: Wait>(
     true
 }
 
-/// Whether a worker and the plain store reply the same to a request of each tenant, and report the same then.
+/// Tells whether a worker and the plain store reply the same to a request of each tenant, and then report
+/// the same.
 fn go_on_the_same<J: EngineBrand, R: Wait>(
     worker: &mut Worker<'_, '_, J, R>,
     plain: &mut Plain<LatchedDisk<'_>>,
@@ -129,8 +132,8 @@ fn go_on_the_same<J: EngineBrand, R: Wait>(
     worker.figures() == plain.figures()
 }
 
-/// Whether the workers, asked by turns, and the plain store reply the same to each request, report the same behind each,
-/// and have the same words in the end. False as well where memory is refused.
+/// Tells whether the workers, asked by turns, and the plain store reply the same to each request, report
+/// the same after each, and have the same words in the end. Gives false also if memory is refused.
 pub(crate) fn answer_alike<J: EngineBrand, R: Wait>(
     alloc: Global,
     workers: Vec<Worker<'_, '_, J, R>>,

@@ -1,4 +1,6 @@
-//! A worker of an engine.
+//! A worker of an engine, for tests.
+//!
+//! Used by: `cases`, `races`, `socket_tests`, `steps`, `talks`, `twins`.
 ghost use Rattle.std.specs.Prelude.{◌≡◌, true, All};
 ghost use Rattle.mw_engine.specs.Passes.{IsNew, IsPassOf};
 
@@ -35,12 +37,13 @@ impl<'a, 'l, J: EngineBrand, R> Worker<'a, 'l, J, R> {
 }
 
 impl<'a, 'l, J: EngineBrand, R: Wait> Worker<'a, 'l, J, R> {
-    /// Which worker of the engine it is.
+    /// Gives the worker's number in the engine.
     pub(crate) fn number(&self) -> usize {
         usize::from(self.pass.worker())
     }
 
-    /// The reply to a job of the tenant with this name. None where there is no such tenant, or it may not ask for this.
+    /// Gives the reply to a job of the tenant with this name, and None if there is no such tenant, or it
+    /// may not ask for this.
     pub(crate) fn ask(&mut self, name: &[u8], job: &Job) -> Option<Reply> {
         let name = Name::try_from(name).unwrap_or_default();
         let (tenant, words) = self.engine.find(&name)?;
@@ -50,7 +53,7 @@ impl<'a, 'l, J: EngineBrand, R: Wait> Worker<'a, 'l, J, R> {
         Some(self.engine.serve(self.rt, &mut self.pass, tenant, job))
     }
 
-    /// The same, where each step is made by itself.
+    /// The same, with each step made by itself.
     pub(crate) fn ask_by_steps(&mut self, name: &[u8], job: &Job) -> Option<Reply> {
         let name = Name::try_from(name).unwrap_or_default();
         let (tenant, words) = self.engine.find(&name)?;
@@ -60,8 +63,8 @@ impl<'a, 'l, J: EngineBrand, R: Wait> Worker<'a, 'l, J, R> {
         Some(by_steps(self.engine, self.rt, &mut self.pass, tenant, job))
     }
 
-    /// The reply to a read of a word of the tenant with this name: of one pass of its program, or of as many more as it
-    /// takes. None where there is no such tenant or word.
+    /// Gives the reply to a read of a word of the tenant with this name. It runs the read's program once,
+    /// or as often as it takes. Gives None if there is no such tenant or word.
     pub(crate) fn read(&mut self, name: &[u8], address: u16) -> Option<Reply> {
         let name = Name::try_from(name).unwrap_or_default();
         let (tenant, words) = self.engine.find(&name)?;
@@ -79,7 +82,7 @@ impl<'a, 'l, J: EngineBrand, R: Wait> Worker<'a, 'l, J, R> {
         self.engine.meet(&mut self.pass, &mut other.pass);
     }
 
-    /// What who says this to a session of this worker is told.
+    /// Runs a session of this worker with a client that says this. Gives what the client is told.
     pub(crate) fn session(&mut self, alloc: Global, says: &[u8]) -> Vec<u8> {
         let mut says = says;
         let mut told = Vec::new(alloc);
@@ -88,7 +91,7 @@ impl<'a, 'l, J: EngineBrand, R: Wait> Worker<'a, 'l, J, R> {
         told
     }
 
-    /// Whether a session of this worker with this peer goes as it is to.
+    /// Tells whether a session of this worker with this peer goes as it must.
     pub(crate) fn serves(&mut self, alloc: Global, peer: &Peer<'_>) -> bool {
         let mut sender = peer.sender();
         let mut page = peer.page();
@@ -118,7 +121,7 @@ impl<J: EngineBrand, R: Wait> Service for Worker<'_, '_, J, R> {
     }
 }
 
-/// A worker for each pass. None where memory is refused.
+/// Makes a worker for each pass. Gives None if memory is refused.
 pub(crate) fn workers_of<'a, 'l, J: EngineBrand, R>(
     rt: &'a R,
     alloc: Global,
@@ -134,7 +137,7 @@ pub(crate) fn workers_of<'a, 'l, J: EngineBrand, R>(
     Some(workers)
 }
 
-/// A change of one word from one value to another.
+/// Makes a change of one word from one value to another.
 pub(crate) fn change(addr: u16, expected: u64, new: u64) -> Job {
     let mut entries = Entries::new();
     entries.push(Entry {

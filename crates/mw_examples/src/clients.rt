@@ -1,5 +1,7 @@
-//! Clients over loopback for the tests, and how they learn where the server listens. What they wait
-//! for comes within a limit.
+//! Clients over loopback for the tests, and how they learn where the server listens. What they wait for
+//! comes within a limit.
+//!
+//! Used by: `tests/serving`.
 use std::alloc::Global;
 use std::io::{ErrorKind, Read, Write};
 use std::net::{Net, TcpListener, TcpStream};
@@ -10,22 +12,22 @@ use std::{io, str, thread};
 /// How long a client waits for an answer, in seconds.
 const PATIENCE: u64 = 10;
 
-/// How often a client looks whether the server is ready, and how many milliseconds it waits between.
+/// How many times a client looks whether the server is ready, and how many milliseconds it waits between.
 const LOOKS: u32 = 1000;
 
 const PAUSE: u64 = 10;
 
-/// The ports that a server tells, each 0 until it has told it.
+/// The ports that a server tells. Each is 0 until it is told.
 #[derive(Drop)]
 pub struct Ports {
-    /// Where the administrator comes.
+    /// The administrator's port.
     pub admin: AtomicU16,
-    /// Where clients come. It is told last.
+    /// The clients' port. It is told last.
     pub ready: AtomicU16,
 }
 
 impl Ports {
-    /// Of a server that has told none.
+    /// Makes the ports of a server that has told none.
     pub fn new() -> Self {
         Ports {
             admin: AtomicU16::new(0),
@@ -34,7 +36,7 @@ impl Ports {
     }
 }
 
-/// What a server writes that tells its ports.
+/// An output of a server, which learns its ports from what it writes.
 #[derive(Drop)]
 pub struct Notice<'a> {
     text: Vec<u8>,
@@ -64,14 +66,14 @@ impl Write for Notice<'_> {
     }
 }
 
-/// The port that a line tells behind this word.
+/// Gives the port that a line has after this word.
 fn port_in(text: &[u8], word: &str) -> Option<u16> {
     let (_, told) = str::from_utf8(text).ok()?.split_once(word)?;
     let (port, _) = told.split_once('\n')?;
     port.parse().ok()
 }
 
-/// The server's port, once the server is ready.
+/// Waits until the server is ready, and gives its port.
 pub fn port_of_server<R: Clock>(rt: &R, port: &AtomicU16) -> io::Result<u16> {
     for _ in 0..LOOKS {
         let told = port.load(Ordering::SeqCst);
@@ -90,7 +92,7 @@ pub struct Caller {
 }
 
 impl Caller {
-    /// A client of the server at this port.
+    /// Connects a client to the server at this port.
     pub fn new<R: Net<Listener = TcpListener, Stream = TcpStream>>(
         rt: &R,
         port: u16,
@@ -101,7 +103,7 @@ impl Caller {
         Ok(Caller { stream })
     }
 
-    /// True if just that is heard once this is said.
+    /// Says `text`. Gives true if just `answer` comes.
     pub fn asks(&mut self, text: &[u8], answer: &[u8]) -> bool {
         let mut heard = [0; 64];
         match heard.get_mut(..answer.len()) {
@@ -114,21 +116,21 @@ impl Caller {
         }
     }
 
-    /// True if the server closes the connection and says no more.
+    /// Gives true if the server closes the connection and says no more.
     pub fn hears_the_end(&mut self) -> bool {
         let mut heard = [0; 1];
         self.stream.read(&mut heard).is_ok_and(|count| count == 0)
     }
 }
 
-/// Comes and goes so many times, so that a server that still waits for clients has them.
+/// Comes and goes so many times, so that a server that still waits for clients gets them.
 pub fn come_and_go<R: Net<Listener = TcpListener, Stream = TcpStream>>(
     rt: &R,
     port: u16,
     times: usize,
 ) {
     for _ in 0..times {
-        // Nobody listens any more where the server has ended.
+        // If the server has ended, nobody listens.
         if Caller::new(rt, port).is_err() {
             return;
         }

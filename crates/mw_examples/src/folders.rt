@@ -1,4 +1,6 @@
-//! Folders for the tests, and the programs run in them.
+//! Makes folders for the tests, and runs the programs in them.
+//!
+//! Used by: `stories`, `tests`, `tests/operating`, `tests/serving`.
 use mw_programs::{init, serve};
 use std::alloc::{AllocError, Global};
 use std::fs::File;
@@ -19,7 +21,7 @@ pub struct Outcome {
 }
 
 impl Outcome {
-    /// What a program gave that ended with this status.
+    /// Makes what a program gave that ended with this status.
     fn new(status: u8, out: Vec<u8>, err: Vec<u8>) -> Result<Outcome, Fail> {
         Ok(Outcome {
             status,
@@ -28,7 +30,7 @@ impl Outcome {
         })
     }
 
-    /// What a program gave that has not run.
+    /// Makes what a program gave that has not run.
     pub fn nothing(alloc: Global) -> Self {
         Outcome {
             status: 0,
@@ -37,7 +39,7 @@ impl Outcome {
         }
     }
 
-    /// True if the program gave just what this text says: `STATUS OUT|ERR`.
+    /// Gives true if the program gave just what this text says: `STATUS OUT|ERR`.
     pub fn suits(&self, text: &str) -> bool {
         match text.split_once(' ') {
             Some((status, texts)) => self.has_status(status) && self.wrote(texts),
@@ -60,7 +62,7 @@ impl Outcome {
     }
 }
 
-/// A new folder of a test's own.
+/// Makes a new folder of a test's own.
 pub fn new_folder(rt: &HostRuntime, name: &str) -> Result<String, Fail> {
     let id = process::id(rt.process());
     let parent = env::temp_dir(rt)?;
@@ -75,12 +77,12 @@ pub fn remove_folder<R: Files + AllocGlobal>(rt: &R, folder: &str) -> Result<(),
     Ok(())
 }
 
-/// The path of a file in a folder.
+/// Gives the path of a file in a folder.
 pub fn path_in(alloc: Global, folder: &str, name: &str) -> Result<String, AllocError> {
     format!(in alloc; "{folder}/{name}")
 }
 
-/// The words of a command line, apart by spaces, in which `DIR` stands for a folder.
+/// Splits a command line at its spaces, with the folder for `DIR`.
 pub fn command_line(alloc: Global, folder: &str, line: &str) -> Result<Vec<String>, AllocError> {
     let mut words = Vec::new(alloc);
     for word in line.split_ascii_whitespace() {

@@ -1,4 +1,4 @@
-//! Whole examples of the programs, run on real files.
+//! Runs whole examples of the programs, on real files.
 #![tactic(auto)]
 
 #[cfg(test)]

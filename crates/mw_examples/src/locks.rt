@@ -1,4 +1,6 @@
-//! Whether a file is locked while a program writes what it has to say.
+//! Looks whether a file is locked while a program writes its output.
+//!
+//! Used by: `tests/serving`.
 use std::fs::{File, TryLockError};
 use std::io::{self, Write};
 use std::rt::Files;
@@ -13,7 +15,7 @@ pub struct LockWatch<'a, R> {
 }
 
 impl<'a, R> LockWatch<'a, R> {
-    /// An output that looks at the file at this path.
+    /// Makes an output that looks at the file at this path.
     pub fn new(rt: &'a R, path: &'a str) -> Self {
         LockWatch {
             rt,
@@ -23,7 +25,7 @@ impl<'a, R> LockWatch<'a, R> {
         }
     }
 
-    /// True if something was written, and the file was locked each time.
+    /// Gives true if something was written, and the file was locked each time.
     pub fn was_locked(&self) -> bool {
         self.writes > 0 && self.writes == self.locked
     }

@@ -1,4 +1,4 @@
-//! Stories: what is done in a folder and what comes of it, a line each.
+//! Plays stories: what is done in a folder and what comes of it, a line each.
 //!
 //! - `mwinit ARGS` and `mwserve ARGS` run a program.
 //! - `serve OPTIONS` has `mwserve` serve the script of the folder to the tenants of its tenants file.
@@ -6,7 +6,9 @@
 //! - `write NAME TEXT` writes a file of the folder.
 //! - `new NAME` says that a file has two words, one place, and no change.
 //!
-//! `DIR` stands for the folder, and in a text `;` for a line's end.
+//! `DIR` means the folder, and in a text `;` means a line's end.
+//!
+//! Used by: `tests`, `tests/operating`, `tests/serving`.
 use crate::folders::{Outcome, path_in, remove_folder, run_init, run_serve};
 use std::alloc::{AllocError, Global};
 use std::fs;
@@ -61,7 +63,7 @@ where
     Ok(())
 }
 
-/// Plays a line. True if what it says has come of it.
+/// Plays a line. Gives true if what it says has happened.
 fn play_line<R>(rt: &R, folder: &str, ran: &mut Outcome, line: &str) -> Result<bool, Fail>
 where
     R: Files<File = File>
@@ -108,7 +110,7 @@ fn write<R: Files + AllocGlobal>(rt: &R, folder: &str, file: &str) -> Result<(),
     Ok(())
 }
 
-/// True if it is as a line says that only looks.
+/// Gives true if what a line says holds, for a line that only looks.
 fn looks<R: Files + AllocGlobal>(
     rt: &R,
     folder: &str,
@@ -123,20 +125,20 @@ fn looks<R: Files + AllocGlobal>(
     }
 }
 
-/// A text with its lines' ends and its folder.
+/// Gives a text with its lines' ends and its folder.
 fn spelled(alloc: Global, folder: &str, text: &str) -> Result<String, AllocError> {
     let lines = text.replace(alloc, ";", "\n")?;
     lines.replace(alloc, "DIR", folder)
 }
 
-/// The bytes of a new file of two words and one place.
+/// Gives the bytes of a new file of two words and one place.
 pub fn new_file() -> [u8; 184] {
     let mut bytes = [0; 184];
     bytes[..16].copy_from_slice(b"MWCASF1\n\x02\0\0\0\x01\0\0\0");
     bytes
 }
 
-/// True if a file has just the bytes of a new one.
+/// Gives true if a file has just the bytes of a new one.
 fn is_new<R: Files + AllocGlobal>(rt: &R, path: &str) -> Result<bool, Fail> {
     let found = fs::read(rt, path)?;
     Ok(found.as_slice() == new_file().as_slice())

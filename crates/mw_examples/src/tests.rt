@@ -1,3 +1,4 @@
+//! Tests the programs by stories: what is done in a folder, and what comes of it.
 mod operating;
 mod serving;
 
@@ -238,7 +239,8 @@ gives 0 OK 4096;VAL 0;|",
     )
 }
 
-/// A quota is raised at one start and lowered at the next, and the words stay. The report tells both quotas.
+/// A quota is raised at one start and lowered at the next, and the words stay. The report tells both
+/// quotas.
 #[test]
 fn quotas_of_three_starts(rt: HostRuntime) -> Result<(), Fail> {
     play(
@@ -266,7 +268,7 @@ gives 0 OK 2;YES;VAL 4;|",
     )
 }
 
-/// What is asked of a tenant whose file doesn't open, and what it is answered.
+/// What a tenant whose file doesn't open is asked, and what it answers.
 const FILES_THAT_ARE_DAMAGED: &str = "\
 write tenants t 2 1 DIR/t.mw;
 write script TENANT t;GET 0;GET 2;CAS 0:0:1;
@@ -279,7 +281,7 @@ write t.mw no file of words, but long enough for a head
 serve
 gives 0 OK 2;FAULT;ERR 6;FAULT;|tenant t: damage 1;";
 
-/// The bytes of a file of which a change has nine entries.
+/// Gives the bytes of a file with a change of nine entries.
 fn file_of_nine_entries() -> [u8; 184] {
     let mut bytes = new_file();
     bytes[48..50].copy_from_slice(b"\xa5\x09");
@@ -355,7 +357,7 @@ serve
 gives 0 OK 2;FAULT;|tenant t: in use;
 new t.mw";
 
-/// The tenant once it isn't locked any more.
+/// The tenant after the lock is released.
 const UNLOCKED: &str = "\
 serve
 gives 0 OK 2;YES;|";

@@ -1,4 +1,5 @@
--- The bytes of a file's second layout after some of them have changed: which records and home words stay.
+-- If some bytes of a second layout change, the records and home words outside them stay. Used by: PlaceWrites, Ready,
+-- SettledFiles, RollForwardLaws. It may change freely as long as this crate checks.
 use Rattle.std.proofs.Common.{◌≡◌, ℕ, ◌+◌, ◌<◌, ◌≤◌, ◌==◌, ◌&&◌, nat_le, nat_lt, List, [], ◌∷◌, length, Some, true, slice_index, sym, ap, ◌∙◌, inl, inr, arith, subst}
 use Rattle.std.proofs.lemmas.Bool.{cases_eq, and_parts, or_cases, eqb-true, ltb-true}
 use Rattle.mw_words.specs.declared.limits.TheConstants.{MAX_ENTRIES}
@@ -7,10 +8,10 @@ use Rattle.mw_record.specs.declared.layout.TheConstants.{WORD_SIZE}
 use Rattle.mw_record.specs.declared.layout.Layout.TheVariants.{Second}
 use Rattle.mw_record.specs.Layout.{place_size, home_at, place_at, size, SameBytes}
 use Rattle.mw_record.specs.Records.{Pairs, holds, record_at, home, is_record, rises_below}
-use Rattle.mw_record.proofs.Reading.{body_same, length_body, home_same}
+use Rattle.mw_record.proofs.ReadBytes.{body_same, length_body, home_same}
 use Rattle.mw_record.proofs.Writes.{record_same}
-use Rattle.mw_record.proofs.Below.{few_entries}
-use Rattle.mw_record.specs.Stands.{HasWords}
+use Rattle.mw_record.proofs.TestsBelow.{few_entries}
+use Rattle.mw_record.specs.Contents.{HasWords}
 use Rattle.mw_file.specs.declared.place_states.PlaceState.{PlaceState}
 use Rattle.mw_file.specs.declared.place_states.Stage.{Stage}
 use Rattle.mw_file.specs.declared.place_states.Stage.TheVariants.{Free, Prepared, Sealed}
@@ -52,12 +53,12 @@ module _ (words places : ℕ) (contents b c : List ℕ) (S : ℕ → Type 0) (ha
   pub home_missed : (addr : ℕ) → ((k : ℕ) → k < WORD_SIZE → S (home_at addr + k) → ⊥) → home c addr ≡ home b addr
   home_missed addr out = home_same c b addr (same_bytes S b c WORD_SIZE (home_at addr) same out)
 
--- what is in a place by how far its change is, where that is known by other names
+-- what is in a place by its stage, if the stage and the writes are known by other names
 pub placed_as : (image : List ℕ) (words place : ℕ) (s t : Stage) (v w : Pairs) → s ≡ t → v ≡ w → PlacedAs image words place t w → PlacedAs image words place s v
 placed_as image words place s t v w is_stage is_writes placed =
     subst (λ (u : Stage). PlacedAs image words place u v) (sym is_stage) (subst (λ (x : Pairs). PlacedAs image words place t x) (sym is_writes) placed)
 
--- a place whose bytes stayed
+-- a place whose bytes stayed matches its state as before
 pub placed_same : (b c : List ℕ) (words place : ℕ) (s : Stage) (w : Pairs) → SameBytes (place_size Second) (place_at Second words place) (place_at Second words place) c b
     → ((ps : Pairs) → record_at Second b words place ≡ Some ps → length ps ≤ MAX_ENTRIES) → PlacedAs b words place s w → PlacedAs c words place s w
 placed_same b c words place Free w same few was = record_same Second c b words place same few ∙ was
@@ -74,7 +75,7 @@ placed_same b c words place Prepared w same few was =
       values = was.values;
     }
 
--- A file in which one place's change has gone on, and the bytes of the other places stayed.
+-- One place has a new stage, and the bytes of the other places stayed: the bytes match the new states.
 pub stores_staged : (b c : List ℕ) (words : ℕ) (before after : List ℕ) (states new : List PlaceState) (place : ℕ) (stage : Stage) (writes : Pairs)
     → PartStores b words before states → IsStaged states new place stage writes → HasWords Second words (length states) after c
     → ((other : ℕ) → other < length states → (other ≡ place → ⊥) → SameBytes (place_size Second) (place_at Second words other) (place_at Second words other) c b)

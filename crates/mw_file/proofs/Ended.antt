@@ -1,11 +1,12 @@
--- Calls that answered no error.
+-- A call that answers no error went well, and what its Ok promises holds. Used by: mw_book, mw_plain, mw_world_file, among
+-- others. Its statements may change with those crates; its proofs may change freely.
 use Rattle.std.specs.Prelude.{◌≡◌, ℕ, false, Result, Ok, Err, is_err, OnOk}
 use Rattle.mw_disk.specs.Facts.{Facts}
 use Rattle.mw_file.specs.declared.tenant_file.TenantFile.{TenantFile}
 use Rattle.mw_file.specs.declared.tenant_file.FileFault.{FileFault}
 use Rattle.mw_file.specs.File.{Ends, WentWell}
 
--- A call that answered no error went well, and what its Ok promises holds.
+-- The first lemma is of how a call ended, the second of any promise of its Ok.
 pub ended_well : {D T : Type 0} (facts : D → Facts) (calls : ℕ) (old new : TenantFile D) (r : Result T FileFault) → is_err r ≡ false → Ends facts calls old new r
     → WentWell facts calls old new
 ended_well facts calls old new (Ok x) well ends = ends

@@ -1,4 +1,5 @@
--- A file all of whose places are free, and one change that goes through it alone.
+-- If all places of a file are free, one change alone may go through it, and then all are free again. Used by: Places, Ready,
+-- mw_book, among others. Its statements may change with those crates; its proofs may change freely.
 use Rattle.std.proofs.Common.{◌≡◌, ℕ, zero, suc, ◌+◌, ◌-◌, ◌<◌, ◌≤◌, List, [], ◌∷◌, length, take, true, Some, IsSome, is_some, if◌then◌else◌, refl, sym, ap, ◌∙◌, inl, inr, arith}
 use Rattle.std.proofs.lemmas.Bool.{and_parts, and_from, cases_eq, cases_Bool}
 use Rattle.mw_file.specs.declared.place_states.PlaceState.{PlaceState}
@@ -17,18 +18,18 @@ stage_of-all_free [] place all = refl
 stage_of-all_free (s ∷ states) zero all = free_stage s.stage (and_parts _ _ all).0
 stage_of-all_free (s ∷ states) (suc place) all = stage_of-all_free states place (and_parts _ _ all).1
 
--- the first of places that are all free are so too
+-- if all places are free, so are the first of them
 pub first_free : (n : ℕ) (states : List PlaceState) → all_free states ≡ true → all_free (take n states) ≡ true
 first_free zero states all = refl
 first_free (suc n) [] all = refl
 first_free (suc n) (s ∷ states) all = let parts = and_parts _ _ all in and_from _ _ parts.0 (first_free n states parts.1)
 
--- some place is free, if there is one
+-- some place is free, if all are free and there is one
 pub free_place-all_free : (states : List PlaceState) → all_free states ≡ true → 0 < length states → IsSome (free_place states)
 free_place-all_free [] all some = absurd (omega arith)
 free_place-all_free (s ∷ states) all some = ap (λ b. is_some (if b then Some 0 else free_from 1 states)) (and_parts _ _ all).0
 
--- where no place has a change, all are free
+-- if no place has a change, all are free
 pub all_free_from : (states : List PlaceState) → ((place : ℕ) → stage_of states place ≡ Free) → all_free states ≡ true
 all_free_from [] none = refl
 all_free_from (s ∷ states) none = and_from _ _ (ap is_free_stage (none 0)) (all_free_from states (λ place. none (suc place)))
@@ -45,7 +46,7 @@ may_seal_alone old new place writes all staged = record {
   ];
 }
 
--- a file is free again once its only change is gone
+-- all places are free again after the only change is gone
 pub free_again : (old mid new : List PlaceState) (place : ℕ) (stage : Stage) (v w : List (ℕ × ℕ)) → all_free old ≡ true → IsStaged old mid place stage v → IsStaged mid new place Free w
     → all_free new ≡ true
 free_again old mid new place stage v w all first last = all_free_from new (λ other. elim (cases_eq other place) [
@@ -53,7 +54,7 @@ free_again old mid new place stage v w all first last = all_free_from new (λ ot
   | inr apart ↦ last.stage_there other apart ∙ first.stage_there other apart ∙ stage_of-all_free old other all
 ])
 
--- a change that goes on
+-- a place that goes to one stage and then to another
 pub staged_on : (old mid new : List PlaceState) (place : ℕ) (a b : Stage) (v w : List (ℕ × ℕ)) → IsStaged old mid place a v → IsStaged mid new place b w → IsStaged old new place b w
 staged_on old mid new place a b v w first last = record {
   count = last.count ∙ first.count;

@@ -1,12 +1,13 @@
--- What may have changed where a file grows: below an offset, and from there on.
+-- A write, a sync and a run of them keep the bytes below an offset, except at given offsets. Used by: Migrated, Opened, the proof
+-- of lay. It may change freely as long as this crate checks.
 use Rattle.std.proofs.Common.{◌≡◌, ℕ, ◌+◌, ◌<◌, ◌≤◌, Bool, List, refl, sym, ◌∙◌, inl, inr, arith, subst}
 use Rattle.std.proofs.lemmas.Bool.{cases_lt}
-use Rattle.mw_disk.specs.Facts.{Facts, MayLeave, IsAtRest, Torn, Called, NothingNew, TearsAt}
+use Rattle.mw_disk.specs.Facts.{Facts, MayLeave, IsSynced, Torn, Called, NothingNew, TearsAt}
 use Rattle.mw_disk.specs.Runs.{SameBut, Touched, LeavesOnly}
 use Rattle.mw_disk.proofs.RunLaws.{called_later, later_trans}
-use Rattle.mw_file.specs.Migrating.{GrownBut, Grown}
+use Rattle.mw_file.specs.Migration.{GrownBut, Grown}
 
--- at one moment, what a crash may leave is what it might have left then
+-- the images of one moment, known by two names
 image_at : (f : Facts) (j k : ℕ) (c : List ℕ) → j ≡ k → f.image j c → f.image k c
 image_at f j k c same left = subst (λ (m : ℕ). f.image m c) same left
 
@@ -19,7 +20,7 @@ grown_trans S n a b c ab bc = record {
   same = λ k lt there out. bc.same k lt (omega (arith, ab.longer, there)) out ∙ ab.same k lt there out;
 }
 
--- a write that is cut short
+-- a write that was cut short keeps the bytes outside its range
 pub grown_torn : (S : ℕ → Type 0) (n at m : ℕ) (old new : List ℕ) → ((k : ℕ) → at ≤ k → k < at + m → k < n → S k) → Torn at m old new → GrownBut S n old new
 grown_torn S n at m old new within torn = record {
   longer = torn.no_shorter;
@@ -32,7 +33,7 @@ grown_torn S n at m old new within torn = record {
   ];
 }
 
--- what a call may have left: at its start, or at its end
+-- what a crash during a call may leave is what it may leave at its start or at its end
 call_each : (S : ℕ → Type 0) (n : ℕ) (old new : Facts) (ok : Bool) → Called old new ok
     → ((c : List ℕ) → MayLeave new c → (d : List ℕ) × MayLeave old d × GrownBut S n d c)
     → (k : ℕ) (c : List ℕ) → old.moment ≤ k → k ≤ new.moment → new.image k c → (d : List ℕ) × MayLeave old d × GrownBut S n d c
@@ -75,7 +76,7 @@ grown_more S n a b c ab bc = record {
   seen = grown_trans S n a.reads b.reads c.reads ab.seen bc.seen;
 }
 
--- the same with more offsets
+-- the same with more offsets that may change
 but_wider : (S T : ℕ → Type 0) (n : ℕ) (old new : List ℕ) → ((k : ℕ) → S k → T k) → GrownBut S n old new → GrownBut T n old new
 but_wider S T n old new wide grown = record {
   longer = grown.longer;
@@ -89,7 +90,7 @@ grown_wider S T n old new wide grown = record {
   seen = but_wider S T n old.reads new.reads wide grown.seen;
 }
 
--- what has kept its length
+-- bytes that keep their length are a case of bytes that grow
 but_same : (S : ℕ → Type 0) (n : ℕ) (old new : List ℕ) → SameBut S old new → GrownBut S n old new
 but_same S n old new same = record { longer = omega (arith, same.size); same = λ k lt there out. same.outside k out }
 
@@ -100,8 +101,8 @@ grown_touched S n old new touched = record {
   seen = but_same S n old.reads new.reads touched.seen;
 }
 
--- from a disk at rest
-pub leaves_grown : (S : ℕ → Type 0) (n : ℕ) (old new : Facts) {P : List ℕ → Type 0} → IsAtRest old → Grown S n old new
+-- on a synced disk each image of a crash has grown from what a read gave
+pub leaves_grown : (S : ℕ → Type 0) (n : ℕ) (old new : Facts) {P : List ℕ → Type 0} → IsSynced old → Grown S n old new
     → ((c : List ℕ) → GrownBut S n old.reads c → P c) → LeavesOnly old new P
 leaves_grown S n old new rest grown has = record {
   later = grown.later;

@@ -1,9 +1,9 @@
 pub mod Bytes
-pub mod Changing
+pub mod PlaceWrites
 pub mod Ended
 pub mod Free
 pub mod Grown
-pub mod Looping
+pub mod RollLoop
 pub mod Migrated
 pub mod Opened
 pub mod Parts
@@ -13,8 +13,8 @@ pub mod Ready
 pub mod Recalled
 pub mod Reopened
 pub mod Rolled
-pub mod Rolling
+pub mod RollForwardLaws
 pub mod Safety
-pub mod Settling
-pub mod Taken
-pub mod Writing
+pub mod SettledFiles
+pub mod TakenCounts
+pub mod OneWrite

@@ -1,9 +1,10 @@
--- What a file stands for while it is given its second layout.
+-- A crash during the migration leaves a file of the same words, and after it the second layout has them.
+-- Used by: Ready, the proofs of lay and migrate. It may change freely as long as this crate checks.
 use Rattle.std.proofs.Common.{◌≡◌, ℕ, ◌+◌, ◌*◌, ◌-◌, ◌^◌, ◌<◌, ◌≤◌, ◌==◌, true, false, None, List, [], ◌∷◌, ◌++◌, length, take, drop, replicate, slice_index, get_or, refl, sym, ap, ◌∙◌, inl, inr, arith, subst}
 use Rattle.std.specs.List.{flat_map}
 use Rattle.std.proofs.lemmas.Bool.{cases_eq, cases_lt, eq-eqb, ne_eqb, le-leb, and_from}
 use Rattle.std.proofs.lemmas.List.{get_or-drop, get_or-append-add, get_or_append_left, get_or_past, get_or-replicate, length-append, length-take-le, length-drop, length-replicate}
-use Rattle.mw_disk.specs.Facts.{Facts, IsAtRest, patched}
+use Rattle.mw_disk.specs.Facts.{Facts, IsSynced, patched}
 use Rattle.mw_disk.specs.Runs.{SameBut, Touched, Fits, LeavesOnly}
 use Rattle.mw_disk.proofs.RunLaws.{fits_rest, leaves, leaves_more, touched_wider}
 use Rattle.mw_record.specs.declared.layout.Layout.TheVariants.{First, Second}
@@ -11,18 +12,18 @@ use Rattle.mw_record.specs.declared.layout.TheConstants.{HEAD_SIZE, WORD_SIZE, C
 use Rattle.mw_record.specs.Layout.{size, place_at, place_size, header, number_bytes, second_part}
 use Rattle.mw_record.specs.Records.{record_at}
 use Rattle.mw_record.specs.Damages.{is_switched, second_at, may_begin}
-use Rattle.mw_record.specs.Stands.{MayHave, HasWords, HasSecond}
-use Rattle.mw_record.proofs.Reading.{number_same, number_written, length-number_bytes, get_patched, get_patched_after, length-patched, record_shut}
+use Rattle.mw_record.specs.Contents.{MayHave, HasWords, HasSecond}
+use Rattle.mw_record.proofs.ReadBytes.{number_same, number_written, length-number_bytes, get_patched, get_patched_after, length-patched, record_shut}
 use Rattle.mw_record.proofs.ChangedBytes.{has_words_same, first_stays}
 use Rattle.mw_record.proofs.ClosedPlaces.{second_part_has, length-second_part}
 use Rattle.mw_record.proofs.Faults.{sizes_are}
 use Rattle.mw_record.proofs.Sound.{first_file, second_file, are_words}
-use Rattle.mw_file.specs.Keeps.{IsFile}
-use Rattle.mw_file.specs.Migrating.{GrownBut, Grown, InSwitch, given_second, IsLaid, CanMigrate, IsMigrated}
-use Rattle.mw_file.specs.Rolls.{InRange}
+use Rattle.mw_file.specs.RecoveryInvariant.{IsFile}
+use Rattle.mw_file.specs.Migration.{GrownBut, Grown, InSwitch, given_second, IsLaid, CanMigrate, IsMigrated}
+use Rattle.mw_file.specs.RollForward.{InRange}
 use Rattle.mw_file.proofs.Grown.{leaves_grown, grown_more, grown_wider, grown_touched}
 
--- a file in its first layout, and one with a second
+-- a file in its first layout is a file of its words, and so is one with a second layout
 pub is_first : (words places : ℕ) (contents image : List ℕ) → is_switched image ≡ false → HasWords First words places contents image → IsFile (PLACES_GROW * places) contents image
 is_first words places contents image unswitched has =
     let f = first_file words places contents image unswitched has in
@@ -33,7 +34,7 @@ is_second at words places contents image has =
     let f = second_file at words places contents image has in
     record { words_are = f.0; places_are = f.2 }
 
--- the sizes of a first layout are ones that it may have
+-- the sizes of a file's first layout are within the limits
 first_sizes : (words places : ℕ) (contents image : List ℕ) → HasWords First words places contents image → MayHave First words places
 first_sizes words places contents image has =
     let sizes = sizes_are First image has.head.sizes in
@@ -46,13 +47,13 @@ first_sizes words places contents image has =
       places_fit = omega (arith, p, sizes.places_fit);
     }
 
--- where the first layout ends the second may begin
+-- the second layout may begin where the first ends
 may_begin_behind : (words places : ℕ) → MayHave First words places → may_begin (size First words places) ≡ true
 may_begin_behind words places may =
     and_from _ _ (le-leb HEAD_SIZE (size First words places) (omega arith))
     (le-leb (size First words places) MAX_FIRST (omega (arith, may.words_fit, may.places_fit)))
 
--- Before the switch byte is set the file is in its first layout, whatever was written behind that one and into the head's offset.
+-- Before the switch byte is set the file is in its first layout, whatever was written after that layout and as the head's offset.
 module _ (words places : ℕ) (contents b : List ℕ) (has : HasWords First words places contents b) (unswitched : is_switched b ≡ false)
     (c : List ℕ) (grown : GrownBut (InRange SECOND_AT WORD_SIZE) (size First words places) b c) where
   pub still_first : HasWords First words places contents c
@@ -79,14 +80,14 @@ length_homes [] = refl
 length_homes (x ∷ xs) =
     omega (arith, length-append (number_bytes WORD_SIZE x) (flat_map (number_bytes WORD_SIZE) xs), length-number_bytes WORD_SIZE x, length_homes xs)
 
--- a byte of zeros, or one past them
+-- a byte of zeros is 0, and so is one past their end
 zero_at : (n k : ℕ) → slice_index (replicate n 0) k ≡ 0
 zero_at n k = elim (cases_lt k n) [
   | inl within ↦ get_or-replicate n k 0 0 within
   | inr past ↦ get_or_past (replicate n 0) k 0 (omega (arith, past, length-replicate {A = ℕ} n 0))
 ]
 
--- the bytes of a second layout behind its home words are zeros
+-- the bytes of a second layout after its home words are zeros
 pub zeros_behind : (places : ℕ) (contents : List ℕ) (k : ℕ) → HEAD_SIZE + WORD_SIZE * length contents ≤ k → slice_index (second_part places contents) k ≡ 0
 zeros_behind places contents k past =
     let head : List ℕ = header Second (length contents) places in
@@ -97,7 +98,7 @@ zeros_behind places contents k past =
     ap (λ i. get_or (head ++ (homes ++ zeros)) i 0) is ∙ get_or-append-add head (homes ++ zeros) (length homes + j) 0 ∙ get_or-append-add homes zeros j 0
     ∙ zero_at (place_size Second * places) j
 
--- Once the second layout and its offset stand in the file, the switch byte tells which layout counts, and both say the same.
+-- Once the second layout and its offset are in the file, the switch byte tells which layout counts, and both have the same words.
 module _ (at words places : ℕ) (contents second b : List ℕ) (has : HasWords First words places contents b) (ends : at ≡ size First words places)
     (bytes : second ≡ second_part (PLACES_GROW * places) contents) (laid : IsLaid at second b)
     (c : List ℕ) (same : SameBut (InRange SWITCH_AT 1) b c) where
@@ -123,7 +124,7 @@ module _ (at words places : ℕ) (contents second b : List ℕ) (has : HasWords 
   long_second : length second ≡ size Second words (PLACES_GROW * places)
   long_second = ap length bytes ∙ length-second_part contents (PLACES_GROW * places) ∙ ap (λ n. size Second n (PLACES_GROW * places)) has.stands.count
 
-  -- from its offset on the second layout's bytes stand there
+  -- the second layout's bytes are there from its offset on
   part_there : (k : ℕ) → k < length second → slice_index (drop at c) k ≡ slice_index (second_part (PLACES_GROW * places) contents) k
   part_there k lt =
       get_or-drop at c k 0 ∙ same.outside (at + k) (λ s. omega (arith, s.to, ends)) ∙ laid.there k lt ∙ ap (λ bs. slice_index bs k) bytes
@@ -152,14 +153,14 @@ module _ (at words places : ℕ) (contents second b : List ℕ) (has : HasWords 
     part = second_words;
   }
 
-  -- whether it is set or not
+  -- the file has these words, whether the switch byte is set or not
   pub either_layout : IsFile (PLACES_GROW * places) contents c
   either_layout = elim (cases_eq (slice_index c SWITCH_AT) COMMITTED) [
     | inl set ↦ is_second at words (PLACES_GROW * places) contents c (switched_file set)
     | inr clear ↦ is_first words places contents c (ne_eqb _ _ clear) first_there
   ]
 
-  -- its places are closed
+  -- the second layout's places are closed
   pub all_closed : (place : ℕ) → place < PLACES_GROW * places → record_at Second (drop at c) words place ≡ None
   all_closed place lt =
       let k : ℕ = place_at Second words place in
@@ -167,7 +168,7 @@ module _ (at words places : ℕ) (contents second b : List ℕ) (has : HasWords 
       part_there k (omega (arith, lt, long_second)) ∙ zeros_behind (PLACES_GROW * places) contents k (omega (arith, has.stands.count)) in
       record_shut Second (drop at c) words place k refl (λ set. omega (arith, zero, set))
 
--- bytes reach as far as what was written to them
+-- after a write the bytes reach at least to its end
 long_enough : (old : List ℕ) (at : ℕ) (block : List ℕ) → at ≤ length old → at + length block ≤ length (patched old at block)
 long_enough old at block within =
     omega (
@@ -178,7 +179,7 @@ long_enough old at block within =
       length-take-le at old within,
     )
 
--- A second layout that was written, with its offset.
+-- After the two writes the file has the second layout's bytes, and its head tells their offset.
 pub laid_bytes : (at : ℕ) (second offset b b1 b2 : List ℕ) → at < 256 ^ WORD_SIZE → offset ≡ number_bytes WORD_SIZE at → SECOND_AT + WORD_SIZE ≤ at → at ≤ length b
     → b1 ≡ patched b at second → b2 ≡ patched b1 SECOND_AT offset → IsLaid at second b2
 laid_bytes at second offset b b1 b2 small is_offset low within is1 is2 =
@@ -196,7 +197,7 @@ laid_bytes at second offset b b1 b2 small is_offset low within is1 is2 =
           read (at + k) (omega (arith, low, eight)) ∙ ap (λ bs. slice_index bs (at + k)) is1 ∙ get_patched b at second k within lt;
     }
 
--- What is written to a file, and where.
+-- Which bytes the migration may change, and what a read gives after it.
 module _ (start mid new : Facts) (at : ℕ) where
   pub laying_grown : Grown (InRange SECOND_AT WORD_SIZE) at start mid → Grown InSwitch at start mid
   laying_grown grown = grown_wider (InRange SECOND_AT WORD_SIZE) InSwitch at start mid (λ k s. inr s) grown
@@ -210,7 +211,7 @@ module _ (start mid new : Facts) (at : ℕ) where
       → new.reads ≡ patched mid.reads SWITCH_AT (COMMITTED ∷ []) → new.reads ≡ given_second at second start.reads
   all_given second laid set = set ∙ ap (λ bs. patched bs SWITCH_AT (COMMITTED ∷ [])) laid
 
--- the offset lies behind the head, and within the bytes or at their end
+-- the second layout's offset is after the head's offset field, and within the bytes or at their end
 module _ (start : Facts) (at words places : ℕ) (contents second : List ℕ) (can : CanMigrate start at words places contents second) where
   pub low_enough : SECOND_AT + WORD_SIZE ≤ at
   low_enough = omega (arith, can.ends)
@@ -218,7 +219,7 @@ module _ (start : Facts) (at words places : ℕ) (contents second : List ℕ) (c
   pub reaches : at ≤ length start.reads
   reaches = omega (arith, can.ends, can.has.long)
 
--- The first half, on a disk: the second layout and its offset are written.
+-- The first half, on a disk: it writes the second layout and its offset.
 module _ (start : Facts) (at words places : ℕ) (contents second : List ℕ) (can : CanMigrate start at words places contents second)
     (mid : Facts) (grown : Grown (InRange SECOND_AT WORD_SIZE) at start mid) where
   grown_here : (c : List ℕ) → GrownBut (InRange SECOND_AT WORD_SIZE) at start.reads c → GrownBut (InRange SECOND_AT WORD_SIZE) (size First words places) start.reads c
@@ -238,11 +239,11 @@ module _ (start : Facts) (at words places : ℕ) (contents second : List ℕ) (c
   mid_first : HasWords First words places contents mid.reads
   mid_first = still_first words places contents start.reads can.has can.unswitched mid.reads (grown_here mid.reads grown.seen)
 
-  pub switch_fits : IsAtRest mid → Fits mid (SWITCH_AT + 1)
+  pub switch_fits : IsSynced mid → Fits mid (SWITCH_AT + 1)
   switch_fits rest = fits_rest mid (SWITCH_AT + 1) rest (omega (arith, mid_first.long))
 
-  -- The second half: the switch byte, once that is durable.
-  module _ (rest : IsAtRest mid) (laid : IsLaid at second mid.reads) (new : Facts) (touched : Touched (InRange SWITCH_AT 1) mid new) where
+  -- The second half: it sets the switch byte, after the first half is synced.
+  module _ (rest : IsSynced mid) (laid : IsLaid at second mid.reads) (new : Facts) (touched : Touched (InRange SWITCH_AT 1) mid new) where
     pub switching_moments : LeavesOnly start new (IsFile (PLACES_GROW * places) contents)
     switching_moments =
         leaves_more start mid new laying_moments
@@ -251,7 +252,7 @@ module _ (start : Facts) (at words places : ℕ) (contents second : List ℕ) (c
     pub switching_read : IsFile (PLACES_GROW * places) contents new.reads
     switching_read = either_layout at words places contents second mid.reads mid_first can.ends can.bytes laid new.reads touched.seen
 
-    pub migrated : IsAtRest new → new.reads ≡ patched mid.reads SWITCH_AT (COMMITTED ∷ []) → IsMigrated new at words (PLACES_GROW * places) contents
+    pub migrated : IsSynced new → new.reads ≡ patched mid.reads SWITCH_AT (COMMITTED ∷ []) → IsMigrated new at words (PLACES_GROW * places) contents
     migrated at_rest written =
         let set : slice_index new.reads SWITCH_AT ≡ COMMITTED =
         ap (λ bs. slice_index bs SWITCH_AT) written ∙ get_patched mid.reads SWITCH_AT (COMMITTED ∷ []) 0 (omega (arith, mid_first.long)) (omega arith) in

@@ -1,4 +1,5 @@
--- One place of a file, and what it takes to put its change into the home words.
+-- A call sets the state of one place and of no other; a roll forward of one sealed place makes its writes and 3 more device calls.
+-- Used by: the proofs of prepare, seal, settle and cancel. It may change freely as long as this crate checks.
 use Rattle.std.proofs.Common.{◌≡◌, ◌≢◌, ℕ, ◌+◌, ◌<◌, List, [], ◌∷◌, length, Some, slice_get, slice_set, get_or, arith, sym, ap, ◌∙◌, inl, inr, subst}
 use Rattle.std.proofs.lemmas.Option.{slice_get_cases, get_or_from_slice_get, slice_get_within, slice_get_read, slice_get_past}
 use Rattle.std.proofs.lemmas.List.{get_or-set_same, get_or-set_other, length-set}
@@ -8,7 +9,7 @@ use Rattle.mw_file.specs.declared.place_states.Stage.TheVariants.{Free, Sealed}
 use Rattle.mw_file.proofs.Free.{free_stage_at}
 use Rattle.mw_file.specs.PlaceStates.{free_place, stage_at, stage_of, writes_in, writes_of_place, if_sealed, roll_calls, IsStaged}
 
--- what is read at a place that isn't free is its state
+-- if the place is not free, the state that was read there is its state
 pub state_at : (states : List PlaceState) (p : ℕ) (s : PlaceState) (stage : Stage) → s ≡ get_or states p s → stage_of states p ≡ stage → (stage ≡ Free → ⊥) → slice_get states p ≡ Some s
 state_at states p s stage read is busy = elim ((slice_get_cases states p).1) [
   | inl there ↦
@@ -20,7 +21,7 @@ state_at states p s stage read is busy = elim ((slice_get_cases states p).1) [
 if_sealed-Sealed : (t : Stage) (n : ℕ) → t ≡ Sealed → if_sealed t n ≡ n
 if_sealed-Sealed t n is = ap (λ (u : Stage). if_sealed u n) is
 
--- the device calls for one sealed place alone: its home words, a sync, its commit byte, a sync
+-- the device calls for one sealed place: one for each home word, a sync, one for its commit byte, a sync
 pub alone_calls : (states : List PlaceState) (p : ℕ) (s : PlaceState) → slice_get states p ≡ Some s → stage_of states p ≡ Sealed → roll_calls (s ∷ []) ≡ length (writes_of_place states p) + 3
 alone_calls states p s at sealed =
     let stage : s.stage ≡ Sealed = sym (ap stage_at at) ∙ sealed in
@@ -40,7 +41,7 @@ get_others xs i j x apart = elim ((slice_get_cases xs j).1) [
   | inr past ↦ slice_get_past (slice_set xs i x) j (let e = length-set xs i x in let le = past.0 in omega arith) ∙ sym past.1
 ]
 
--- a place that is written anew, and no other
+-- a place with a new state, and no other
 pub staged : (states : List PlaceState) (p : ℕ) (new : PlaceState) → p < length states → IsStaged states (slice_set states p new) p new.stage new.writes.items
 staged states p new within = record {
   count = length-set states p new;
@@ -50,14 +51,14 @@ staged states p new within = record {
   writes_there = λ other apart. ap writes_in (get_others states p other new apart);
 }
 
--- a place that is written anew, where its change writes what it wrote
+-- a place with a new stage and the same writes
 pub staged_as : (states : List PlaceState) (p : ℕ) (old new : PlaceState) → slice_get states p ≡ Some old → new.writes ≡ old.writes
     → IsStaged states (slice_set states p new) p new.stage (writes_of_place states p)
 staged_as states p old new at same =
     let is : new.writes.items ≡ writes_of_place states p = ap (λ w. w.items) same ∙ sym (ap writes_in at) in
     subst (λ (w : List (ℕ × ℕ)). IsStaged states (slice_set states p new) p new.stage w) is (staged states p new (slice_get_within states p old at))
 
--- what was found among the places, where they are known by another name
+-- the place that was found is free and within the list, if the list is known by another name
 pub found_free : (states seen : List PlaceState) (place : ℕ) → seen ≡ states → free_place seen ≡ Some place → place < length seen → (stage_of states place ≡ Free) × (place < length states)
 found_free states seen place same found within = (
   free_stage_at states place (ap free_place (sym same) ∙ found),

@@ -1,4 +1,5 @@
--- A file that was read, and what is done to bring it to where calls on it go on.
+-- A file that was read may be finished or migrated, by its switch byte, and then all its places are free. Used by: Opened, the
+-- proofs of make_ready, finish, give_second and TenantFile::open. It may change freely as long as this crate checks.
 use Rattle.std.proofs.Common.{◌≡◌, ℕ, ◌*◌, Bool, true, false, List, length, drop, if◌then◌else◌, IsTrue, refl, sym, inl, inr, arith, subst}
 use Rattle.std.proofs.lemmas.Bool.{cond-true, cond-false, cases_Bool}
 use Rattle.mw_disk.specs.Facts.{Facts}
@@ -8,22 +9,22 @@ use Rattle.mw_record.specs.declared.layout.Layout.TheVariants.{First, Second}
 use Rattle.mw_record.specs.declared.layout.TheConstants.{PLACES_GROW}
 use Rattle.mw_record.specs.Layout.{size, second_part}
 use Rattle.mw_record.specs.Damages.{is_switched, layout_of, at_of, words_of, found_places, places_of}
-use Rattle.mw_record.specs.Stands.{HasSecond}
+use Rattle.mw_record.specs.Contents.{HasSecond}
 use Rattle.mw_record.proofs.Faults.{first_layout, second_layout}
 use Rattle.mw_file.specs.declared.place_states.PlaceState.{PlaceState}
 use Rattle.mw_file.specs.declared.place_states.Stage.TheVariants.{Free}
 use Rattle.mw_file.specs.PlaceStates.{stage_of, writes_of_place, all_free}
-use Rattle.mw_file.specs.Keeps.{IsFile}
-use Rattle.mw_file.specs.Migrating.{migration_calls, CanMigrate, CanGrow, IsMigrated}
-use Rattle.mw_file.specs.Opening.{repair_calls, ready_calls, begins_at, CanOpen, OpensAs}
-use Rattle.mw_file.specs.Rolls.{CanRoll, CanFinish, IsRolled}
+use Rattle.mw_file.specs.RecoveryInvariant.{IsFile}
+use Rattle.mw_file.specs.Migration.{migration_calls, CanMigrate, CanGrow, IsMigrated}
+use Rattle.mw_file.specs.OpeningEnds.{repair_calls, ready_calls, begins_at, CanOpen, OpensAs}
+use Rattle.mw_file.specs.RollForward.{CanRoll, CanFinish, IsRolled}
 use Rattle.mw_file.specs.Stores.{IsDurable}
 use Rattle.mw_file.proofs.Free.{stage_of-all_free}
 use Rattle.mw_file.proofs.Bytes.{placed_as}
 use Rattle.mw_file.proofs.Migrated.{is_first}
 use Rattle.mw_file.proofs.Safety.{is_file}
 
--- what is known of a second layout by other names of its offset and its sizes
+-- a fact of a second layout, if its offset and sizes are known by other names
 pub second_as : (P : ℕ → ℕ → ℕ → Type 0) (at at2 words words2 places places2 : ℕ) → at ≡ at2 → words ≡ words2 → places ≡ places2 → P at words places → P at2 words2 places2
 second_as P at at2 words words2 places places2 is_at is_words is_places p =
     subst (λ (k : ℕ). P k words2 places2) is_at (subst (λ (n : ℕ). P at n places2) is_words (subst (λ (n : ℕ). P at words n) is_places p))
@@ -37,7 +38,7 @@ pub rolled_as : (f f2 : Facts) (at at2 words words2 : ℕ) (states : List PlaceS
 rolled_as f f2 at at2 words words2 states is_at is_words rolled =
     second_as (λ k n p. IsRolled k n 0 states f f2) at at2 words words2 0 0 is_at is_words refl rolled
 
--- whether the switch byte is set, by the layout that was found
+-- the layout that was found tells whether the switch byte is set
 module _ (image : List ℕ) where
   first_by : (b : Bool) → (if b then Second else First) ≡ First → b ≡ false
   first_by false is = refl
@@ -53,7 +54,7 @@ module _ (image : List ℕ) where
   pub is_set : layout_of image ≡ Second → is_switched image ≡ true
   is_set is = second_by (is_switched image) is
 
-  -- what that makes of a file: its places, where its second layout begins, the device calls, and what is known of the disk
+  -- what follows from the layout: the places, where the second layout begins, the device calls, and what is known of the disk
   pub places_unset : layout_of image ≡ First → PLACES_GROW * found_places image ≡ places_of image
   places_unset is = sym (cond-false (is_switched image) (found_places image) (PLACES_GROW * found_places image) (is_unset is))
 
@@ -78,7 +79,7 @@ module _ (image : List ℕ) where
   pub can_finish : (f : Facts) (contents : List ℕ) → layout_of image ≡ Second → CanOpen f image contents → CanFinish f image contents
   can_finish f contents is can = subst (λ (b : Bool). OpensAs b f image contents) (is_set is) can
 
--- a file in its first layout, as its second one is to be written
+-- a file in its first layout may be migrated, with these bytes as its second
 pub can_migrate : (f : Facts) (image contents second : List ℕ) (at : ℕ) → CanGrow f image contents → at ≡ size First (words_of image) (found_places image)
     → second ≡ second_part (PLACES_GROW * found_places image) contents → CanMigrate f at (words_of image) (found_places image) contents second
 can_migrate f image contents second at can ends bytes = record {
@@ -90,7 +91,7 @@ can_migrate f image contents second at can ends bytes = record {
   bytes = bytes;
 }
 
--- once it has it, every place of the file is free
+-- after the migration the bytes match states that are all free
 pub migrated_durable : (f : Facts) (at words places : ℕ) (contents : List ℕ) (states : List PlaceState) → IsMigrated f at words places contents → length states ≡ places
     → IsTrue (all_free states) → IsDurable f at words contents states
 migrated_durable f at words places contents states done count free = record {
@@ -103,14 +104,14 @@ migrated_durable f at words places contents states done count free = record {
   };
 }
 
--- what is known of a file by another name of its number of places
+-- a fact of a file, if its number of places is known by another name
 pub file_moments : (f f2 : Facts) (places places2 : ℕ) (contents : List ℕ) → places ≡ places2 → LeavesOnly f f2 (IsFile places contents) → LeavesOnly f f2 (IsFile places2 contents)
 file_moments f f2 places places2 contents is moments = subst (λ (n : ℕ). LeavesOnly f f2 (IsFile n contents)) is moments
 
 pub second_moments : (f f2 : Facts) (at words places : ℕ) (contents : List ℕ) → LeavesOnly f f2 (HasSecond at words places contents) → LeavesOnly f f2 (IsFile places contents)
 second_moments f f2 at words places contents moments = leaves_wider f f2 (is_file at words places contents) moments
 
--- what can be opened is a file
+-- a disk that an opening may go on with has a file
 pub open_file : (f : Facts) (image contents : List ℕ) → CanOpen f image contents → IsFile (places_of image) contents f.reads
 open_file f image contents can = elim (cases_Bool (is_switched image)) [
   | inl set ↦

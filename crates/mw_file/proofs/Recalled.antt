@@ -1,4 +1,5 @@
--- The places of a file that was read: how many device calls they take to finish, and that they are the file's.
+-- The states that an opening makes of a file's records match its bytes, and take the device calls that the bytes ask for. Used
+-- by: mw_file_tests, the proofs of finish, repair, fill_words and writes_of.
 use Rattle.std.proofs.Common.{◌≡◌, ℕ, zero, suc, ◌+◌, ◌<◌, ◌≤◌, ◌==◌, List, [], ◌∷◌, ◌++◌, length, drop, Some, None, Option, unwrap_or, if◌then◌else◌, min, take, slice_get, slice_set, get_or, refl, sym, ap, ◌∙◌, inl, inr, arith, subst, IsTrue}
 use Rattle.std.proofs.lemmas.List.{take_all, take_more, take_more_set}
 use Rattle.std.proofs.lemmas.List.Sums.{sum_by_more, sum_by_more_le}
@@ -7,20 +8,20 @@ use Rattle.mw_disk.specs.Facts.{Facts}
 use Rattle.mw_record.specs.declared.layout.Layout.TheVariants.{Second}
 use Rattle.mw_record.specs.Records.{Pairs, record_at}
 use Rattle.mw_record.specs.Damages.{at_of, words_of, found_places, records_of}
-use Rattle.mw_record.specs.Stands.{HasSecond}
+use Rattle.mw_record.specs.Contents.{HasSecond}
 use Rattle.mw_file.specs.declared.place_states.PlaceState.{PlaceState}
 use Rattle.mw_file.specs.declared.place_states.Stage.{Stage}
 use Rattle.mw_file.specs.declared.place_states.Stage.TheVariants.{Free, Prepared, Sealed}
 use Rattle.mw_file.specs.PlaceStates.{stage_of, stage_at, writes_in, writes_of_place, if_sealed, home_writes, home_writes_of, commit_writes, commit_writes_of, roll_calls, all_free}
 use Rattle.mw_file.proofs.Free.{stage_of-all_free}
 use Rattle.mw_file.specs.Stores.{PlacedAs, Stores, IsDurable}
-use Rattle.mw_file.specs.Rolls.{if_open, IsRecalled, CanRoll, CanFinish, IsRolled}
-use Rattle.mw_file.specs.Opening.{entries_in, entries_below, records_below, open_entries, open_records, repair_calls}
+use Rattle.mw_file.specs.RollForward.{if_open, IsRecalled, CanRoll, CanFinish, IsRolled}
+use Rattle.mw_file.specs.OpeningEnds.{entries_in, entries_below, records_below, open_entries, open_records, repair_calls}
 use Rattle.mw_file.proofs.Parts.{part_stores}
-use Rattle.mw_file.proofs.Settling.{tells_all}
+use Rattle.mw_file.proofs.SettledFiles.{tells_all}
 use Rattle.mw_file.proofs.Safety.{open_durable}
 
--- what is read from a list: it is an item of it, and the first items go on with it
+-- an element that was read is within the list, and follows the first ones
 module _ {X : Type 0} (xs : List X) (i : ℕ) (x : X) (read : slice_get xs i ≡ Some x) where
   read_within : i < length xs
   read_within = elim ((slice_get_cases xs i).1) [
@@ -31,20 +32,20 @@ module _ {X : Type 0} (xs : List X) (i : ℕ) (x : X) (read : slice_get xs i ≡
   read_next : take i xs ++ x ∷ [] ≡ take (i + 1) xs
   read_next = ap (λ (p : X). take i xs ++ p ∷ []) (sym (get_or_from_slice_get xs i x x read)) ∙ sym (take_more xs i x read_within)
 
--- the first entries of a list, and the next one
+-- the first entries of a list with the next one are the first entries, one more
 pub pairs_more : (xs items new : Pairs) (i : ℕ) (x : ℕ × ℕ) → items ≡ take i xs → slice_get xs i ≡ Some x → new ≡ items ++ x ∷ [] → new ≡ take (i + 1) xs
 pairs_more xs items new i x so_far read is = is ∙ ap (λ (ps : Pairs). ps ++ x ∷ []) so_far ∙ read_next xs i x read
 
--- the first words of a list, and the next one
+-- the first words of a list with the next one are the first words, one more
 pub word_more : (ws xs : List ℕ) (i w : ℕ) → i < length ws → take i ws ≡ take i xs → slice_get xs i ≡ Some w → take (i + 1) (slice_set ws i w) ≡ take (i + 1) xs
 word_more ws xs i w lt so_far read = take_more_set ws i w lt ∙ ap (λ (ps : List ℕ). ps ++ w ∷ []) so_far ∙ read_next xs i w read
 
--- a record that has entries is one of an open place
+-- if a place's record has entries, the place is open
 pub open_pairs : (r : Option Pairs) → (length (unwrap_or r []) ≡ 0 → ⊥) → r ≡ Some (unwrap_or r [])
 open_pairs None some = absurd (some refl)
 open_pairs (Some ps) some = refl
 
--- the state of a place, and what a number of it is
+-- the state of a place, and a number of that state
 module _ (f : PlaceState → ℕ) (states : List PlaceState) (k : ℕ) (lt : k < length states) where
   state_here : (s : PlaceState) × (slice_get states k ≡ Some s)
   state_here = elim ((slice_get_cases states k).1) [
@@ -55,7 +56,7 @@ module _ (f : PlaceState → ℕ) (states : List PlaceState) (k : ℕ) (lt : k <
   sum_step : (s : PlaceState) → slice_get states k ≡ Some s → f (get_or states k s) ≡ f s
   sum_step s at = ap f (get_or_from_slice_get states k s s at)
 
--- where no commit byte is written no place is sealed
+-- if no commit byte is to be cleared, no place is sealed
 pub none_sealed : (states : List PlaceState) (k : ℕ) → commit_writes states ≡ 0 → k < length states → stage_of states k ≡ Sealed → ⊥
 none_sealed states k none lt sealed =
     let here = state_here commit_writes_of states k lt in
@@ -74,7 +75,7 @@ records_open Prepared w some = refl
 records_open Sealed w some = let l = some refl in omega (arith, l)
 
 module _ (image : List ℕ) (states : List PlaceState) (recalled : IsRecalled image states) where
-  -- the entries of a place are what it writes, if it is sealed
+  -- the record of a place is what the place writes, if it is sealed
   entries_here : (k : ℕ) (s : PlaceState) → k < length states → slice_get states k ≡ Some s → if_open s.stage s.writes.items ≡ records_of image k
   entries_here k s lt at = sym (ap (λ o. if_open (stage_at o) (writes_in o)) at) ∙ recalled.each k (let e = recalled.count in omega arith)
 
@@ -104,7 +105,7 @@ module _ (image : List ℕ) (states : List PlaceState) (recalled : IsRecalled im
       let next : commit_writes (take (k + 1) states) ≡ records_below image k + min 1 (entries_in image k) = omega (arith, more, step, item, records_sum k (omega (arith, le))) in
       ap (λ n. commit_writes (take n states)) (let e : suc k ≡ k + 1 = omega arith in e) ∙ next
 
-  -- the device calls are those that the bytes ask for
+  -- the device calls are as many as the bytes ask for
   pub repair_is : (if commit_writes states == 0 then 0 else roll_calls states) ≡ repair_calls image
   repair_is =
       let whole : take (length states) states ≡ states = take_all (length states) states (omega arith) in
@@ -114,7 +115,7 @@ module _ (image : List ℕ) (states : List PlaceState) (recalled : IsRecalled im
       sym (ap commit_writes whole) ∙ records_sum (length states) (omega arith) ∙ ap (records_below image) recalled.count in
       ap (λ n. if n == 0 then 0 else (home_writes states + 1) + (n + 1)) commits ∙ ap (λ n. if open_records image == 0 then 0 else (n + 1) + (open_records image + 1)) homes
 
-  -- the bytes that a read gives are a file with these places
+  -- the bytes that a read gives match these states
   module _ (f : Facts) (contents : List ℕ) (can : CanFinish f image contents) where
     placed_recalled : (place : ℕ) (s : Stage) (w : Pairs) → (s ≡ Prepared → ⊥) → if_open s w ≡ record_at Second (drop (at_of image) f.reads) (words_of image) place
         → PlacedAs (drop (at_of image) f.reads) (words_of image) place s w
@@ -139,7 +140,7 @@ module _ (image : List ℕ) (states : List PlaceState) (recalled : IsRecalled im
       recorded = (tells_all (drop (at_of image) f.reads) (words_of image) contents states (part_stores f.reads (at_of image) (words_of image) contents states stores_recalled)).recorded;
     }
 
-    -- once they were finished every place is free
+    -- after the roll forward the bytes match states that are all free
     pub finish_durable : (f2 : Facts) (next : List PlaceState) → HasSecond (at_of image) (words_of image) (length states) contents f2.reads → IsRolled (at_of image) (words_of image) 0 states f f2
         → length next ≡ length states → IsTrue (all_free next) → IsDurable f2 (at_of image) (words_of image) contents next
     finish_durable f2 next has rolled count free =

@@ -1,20 +1,21 @@
--- Openings after crashes.
+-- What a crash left opens with the words before or with these and the change in doubt.
+-- Used by: the laws crash_in_an_opening and crash_of_a_file. It may change freely as long as this crate checks.
 use Rattle.std.proofs.Common.{◌≡◌, ℕ, List, [], Some, None, is_none, if◌then◌else◌, Result, Ok, Err, Vec, Global, IsTrue, sym, ap, ◌∙◌, inl, inr, subst}
-use Rattle.mw_disk.specs.Facts.{Facts, IsAtRest}
+use Rattle.mw_disk.specs.Facts.{Facts, IsSynced}
 use Rattle.mw_record.specs.Records.{Pairs, put_pairs}
 use Rattle.mw_record.specs.Damages.{file_words, damage_of, words_in}
 use Rattle.mw_record.specs.declared.damages.Damage.{Damage as DamageKind}
 use Rattle.mw_file.specs.declared.tenant_file.TenantFile.{TenantFile}
 use Rattle.mw_file.specs.declared.opening.OpenFault.{OpenFault}
 use Rattle.mw_file.specs.declared.opening.OpenFault.TheVariants.{Damage, Disk, Memory}
-use Rattle.mw_file.specs.Keeps.{IsFile, IsEither, Keeps}
-use Rattle.mw_file.specs.Opening.{SameFile, OpensSafely, Opens, disk_after}
-use Rattle.mw_file.specs.Again.{Holds}
+use Rattle.mw_file.specs.RecoveryInvariant.{IsFile, IsBeforeOrAfter, RecoversTo}
+use Rattle.mw_file.specs.OpeningEnds.{SameFile, OpensSafely, Opens, disk_after}
+use Rattle.mw_file.specs.Reopenings.{Holds}
 
 pub same_trans : (a b c : List ℕ) → SameFile a b → SameFile b c → SameFile a c
 same_trans a b c ab bc = record { words = bc.words ∙ ab.words; places = bc.places ∙ ab.places }
 
--- an opening leaves the file what it was, however it ends
+-- an opening leaves the file unchanged, however it ends
 pub unchanged_of : {D : Type 0} (facts : D → Facts) (disk : D) (opened : Result (TenantFile D × Vec ℕ Global) (OpenFault × D)) → Opens facts disk opened
     → OpensSafely (facts disk) (facts (disk_after opened))
 unchanged_of facts disk (Ok opened) ends = ends.unchanged
@@ -28,22 +29,22 @@ damaged b contents damage some found =
     let none : file_words b ≡ None = ap (λ d. if is_none d then Some (words_in b) else None) found in
     let e : ⊥ = cc (some, none) in e
 
-module _ {D : Type 0} (facts : D → Facts) (contents : List ℕ) (change : Pairs) (disk : D) (honest : IsTrue (facts disk).honest) (rest : IsAtRest (facts disk)) where
+module _ {D : Type 0} (facts : D → Facts) (contents : List ℕ) (change : Pairs) (disk : D) (honest : IsTrue (facts disk).honest) (rest : IsSynced (facts disk)) where
   -- a file that opens has the words of its bytes
-  opened_with : (words : List ℕ) (places : ℕ) (file : TenantFile D) (given : List ℕ) → file_words (facts disk).reads ≡ Some given → Keeps facts file given []
-      → IsFile places words (facts disk).reads → Keeps facts file words []
+  opened_with : (words : List ℕ) (places : ℕ) (file : TenantFile D) (given : List ℕ) → file_words (facts disk).reads ≡ Some given → RecoversTo facts file given []
+      → IsFile places words (facts disk).reads → RecoversTo facts file words []
   opened_with words places file given whole keeps is =
       let same : Some given ≡ Some words = sym whole ∙ is.words_are in
       let e : given ≡ words = cc in
-      subst (λ (ws : List ℕ). Keeps facts file ws []) e keeps
+      subst (λ (ws : List ℕ). RecoversTo facts file ws []) e keeps
 
-  no_damage : (places : ℕ) (damage : DamageKind) → damage_of (facts disk).reads ≡ Some damage → IsEither places contents change (facts disk).reads → ⊥
+  no_damage : (places : ℕ) (damage : DamageKind) → damage_of (facts disk).reads ≡ Some damage → IsBeforeOrAfter places contents change (facts disk).reads → ⊥
   no_damage places damage found either = elim either [
     | inl is ↦ damaged (facts disk).reads contents damage is.words_are found
     | inr is ↦ damaged (facts disk).reads (put_pairs change contents) damage is.words_are found
   ]
 
-  pub holds_again : (places : ℕ) (opened : Result (TenantFile D × Vec ℕ Global) (OpenFault × D)) → IsEither places contents change (facts disk).reads → Opens facts disk opened
+  pub holds_again : (places : ℕ) (opened : Result (TenantFile D × Vec ℕ Global) (OpenFault × D)) → IsBeforeOrAfter places contents change (facts disk).reads → Opens facts disk opened
       → Holds facts contents change opened
   holds_again places (Ok opened) either ends = elim either [
     | inl is ↦ inl (opened_with contents places opened.0 opened.1.items (ends.whole honest) (ends.keeps honest rest) is)

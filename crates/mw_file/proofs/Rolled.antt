@@ -1,19 +1,20 @@
--- The roll of sealed changes into the home words, on a disk: its two halves, with a sync between them.
+-- A crash during a roll forward leaves a file of the same words, and after it the commit bytes are clear.
+-- Used by: the proofs of roll_forward and repair. It may change freely as long as this crate checks.
 use Rattle.std.proofs.Common.{◌≡◌, ◌⊎◌, ℕ, ◌+◌, ◌<◌, ◌≤◌, List, length, drop, slice_index, sym, inl, inr, arith, subst}
-use Rattle.mw_disk.specs.Facts.{Facts, IsAtRest, MayLeave}
+use Rattle.mw_disk.specs.Facts.{Facts, IsSynced, MayLeave}
 use Rattle.mw_disk.proofs.RunLaws.{touched_trans, same_but_trans, same_but_wider, fits_rest, fits_after, leaves, leaves_more}
 use Rattle.mw_disk.specs.Runs.{SameBut, Touched, Fits, LeavesOnly}
 use Rattle.mw_record.specs.declared.layout.Layout.TheVariants.{Second}
 use Rattle.mw_record.specs.Layout.{home_at, place_at}
 use Rattle.mw_record.specs.Records.{home, all_over}
 use Rattle.mw_record.proofs.Changes.{Agrees}
-use Rattle.mw_record.specs.Stands.{HasSecond}
+use Rattle.mw_record.specs.Contents.{HasSecond}
 use Rattle.mw_file.specs.declared.place_states.PlaceState.{PlaceState}
 use Rattle.mw_file.specs.declared.place_states.Stage.TheVariants.{Sealed}
 use Rattle.mw_file.specs.PlaceStates.{stage_of, writes_of_place}
-use Rattle.mw_file.specs.Rolls.{Behind, InHomes, AtCommits, HasHomes, AreBelow, CanRoll, IsRolled, kept_of}
+use Rattle.mw_file.specs.RollForward.{Behind, InHomes, AtCommits, HasHomes, AreBelow, CanRoll, IsRolled, kept_of}
 use Rattle.mw_file.proofs.Parts.{part_same, behind_alone, second_stays, long_there}
-use Rattle.mw_file.proofs.Rolling.{Tells, below_there, homes_torn, agree_there, tells_still, commits_torn}
+use Rattle.mw_file.proofs.RollForwardLaws.{Tells, below_there, homes_torn, agree_there, tells_still, commits_torn}
 
 module _ (start : Facts) (at words places first : ℕ) (states : List PlaceState) (contents : List ℕ) (can : CanRoll start at words places first states contents) where
   tells : Tells (drop at start.reads) words first states
@@ -28,7 +29,7 @@ module _ (start : Facts) (at words places first : ℕ) (states : List PlaceState
   pub are_below : AreBelow words states
   are_below place lt writes addr is held = below_there (drop at start.reads) words places first states contents can.has.part can.within tells place writes addr lt is held
 
-  -- the first half: home words
+  -- the first half: it writes home words
   module _ (mid : Facts) (touched : Touched (Behind at (InHomes states)) start mid) where
     homes_has : (c : List ℕ) → SameBut (Behind at (InHomes states)) start.reads c → HasSecond at words places contents c
     homes_has c same =
@@ -53,8 +54,8 @@ module _ (start : Facts) (at words places first : ℕ) (states : List PlaceState
         fits_after (Behind at (InHomes states)) start mid (at + place_at Second words (first + length states)) touched
         (fits_rest start (at + place_at Second words (first + length states)) can.rest (omega (arith, long, can.within)))
 
-    -- the second half: commit bytes, once the home words are durable
-    module _ (rest : IsAtRest mid)
+    -- the second half: it clears commit bytes, after the home words are synced
+    module _ (rest : IsSynced mid)
         (values : (a : ℕ) → a < words → home (drop at mid.reads) a ≡ all_over (kept_of states) (length states) a (home (drop at start.reads) a))
         (new : Facts) (shut : Touched (Behind at (AtCommits words first states)) mid new) where
       agree : (place : ℕ) → place < length states → stage_of states place ≡ Sealed → Agrees (writes_of_place states place) (home (drop at mid.reads))
@@ -75,7 +76,7 @@ module _ (start : Facts) (at words places first : ℕ) (states : List PlaceState
       pub commits_read : HasSecond at words places contents new.reads
       commits_read = commits_has new.reads shut.seen
 
-      pub rolled : IsAtRest new
+      pub rolled : IsSynced new
           → ((place : ℕ) → place < length states → stage_of states place ≡ Sealed → slice_index (drop at new.reads) (place_at Second words (first + place)) ≡ 0)
           → IsRolled at words first states start new
       rolled at_rest commits = record {
@@ -88,7 +89,7 @@ module _ (start : Facts) (at words places first : ℕ) (states : List PlaceState
         shut = commits;
       }
 
--- at rest a crash leaves the file that a read gives
+-- on a synced disk a crash leaves the file that a read gives
 pub at_rest_has : (f : Facts) (at words places first : ℕ) (states : List PlaceState) (contents : List ℕ) → CanRoll f at words places first states contents
     → (c : List ℕ) → MayLeave f c → HasSecond at words places contents c
 at_rest_has f at words places first states contents can c left = subst (HasSecond at words places contents) (sym (can.rest c left)) can.has

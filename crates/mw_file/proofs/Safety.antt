@@ -1,34 +1,35 @@
--- Calls through which a crash does no harm: from what may have been written to what the file stands for.
+-- A crash during a call does no harm: each call's possible writes leave what its contract says of a crash.
+-- Used by: the proofs of all calls of TenantFile. It may change freely as long as this crate checks.
 use Rattle.std.proofs.Common.{◌≡◌, ℕ, ◌+◌, ◌<◌, ◌≤◌, List, [], ◌∷◌, length, drop, Some, None, true, false, IsTrue, slice_index, slice_get, refl, sym, ap, ◌∙◌, inl, inr, arith, subst}
 use Rattle.mw_words.specs.declared.jobs.Entry.{Entry}
 use Rattle.mw_words.specs.Change.{is_change}
-use Rattle.mw_disk.specs.Facts.{Facts, IsAtRest, MayLeave}
+use Rattle.mw_disk.specs.Facts.{Facts, IsSynced, MayLeave}
 use Rattle.mw_disk.specs.Runs.{SameBut, Touched, Fits, LeavesOnly}
 use Rattle.mw_disk.proofs.RunLaws.{touched_none, touched_wider, same_but_wider, fits_rest, leaves, leaves_same, leaves_now, leaves_wider}
 use Rattle.mw_record.specs.declared.layout.TheConstants.{BODY_SIZE, COMMITTED}
 use Rattle.mw_record.specs.declared.layout.Layout.TheVariants.{Second}
 use Rattle.mw_record.specs.Layout.{place_at, patched, body, pairs_of}
 use Rattle.mw_record.specs.Records.{Pairs, put_pairs, record_at}
-use Rattle.mw_record.proofs.Reading.{get_patched}
-use Rattle.mw_record.specs.Stands.{HasWords, HasSecond}
+use Rattle.mw_record.proofs.ReadBytes.{get_patched}
+use Rattle.mw_record.specs.Contents.{HasWords, HasSecond}
 use Rattle.mw_record.proofs.Sound.{second_file}
 use Rattle.mw_file.specs.declared.place_states.PlaceState.{PlaceState}
 use Rattle.mw_file.specs.declared.place_states.Stage.TheVariants.{Free, Prepared, Sealed}
 use Rattle.mw_file.specs.declared.tenant_file.TenantFile.{TenantFile}
 use Rattle.mw_file.specs.PlaceStates.{stage_of, writes_of_place, IsStaged, MaySeal}
 use Rattle.mw_file.specs.Stores.{PlacedAs, IsWritten, Stores, IsDurable}
-use Rattle.mw_file.specs.Rolls.{Behind, InRange, CanRoll, IsRolled}
+use Rattle.mw_file.specs.RollForward.{Behind, InRange, CanRoll, IsRolled}
 use Rattle.mw_file.specs.File.{disk_of, at_of, words_of as number_of, states_of, has_failed, IsCopy}
-use Rattle.mw_file.specs.Keeps.{IsFile, IsEither, Keeps, CrashSafe, FirstStays}
+use Rattle.mw_file.specs.RecoveryInvariant.{IsFile, IsBeforeOrAfter, RecoversTo, CrashSafe, FirstStays}
 use Rattle.mw_file.proofs.Parts.{PartStores, part_stores, part_same, byte_of, long_there, second_stays, stores_stay}
-use Rattle.mw_file.proofs.Changing.{prepare_torn, prepare_done, seal_torn, seal_done, cancel_done}
-use Rattle.mw_file.proofs.Settling.{settle_done, open_done, tells_one}
+use Rattle.mw_file.proofs.PlaceWrites.{prepare_torn, prepare_done, seal_torn, seal_done, cancel_done}
+use Rattle.mw_file.proofs.SettledFiles.{settle_done, open_done, tells_one}
 
--- bytes that stand for words are a file of these words
+-- a file with a second layout is a file of its words
 pub is_file : (at words places : ℕ) (contents image : List ℕ) → HasSecond at words places contents image → IsFile places contents image
 is_file at words places contents image has = let is = second_file at words places contents image has in record { words_are = is.0; places_are = is.2 }
 
--- the same file by other names
+-- the same fact, if the offset, the words and the states are known by other names
 pub durable_as : (f : Facts) (at at2 words words2 : ℕ) (contents contents2 : List ℕ) (states states2 : List PlaceState) → at2 ≡ at → words2 ≡ words → contents2 ≡ contents → states2 ≡ states
     → IsDurable f at words contents states → IsDurable f at2 words2 contents2 states2
 durable_as f at at2 words words2 contents contents2 states states2 is_at is_words is_contents is_states durable =
@@ -37,8 +38,8 @@ durable_as f at at2 words words2 contents contents2 states states2 is_at is_word
     (subst (λ (ws : List ℕ). IsDurable f at words ws states2) (sym is_contents)
     (subst (λ (ss : List PlaceState). IsDurable f at words contents ss) (sym is_states) durable)))
 
--- a file at rest stands for its words, and no change is in doubt
-pub keeps_well : {D : Type 0} (facts : D → Facts) (new : TenantFile D) (now : List ℕ) → length now ≡ number_of new → IsDurable (facts (disk_of new)) (at_of new) (number_of new) now (states_of new) → Keeps facts new now []
+-- a file whose bytes match its states, on a synced disk, recovers to its words, with no change in doubt
+pub keeps_well : {D : Type 0} (facts : D → Facts) (new : TenantFile D) (now : List ℕ) → length now ≡ number_of new → IsDurable (facts (disk_of new)) (at_of new) (number_of new) now (states_of new) → RecoversTo facts new now []
 keeps_well facts new now count durable =
     let file : IsFile (length (states_of new)) now (facts (disk_of new)).reads = is_file (at_of new) (number_of new) (length (states_of new)) now (facts (disk_of new)).reads durable.stores.has in
     record {
@@ -50,44 +51,44 @@ keeps_well facts new now count durable =
     }
 
 module _ {D : Type 0} (facts : D → Facts) (old new : TenantFile D) where
-  -- a call that met a fault
-  pub safe_failed : (before : List ℕ) (change doubt : Pairs) → Keeps facts old before doubt → has_failed new ≡ true → number_of new ≡ number_of old → states_of new ≡ states_of old
-      → LeavesOnly (facts (disk_of old)) (facts (disk_of new)) (IsEither (length (states_of old)) before change) → CrashSafe facts old new before change before change
+  -- a call that met a fault is safe
+  pub safe_failed : (before : List ℕ) (change doubt : Pairs) → RecoversTo facts old before doubt → has_failed new ≡ true → number_of new ≡ number_of old → states_of new ≡ states_of old
+      → LeavesOnly (facts (disk_of old)) (facts (disk_of new)) (IsBeforeOrAfter (length (states_of old)) before change) → CrashSafe facts old new before change before change
   safe_failed before change doubt was failed number states moments = record {
     moments = moments;
     after = record {
       count = was.count ∙ sym number;
       read = λ sound. absurd (let e : ⊥ = cc (failed, sound) in e);
       certain = λ sound. absurd (let e : ⊥ = cc (failed, sound) in e);
-      left = λ image left. subst (λ (s : List PlaceState). IsEither (length s) before change image) (sym states)
+      left = λ image left. subst (λ (s : List PlaceState). IsBeforeOrAfter (length s) before change image) (sym states)
           (leaves_now (facts (disk_of old)) (facts (disk_of new)) moments image left);
       inside = λ sound. absurd (let e : ⊥ = cc (failed, sound) in e);
     };
   }
 
-  -- a call that went well
-  pub safe_well : (before : List ℕ) (change : Pairs) (now : List ℕ) → LeavesOnly (facts (disk_of old)) (facts (disk_of new)) (IsEither (length (states_of old)) before change)
+  -- a call that went well is safe
+  pub safe_well : (before : List ℕ) (change : Pairs) (now : List ℕ) → LeavesOnly (facts (disk_of old)) (facts (disk_of new)) (IsBeforeOrAfter (length (states_of old)) before change)
       → length now ≡ number_of new → IsDurable (facts (disk_of new)) (at_of new) (number_of new) now (states_of new) → CrashSafe facts old new before change now []
   safe_well before change now moments count durable = record { moments = moments; after = keeps_well facts new now count durable }
 
-  -- the same where no change is in doubt, whatever it is called
+  -- the same, if no change is in doubt under another name
   pub safe_same : (contents : List ℕ) (doubt : Pairs) → doubt ≡ [] → CrashSafe facts old new contents [] contents [] → CrashSafe facts old new contents doubt contents doubt
   safe_same contents doubt certain safe = subst (λ (d : Pairs). CrashSafe facts old new contents d contents d) (sym certain) safe
 
--- a call that touched nothing
-pub safe_untouched : {D : Type 0} (facts : D → Facts) (old : TenantFile D) (contents : List ℕ) (doubt : Pairs) → Keeps facts old contents doubt → CrashSafe facts old old contents doubt contents doubt
+-- a call that touched nothing is safe
+pub safe_untouched : {D : Type 0} (facts : D → Facts) (old : TenantFile D) (contents : List ℕ) (doubt : Pairs) → RecoversTo facts old contents doubt → CrashSafe facts old old contents doubt contents doubt
 safe_untouched facts old contents doubt was = record { moments = leaves_same (facts (disk_of old)) (λ c left. was.left c left); after = was }
 
 pub first_untouched : {D : Type 0} (facts : D → Facts) (old : TenantFile D) → FirstStays facts old old
 first_untouched facts old honest contents doubt was = touched_none (λ k. at_of old ≤ k) (facts (disk_of old))
 
--- a file at rest has room for each of its places
+-- the disk has all bytes of each place of a file
 pub place_fits : (f : Facts) (at words place there n : ℕ) (contents : List ℕ) (states : List PlaceState) → IsDurable f at words contents states → place < length states
     → there + n ≤ at + place_at Second words (place + 1) → Fits f (there + n)
 place_fits f at words place there n contents states durable lt low =
     fits_rest f (there + n) durable.rest (let l = long_there at words (length states) contents f.reads durable.stores.has in omega (arith, l, lt, low))
 
--- a sealed change stands at its place
+-- the bytes have the record of a prepared place, and a free place is closed
 placed_at : (part : List ℕ) (words : ℕ) (contents : List ℕ) (states : List PlaceState) (place : ℕ) → PartStores part words contents states → place < length states → stage_of states place ≡ Prepared
     → IsWritten part words place (writes_of_place states place)
 placed_at part words contents states place stores lt is =
@@ -98,7 +99,7 @@ closed_at : (part : List ℕ) (words : ℕ) (contents : List ℕ) (states : List
 closed_at part words contents states place stores lt is =
     subst (λ s. PlacedAs part words place s (writes_of_place states place)) is (stores.placed place lt)
 
--- a range that is written in a second layout, by where it lies in the file and where in the layout
+-- a range of the file that was written, as a range of its second layout
 range_behind : (at there x n m : ℕ) (b c : List ℕ) → there ≡ at + x → n ≡ m → SameBut (InRange there n) b c → SameBut (Behind at (InRange x m)) b c
 range_behind at there x n m b c is_there size_is same =
     same_but_wider (InRange there n) (Behind at (InRange x m)) b c
@@ -114,7 +115,7 @@ module _ (old new : Facts) (at words : ℕ) (contents : List ℕ) (states : List
   long : at + place_at Second words (length states) ≤ length old.reads
   long = long_there at words (length states) contents old.reads durable.stores.has
 
-  -- a record was written behind a clear commit byte
+  -- a prepare wrote a record after a clear commit byte
   module _ (n : ℕ) (size_is : n ≡ BODY_SIZE) (there : ℕ) (is_there : there ≡ at + place_at Second words place + 1) (free : stage_of states place ≡ Free) (touched : Touched (InRange there n) old new) where
     abbrev prepared : ℕ → Type 0
     prepared = InRange (place_at Second words place + 1) BODY_SIZE
@@ -129,7 +130,7 @@ module _ (old new : Facts) (at words : ℕ) (contents : List ℕ) (states : List
         (prepare_torn (drop at old.reads) (drop at c) words contents states place stored lt (part_same at prepared old.reads c (prepare_same c same))
         (closed_at (drop at old.reads) words contents states place stored lt free))))
 
-    pub prepare_durable : (entries : List Entry) (block : List ℕ) (next : List PlaceState) → IsAtRest new → is_change words entries ≡ true → block ≡ body entries → length block ≡ n
+    pub prepare_durable : (entries : List Entry) (block : List ℕ) (next : List PlaceState) → IsSynced new → is_change words entries ≡ true → block ≡ body entries → length block ≡ n
         → new.reads ≡ patched old.reads there block → IsStaged states next place Prepared (pairs_of entries) → IsDurable new at words contents next
     prepare_durable entries block next rest change is_block size reads staged =
         let fits : there + n ≤ length old.reads = omega (arith, long, lt, size_is, is_there) in
@@ -147,7 +148,7 @@ module _ (old new : Facts) (at words : ℕ) (contents : List ℕ) (states : List
               ∙ ap (slice_index (body entries)) (let e : k ≡ 0 + k = omega arith in e)) staged) staged.count;
         }
 
-  -- a commit byte was set
+  -- a seal set a commit byte
   module _ (there : ℕ) (is_there : there ≡ at + place_at Second words place) (may : MaySeal states place) (touched : Touched (InRange there 1) old new) where
     abbrev sealed : ℕ → Type 0
     sealed = InRange (place_at Second words place) 1
@@ -158,7 +159,7 @@ module _ (old new : Facts) (at words : ℕ) (contents : List ℕ) (states : List
     was_written : IsWritten (drop at old.reads) words place (writes_of_place states place)
     was_written = placed_at (drop at old.reads) words contents states place stored lt may.prepared
 
-    pub seal_moments : LeavesOnly old new (IsEither (length states) contents (writes_of_place states place))
+    pub seal_moments : LeavesOnly old new (IsBeforeOrAfter (length states) contents (writes_of_place states place))
     seal_moments = leaves (InRange there 1) old new durable.rest touched (λ c same.
         let writes : Pairs = writes_of_place states place in
         let is : (after : List ℕ) → HasWords Second words (length states) after (drop at c) → IsFile (length states) after c = λ after has.
@@ -168,7 +169,7 @@ module _ (old new : Facts) (at words : ℕ) (contents : List ℕ) (states : List
           | inr after ↦ inr (is (put_pairs writes contents) after)
         ])
 
-    pub seal_durable : (next : List PlaceState) → IsAtRest new → new.reads ≡ patched old.reads there (COMMITTED ∷ []) → IsStaged states next place Sealed (writes_of_place states place)
+    pub seal_durable : (next : List PlaceState) → IsSynced new → new.reads ≡ patched old.reads there (COMMITTED ∷ []) → IsStaged states next place Sealed (writes_of_place states place)
         → IsDurable new at words (put_pairs (writes_of_place states place) contents) next
     seal_durable next rest reads staged =
         let fits : there + 1 ≤ length old.reads = omega (arith, long, lt, is_there) in
@@ -184,7 +185,7 @@ module _ (old new : Facts) (at words : ℕ) (contents : List ℕ) (states : List
               ∙ get_patched old.reads there block 0 (omega (arith, fits)) (omega arith)) staged) staged.count;
         }
 
-  -- a sealed change is put into the home words
+  -- a settle rolled one sealed change forward
   module _ (honest : IsTrue old.honest) (s : PlaceState) (item : slice_get states place ≡ Some s) where
     pub settle_can : CanRoll old at words (length states) place (s ∷ []) contents
     settle_can = record {
@@ -209,7 +210,7 @@ module _ (old new : Facts) (at words : ℕ) (contents : List ℕ) (states : List
       };
     }
 
--- all changes that were found open were put into the home words, and every place is free
+-- an opening rolled all open records forward, and every place is free
 pub open_durable : (old new : Facts) (at words : ℕ) (contents : List ℕ) (states next : List PlaceState) → Stores old.reads at words contents states → IsRolled at words 0 states old new
     → HasSecond at words (length states) contents new.reads → length next ≡ length states → ((place : ℕ) → stage_of next place ≡ Free) → IsDurable new at words contents next
 open_durable old new at words contents states next stores rolled has count free = record {
@@ -221,7 +222,7 @@ open_durable old new at words contents states next stores rolled has count free 
   };
 }
 
--- a change is given up
+-- a cancel gave up a change: the bytes match the new states
 pub cancel_durable : (f : Facts) (at words : ℕ) (contents : List ℕ) (states next : List PlaceState) (place : ℕ) → IsDurable f at words contents states → place < length states
     → stage_of states place ≡ Prepared → IsStaged states next place Free (writes_of_place states place) → IsDurable f at words contents next
 cancel_durable f at words contents states next place durable lt is staged =
@@ -235,20 +236,20 @@ cancel_durable f at words contents states next place durable lt is staged =
       };
     }
 
--- a call that gave up a change and touched no device
+-- a cancel gives up a change without a device call, and is safe
 pub safe_given_up : {D : Type 0} (facts : D → Facts) (old new : TenantFile D) (place : ℕ) (contents : List ℕ) (doubt : Pairs) → disk_of new ≡ disk_of old → at_of new ≡ at_of old → number_of new ≡ number_of old
     → has_failed new ≡ has_failed old → place < length (states_of old) → stage_of (states_of old) place ≡ Prepared
-    → IsStaged (states_of old) (states_of new) place Free (writes_of_place (states_of old) place) → Keeps facts old contents doubt → CrashSafe facts old new contents doubt contents doubt
+    → IsStaged (states_of old) (states_of new) place Free (writes_of_place (states_of old) place) → RecoversTo facts old contents doubt → CrashSafe facts old new contents doubt contents doubt
 safe_given_up facts old new place contents doubt disk at number failed lt is staged was =
     let was_sound : has_failed new ≡ false → has_failed old ≡ false = λ sound. sym failed ∙ sound in
     record {
-      moments = subst (λ d. LeavesOnly (facts (disk_of old)) (facts d) (IsEither (length (states_of old)) contents doubt)) (sym disk) (safe_untouched facts old contents doubt was).moments;
+      moments = subst (λ d. LeavesOnly (facts (disk_of old)) (facts d) (IsBeforeOrAfter (length (states_of old)) contents doubt)) (sym disk) (safe_untouched facts old contents doubt was).moments;
       after = record {
         count = was.count ∙ sym number;
         read = λ sound. subst (λ n. IsFile n contents (facts (disk_of new)).reads) (sym staged.count)
             (subst (λ d. IsFile (length (states_of old)) contents (facts d).reads) (sym disk) (was.read (was_sound sound)));
         certain = λ sound. was.certain (was_sound sound);
-        left = λ image left. subst (λ n. IsEither n contents doubt image) (sym staged.count) (was.left image (subst (λ d. MayLeave (facts d) image) disk left));
+        left = λ image left. subst (λ n. IsBeforeOrAfter n contents doubt image) (sym staged.count) (was.left image (subst (λ d. MayLeave (facts d) image) disk left));
         inside = λ sound.
             let durable = subst (λ d. IsDurable (facts d) (at_of old) (number_of old) contents (states_of old)) (sym disk) (was.inside (was_sound sound)) in
             let next = cancel_durable (facts (disk_of new)) (at_of old) (number_of old) contents (states_of old) (states_of new) place durable lt is staged in
@@ -256,8 +257,8 @@ safe_given_up facts old new place contents doubt disk at number failed lt is sta
       };
     }
 
--- a copy stands for what the file stands for
-pub keeps_copy : {D : Type 0} (facts : D → Facts) (old new : TenantFile D) (contents : List ℕ) (doubt : Pairs) → IsCopy old new → Keeps facts old contents doubt → Keeps facts new contents doubt
+-- a copy recovers to what the file recovers to
+pub keeps_copy : {D : Type 0} (facts : D → Facts) (old new : TenantFile D) (contents : List ℕ) (doubt : Pairs) → IsCopy old new → RecoversTo facts old contents doubt → RecoversTo facts new contents doubt
 keeps_copy facts old new contents doubt copy was =
     let was_sound : has_failed new ≡ false → has_failed old ≡ false = λ sound. sym copy.failed ∙ sound in
     record {
@@ -265,7 +266,7 @@ keeps_copy facts old new contents doubt copy was =
       read = λ sound. subst (λ (s : List PlaceState). IsFile (length s) contents (facts (disk_of new)).reads) (sym copy.states)
           (subst (λ d. IsFile (length (states_of old)) contents (facts d).reads) (sym copy.disk) (was.read (was_sound sound)));
       certain = λ sound. was.certain (was_sound sound);
-      left = λ image left. subst (λ (s : List PlaceState). IsEither (length s) contents doubt image) (sym copy.states)
+      left = λ image left. subst (λ (s : List PlaceState). IsBeforeOrAfter (length s) contents doubt image) (sym copy.states)
           (was.left image (subst (λ d. MayLeave (facts d) image) copy.disk left));
       inside = λ sound. durable_as (facts (disk_of new)) (at_of old) (at_of new) (number_of old) (number_of new) contents contents (states_of old) (states_of new) copy.at copy.words refl copy.states
           (subst (λ d. IsDurable (facts d) (at_of old) (number_of old) contents (states_of old)) (sym copy.disk) (was.inside (was_sound sound)));

@@ -1,4 +1,6 @@
--- A tenant's file, and how a call on it ends.
+-- What a tenant's open file is, and how a call on it ends.
+-- Used by: OpeningEnds, RecoveryInvariant, 6 crates from mw_plain on, the contracts of calls.rt, laws.rt and memory.rt. A change
+-- here changes what each call on a file promises when it ends.
 use Rattle.std.specs.Prelude.{◌≡◌, ℕ, Bool, true, false, List, Result, Ok, Err}
 use Rattle.mw_disk.specs.Facts.{Facts}
 use Rattle.mw_disk.specs.Runs.{Good, Bad}
@@ -12,7 +14,7 @@ module _ {D : Type 0} where
   abbrev pub disk_of : TenantFile D → D
   disk_of file = file.disk
 
-  -- where its second layout begins, in bytes
+  -- the offset at which its second layout begins, in bytes
   abbrev pub at_of : TenantFile D → ℕ
   at_of file = file.at
 
@@ -20,15 +22,15 @@ module _ {D : Type 0} where
   abbrev pub words_of : TenantFile D → ℕ
   words_of file = file.words
 
-  -- its places
+  -- the states of its places, in order of number
   abbrev pub states_of : TenantFile D → List PlaceState
   states_of file = file.states.items
 
-  -- a call on its device has failed since it was opened
+  -- a device call on it has failed since it was opened
   abbrev pub has_failed : TenantFile D → Bool
   has_failed file = file.failed
 
--- Two files are the same: on equal disks, with equal places, and as far.
+-- Two files are equal: in their disks, offsets, numbers of words, places, and in whether they have failed.
 pub record IsCopy {D : Type 0} (old new : TenantFile D) : Type 0 where
   pub disk : disk_of new ≡ disk_of old
   pub at : at_of new ≡ at_of old
@@ -45,7 +47,8 @@ module _ {D : Type 0} (facts : D → Facts) where
     pub words : words_of new ≡ words_of old
     pub made : Good calls (facts (disk_of old)) (facts (disk_of new))
 
-  -- Fewer than so many device calls went well, then one failed, the last that was made. From now on the file has failed.
+  -- The device failed: fewer than so many device calls went well, then one failed, and it was the last one. From now on the file
+  -- has failed, and its places are what they were.
   pub record MetFault (calls : ℕ) (old new : TenantFile D) : Type 0 where
     pub before : has_failed old ≡ false
     pub after : has_failed new ≡ true
@@ -54,12 +57,12 @@ module _ {D : Type 0} (facts : D → Facts) where
     pub states : states_of new ≡ states_of old
     pub made : Bad calls (facts (disk_of old)) (facts (disk_of new))
 
-  -- The file had failed before. Nothing was touched.
+  -- The file had failed before, and the call changed nothing.
   pub record HadFailed (old new : TenantFile D) : Type 0 where
     pub before : has_failed old ≡ true
     pub same : new ≡ old
 
-  -- How a call of so many device calls ended, by its answer.
+  -- How a call that needs so many device calls ended, by its answer.
   abbrev pub Ends : {T : Type 0} → ℕ → TenantFile D → TenantFile D → Result T FileFault → Type 0
   Ends calls old new (Ok x) = WentWell calls old new
   Ends calls old new (Err Disk) = MetFault calls old new

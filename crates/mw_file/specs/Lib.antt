@@ -1,9 +1,9 @@
-pub mod Again
+pub mod Reopenings
 pub mod File
-pub mod Keeps
-pub mod Migrating
-pub mod Opening
-pub mod Rolls
+pub mod RecoveryInvariant
+pub mod Migration
+pub mod OpeningEnds
+pub mod RollForward
 pub mod Run
 pub mod PlaceStates
 pub mod Stores

@@ -1,4 +1,6 @@
--- Runs of device calls.
+-- How a run of device calls ends, and what it means that a disk is known to fail at one call.
+-- Used by: OpeningEnds, the contracts of calls.rt, laws.rt, migration.rt, opening.rt and roll.rt. A change here changes what is
+-- promised of the device call that failed.
 use Rattle.std.specs.Prelude.{◌≡◌, ◌<◌, ℕ, Some, true, false, Result, Ok, Err, IsTrue}
 use Rattle.mw_disk.specs.Facts.{Facts, NothingNew}
 use Rattle.mw_disk.specs.Runs.{Good, Bad}
@@ -8,12 +10,12 @@ abbrev pub Ran : {T E : Type 0} → ℕ → Facts → Facts → Result T E → T
 Ran calls old new (Ok x) = Good calls old new
 Ran calls old new (Err e) = Bad calls old new
 
--- Of an honest disk: at the end a read gives what it gave, and a crash leaves nothing that it would not have left.
+-- If the disk is honest, a read gives what it gave before, and a crash leaves nothing that it would not have left before.
 pub record IsUntouched (old new : Facts) : Type 0 where
   pub same : IsTrue old.honest → new.reads ≡ old.reads
   pub nothing_new : IsTrue old.honest → NothingNew old new
 
--- It is known of a disk that its next k calls go well but for memory, and that the one behind them fails.
-pub record IsDoomed (f : Facts) (k : ℕ) : Type 0 where
+-- It is known of a disk that its next k calls go well unless memory is refused, and that the call after them fails.
+pub record FailsAtCall (f : Facts) (k : ℕ) : Type 0 where
   pub go : (j : ℕ) → j < k → f.plan j ≡ Some true
   pub fails : f.plan k ≡ Some false

@@ -1,8 +1,14 @@
-//! The calls that take a change into a file.
+//! The calls that take a change through a file.
+//!
+//! What they say of crashes holds on a disk that keeps the model of [`mw_disk::Disk`].
+//!
+//! mw_book makes these calls for the server, mw_plain and mw_world_file for tests and simulated worlds. Which calls
+//! may be made is said by `specs/PlaceStates`, and how they end by `specs/File` and `specs/RecoveryInvariant`.
+//! docs/FILES tells the order of the device calls.
 ghost use Rattle.std.specs.Prelude.{◌≡◌, ◌+◌, ◌≤◌, ◌<◌, ◌^◌, Some, length, IsTrue, IsSome, IfSome, is_some, IfOk, OnOk, OnErr};
-ghost use Rattle.mw_disk.specs.Facts.{IsAtRest, patched};
+ghost use Rattle.mw_disk.specs.Facts.{IsSynced, patched};
 ghost use Rattle.mw_disk.specs.Runs.{Later, Touched, Fits};
-ghost use Rattle.mw_file.specs.Rolls.{InRange};
+ghost use Rattle.mw_file.specs.RollForward.{InRange};
 ghost use Rattle.mw_file.specs.Run.{Ran};
 ghost use Rattle.mw_words.specs.Change.{is_change};
 ghost use Rattle.mw_record.specs.Layout.{pairs_of};
@@ -19,44 +25,44 @@ use std::slice;
 
 impl<D: Disk> TenantFile<D> {
     ghost use Rattle.mw_file.specs.File.{states_of, words_of, disk_of, Ends};
-    ghost use Rattle.mw_file.specs.Keeps.{ContentsStay, ChangeIsSealed, FirstStays};
+    ghost use Rattle.mw_file.specs.RecoveryInvariant.{ContentsStay, ChangeIsSealed, FirstStays};
 
-    /// How many words the file has.
+    /// Returns how many words the file has.
     pub fn words(&self) -> u16
         ensures { result ≡ words_of self.now }
     {
         self.words
     }
 
-    /// How far each place is, in order of number.
+    /// Returns the state of each place, in order of number.
     pub fn states(&self) -> &[PlaceState]
         ensures { result.now ≡ states_of self.now }
     {
         &self.states
     }
 
-    /// How many places the file has.
+    /// Returns how many places the file has.
     pub fn places(&self) -> u16
         ensures { result ≡ length (states_of self.now) }
     {
         self.states.len() as u16
     }
 
-    /// Whether a place is free.
+    /// Tells whether some place is free.
     pub fn has_place(&self) -> bool
         ensures { result ≡ is_some (spec.free_place (states_of self.now)) }
     {
         free_place(&self.states).is_some()
     }
 
-    /// Writes the record of a change into the lowest free place, and syncs. The change isn't in the
-    /// file yet: a crash at any moment leaves the words as they were. A place has to be free, and the
-    /// change well formed for the file's words.
+    /// Writes a change's record into the lowest free place, and syncs. The change isn't in the file yet: a
+    /// crash at any moment of the call leaves the words as they were. Some place must be free, and the change
+    /// must be well formed for the file's words.
     ///
     /// # Errors
     ///
-    /// [`FileFault::Disk`] where the device failed; the place is as free as it was.
-    /// [`FileFault::Failed`] where the file had failed before.
+    /// - [`FileFault::Disk`] if the device fails. The place stays free.
+    /// - [`FileFault::Failed`] if the file had failed before. The call did nothing.
     pub fn prepare(&mut self, entries: &Entries) -> Result<Place, FileFault>
         requires room { IsSome (spec.free_place (states_of self.old)) }
         requires formed { IsTrue (is_change (words_of self.old) entries.now.items) }
@@ -86,15 +92,14 @@ impl<D: Disk> TenantFile<D> {
         Ok(Place(place))
     }
 
-    /// Sets the commit byte of a prepared change, and syncs. From then on the change is in the file,
-    /// durably. Until then a crash at any moment leaves the words before, or these with the whole
-    /// change. The change has to be prepared, and to share no address with one that is sealed and not
-    /// settled.
+    /// Commits a prepared change: sets its commit byte, and syncs. From then on the change is in the file for
+    /// good. A crash at any moment of the call leaves the words before it, or these with the whole change. The
+    /// change must be prepared, and must share no address with a sealed change.
     ///
     /// # Errors
     ///
-    /// [`FileFault::Disk`] where the device failed; the change may be found when the file is opened
-    /// again. [`FileFault::Failed`] where the file had failed before.
+    /// - [`FileFault::Disk`] if the device fails. The next opening may find the change, or may not.
+    /// - [`FileFault::Failed`] if the file had failed before. The call did nothing.
     pub fn seal(&mut self, place: Place) -> Result<(), FileFault>
         requires { MaySeal (states_of self.old) place.0 }
         ensures ends { Ends D.facts 2 self.old self.new result }
@@ -116,14 +121,14 @@ impl<D: Disk> TenantFile<D> {
         Ok(())
     }
 
-    /// Puts a sealed change's values into their home words and syncs, then clears its commit byte and
-    /// syncs. Its place is free then. A crash at any moment leaves the words as they were, with this
+    /// Writes a sealed change's values into their home words and syncs, then clears its commit byte and syncs.
+    /// Then its place is free. A crash at any moment of the call leaves the words as they were, with this
     /// change.
     ///
     /// # Errors
     ///
-    /// [`FileFault::Disk`] where the device failed; the change was sealed all the same.
-    /// [`FileFault::Failed`] where the file had failed before.
+    /// - [`FileFault::Disk`] if the device fails. The change stays sealed.
+    /// - [`FileFault::Failed`] if the file had failed before. The call did nothing.
     pub fn settle(&mut self, place: Place) -> Result<(), FileFault>
         requires { stage_of (states_of self.old) place.0 ≡ Stage.Sealed }
         ensures ends { Ends D.facts (length (writes_of_place (states_of self.old) place.0) + 3) self.old self.new result }
@@ -157,7 +162,7 @@ impl<D: Disk> TenantFile<D> {
         self.states[place.0 as usize].stage = Stage::Free;
     }
 
-    /// The disk again.
+    /// Gives the disk back.
     pub fn into_disk(self) -> D
         ensures { result ≡ disk_of self }
     {
@@ -190,7 +195,7 @@ pub(crate) fn write_and_sync<D: Disk>(disk: &mut D, at: u64, bytes: &[u8]) -> Re
     ensures later { Later (D.facts disk.old) (D.facts disk.new) }
     ensures touched { IsTrue (D.facts disk.old).honest → Fits (D.facts disk.old) (at + length bytes.now)
         → Touched (InRange at (length bytes.now)) (D.facts disk.old) (D.facts disk.new) }
-    ensures rest { OnOk result (IsTrue (D.facts disk.old).honest → IsAtRest (D.facts disk.new)) }
+    ensures rest { OnOk result (IsTrue (D.facts disk.old).honest → IsSynced (D.facts disk.new)) }
     ensures written { OnOk result (IsTrue (D.facts disk.old).honest → at ≤ length (D.facts disk.old).reads
         → (D.facts disk.new).reads ≡ patched (D.facts disk.old).reads at bytes.now) }
 {

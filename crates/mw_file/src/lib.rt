@@ -1,26 +1,32 @@
-//! A tenant's file of words: changes are made durable in it, each wholly or not at all.
+//! A tenant's file of words. Each change becomes durable in it, wholly or not at all.
 //!
-//! A change goes through a place of the file. `prepare` writes its record there, `seal` sets the place's
-//! commit byte, from when on the change is in the file, and `settle` puts its values into the home words
-//! and clears the commit byte again. `cancel` gives up a change that was prepared. `open` reads a file
-//! and finishes the changes that were sealed and not settled.
+//! A change goes through one place of the file:
 //!
-//! A file is made in its first layout. Its first opening gives it a second one, behind the first, with
-//! the file's words and twice as many places, and sets the switch byte; from then on all changes go
-//! into the second layout, and the first is never written to again.
+//! - `prepare` writes the change's record into a free place.
+//! - `seal` sets the place's commit byte. From then on the change is in the file.
+//! - `settle` writes the change's values into the home words, then clears the commit byte.
+//! - `cancel` gives up a prepared change.
+//! - `open` reads a file and finishes the changes that were sealed and not settled.
 //!
-//! On a device that keeps the model of [`mw_disk::Disk`] a crash at any moment of any of these calls,
-//! of an opening and of the next one too, leaves the words with every sealed change, and with the one
-//! that was being sealed wholly or not at all.
+//! In the field's terms: the places are a redo log, and a home word is the data in place. `seal` commits,
+//! `settle` is a checkpoint of one change, and `open` recovers by redoing what was committed.
 //!
-//! The words in the field's terms: the places are a redo log, a home word is the data in place, `seal`
-//! commits, `settle` is a checkpoint of one change, and `open` recovers by redoing what was committed.
+//! A new file has its first layout only. Its first opening adds a second layout after the first, with the
+//! file's words and twice as many places, and sets the switch byte. From then on all changes go into the
+//! second layout, and no call writes to the first.
+//!
+//! A crash may come at any moment of a call, of an opening, or of the opening after it. If the device keeps
+//! the model of [`mw_disk::Disk`], the crash leaves the words with every sealed change. A change that was
+//! being sealed is there wholly or not at all.
+//!
+//! mw_book keeps such a file for the server's threads, and mw_programs opens it. mw_world_file simulates files by it,
+//! and tests use it over a disk in memory. A change of a contract reaches mw_book, mw_plain and mw_world_file.
 #![tactic(auto)]
 
 mod calls;
 mod laws;
 mod memory;
-mod migrating;
+mod migration;
 mod opening;
 mod place_states;
 mod roll;

@@ -1,4 +1,6 @@
-//! A file on a disk in memory.
+//! A file on a disk in memory, for tests.
+//!
+//! Used by tests and by mw_world_file. The server has no such file.
 ghost use Rattle.std.specs.Prelude.{◌≡◌, ℕ, List, length, IfOk, OnOk, OnErr};
 ghost use Rattle.mw_disk.specs.Crash.{Tears, unsynced};
 ghost use Rattle.mw_disk.specs.Facts.{MayLeave};
@@ -13,13 +15,13 @@ use std::alloc::{AllocError, Global};
 impl TenantFile<MemDisk> {
     ghost use Rattle.std.specs.Prelude.{Some};
     ghost use Rattle.mw_file.specs.File.{disk_of, IsCopy};
-    ghost use Rattle.mw_file.specs.Keeps.{ContentsStay, Keeps};
+    ghost use Rattle.mw_file.specs.RecoveryInvariant.{ContentsStay, RecoversTo};
 
-    /// An equal one, on an equal disk. The only error is want of memory.
+    /// Copies the file, with its disk. The only error is that memory is out.
     pub fn copy(&self, alloc: Global) -> Result<TenantFile<MemDisk>, AllocError>
         ensures same { IfOk result (λ file. IsCopy self.now file) }
-        ensures keeps { IfOk result (λ file. (contents : List ℕ) (doubt : Pairs) → Keeps memory_facts self.now contents doubt
-            → Keeps memory_facts file contents doubt) }
+        ensures keeps { IfOk result (λ file. (contents : List ℕ) (doubt : Pairs) → RecoversTo memory_facts self.now contents doubt
+            → RecoversTo memory_facts file contents doubt) }
     {
         let disk = self.disk.copy()?;
         let states = copies(alloc, &self.states)?;
@@ -32,8 +34,8 @@ impl TenantFile<MemDisk> {
         })
     }
 
-    /// The `k`-th device call from now fails too. An error, for want of memory, leaves the file as it
-    /// was.
+    /// Makes the `k`-th device call from now fail too, as [`MemDisk::fail_next`] does. If memory is out it returns
+    /// an error and leaves the file as it was.
     pub fn fail_next(&mut self, k: u64) -> Result<(), AllocError>
         ensures ok { OnOk result (self.new ≡ record self.old { disk = record (disk_of self.old) { script = with_name (disk_of self.old) k } }) }
         ensures plan { OnOk result ((j : ℕ) → (memory_facts (disk_of self.new)).plan j ≡ with_fault (disk_of self.old) k j) }
@@ -43,7 +45,7 @@ impl TenantFile<MemDisk> {
         self.disk.fail_next(k)
     }
 
-    /// After `k` more device calls every one fails and changes nothing. An earlier stop stays.
+    /// Makes every device call after the next `k` fail and change nothing. An earlier stop stays.
     pub fn stop_next(&mut self, k: u64)
         ensures stop { self.new ≡ record self.old { disk = record (disk_of self.old) { stop = Some (sooner (disk_of self.old).stop k) } } }
         ensures plan { (j : ℕ) → (memory_facts (disk_of self.new)).plan j ≡ with_stop (disk_of self.old) k j }
@@ -52,15 +54,15 @@ impl TenantFile<MemDisk> {
         self.disk.stop_next(k);
     }
 
-    /// How many device calls were refused memory. The count stays at its last value, `2^64 - 1`.
+    /// Returns how many device calls were refused memory. The count stays at `2^64 - 1` once it is reached.
     pub fn refused(&self) -> u64
         ensures { result ≡ (disk_of self.now).refused }
     {
         self.disk.refused()
     }
 
-    /// What a crash now leaves of the file, with the bytes of all ranges written since the last sync
-    /// taken from `torn`: as [`MemDisk::crash`]. The only error is want of memory.
+    /// Returns what a crash now leaves of the file. The bytes of all ranges written since the last sync are taken
+    /// from `torn`, as in [`MemDisk::crash`]. The only error is that memory is out.
     pub fn crash(&self, torn: &[u8]) -> Result<Vec<u8>, AllocError>
         ensures torn { IfOk result (λ bytes. Tears (unsynced (disk_of self.now).log) torn.now (length torn.now)
             (memory_facts (disk_of self.now)).reads bytes.items) }

@@ -1,4 +1,7 @@
-//! Opening a file.
+//! The opening of a file, with its recovery.
+//!
+//! mw_programs opens each tenant's file by it before a server serves; mw_world_file and tests open files in memory.
+//! `specs/OpeningEnds` says how it ends. A new [`OpenFault`] needs a case there and in mw_programs.
 ghost use Rattle.std.specs.Prelude.{◌≡◌, true, false, ◌*◌, ◌≤◌, ◌<◌, ◌^◌, ◌==◌, ℕ, not, if◌then◌else◌, List, length, None, vec_len, min, take, IsTrue, IfOk, OnOk};
 ghost use Rattle.mw_words.specs.declared.limits.TheConstants.{MAX_PLACES, MAX_WORDS};
 ghost use Rattle.mw_record.specs.declared.layout.Layout.TheVariants.{First};
@@ -6,18 +9,18 @@ ghost use Rattle.mw_record.specs.declared.layout.TheConstants.{MAX_FILE, MAX_FIR
 ghost use Rattle.mw_disk.specs.Runs.{Later, Touched, LeavesOnly};
 ghost use Rattle.mw_record.specs.Layout as layout;
 ghost use Rattle.mw_record.specs.Damages.{is_switched, layout_of, at_of, words_of, found_places, places_of, words_in, pairs_in, records_of};
-ghost use Rattle.mw_record.specs.Stands.{HasSecond};
-ghost use Rattle.mw_file.specs.Keeps.{IsFile};
-ghost use Rattle.mw_file.specs.Migrating.{migration_calls, InSwitch, Grown, given_second, CanGrow, IsMigrated};
-ghost use Rattle.mw_file.specs.Opening as spec;
-ghost use Rattle.mw_file.specs.Opening.{repair_calls, ready_calls, CanOpen};
-ghost use Rattle.mw_file.specs.Rolls.{CanRoll, CanFinish, IsRolled, IsRecalled, Nowhere, record_of};
+ghost use Rattle.mw_record.specs.Contents.{HasSecond};
+ghost use Rattle.mw_file.specs.RecoveryInvariant.{IsFile};
+ghost use Rattle.mw_file.specs.Migration.{migration_calls, InSwitch, Grown, given_second, CanGrow, IsMigrated};
+ghost use Rattle.mw_file.specs.OpeningEnds as spec;
+ghost use Rattle.mw_file.specs.OpeningEnds.{repair_calls, ready_calls, CanOpen};
+ghost use Rattle.mw_file.specs.RollForward.{CanRoll, CanFinish, IsRolled, IsRecalled, Nowhere, record_of};
 ghost use Rattle.mw_file.specs.Run.{Ran, IsUntouched};
 ghost use Rattle.mw_file.specs.PlaceStates.{all_free, commit_writes, roll_calls};
 ghost use Rattle.mw_file.specs.Stores.{IsDurable};
 ghost use Rattle.mw_file.specs.declared.place_states.Stage.TheVariants.{Prepared, Sealed};
 
-use crate::migrating::migrate;
+use crate::migration::migrate;
 use crate::place_states::{PlaceState, Stage, Writes};
 use crate::roll::roll_forward;
 use crate::tenant_file::TenantFile;
@@ -31,31 +34,35 @@ use std::alloc::{AllocError, Global};
 /// Why a file could not be opened.
 #[derive(Clone, Copy, Debug, PartialEq, Eq)]
 pub enum OpenFault {
-    /// The file is damaged, this being its first damage. It was not written to.
+    /// The file is damaged, and this is its first damage. The opening wrote nothing to it.
     Damage(Damage),
-    /// The device failed. The file's words are what they were.
+    /// The device failed.
     Disk,
     /// Memory was refused. The file was neither read nor written to.
     Memory,
 }
 
 impl<D: Disk> TenantFile<D> {
-    ghost use Rattle.mw_file.specs.Opening.{Opens};
+    ghost use Rattle.mw_file.specs.OpeningEnds.{Opens};
 
-    /// Opens the file on a disk: reads it, and finishes the changes that were sealed and not settled,
-    /// so that every place is free then. Gives its words too, in order of address.
+    /// Opens the file on a disk. It reads the file and finishes the changes that were sealed and not settled.
+    /// Then every place is free. It also returns the file's words, in order of address.
     ///
-    /// It asks for the length and reads. A file in its first layout is given its second one: that is
-    /// written behind the first, with the file's words as home words and twice as many places, its offset
-    /// goes into the head, it syncs, sets the switch byte and syncs. Of a file that has its second layout,
-    /// if any record is open, it writes the home words of all open records, syncs, clears their commit
-    /// bytes and syncs. On a file it takes memory once, before it reads: no other call on the file takes
-    /// any.
+    /// It asks for the length and reads the bytes. What follows depends on the file:
+    ///
+    /// - It gives a file in its first layout a second one. It writes this after the first, with the file's words
+    ///   as home words and twice as many places, and its offset into the head, and syncs. Then it sets the
+    ///   switch byte, and syncs.
+    /// - In a file that has its second layout it rolls the open records forward, if there are any. It writes
+    ///   their home words, syncs, clears their commit bytes, and syncs.
+    ///
+    /// It takes memory once, before it reads. No other call on the file takes any.
     ///
     /// # Errors
     ///
-    /// An [`OpenFault`], with the disk. Whatever the fault, the file's words are what they were, in
-    /// what a read gives and in what a crash at any moment leaves.
+    /// An [`OpenFault`], with the disk. After any fault the file's words are what they were, in what a read
+    /// gives and in what a crash at any moment leaves. This holds if the disk keeps the model of [`Disk`] and had
+    /// nothing unsynced before.
     pub fn open(alloc: Global, disk: D) -> Result<(TenantFile<D>, Vec<u64>), (OpenFault, D)>
         ensures { Opens D.facts disk result }
     {
@@ -98,13 +105,13 @@ impl<D: Disk> TenantFile<D> {
 /// The memory that an opening takes.
 #[derive(Drop)]
 struct Room {
-    /// As many bytes as are to be read.
+    /// Room for the bytes that the opening reads.
     bytes: Vec<u8>,
-    /// As many words as a file may have.
+    /// Room for as many words as a file may have.
     words: Vec<u64>,
-    /// As many free states as a file may have places.
+    /// Free states, as many as a file may have places.
     states: Vec<PlaceState>,
-    /// As many bytes as a second layout may have.
+    /// Room for as many bytes as a second layout may have.
     second: Vec<u8>,
 }
 
@@ -137,7 +144,7 @@ fn free_states(alloc: Global) -> Result<Vec<PlaceState>, AllocError>
     Ok(states)
 }
 
-/// Reads the first bytes. Where there are none to read no device call is made.
+/// Reads the first bytes of the disk. It makes no device call if there are none to read.
 fn read_front<D: Disk>(disk: &mut D, bytes: &mut [u8]) -> Result<(), DiskFault>
     requires within { IsTrue (D.facts disk.old).honest → length bytes.old ≤ length (D.facts disk.old).reads }
     ensures calls { Ran (min 1 (length bytes.old)) (D.facts disk.old) (D.facts disk.new) result }
@@ -153,7 +160,7 @@ fn read_front<D: Disk>(disk: &mut D, bytes: &mut [u8]) -> Result<(), DiskFault>
     disk.read_at(0, bytes)
 }
 
-/// Puts a file's words into the first of these, and takes off the others.
+/// Puts the file's words into the first of these, and removes the others.
 fn fill_words(image: &Image<'_>, words: &mut Vec<u64>)
     requires { vec_len words.old ≡ MAX_WORDS }
     ensures { words.new.items ≡ words_in image.now }
@@ -164,7 +171,7 @@ fn fill_words(image: &Image<'_>, words: &mut Vec<u64>)
     }
 }
 
-/// How many places the file has once it is open.
+/// Returns how many places the file has after it is opened.
 fn places_once_open(image: &Image<'_>) -> u16
     ensures value { result ≡ places_of image.now }
     ensures some { 1 ≤ result }
@@ -176,7 +183,7 @@ fn places_once_open(image: &Image<'_>) -> u16
     }
 }
 
-/// Where the file's second layout begins once it is open.
+/// Returns the offset at which the file's second layout begins after it is opened.
 fn begins_at(image: &Image<'_>) -> u64
     ensures value { result ≡ spec.begins_at image.now }
     ensures fits { result ≤ MAX_FIRST }
@@ -187,8 +194,8 @@ fn begins_at(image: &Image<'_>) -> u64
     }
 }
 
-/// Brings a file that was read, and has these words, to where calls on it go on: it has its second layout
-/// and every place is free.
+/// Makes a file that was read, and has these words, ready for calls: it has its second layout, and every
+/// place is free.
 fn make_ready<D: Disk>(
     disk: &mut D,
     image: &Image<'_>,
@@ -223,7 +230,7 @@ fn make_ready<D: Disk>(
     }
 }
 
-/// Gives a file that was read in its first layout, and has these words, its second one.
+/// Gives the second layout to a file that was read in its first one and has these words.
 fn give_second<D: Disk>(
     disk: &mut D,
     image: &Image<'_>,
@@ -255,8 +262,8 @@ fn give_second<D: Disk>(
     migrate(disk, out, size(image.words(), image.places()))
 }
 
-/// Finishes the changes whose records are open in a file that has its second layout. Every place is free
-/// then.
+/// Finishes the changes whose records are open in a file that has its second layout. Then every place is
+/// free.
 fn finish<D: Disk>(
     disk: &mut D,
     image: &Image<'_>,
@@ -282,7 +289,7 @@ fn finish<D: Disk>(
     ran
 }
 
-/// Tells each place whose record is open as a sealed one, and the others as free.
+/// Sets each place's state: sealed if its record is open, else free.
 fn recall(image: &Image<'_>, states: &mut [PlaceState])
     requires { length states.old ≡ found_places image.now }
     ensures { IsRecalled image.now states.new }
@@ -292,7 +299,7 @@ fn recall(image: &Image<'_>, states: &mut [PlaceState])
     }
 }
 
-/// A place as a file that was read tells it.
+/// Returns the state of a place, from the bytes that were read.
 fn state_of(image: &Image<'_>, place: u16) -> PlaceState
     requires { place < found_places image.now }
     ensures record { record_of result ≡ records_of image.now place }
@@ -312,7 +319,7 @@ fn state_of(image: &Image<'_>, place: u16) -> PlaceState
     }
 }
 
-/// What the record of a place writes.
+/// Returns what the record of a place writes.
 fn writes_of(image: &Image<'_>, place: u16) -> Writes
     requires { place < found_places image.now }
     ensures pairs { result.items ≡ pairs_in image.now place }
@@ -325,7 +332,7 @@ fn writes_of(image: &Image<'_>, place: u16) -> Writes
     writes
 }
 
-/// Puts the sealed places into their home words, if there are any.
+/// Rolls the sealed places forward, if there are any.
 fn repair<D: Disk>(
     disk: &mut D,
     at: u64,

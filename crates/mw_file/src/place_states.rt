@@ -1,4 +1,8 @@
 //! The places of a tenant's file, as the file keeps them in memory.
+//!
+//! A `TenantFile` has one state for each place, which `opening.rt` makes and `calls.rt` changes; `roll.rt` reads
+//! them. Contracts of mw_book and mw_plain read them. A new [`Stage`] needs a case in `specs/PlaceStates`,
+//! `specs/Stores` and `specs/Taken`.
 ghost use Rattle.std.specs.Prelude.{◌≡◌, IfOk};
 ghost use Rattle.mw_record.specs.Layout.{pairs_of};
 
@@ -9,28 +13,28 @@ use std::alloc::{AllocError, Global};
 /// How far the change in a place is.
 #[derive(Clone, Copy, Debug, PartialEq, Eq)]
 pub enum Stage {
-    /// There is none.
+    /// The place has no change.
     Free,
-    /// Its record is written and its commit byte is clear. After a seal that the device failed in, the
-    /// commit byte may be set.
+    /// The change's record is written and its commit byte is clear. After a seal in which the device failed,
+    /// the commit byte may be set.
     Prepared,
-    /// Its commit byte is set: the change is in the file.
+    /// The change's commit byte is set: the change is in the file.
     Sealed,
 }
 
 /// What a change writes: addresses in rising order, each with its new value.
 pub type Writes = ArrayVec<(u16, u64), MAX_ENTRIES>;
 
-/// The state of a place of a file.
+/// The state of one place of a file.
 #[derive(Debug, Drop)]
 pub struct PlaceState {
-    /// How far its change is.
+    /// How far the change in the place is.
     pub stage: Stage,
-    /// What the change writes. Of a free place it means nothing.
+    /// What the change writes. It has no meaning if the place is free.
     pub writes: Writes,
 }
 
-/// What these entries write.
+/// Returns what these entries write.
 pub(crate) fn writes_to(entries: &Entries) -> Writes
     ensures { result.items ≡ pairs_of entries.now.items }
 {
@@ -42,7 +46,7 @@ pub(crate) fn writes_to(entries: &Entries) -> Writes
     writes
 }
 
-/// The same states once more. The only error is want of memory.
+/// Copies the states. The only error is that memory is out.
 pub(crate) fn copies(alloc: Global, states: &[PlaceState]) -> Result<Vec<PlaceState>, AllocError>
     ensures { IfOk result (λ copies. copies.items ≡ states.now) }
 {

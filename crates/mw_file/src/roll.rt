@@ -1,15 +1,17 @@
-//! Putting sealed changes into the home words.
+//! Roll forward: writes the values of sealed changes into the home words, and clears their commit bytes.
+//!
+//! Called by `settle` and by an opening. Callers don't see it: it may change with `specs/RollForward`.
 ghost use Rattle.std.specs.Prelude.{◌≡◌, ◌+◌, ◌≤◌, ◌<◌, ◌^◌, ℕ, List, Some, length, drop, slice_index, IsTrue, OnOk, OnErr};
 ghost use Rattle.arrayvec.specs.ArrayVec.{array_vec_len};
-ghost use Rattle.mw_disk.specs.Facts.{IsAtRest};
+ghost use Rattle.mw_disk.specs.Facts.{IsSynced};
 ghost use Rattle.mw_disk.specs.Runs.{Later, Touched, Fits, LeavesOnly};
 ghost use Rattle.mw_record.specs.declared.layout.Layout.TheVariants.{Second};
 ghost use Rattle.mw_record.specs.declared.layout.TheConstants.{MAX_FIRST};
 ghost use Rattle.mw_record.specs.Layout as layout;
 ghost use Rattle.mw_record.specs.Records.{home, over, record_over, all_over};
-ghost use Rattle.mw_record.specs.Stands.{HasSecond};
+ghost use Rattle.mw_record.specs.Contents.{HasSecond};
 ghost use Rattle.mw_file.specs.Run.{Ran};
-ghost use Rattle.mw_file.specs.Rolls.{Behind, InRecord, InHomes, AtCommit, AtCommits, HasHomes, IsBelow, AreBelow, CanRoll, IsRolled, record_of, kept_of};
+ghost use Rattle.mw_file.specs.RollForward.{Behind, InRecord, InHomes, AtCommit, AtCommits, HasHomes, IsBelow, AreBelow, CanRoll, IsRolled, record_of, kept_of};
 ghost use Rattle.mw_file.specs.PlaceStates.{stage_of};
 ghost use Rattle.mw_file.specs.declared.place_states.Stage.TheVariants.{Sealed};
 ghost use Rattle.mw_file.specs.PlaceStates.{home_writes, home_writes_of, commit_writes, commit_writes_of, roll_calls};
@@ -18,10 +20,10 @@ use crate::place_states::{PlaceState, Stage, Writes};
 use mw_disk::{Disk, DiskFault};
 use mw_record::{NOT_COMMITTED, home_at, home_word, place_at};
 
-/// Puts the values of the sealed places among `states`, the first of which is that of place `first`,
-/// into their home words and syncs; then clears their commit bytes and syncs. The second layout of so
-/// many words begins at the offset `at`. Until the second sync went well the commit bytes may be found
-/// set, which is no harm: the values stand in the home words already.
+/// Writes the values of the sealed places among `states` into their home words and syncs, then clears their
+/// commit bytes and syncs. The first of `states` is that of place `first`. The second layout begins at the
+/// offset `at` and has so many words. Before the second sync is done a crash may leave commit bytes set. This
+/// does no harm, because the values are in the home words already.
 pub(crate) fn roll_forward<D: Disk>(
     disk: &mut D,
     at: u64,
@@ -53,7 +55,7 @@ fn write_homes<D: Disk>(disk: &mut D, at: u64, states: &[PlaceState]) -> Result<
     ensures later { Later (D.facts disk.old) (D.facts disk.new) }
     ensures touched { (words : ℕ) → HasHomes (D.facts disk.old) at words → AreBelow words states.now
         → Touched (Behind at (InHomes states.now)) (D.facts disk.old) (D.facts disk.new) }
-    ensures rest { OnOk result (IsTrue (D.facts disk.old).honest → IsAtRest (D.facts disk.new)) }
+    ensures rest { OnOk result (IsTrue (D.facts disk.old).honest → IsSynced (D.facts disk.new)) }
     ensures values { OnOk result ((words : ℕ) → HasHomes (D.facts disk.old) at words → AreBelow words states.now → (addr : ℕ) → addr < words
         → home (drop at (D.facts disk.new).reads) addr
         ≡ all_over (kept_of states.now) (length states.now) addr (home (drop at (D.facts disk.old).reads) addr)) }
@@ -108,7 +110,7 @@ fn clear_commits<D: Disk>(
     ensures later { Later (D.facts disk.old) (D.facts disk.new) }
     ensures touched { IsTrue (D.facts disk.old).honest → Fits (D.facts disk.old) (at + layout.place_at Second words (first + length states.now))
         → Touched (Behind at (AtCommits words first states.now)) (D.facts disk.old) (D.facts disk.new) }
-    ensures rest { OnOk result (IsTrue (D.facts disk.old).honest → IsAtRest (D.facts disk.new)) }
+    ensures rest { OnOk result (IsTrue (D.facts disk.old).honest → IsSynced (D.facts disk.new)) }
     ensures shut { OnOk result (IsTrue (D.facts disk.old).honest → Fits (D.facts disk.old) (at + layout.place_at Second words (first + length states.now))
         → (place : ℕ) → place < length states.now → stage_of states.now place ≡ Sealed
         → slice_index (drop at (D.facts disk.new).reads) (layout.place_at Second words (first + place)) ≡ 0) }

@@ -1,30 +1,33 @@
-//! The file itself.
+//! A tenant's open file, its places, and the faults of its calls.
+//!
+//! `opening.rt` makes one, and `calls.rt` has its calls. The fields are known in this crate alone; callers see the
+//! definitions of `specs/File` and `specs/PlaceStates`.
 ghost use Rattle.std.specs.Prelude.{◌≤◌, length};
 ghost use Rattle.mw_words.specs.declared.limits.TheConstants.{MAX_PLACES};
 ghost use Rattle.mw_record.specs.declared.layout.TheConstants.{MAX_FIRST};
 
 use crate::place_states::PlaceState;
 
-/// Why a call on a file did nothing, or not all.
+/// Why a call on a file did nothing, or only a part.
 #[derive(Clone, Copy, Debug, PartialEq, Eq)]
 pub enum FileFault {
     /// The device failed in this call. From now on the file has failed.
     Disk,
-    /// The device failed in an earlier call. Nothing was touched.
+    /// The device failed in an earlier call. This call did nothing.
     Failed,
 }
 
-/// A place of a file, by its number.
+/// The number of a place of a file.
 #[derive(Clone, Copy, Debug, PartialEq, Eq)]
 pub struct Place(pub u16);
 
-/// A tenant's file on a disk, open: its words and its places stand in its second layout, and no call
-/// on it writes a byte of the first. Once a call on the device has failed the file has failed, and is
-/// not touched again until it is opened anew.
+/// A tenant's open file on a disk. Its words and its places are in its second layout, and no call writes a
+/// byte of the first. After a device call has failed, the file has failed: no call touches it until it is
+/// opened again.
 #[derive(Drop)]
 pub struct TenantFile<D> {
     pub(crate) disk: D,
-    /// The offset at which the second layout begins.
+    /// The offset at which the second layout begins, in bytes.
     pub(crate) at: u64,
     pub(crate) words: u16,
     pub(crate) states: Vec<PlaceState>,

@@ -1,4 +1,4 @@
-//! What such a command line asks for, and what is said of one that asks for nothing.
+//! Reads what such a command line asks for, and tells what is wrong with one.
 ghost use Rattle.std.specs.Prelude.{◌≡◌, IfOk};
 
 use clap::error::ErrorKind;
@@ -32,13 +32,14 @@ pub struct AskedFile<'a> {
 }
 
 impl FileCommand {
-    /// Reads the command line `args`, the program's own name first. Nothing is written.
+    /// Reads the command line `args`. Its first argument is the program's own name. Nothing is written if
+    /// there is a file.
     ///
     /// # Errors
     ///
-    /// The exit status, where there is no file to go on with. It is 0 where help or the version is asked for, whose
-    /// text `out` got, or 1 where `out` failed; 2 for a wrong command line, and 1 where memory was refused, of which
-    /// `err` got the text.
+    /// The exit status, if there is no file to go on with. It is 0 if help or the version is asked for and
+    /// `out` got its text, or 1 if `out` failed. It is 2 for a wrong command line, and 1 if memory was
+    /// refused; then `err` got the text.
     pub fn read<'a, O: Write, E: Write>(
         &self,
         alloc: Global,
@@ -78,7 +79,7 @@ impl FileCommand {
         Ok(command.arg(switch)?.arg(file)?)
     }
 
-    /// Writes what clap found, and gives the exit status that tells it.
+    /// Writes what clap found. Gives its exit status.
     fn tell<O: Write, E: Write>(&self, fault: &clap::Error, out: &mut O, err: &mut E) -> u8 {
         if fault.kind() == ErrorKind::OutOfMemory {
             let _ = writeln!(err, "{}: memory", self.name);

@@ -1,4 +1,7 @@
-//! The command line of a program that takes one file and may be given one switch: `NAME [--SWITCH] FILE`.
+//! Reads the command line of a program that takes one file and may be given one switch: `NAME [--SWITCH]
+//! FILE`.
+//!
+//! Used by: mw_show, mw_player.
 #![tactic(auto)]
 
 mod command;

@@ -1,4 +1,4 @@
-//! The book of a tenant's file, of whose places one is used, and whose device fails.
+//! Tests the book of a tenant's file, one place of which is used, on a device that fails.
 use crate::file_tests::{MEMORY, change, disk_with, new_bytes};
 use crate::same::same;
 use mw_book::{Book, Filed};
@@ -9,15 +9,15 @@ use mw_words::is_change;
 use std::alloc::Global;
 use std::process::Abort;
 
-/// A disk with a new file of two words and two places, of which the call with this number fails. The first
-/// seven are those of its opening.
+/// Makes a disk with a new file of two words and two places, whose call of this number fails. The first
+/// seven calls are those of its opening.
 fn failing_disk<R: Abort + AllocGlobal>(rt: &R, number: u64) -> MemDisk {
     let mut disk = disk_with(rt, &new_bytes(rt, 2, 2));
     disk.fail_next(number).expect(rt, MEMORY);
     disk
 }
 
-/// The book of the file on a disk, one place of which is used. None where the file doesn't open.
+/// Makes the book of the file on a disk, with one place used. Gives None if the file doesn't open.
 fn book_on(alloc: Global, disk: MemDisk) -> Option<Book<MemDisk>> {
     match TenantFile::open(alloc, disk) {
         Ok(opened) => {
@@ -32,7 +32,7 @@ fn book_on(alloc: Global, disk: MemDisk) -> Option<Book<MemDisk>> {
     }
 }
 
-/// How a prepare of a change of word 1 ends, or `None` where no place is free.
+/// Tells how a prepare of a change of word 1 ends, or gives `None` if no place is free.
 fn prepare(book: &mut Book<MemDisk>) -> Option<Filed> {
     let entries = change(&[(1, 5)]);
     if !book.has_failed() && !(book.has_place() && is_change(&entries, book.words() as usize)) {
@@ -41,7 +41,7 @@ fn prepare(book: &mut Book<MemDisk>) -> Option<Filed> {
     Some(book.call(Call::Prepare, 3, &entries))
 }
 
-/// How two prepares end. None where the file doesn't open.
+/// Tells how two prepares end. Gives None if the file doesn't open.
 fn two_prepares(alloc: Global, disk: MemDisk) -> Option<[Option<Filed>; 2]> {
     let mut book = book_on(alloc, disk)?;
     let first = prepare(&mut book);

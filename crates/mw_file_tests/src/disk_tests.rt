@@ -1,3 +1,4 @@
+//! Tests disks in memory, and disks over files.
 use crate::file_tests::{MEMORY, disk_with};
 use crate::same::same;
 use mw_disk::*;
@@ -25,20 +26,20 @@ fn four_bytes(disk: &mut MemDisk) -> Result<[u8; 4], DiskFault> {
     Ok(out)
 }
 
-/// What a crash of this disk leaves, with these torn bytes, is just that.
+/// A crash of this disk with these torn bytes leaves just this.
 fn leaves<R: Abort + AllocGlobal>(rt: &R, disk: &MemDisk, torn: &[u8], left: &[u8]) {
     let found = disk.crash(torn).expect(rt, MEMORY);
     same(rt, &found.as_slice(), &left);
 }
 
-/// A disk of the bytes 1 to 4, of whose calls these fail.
+/// Makes a disk of the bytes 1 to 4, whose calls of these numbers fail.
 fn disk_of_four<R: Abort + AllocGlobal>(rt: &R, script: &[u64]) -> MemDisk {
     let bytes = [1, 2, 3, 4].to_vec(rt.alloc()).expect(rt, MEMORY);
     let script = script.to_vec(rt.alloc()).expect(rt, MEMORY);
     MemDisk::new(rt.alloc(), bytes, script).expect(rt, MEMORY)
 }
 
-/// What a disk of four bytes answers to its length, to a sync, to writes at 1, behind its end and at 4, and
+/// What a disk of four bytes answers to its length, to a sync, to writes at 1, after its end and at 4, and
 /// to a read between them.
 type Answers = (
     Result<u64, DiskFault>,
@@ -70,7 +71,7 @@ fn a_disk_in_memory_fails_where_its_script_says(rt: HostRuntime) {
     crashes_by_script(&rt, &disk);
 }
 
-/// Crashes of the disk whose script was followed leave its writes, and what was torn of them.
+/// Crashes of the disk that followed its script leave its writes, and what was torn of them.
 fn crashes_by_script<R: Abort + AllocGlobal>(rt: &R, disk: &MemDisk) {
     leaves(rt, disk, &[], &[1, 9, 9, 4, 0, 0, 7]);
     leaves(rt, disk, &[10, 11, 12], &[1, 10, 11, 4, 12, 0, 7]);
@@ -78,13 +79,13 @@ fn crashes_by_script<R: Abort + AllocGlobal>(rt: &R, disk: &MemDisk) {
     leaves(rt, disk, &torn, &[1, 10, 11, 4, 12, 13, 14]);
 }
 
-/// Two writes, of which the second is told to fail.
+/// Makes two writes, of which the second must fail.
 fn write_twice(disk: &mut MemDisk) -> [Result<(), DiskFault>; 2] {
     let first = disk.write_at(0, &[5]);
     [first, disk.write_at(5, &[6])]
 }
 
-/// A sync, a read of more bytes than there are, and a write for which there is not so much memory.
+/// Makes a sync, a read of more bytes than there are, and a write for which there is not enough memory.
 fn ask_too_much(disk: &mut MemDisk) -> [Result<(), DiskFault>; 3] {
     let synced = disk.sync();
     let read = disk.read_at(3, &mut [0; 2]);
@@ -101,7 +102,7 @@ fn fails_when_told<R: Abort + AllocGlobal>(rt: &R, disk: &mut MemDisk) {
     leaves(rt, disk, &[7, 8], &[5, 2, 3, 4]);
 }
 
-/// Two writes, of which the second comes when the disk has stopped.
+/// Makes two writes, of which the second comes after the disk has stopped.
 fn write_past_the_stop(disk: &mut MemDisk) -> [Result<(), DiskFault>; 2] {
     disk.stop_next(1);
     let first = disk.write_at(1, &[9]);
@@ -127,13 +128,13 @@ fn a_disk_in_memory_fails_and_stops_when_told(rt: HostRuntime) {
     same(&rt, &disk.faults(), &4);
 }
 
-/// The path of a file of this process alone.
+/// Gives the path of a file that only this process uses.
 fn path_of_test(rt: &HostRuntime) -> Result<PathBuf, Fail> {
     let name = format!(in rt.alloc(); "mw_disk-test-{}", process::id(rt.process()))?;
     Ok(env::temp_dir(rt)?.join(rt.alloc(), name.as_str())?)
 }
 
-/// A new file, open for both, whose name is gone.
+/// Makes a new file, open for reading and writing, and removes its name.
 fn nameless_file(rt: &HostRuntime) -> Result<File, Fail> {
     let path = path_of_test(rt)?;
     let mut options = OpenOptions::new();
@@ -143,7 +144,7 @@ fn nameless_file(rt: &HostRuntime) -> Result<File, Fail> {
     Ok(file)
 }
 
-/// What a disk of seven bytes answers to a read past them, and to writes past every file's end.
+/// Gives what a disk of seven bytes answers to a read past them, and to writes past every file's end.
 fn go_too_far<D: Disk>(disk: &mut D) -> [Result<(), DiskFault>; 3] {
     let read = disk.read_at(4, &mut [0; 4]);
     let last = disk.write_at(u64::MAX, b"a");
@@ -167,7 +168,7 @@ fn a_disk_in_memory_and_one_over_a_file_are_used_alike(rt: HostRuntime) -> Resul
     Ok(())
 }
 
-// A file of 8 bytes, of which each call takes one, and every third call is interrupted.
+// A file of 8 bytes. Each call takes one byte, and every third call is interrupted.
 #[derive(Drop)]
 struct SlowFile {
     bytes: Cell<[u8; 8]>,
@@ -230,7 +231,7 @@ impl OpenFile for SlowFile {
     }
 }
 
-/// A slow file of zeros.
+/// Makes a slow file of zeros.
 fn slow_file() -> SlowFile {
     SlowFile {
         bytes: Cell::new([0; 8]),
@@ -239,14 +240,15 @@ fn slow_file() -> SlowFile {
     }
 }
 
-/// Writes that are read again, at 0, 3 and 4.
+/// Writes at 0, 3 and 4, and reads each again.
 fn write_and_read_thrice<D: Disk>(disk: &mut D) -> [Result<[u8; 4], DiskFault>; 3] {
     let first = write_and_read(disk, 0, b"abcd");
     let second = write_and_read(disk, 3, b"abcd");
     [first, second, write_and_read(disk, 4, b"abcd")]
 }
 
-/// A write and a read that end behind the last of eight bytes: a write takes none there, and a read gives none.
+/// Makes a write and a read that end after the last of eight bytes. A write takes none there, and a read
+/// gives none.
 fn reach_behind<D: Disk>(disk: &mut D) -> [Result<(), DiskFault>; 2] {
     let written = disk.write_at(6, b"abc");
     [written, disk.read_at(6, &mut [0; 3])]

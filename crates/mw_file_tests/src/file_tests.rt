@@ -1,3 +1,4 @@
+//! Tests the calls on a tenant's file, also with a crash in each. Other tests of this crate use the disks here.
 ghost use Rattle.std.specs.Prelude.{◌≡◌, ◌≤◌, ◌==◌, true};
 ghost use Rattle.mw_words.specs.declared.limits.TheConstants.{MAX_WORDS};
 ghost use Rattle.mw_record.specs.declared.layout.TheConstants.{FIRST_PLACES};
@@ -11,17 +12,17 @@ use mw_words::{Entries, Entry, is_change};
 use std::alloc::Global;
 use std::process::Abort;
 
-/// A crash leaves what was written, also where it was not synced.
+/// A crash leaves what was written, also if it was not synced.
 pub(crate) const WRITTEN: &[u8] = &[];
 
 /// A crash leaves zeros in what was not synced.
 pub(crate) const ZEROS: &[u8] = &[0x00, 0x00, 0x00, 0x00];
 
-/// A crash leaves ones there.
+/// A crash leaves ones in what was not synced.
 pub(crate) const ONES: &[u8] = &[0xff, 0xff, 0xff, 0xff];
 
-/// Bytes that a crash leaves, over and over, in what was not synced: these, and a mixture that begins with a
-/// clear commit byte or with a set one.
+/// Bytes that a crash leaves, again and again, in what was not synced: these three, and mixtures that begin
+/// with a clear commit byte or with a set one.
 pub(crate) const TORN: [&[u8]; 5] = [
     WRITTEN,
     ZEROS,
@@ -30,10 +31,10 @@ pub(crate) const TORN: [&[u8]; 5] = [
     &[0xa5, 0xff, 0x5a, 0x00],
 ];
 
-/// What a test says that is refused memory.
+/// What a test says if memory is refused.
 pub(crate) const MEMORY: &str = "memory";
 
-/// The bytes of a new file, all of whose words are 0. Its opening gives it twice as many places.
+/// Makes the bytes of a new file, with all words 0. Its opening gives it twice as many places.
 pub(crate) fn new_bytes<R: Abort + AllocGlobal>(rt: &R, words: u16, places: u16) -> Vec<u8>
     requires some_word { 1 ≤ words }
     requires words_fit { words ≤ MAX_WORDS }
@@ -48,22 +49,22 @@ pub(crate) fn new_bytes<R: Abort + AllocGlobal>(rt: &R, words: u16, places: u16)
     bytes
 }
 
-/// A disk of these bytes.
+/// Makes a disk of these bytes.
 pub(crate) fn disk_with<R: Abort + AllocGlobal>(rt: &R, bytes: &[u8]) -> MemDisk {
     let bytes = bytes.to_vec(rt.alloc()).expect(rt, MEMORY);
     MemDisk::new(rt.alloc(), bytes, Vec::new(rt.alloc())).expect(rt, MEMORY)
 }
 
-/// How a device fails after so many calls that go well.
+/// Says how a device fails after so many successful calls.
 #[derive(Clone, Copy, Debug, PartialEq, Eq)]
 pub(crate) enum Trouble {
-    /// The next call alone fails.
+    /// Only the next call fails.
     Once,
     /// Every further call fails, and changes nothing.
     Stop,
 }
 
-/// A disk of these bytes that has trouble after so many calls.
+/// Makes a disk of these bytes that has trouble after so many calls.
 pub(crate) fn troubled<R: Abort + AllocGlobal>(
     rt: &R,
     bytes: &[u8],
@@ -78,7 +79,7 @@ pub(crate) fn troubled<R: Abort + AllocGlobal>(
     disk
 }
 
-/// These torn bytes over and over, longer than any one write.
+/// Repeats these torn bytes, to more than any one write has.
 pub(crate) fn over_and_over<R: Abort + AllocGlobal>(rt: &R, torn: &[u8]) -> Vec<u8> {
     let mut bytes = Vec::new(rt.alloc());
     for _ in 0..300 {
@@ -87,7 +88,7 @@ pub(crate) fn over_and_over<R: Abort + AllocGlobal>(rt: &R, torn: &[u8]) -> Vec<
     bytes
 }
 
-/// How an opening ends, and the disk then.
+/// Tells how an opening ends, and gives the disk then.
 pub(crate) fn opening(alloc: Global, disk: MemDisk) -> (Result<Vec<u64>, OpenFault>, MemDisk) {
     match TenantFile::open(alloc, disk) {
         Ok(opened) => {
@@ -104,7 +105,7 @@ pub(crate) fn opening(alloc: Global, disk: MemDisk) -> (Result<Vec<u64>, OpenFau
 /// The words of a file that has two.
 pub(crate) type Words = [u64; 2];
 
-/// The two words among these, if there are two.
+/// Gives the two words, if there are two.
 pub(crate) fn two_of(words: &[u64]) -> Option<Words> {
     match words {
         [first, second] => Some([*first, *second]),
@@ -112,7 +113,7 @@ pub(crate) fn two_of(words: &[u64]) -> Option<Words> {
     }
 }
 
-/// The words of a file of two words with these bytes, if it opens.
+/// Gives the words of a file of two words with these bytes, if it opens.
 pub(crate) fn words_of<R: Abort + AllocGlobal>(rt: &R, bytes: &[u8]) -> Option<Words> {
     let (ended, _) = opening(rt.alloc(), disk_with(rt, bytes));
     match ended {
@@ -121,7 +122,7 @@ pub(crate) fn words_of<R: Abort + AllocGlobal>(rt: &R, bytes: &[u8]) -> Option<W
     }
 }
 
-/// The file on a disk, if it opens.
+/// Gives the file on a disk, if it opens.
 pub(crate) fn opened(alloc: Global, disk: MemDisk) -> Option<TenantFile<MemDisk>> {
     match TenantFile::open(alloc, disk) {
         Ok(opened) => {
@@ -132,7 +133,7 @@ pub(crate) fn opened(alloc: Global, disk: MemDisk) -> Option<TenantFile<MemDisk>
     }
 }
 
-/// The change that writes these values where 0 stood.
+/// Makes the change that expects 0 and writes these values.
 pub(crate) fn change(writes: &[(u16, u64)]) -> Entries {
     let mut entries = Entries::new();
     for write in writes {
@@ -145,7 +146,7 @@ pub(crate) fn change(writes: &[(u16, u64)]) -> Entries {
     entries
 }
 
-/// Whether a place is so far.
+/// Tells whether a place is at this stage.
 fn is_at(states: &[PlaceState], place: Place, stage: Stage) -> bool
     ensures { result ≡ true → stage_of states.now place.0 ≡ stage }
 {
@@ -155,7 +156,7 @@ fn is_at(states: &[PlaceState], place: Place, stage: Stage) -> bool
     }
 }
 
-/// Whether no place is sealed.
+/// Tells whether no place is sealed.
 fn none_sealed(states: &[PlaceState]) -> bool
     ensures { result ≡ (commit_writes states.now == 0) }
 {
@@ -167,7 +168,7 @@ fn none_sealed(states: &[PlaceState]) -> bool
     true
 }
 
-/// Whether this place may be sealed, as is sure where no other one is.
+/// Gives true only if this place may be sealed: no other one is sealed.
 fn may_seal(states: &[PlaceState], place: Place) -> bool
     ensures { result ≡ true → MaySeal states.now place.0 }
 {
@@ -210,8 +211,8 @@ fn cancel(file: &mut TenantFile<MemDisk>, place: Place) -> Option<()> {
     }
 }
 
-/// A file of three words, made with so many places, with the change of word 0 prepared in its first
-/// place and that of the others sealed in its second.
+/// Makes a file of three words with so many places. The change of word 0 is prepared in its first place,
+/// and that of the others is sealed in its second.
 pub(crate) fn with_two_records<R: Abort + AllocGlobal>(rt: &R, places: u16) -> TenantFile<MemDisk>
     requires some_place { 1 ≤ places }
     requires places_fit { places ≤ FIRST_PLACES }
@@ -229,7 +230,7 @@ pub(crate) fn with_two_records<R: Abort + AllocGlobal>(rt: &R, places: u16) -> T
     file
 }
 
-/// What a crash with these torn bytes leaves of a file.
+/// Gives what a crash with these torn bytes leaves of a file.
 pub(crate) fn left<R: Abort + AllocGlobal>(
     rt: &R,
     file: &TenantFile<MemDisk>,
@@ -238,7 +239,7 @@ pub(crate) fn left<R: Abort + AllocGlobal>(
     file.crash(torn).expect(rt, MEMORY)
 }
 
-/// What a file without a free place answers to a change, to the cancel of the first place, and to the
+/// Gives what a file without a free place answers to a change, to the cancel of the first place, and to the
 /// change again.
 fn cancel_between(
     file: &mut TenantFile<MemDisk>,
@@ -260,12 +261,12 @@ fn a_cancelled_place_is_taken_again(rt: HostRuntime) {
     same(&rt, &told, &(None, Some(()), Some(Ok(Place(0)))));
 }
 
-/// The change of both words of a file, from 0 to 1 and 2.
+/// Makes the change of both words of a file, from 0 to 1 and 2.
 fn both() -> Entries {
     change(&[(0, 1), (1, 2)])
 }
 
-/// A file of two words whose disk has trouble so many calls after its opening.
+/// Makes a file of two words whose disk has trouble so many calls after its opening.
 pub(crate) fn troubled_file<R: Abort + AllocGlobal>(
     rt: &R,
     calls: u8,
@@ -280,8 +281,8 @@ pub(crate) fn troubled_file<R: Abort + AllocGlobal>(
     file
 }
 
-/// What a file answers to prepare, seal and settle of a change in its first place, of which each is
-/// asked where it may be.
+/// What a file answers to prepare, seal and settle of a change in its first place. Each is asked if it may
+/// be.
 pub(crate) type Answers = (
     Option<Result<Place, FileFault>>,
     Option<Result<(), FileFault>>,
@@ -295,7 +296,7 @@ pub(crate) fn answers(file: &mut TenantFile<MemDisk>) -> Answers {
     (prepared, sealed, settled)
 }
 
-/// The answers of a file whose device has trouble after so many calls, and those that come then.
+/// Gives the answers of a file whose device has trouble after so many calls, and the answers after those.
 pub(crate) fn answers_to(calls: u8) -> (Answers, Answers) {
     let (first, well) = (Some(Ok(Place(0))), Some(Ok(())));
     let (fault, failed) = (Some(Err(FileFault::Disk)), Some(Err(FileFault::Failed)));
@@ -314,7 +315,7 @@ pub(crate) fn answers_to(calls: u8) -> (Answers, Answers) {
     }
 }
 
-/// Whether a crash leaves the commit byte set where the device had trouble after so many calls.
+/// Tells whether a crash leaves the commit byte set, if the device had trouble after so many calls.
 fn is_sealed(calls: u8, trouble: Trouble, torn: &[u8]) -> bool {
     match (calls, trouble) {
         (0..=1, _) | (2, Trouble::Stop) => false,
@@ -324,7 +325,7 @@ fn is_sealed(calls: u8, trouble: Trouble, torn: &[u8]) -> bool {
     }
 }
 
-/// The words that a crash leaves, with these torn bytes, if the file opens then.
+/// Gives the words that a crash with these torn bytes leaves, if the file then opens.
 pub(crate) fn words_left<R: Abort + AllocGlobal>(
     rt: &R,
     file: &TenantFile<MemDisk>,
@@ -333,13 +334,13 @@ pub(crate) fn words_left<R: Abort + AllocGlobal>(
     words_of(rt, &left(rt, file, torn))
 }
 
-/// How many device calls of a file have failed.
+/// Gives how many device calls of a file have failed.
 fn faults<R: Abort + AllocGlobal>(rt: &R, file: &TenantFile<MemDisk>) -> u64 {
     let copy = file.copy(rt.alloc()).expect(rt, MEMORY);
     copy.into_disk().faults()
 }
 
-/// What a file answers, and how many device calls have failed then.
+/// Gives what a file answers, and how many device calls have then failed.
 fn answers_and_faults<R: Abort + AllocGlobal>(
     rt: &R,
     file: &mut TenantFile<MemDisk>,
@@ -348,7 +349,8 @@ fn answers_and_faults<R: Abort + AllocGlobal>(
     (told, faults(rt, file))
 }
 
-/// The words that a crash with these torn bytes leaves where the device had trouble after so many calls.
+/// Gives the words that a crash with these torn bytes leaves, if the device had trouble after so many
+/// calls.
 fn words_after(calls: u8, trouble: Trouble, torn: &[u8]) -> Words {
     if is_sealed(calls, trouble, torn) {
         [1, 2]
@@ -371,16 +373,16 @@ fn leaves_words<R: Abort + AllocGlobal>(
     }
 }
 
-/// What a file is to answer whose device has trouble after so many calls, twice, each time with how many
-/// calls have failed then.
+/// Gives what a file whose device has trouble after so many calls must answer, twice, each time with how
+/// many calls have then failed.
 fn wanted_twice(calls: u8) -> [(Answers, u64); 2] {
     let (first, again) = answers_to(calls);
     let faults = if calls < 9 { 1 } else { 0 };
     [(first, faults), (again, 1)]
 }
 
-/// A file whose device has trouble after so many calls answers as it should, twice, and crashes leave the
-/// right words then.
+/// A file whose device has trouble after so many calls answers as it must, twice. Then crashes leave the
+/// right words.
 fn crash_in_a_call<R: Abort + AllocGlobal>(rt: &R, calls: u8, trouble: Trouble) {
     let mut file = troubled_file(rt, calls, trouble);
     let first = answers_and_faults(rt, &mut file);

@@ -1,5 +1,5 @@
-//! Tests of the disks, of the file's layout, of a tenant's file and of its book. They stand apart from the crates that
-//! they test, so that those are proved once.
+//! Tests the disks, the file's layout, a tenant's file and its book. The tests are apart from the crates
+//! that they test, so that those are proved once.
 #![tactic(auto)]
 
 #[cfg(test)]

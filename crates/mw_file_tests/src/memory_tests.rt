@@ -1,4 +1,5 @@
-//! A tenant's file on a disk in memory: it is copied, its calls are told to fail, and refused memory.
+//! Tests a tenant's file on a disk in memory: it is copied, its calls are told to fail, and memory is
+//! refused.
 use crate::file_tests::{
     Answers, MEMORY, Words, answers, answers_to, disk_with, left, new_bytes, opened, words_left,
 };
@@ -7,27 +8,27 @@ use mw_disk::{Disk, DiskFault, MemDisk};
 use mw_file::*;
 use std::process::Abort;
 
-/// The file of two words on this disk, which is a new one.
+/// Gives the file of two words on this disk, which is a new one.
 fn file_on<R: Abort + AllocGlobal>(rt: &R, disk: MemDisk) -> TenantFile<MemDisk> {
     opened(rt.alloc(), disk).expect(rt, "the file opens")
 }
 
-/// A disk with a new file of two words and one place.
+/// Makes a disk with a new file of two words and one place.
 fn new_disk<R: Abort + AllocGlobal>(rt: &R) -> MemDisk {
     disk_with(rt, &new_bytes(rt, 2, 1))
 }
 
-/// A new file of two words and one place.
+/// Makes a new file of two words and one place.
 fn new_file<R: Abort + AllocGlobal>(rt: &R) -> TenantFile<MemDisk> {
     file_on(rt, new_disk(rt))
 }
 
-/// The answers of a file on whose device all goes well.
+/// Gives the answers of a file whose device never fails.
 fn all_well() -> Answers {
     (Some(Ok(Place(0))), Some(Ok(())), Some(Ok(())))
 }
 
-/// What a file answers, and the words that a crash leaves then, with these torn bytes and with those.
+/// Gives what a file answers, and the words that a crash then leaves with each of these torn bytes.
 fn answers_and_words<R: Abort + AllocGlobal>(
     rt: &R,
     file: &mut TenantFile<MemDisk>,
@@ -72,7 +73,7 @@ fn the_earlier_of_two_stops_counts(rt: HostRuntime) {
 #[test]
 fn a_call_that_is_refused_memory_fails(rt: HostRuntime) {
     let mut disk = new_disk(&rt);
-    // There is not so much memory. The next calls go well.
+    // There is not enough memory. The next calls succeed.
     let written = disk.write_at(1 << 63, &[1]);
     let mut refused = file_on(&rt, disk);
     let count = refused.refused();

@@ -1,5 +1,7 @@
-//! The opening of a file: what it finds, what is damaged, and what crashes of it leave. A file that is in
-//! its first layout is given its second one.
+//! Tests the opening of a file: what it finds, what is damaged, and what crashes of it leave. It gives a
+//! file in its first layout the second one.
+//!
+//! Used by: `power_tests`.
 ghost use Rattle.std.specs.Prelude.{◌≤◌};
 ghost use Rattle.mw_record.specs.declared.layout.TheConstants.{FIRST_PLACES};
 
@@ -13,14 +15,14 @@ use mw_file::OpenFault;
 use std::alloc::Global;
 use std::process::Abort;
 
-/// A new file of two words and two places, but that its first word is 5.
+/// Makes a new file of two words and two places, whose first word is 5.
 fn bytes_with_a_word<R: Abort + AllocGlobal>(rt: &R) -> Vec<u8> {
     let mut bytes = new_bytes(rt, 2, 2);
     set_bytes(&mut bytes, &[(32, 5)]);
     bytes
 }
 
-/// These bytes, with some of them changed.
+/// Changes some of these bytes.
 fn set_bytes(bytes: &mut Vec<u8>, changes: &[(usize, u8)]) {
     for change in changes {
         if let Some(byte) = bytes.get_mut(change.0) {
@@ -29,7 +31,7 @@ fn set_bytes(bytes: &mut Vec<u8>, changes: &[(usize, u8)]) {
     }
 }
 
-/// The number of places of the file on this disk, and whether one of them is free, if it opens.
+/// Gives the number of places of the file on this disk, and whether one of them is free, if the file opens.
 fn places_on(alloc: Global, disk: MemDisk) -> Option<(u16, bool)> {
     let file = opened(alloc, disk)?;
     Some((file.places(), file.has_place()))
@@ -43,8 +45,8 @@ fn a_new_file_opens_with_all_places_free(rt: HostRuntime) {
     same(&rt, &places, &Some((4, true)));
 }
 
-/// The fault of an opening whose device has trouble after so many calls, if it has one, and how many
-/// calls have failed then.
+/// Gives the fault of an opening whose device has trouble after so many calls, if it has one, and how many
+/// calls have then failed.
 fn fault_of<R: Abort + AllocGlobal>(
     rt: &R,
     bytes: &[u8],
@@ -71,7 +73,7 @@ fn each_device_call_of_an_opening_fails(rt: HostRuntime) {
     }
 }
 
-/// The file of two words and so many places with these bytes changed, of which so many are kept.
+/// Makes the file of two words and so many places, with these bytes changed and so many bytes kept.
 fn damaged_bytes<R: Abort + AllocGlobal>(
     rt: &R,
     places: u16,
@@ -97,8 +99,8 @@ const OVERLAP: [(usize, u8); 6] = [
     (200, 1),
 ];
 
-/// Damaged files: the number of places, the bytes that are changed, how many bytes are kept, and the
-/// number of the damage.
+/// Damaged files: the number of places, the changed bytes, how many bytes are kept, and the number of the
+/// damage.
 const DAMAGED: [(u16, &[(usize, u8)], usize, u8); 11] = [
     (1, &[(0, 0x58)], 184, 1),
     (1, &[(0, 0)], 184, 1),
@@ -113,8 +115,8 @@ const DAMAGED: [(u16, &[(usize, u8)], usize, u8); 11] = [
     (1, &[], 31, 6),
 ];
 
-/// The number of the damage that an opening of these bytes ends with, 0 where it ends otherwise, how
-/// many calls failed, and what a crash leaves then.
+/// Gives the number of the damage with which an opening of these bytes ends, 0 if it ends otherwise; how
+/// many calls failed; and what a crash then leaves.
 fn damage_of<R: Abort + AllocGlobal>(rt: &R, bytes: &[u8]) -> (u8, u64, Vec<u8>) {
     let (ended, disk) = opening(rt.alloc(), disk_with(rt, bytes));
     let found = match ended {
@@ -134,8 +136,8 @@ fn damaged_files(rt: HostRuntime) {
     }
 }
 
-/// How an opening of these bytes ends whose device stops after so many calls: with these words or not, or
-/// with a fault.
+/// Tells how an opening of these bytes ends if its device stops after so many calls: with these words or
+/// not, or with a fault.
 fn ended_after<R: Abort + AllocGlobal>(
     rt: &R,
     bytes: &[u8],
@@ -172,8 +174,8 @@ fn add_crashes<R: Abort + AllocGlobal>(
     }
 }
 
-/// What crashes with these torn bytes leave after openings of a file, each with such a trouble at another
-/// call.
+/// Gives what crashes with these torn bytes leave after openings of a file, each with one of these troubles
+/// at another call.
 fn left_by_openings<R: Abort + AllocGlobal>(
     rt: &R,
     bytes: &[u8],
@@ -190,15 +192,15 @@ fn left_by_openings<R: Abort + AllocGlobal>(
     images
 }
 
-/// What a crash leaves of a file whose change is sealed: the device stops before settle's first call.
+/// Gives what a crash leaves of a file whose change is sealed: the device stops before settle's first call.
 fn sealed_image<R: Abort + AllocGlobal>(rt: &R) -> Vec<u8> {
     let mut file = troubled_file(rt, 4, Trouble::Stop);
     same(rt, &answers(&mut file), &answers_to(4).0);
     left(rt, &file, &[])
 }
 
-/// How an opening of these bytes ends whose device has trouble after so many calls, and how many calls have
-/// failed then.
+/// Tells how an opening of these bytes ends if its device has trouble after so many calls, and how many
+/// calls have then failed.
 fn opening_with_trouble<R: Abort + AllocGlobal>(
     rt: &R,
     image: &[u8],
@@ -213,7 +215,7 @@ fn opening_with_trouble<R: Abort + AllocGlobal>(
     (words, disk.faults())
 }
 
-/// How openings of a sealed file's bytes end, each with trouble at another call.
+/// Opens a sealed file's bytes, each time with trouble at another call, and checks how that ends.
 fn open_with_trouble<R: Abort + AllocGlobal>(rt: &R, image: &[u8]) {
     for calls in 0..=7 {
         let wanted = if calls < 7 {
@@ -235,13 +237,13 @@ fn have_words<R: Abort + AllocGlobal>(rt: &R, images: &[Vec<u8>], words: Words) 
     }
 }
 
-/// What any crash leaves in an opening of a file with these bytes opens and has these words.
+/// What any crash during an opening of a file with these bytes leaves, opens and has these words.
 fn keeps_words<R: Abort + AllocGlobal>(rt: &R, image: &[u8], words: Words) {
     let images = left_by_openings(rt, image, &[Trouble::Once, Trouble::Stop], &TORN);
     have_words(rt, &images, words);
 }
 
-/// So does what any crash leaves in an opening of what a stop left in a first one.
+/// The same holds of a crash during an opening of what a stop left in a first opening.
 fn keeps_words_twice<R: Abort + AllocGlobal>(rt: &R, image: &[u8], words: Words) {
     keeps_words(rt, image, words);
     for once in &left_by_openings(rt, image, &[Trouble::Stop], &[&[0xa5, 0xff, 0x5a, 0x00]]) {
@@ -256,14 +258,14 @@ fn opening_sweep(rt: HostRuntime) {
     keeps_words_twice(&rt, &image, [1, 2]);
 }
 
-/// A file in its first layout, of two words and one place whose record is open and sets word 0 to 5.
+/// Makes a file in its first layout, of two words and one place. Its record is open and sets word 0 to 5.
 pub(crate) fn old_file<R: Abort + AllocGlobal>(rt: &R) -> Vec<u8> {
     let mut bytes = new_bytes(rt, 2, 1);
     set_bytes(&mut bytes, &[(48, 0xa5), (49, 1), (64, 5)]);
     bytes
 }
 
-/// The same file with its second layout behind the first: words 5 and 0, two places, both closed.
+/// Makes the same file with its second layout after the first: words 5 and 0, two places, both closed.
 fn migrated<R: Abort + AllocGlobal>(rt: &R) -> Vec<u8> {
     let mut bytes = old_file(rt);
     set_bytes(&mut bytes, &[(15, 0xa5), (16, 0xb8)]);
@@ -284,8 +286,7 @@ fn migration(rt: HostRuntime) {
     keeps_words_twice(&rt, &old, [5, 0]);
 }
 
-/// Damages of a second layout: the bytes that are changed, how many bytes are kept, and the number of
-/// the damage.
+/// Damages of a second layout: the changed bytes, how many bytes are kept, and the number of the damage.
 const DAMAGED_SECOND: [(&[(usize, u8)], usize, u8); 3] = [
     (&[(184, 0)], 760, 7),
     (&[], 759, 6),

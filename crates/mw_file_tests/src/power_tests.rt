@@ -1,4 +1,4 @@
-//! The power goes: of a write that wasn't synced a file keeps any part, torn at any byte.
+//! Tests power failures: a file keeps any part of a write that wasn't synced, torn at any byte.
 
 use crate::file_tests::{
     MEMORY, ONES, Trouble, WRITTEN, Words, ZEROS, answers, left, opening, over_and_over, troubled,
@@ -9,7 +9,7 @@ use crate::same::{same, same_at};
 use mw_disk::Disk;
 use std::process::Abort;
 
-/// The second of these bytes from one index up to another, and the first elsewhere.
+/// Gives the second of these bytes from one index up to another, and the first elsewhere.
 fn torn<R: Abort + AllocGlobal>(
     rt: &R,
     kept: &[u8],
@@ -29,7 +29,7 @@ fn torn<R: Abort + AllocGlobal>(
     bytes
 }
 
-/// Whether a file with these bytes opens with one of these lists of words.
+/// Tells whether a file with these bytes opens with one of these lists of words.
 fn opens_with<R: Abort + AllocGlobal>(rt: &R, image: &[u8], may: &[Words]) -> bool {
     match words_of(rt, image) {
         Some(words) => may.contains(&words),
@@ -37,8 +37,8 @@ fn opens_with<R: Abort + AllocGlobal>(rt: &R, image: &[u8], may: &[Words]) -> bo
     }
 }
 
-/// Three files torn at one byte open with one of these lists of words: of the bytes taken one has those
-/// before, one those from there on, one the byte alone.
+/// Three files torn at one byte open with one of these lists of words. One has the new bytes before it, one
+/// has those from there on, and one has only that byte.
 fn torn_at<R: Abort + AllocGlobal>(rt: &R, kept: &[u8], taken: &[u8], cut: usize, may: &[Words]) {
     let parts = [(0, cut), (cut, taken.len()), (cut, cut.saturating_add(1))];
     for (from, to) in parts {
@@ -47,7 +47,8 @@ fn torn_at<R: Abort + AllocGlobal>(rt: &R, kept: &[u8], taken: &[u8], cut: usize
     }
 }
 
-/// Files torn at each byte that differs open with one of these lists of words. How many files these were.
+/// Files torn at each byte that differs open with one of these lists of words. Gives how many files these
+/// were.
 fn torn_anywhere<R: Abort + AllocGlobal>(rt: &R, kept: &[u8], taken: &[u8], may: &[Words]) -> u64 {
     let mut images: u64 = 0;
     for (cut, (before, after)) in kept.iter().zip(taken).enumerate() {
@@ -59,17 +60,17 @@ fn torn_anywhere<R: Abort + AllocGlobal>(rt: &R, kept: &[u8], taken: &[u8], may:
     images
 }
 
-/// What a crash leaves of a file whose device stopped after so many calls of a change, with these torn
-/// bytes.
+/// Gives what a crash with these torn bytes leaves of a file whose device stopped after so many calls of a
+/// change.
 fn left_of_change<R: Abort + AllocGlobal>(rt: &R, calls: u8, torn: &[u8]) -> Vec<u8> {
     let mut file = troubled_file(rt, calls, Trouble::Stop);
     let _ = answers(&mut file);
     left(rt, &file, &over_and_over(rt, torn))
 }
 
-/// The calls of a change behind which something is not synced: how many were made, after how many of these
-/// all was, and what words there may be then. Its nine calls are the record and a sync, the commit byte and
-/// a sync, two words and a sync, the commit byte and a sync.
+/// The calls of a change after which something is not synced: how many were made, after how many of them
+/// all was synced, and what words there may be then. The nine calls are the record and a sync, the commit
+/// byte and a sync, two words and a sync, the commit byte and a sync.
 const UNSYNCED: [(u8, u8, &[Words]); 5] = [
     (1, 0, &[[0, 0]]),
     (3, 2, &[[0, 0], [1, 2]]),
@@ -78,8 +79,8 @@ const UNSYNCED: [(u8, u8, &[Words]); 5] = [
     (8, 7, &[[1, 2]]),
 ];
 
-/// Where the power goes after so many calls of a change, with so many synced, the file keeps any part of the
-/// bytes since, and has one of these lists of words. How many files were tried.
+/// If the power fails after so many calls of a change, with so many synced, the file keeps any part of the
+/// bytes since, and has one of these lists of words. Gives how many files were tried.
 fn torn_change<R: Abort + AllocGlobal>(rt: &R, calls: u8, synced: u8, may: &[Words]) -> u64 {
     let written = left_of_change(rt, calls, WRITTEN);
     let before = left_of_change(rt, synced, WRITTEN);
@@ -101,7 +102,8 @@ fn the_power_goes_in_a_change(rt: HostRuntime) {
     same(&rt, &images, &918);
 }
 
-/// What a crash leaves of an old file whose opening was stopped after so many calls, with these torn bytes.
+/// Gives what a crash with these torn bytes leaves of an old file whose opening was stopped after so many
+/// calls.
 fn left_of_opening<R: Abort + AllocGlobal>(rt: &R, calls: u8, torn: &[u8]) -> Vec<u8> {
     let (_, disk) = opening(
         rt.alloc(),
@@ -110,8 +112,8 @@ fn left_of_opening<R: Abort + AllocGlobal>(rt: &R, calls: u8, torn: &[u8]) -> Ve
     disk.crash(&over_and_over(rt, torn)).expect(rt, MEMORY)
 }
 
-/// Where the power goes after so many calls of the opening of an old file, the file keeps any part of the
-/// bytes since the last sync, and has the words that it had. How many files were tried.
+/// If the power fails after so many calls of the opening of an old file, the file keeps any part of the
+/// bytes since the last sync, and has the words that it had. Gives how many files were tried.
 fn torn_opening<R: Abort + AllocGlobal>(rt: &R, calls: u8) -> u64 {
     let written = left_of_opening(rt, calls, WRITTEN);
     let zeros = left_of_opening(rt, calls, ZEROS);
@@ -123,8 +125,8 @@ fn torn_opening<R: Abort + AllocGlobal>(rt: &R, calls: u8) -> u64 {
     images
 }
 
-/// Where the power goes before the second layout is synced, the old file has any length from its own one on.
-/// How many files were tried.
+/// If the power fails before the second layout is synced, the old file has any length from its own one on.
+/// Gives how many files were tried.
 fn cut_short<R: Abort + AllocGlobal>(rt: &R) -> u64 {
     let written = left_of_opening(rt, 3, WRITTEN);
     let mut images: u64 = 0;

@@ -1,4 +1,4 @@
-//! Files with one fault each, and a file that is read.
+//! Tests files with one fault each, and a file that is read.
 use crate::same::{same, same_at};
 use mw_record::{
     COMMITTED, Damage, Image, MAX_FILE, MAX_FIRST, MAX_SECOND, SECOND_AT, SWITCH_AT, body, decode,
@@ -8,21 +8,21 @@ use mw_words::{Entries, Entry};
 use std::process::Abort;
 use std::test::Fail;
 
-/// A new file, in the first layout, with two words and one record place.
+/// Makes a new file in the first layout, with two words and one record place.
 fn small_file() -> [u8; 184] {
     let mut file = [0; 184];
     file[..32].copy_from_slice(&header(2, 1));
     file
 }
 
-/// A new file with two words and two record places.
+/// Makes a new file with two words and two record places.
 fn file_of_two_places() -> [u8; 320] {
     let mut file = [0; 320];
     file[..32].copy_from_slice(&header(2, 2));
     file
 }
 
-/// A file with the words 5 and 0, whose second layout begins at 184 and has two record places.
+/// Makes a file with the words 5 and 0, whose second layout begins at 184 and has two record places.
 fn switched_file() -> [u8; 760] {
     let mut file = [0; 760];
     file[..32].copy_from_slice(&header(2, 1));
@@ -32,7 +32,7 @@ fn switched_file() -> [u8; 760] {
     file
 }
 
-/// The number of a file's damage, 0 where it has none.
+/// Gives the number of a file's damage, 0 if it has none.
 fn told(bytes: &[u8]) -> u8 {
     match decode(bytes) {
         Ok(_) => 0,
@@ -40,7 +40,7 @@ fn told(bytes: &[u8]) -> u8 {
     }
 }
 
-/// The number of the damage of the small file with one byte changed and so many bytes left.
+/// Gives the number of the damage of the small file with one byte changed and so many bytes left.
 fn told_of_change(at: usize, byte: u8, len: usize) -> u8 {
     let mut file = small_file();
     if at < file.len() {
@@ -49,7 +49,7 @@ fn told_of_change(at: usize, byte: u8, len: usize) -> u8 {
     told(&file[..len.min(184)])
 }
 
-/// A byte of the small file and what it becomes, how many bytes are left, and the number of the damage.
+/// A byte of the small file and its new value, how many bytes are left, and the number of the damage.
 const CHANGES: [(usize, u8, usize, u8); 17] = [
     (0, 0x58, 184, 1),
     (8, 0, 184, 2),
@@ -77,7 +77,7 @@ fn a_change_of_one_byte_is_told(rt: HostRuntime) {
     }
 }
 
-/// The number of the damage of the switched file with two bytes changed and so many bytes left.
+/// Gives the number of the damage of the switched file with two bytes changed and so many bytes left.
 fn told_of_switched(first: (usize, u8), second: (usize, u8), len: usize) -> u8 {
     let mut file = switched_file();
     for (at, byte) in [first, second] {
@@ -88,7 +88,7 @@ fn told_of_switched(first: (usize, u8), second: (usize, u8), len: usize) -> u8 {
     told(&file[..len.min(760)])
 }
 
-/// Two bytes of the switched file and what they become, how many bytes are left, and the number of the
+/// Two bytes of the switched file and their new values, how many bytes are left, and the number of the
 /// damage.
 const SWITCHED_CHANGES: [((usize, u8), (usize, u8), usize, u8); 21] = [
     ((14, 0x58), (24, 0x58), 760, 0),
@@ -126,8 +126,8 @@ fn a_change_of_a_switched_file_is_told(rt: HostRuntime) {
     }
 }
 
-/// A file of two places with an open record in its first, and one in its second whose first byte is this.
-/// Both write address 0.
+/// Makes a file of two places, with an open record in its first, and in its second one whose first byte is
+/// this. Both write address 0.
 fn two_writers(second: u8) -> [u8; 320] {
     let mut file = file_of_two_places();
     file[48] = COMMITTED;
@@ -150,8 +150,8 @@ fn records_are_told(rt: HostRuntime) {
     same(&rt, &told(&two_writers(0x7f)), &0);
 }
 
-/// A file in the first layout with the home words 5 and 0, and one open record, which makes the second
-/// word 7.
+/// Makes a file in the first layout with the home words 5 and 0, and one open record, which makes the
+/// second word 7.
 fn first_with_a_record() -> [u8; 320] {
     let mut file = file_of_two_places();
     file[32] = 5;
@@ -162,7 +162,7 @@ fn first_with_a_record() -> [u8; 320] {
     file
 }
 
-/// The switched file with one open record, which makes the second word 7.
+/// Makes the switched file with one open record, which makes the second word 7.
 fn switched_with_a_record() -> [u8; 760] {
     let mut entries = Entries::new();
     entries.push(Entry {
@@ -176,7 +176,7 @@ fn switched_with_a_record() -> [u8; 760] {
     file
 }
 
-/// The words of an image of two words, its two counts of pairs, and its first pair, if it has one.
+/// Reads an image of two words: its words, its two counts of pairs, and its first pair, if it has one.
 fn read_image(image: &Image<'_>) -> Option<([u64; 2], [u8; 2], (u16, u64))> {
     if image.words() != 2 || image.places() != 2 || image.count(0) == 0 {
         return None;

@@ -1,13 +1,14 @@
+//! Compares what a test found with what it wanted. Used by: the other modules of this crate.
 use std::fmt::Debug;
 use std::process::Abort;
 
-/// What was found is what was wanted. Tests share this comparison, and the text that tells both values
-/// where they differ: a test is proved for the longer the more of these it holds.
+/// Checks that what was found is what was wanted, and tells both values if they differ. Tests share this
+/// comparison, because a test takes longer to prove with each comparison of its own.
 pub(crate) fn same<R: Abort, T: Debug + PartialEq>(rt: &R, found: &T, wanted: &T) {
     assert_eq!(rt; found, wanted);
 }
 
-/// The same of one case of many, which this number tells.
+/// The same for one case of many, which has this number.
 pub(crate) fn same_at<R: Abort, T: Debug + PartialEq>(rt: &R, case: u64, found: &T, wanted: &T) {
     assert_eq!(rt; found, wanted, "at {case}");
 }

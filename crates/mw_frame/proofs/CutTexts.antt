@@ -1,4 +1,5 @@
--- The lines of a list of bytes are the texts between its line feeds, and its first line.
+-- The lines of a list of bytes are the texts between its line feeds; so is its first line. Used by: GivenLines, Ends,
+-- the proofs of texts_are_lines and lines_stay. It may change freely as long as this crate checks.
 use Rattle.std.specs.Prelude.{ℕ, ◌≡◌, ◌+◌, ◌<◌, ◌≤◌, ◌++◌, List, [], ◌∷◌, length, take, drop, map, flat_map}
 use Rattle.std.specs.List.{AllByRecursion, list_all, prefix_len}
 use Rattle.std.proofs.Common.{Bool, true, false, eqb, ltb, get_or, refl, sym, ap, subst, ◌∙◌, inl, inr, arith, append_assoc, append-nil, length-append, one-add}
@@ -11,7 +12,7 @@ use Rattle.mw_words.specs.declared.limits.TheConstants.{MAX_LINE}
 use Rattle.mw_frame.specs.declared.lines.Line.{Line}
 use Rattle.mw_frame.specs.declared.lines.Line.TheVariants.{TooLong}
 use Rattle.mw_frame.specs.Lines.{IsText, is_text_byte, line_feed, lines, lines_behind, text_line}
-use Rattle.mw_frame.specs.Kept.{text_len}
+use Rattle.mw_frame.specs.FeedBytes.{text_len}
 use Rattle.mw_frame.specs.Texts.{with_line_feed, IsCut, EachIsCut, TextsAreLines, TooLongIsLast, LinesStay}
 
 -- ---- one line
@@ -86,7 +87,7 @@ too-long-is-last texts rest each begins =
     each_is_line texts rest (recursion_from_All IsText texts each)
     ∙ ap (λ ls. map text_line texts ++ ls) (ap lines begins.whole ∙ too_long begins.long begins.more begins.no_line_feed begins.long_enough)
 
--- bytes that come behind a text whose line feed hasn't come, cut
+-- bytes that come after a text whose line feed hasn't come, cut
 cut_behind : (text bytes : List ℕ) → IsText text → (texts : List (List ℕ)) × (rest : List ℕ) × IsCut (text ++ bytes) texts rest
 cut_behind text [] is = ([], text, record { whole = append-nil text; each = All-nil IsText; ends = inl is })
 cut_behind text (b ∷ bytes) is = cut_at text b bytes is (is_text_byte b) refl (cut_behind [] bytes no_text) (λ more. cut_behind (text ++ b ∷ []) bytes more)
@@ -159,7 +160,7 @@ text_in_front : (bytes : List ℕ) → list_all is_text_byte (take (text_len byt
 unfolding text_len
 text_in_front bytes = pass_in_front is_text_byte bytes
 
--- what stands before the first line feed, the line feed, and what stands behind it
+-- the bytes before the first line feed, the line feed, and the bytes after it
 split_at_end : (bytes : List ℕ) → text_len bytes < length bytes → bytes ≡ take (text_len bytes) bytes ++ line_feed ∷ drop (text_len bytes + 1) bytes
 unfolding text_len
 split_at_end bytes h =
@@ -167,7 +168,7 @@ split_at_end bytes h =
     sym (take-append-drop (text_len bytes) bytes)
     ∙ ap (λ rest. take (text_len bytes) bytes ++ rest) (drop_more bytes (text_len bytes) 0 h ∙ ap (λ b. b ∷ drop (text_len bytes + 1) bytes) end)
 
--- a line feed stands behind few enough bytes
+-- a line feed comes after few enough bytes
 pub first_is_text : (bytes more : List ℕ) → text_len bytes < length bytes → text_len bytes ≤ MAX_LINE
     → lines (bytes ++ more) ≡ text_line (take (text_len bytes) bytes) ∷ lines (drop (text_len bytes + 1) bytes ++ more)
 unfolding text_len
@@ -179,7 +180,7 @@ first_is_text bytes more h fits =
     ∙ ap lines (append_assoc text (line_feed ∷ rest) more)
     ∙ text_ends text (rest ++ more) is
 
--- too many bytes stand before any line feed
+-- too many bytes come before any line feed
 pub first_is_too_long : (bytes more : List ℕ) → MAX_LINE < text_len bytes → lines (bytes ++ more) ≡ TooLong ∷ []
 unfolding text_len
 first_is_too_long bytes more h =
@@ -190,7 +191,7 @@ first_is_too_long bytes more h =
     ∙ ap lines (append_assoc long rest more)
     ∙ too_long long (rest ++ more) (text_in_front bytes) (omega (arith, length-take-le (text_len bytes) bytes most))
 
--- no line feed stands in few enough bytes
+-- there are few enough bytes, and no line feed
 pub is_part : (bytes : List ℕ) → text_len bytes ≡ length bytes → text_len bytes ≤ MAX_LINE → IsText bytes
 is_part bytes h fits = record {
   no_line_feed = ap (list_all is_text_byte) (sym (take_all (text_len bytes) bytes (omega arith))) ∙ text_in_front bytes;

@@ -1,4 +1,5 @@
--- The first line of some bytes, when a part of them was searched before.
+-- The end of the first text can be searched from where the last search ended. Used by: the calls of Feed, and
+-- first_line and text_end, which name its rule sets. It may change freely as long as this crate checks.
 use Rattle.std.proofs.Common.{◌≡◌, ℕ, zero, suc, ◌+◌, ◌-◌, ◌<◌, ◌≤◌, ◌++◌, Bool, true, false, List, [], ◌∷◌, length, drop, take, Some, None, slice_get, refl, sym, arith}
 use Rattle.std.proofs.lemmas.Bool.{and_parts}
 use Rattle.std.proofs.lemmas.List.{take_rest}
@@ -9,12 +10,12 @@ use Rattle.arrayvec.specs.ArrayVec.{ArrayVec}
 use Rattle.mw_words.specs.declared.limits.TheConstants.{MAX_LINE}
 use Rattle.mw_frame.specs.declared.lines.Line.TheVariants.{Text, TooLong}
 use Rattle.mw_frame.specs.Lines.{IsText, is_text_byte, lines, text_line}
-use Rattle.mw_frame.specs.Kept.{stream_of, text_len}
+use Rattle.mw_frame.specs.FeedBytes.{stream_of, text_len}
 use Rattle.mw_frame.specs.Stream.{Stream, Open, fed, lines_of}
 use Rattle.mw_frame.proofs.CutTexts.{is_part}
 use Rattle.mw_frame.proofs.GivenLines.{answers_text, answers_too_long, answers_none, first_and_behind}
 
--- those in front that are known to pass, and then those behind them
+-- those at the front that are known to pass, and then those after them
 prefix_len_from : (p : ℕ → Bool) (xs : List ℕ) (n : ℕ) → n ≤ prefix_len p xs → n + prefix_len p (drop n xs) ≡ prefix_len p xs
 prefix_len_from p xs zero h = omega arith
 prefix_len_from p [] (suc n) h = absurd (omega arith)
@@ -25,7 +26,7 @@ prefix_len_from p (x ∷ xs) (suc n) h = one_passed p x xs n (p x) refl h (λ k.
     one_passed p x xs n true is h rest = rw is (let k : suc n ≤ 1 + prefix_len p xs = rw is at h in let e = rest (omega arith) in omega arith)
     one_passed p x xs n false is h rest = let k : suc n ≤ 0 = rw is at h in absurd (omega arith)
 
--- the bytes behind those that were searched, as a slice, have the rest of the text
+-- the bytes after those that were searched, as a slice, have the rest of the text
 pub text_len_from : (bytes : List ℕ) (searched : ℕ) → searched ≤ text_len bytes → searched + text_len (take (length bytes - searched) (drop searched bytes)) ≡ text_len bytes
 unfolding text_len
 text_len_from bytes searched h = rw (take_rest bytes searched) (prefix_len_from is_text_byte bytes searched h)
@@ -59,7 +60,7 @@ pub all_searched : (bytes : List ℕ) → IsText bytes → text_len bytes ≡ le
 unfolding text_len
 all_searched bytes is = all_pass is_text_byte bytes is.no_line_feed
 
--- a text was the first line, and the stream goes on behind it
+-- a text was the first line, and the stream goes on after it
 pub goes_on_behind_text : (old : Stream) (ended : Bool) (bytes new : List ℕ) (text : ArrayVec ℕ) (more : List ℕ) → stream_of ended bytes ≡ old → ended ≡ false → Some (Text text) ≡ slice_get (lines bytes) 0 → new ≡ drop (length text.items + 1) bytes
     → Text text ∷ lines_of (fed (stream_of ended new) more) ≡ lines_of (fed old more)
 goes_on_behind_text old ended bytes new text more is goes first left = rw (← is, goes, left) (sym (first_and_behind (Open bytes) (Some (Text text)) more first))

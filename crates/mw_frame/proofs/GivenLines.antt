@@ -1,4 +1,5 @@
--- However a stream is cut into pieces, what was given and what is left are the lines of all that was fed.
+-- However a stream is cut into pieces, what was given and what is left are the lines of all that was fed. Used by:
+-- Ends, the proofs of however_cut and call_by_call. It may change freely as long as this crate checks.
 use Rattle.std.specs.Prelude.{ℕ, ◌≡◌, ◌<◌, ◌≤◌, ◌++◌, List, [], ◌∷◌, length, take, Option, Some, None, slice_get}
 use Rattle.std.specs.Option.{option_to_list}
 use Rattle.std.proofs.Common.{refl, sym, ap, ◌∙◌, inl, inr, arith, append_assoc, append-nil}
@@ -9,14 +10,14 @@ use Rattle.mw_words.specs.declared.limits.TheConstants.{MAX_LINE}
 use Rattle.mw_frame.specs.declared.lines.Line.{Line}
 use Rattle.mw_frame.specs.declared.lines.Line.TheVariants.{TooLong}
 use Rattle.mw_frame.specs.Lines.{is_text_byte, lines, text_line}
-use Rattle.mw_frame.specs.Kept.{text_len}
+use Rattle.mw_frame.specs.FeedBytes.{text_len}
 use Rattle.mw_frame.specs.Stream.{Stream, Open, Ended, behind, fed, lines_of}
 use Rattle.mw_frame.proofs.CutTexts.{first_is_text, first_is_too_long, is_part, part_waits}
 use Rattle.mw_frame.specs.Given.{HasGiven, Call, Fed, Gave, Leads, bytes_fed, lines_given, HoweverCut, SameLines, GivenAtFirst, GivenThenFed, GivenThenMore, NoneLeft}
 
 -- ---- one answer
 
--- this is the first line of the bytes, if they have one, and what goes on behind it
+-- this is the first line of the bytes, if they have one, and what goes on after it
 pub record Answers (bytes : List ℕ) (answer : Option Line) : Type 0 where
   pub first : slice_get (lines bytes) 0 ≡ answer
   pub goes_on : (more : List ℕ) → lines (bytes ++ more) ≡ option_to_list answer ++ lines_of (fed (behind answer (Open bytes)) more)
@@ -56,7 +57,7 @@ some_answer bytes =
       ]
     ]
 
--- Whatever comes later, the lines of a stream are its first one, if it has one, and those of the stream behind it.
+-- Whatever comes later, the lines of a stream are its first one, if it has one, and those of the stream after it.
 pub first_and_behind : (stream : Stream) (answer : Option Line) (more : List ℕ) → answer ≡ slice_get (lines_of stream) 0 → lines_of (fed stream more) ≡ option_to_list answer ++ lines_of (fed (behind answer stream) more)
 first_and_behind Ended answer more is = rw is refl
 first_and_behind (Open bytes) answer more is =

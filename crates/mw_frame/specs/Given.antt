@@ -1,23 +1,25 @@
 -- What a feed has given and will give are the lines of all that was fed, however it was cut into pieces.
+-- Used by: the contracts of laws.rt. A change here changes only these laws, which no other crate cites.
 use Rattle.std.specs.Prelude.{ℕ, ◌≡◌, ◌++◌, List, [], ◌∷◌, Option, slice_get}
 use Rattle.std.specs.Option.{option_to_list}
 use Rattle.mw_frame.specs.declared.lines.Line.{Line}
 use Rattle.mw_frame.specs.Lines.{lines}
 use Rattle.mw_frame.specs.Stream.{Stream, Open, behind, fed, lines_of}
 
--- Of all these bytes that were fed, these lines were given and this stream is left: whatever comes later, the lines of
+-- Of all these bytes that were fed, these lines were given and this stream is left. Whatever comes later, the lines of
 -- it all are those that were given, and then those that are left.
 pub record HasGiven (all : List ℕ) (given : List Line) (left : Stream) : Type 0 where
   pub whole : (more : List ℕ) → lines (all ++ more) ≡ given ++ lines_of (fed left more)
 
--- A call on a feed and how it was answered. One that took nothing for want of memory changed nothing, and is left out.
+-- A call on a feed, and how it was answered. A call that took nothing because memory was out changed nothing, and is
+-- left out.
 pub data Call : Type 0 where
   -- this piece was taken
   Fed : List ℕ → Call
   -- this was given, if anything
   Gave : Option Line → Call
 
--- These calls, each answered as it has to be, lead from one stream to another.
+-- These calls, each with the right answer, lead from one stream to another.
 abbrev pub Leads : Stream → List Call → Stream → Type 0
 Leads old [] new = new ≡ old
 Leads old (Fed piece ∷ calls) new = Leads (fed old piece) calls new
@@ -35,7 +37,7 @@ lines_given [] = []
 lines_given (Fed piece ∷ calls) = lines_given calls
 lines_given (Gave answer ∷ calls) = option_to_list answer ++ lines_given calls
 
--- However a stream is cut, and whenever lines are asked for: the lines that were given, and then those that are left,
+-- However a stream is cut, and whenever lines are asked for, the lines that were given, and then those that are left,
 -- are those of all that was fed.
 abbrev pub HoweverCut : Type 0
 HoweverCut = (calls : List Call) (left : Stream) → Leads (Open []) calls left → HasGiven (bytes_fed calls) (lines_given calls) left
@@ -49,15 +51,15 @@ SameLines = (calls others : List Call) (left rest : Stream) → Leads (Open []) 
 abbrev pub GivenAtFirst : Type 0
 GivenAtFirst = HasGiven [] [] (Open [])
 
--- A piece that is taken is one more of what was fed.
+-- A piece that is taken is added to what was fed.
 abbrev pub GivenThenFed : Type 0
 GivenThenFed = (all : List ℕ) (given : List Line) (left : Stream) (piece : List ℕ) → HasGiven all given left → HasGiven (all ++ piece) given (fed left piece)
 
--- The first line of what is left, if it has one, is one more of what was given.
+-- The first line of what is left, if there is one, is added to what was given.
 abbrev pub GivenThenMore : Type 0
 GivenThenMore = (all : List ℕ) (given : List Line) (left : Stream) (answer : Option Line) → HasGiven all given left → answer ≡ slice_get (lines_of left) 0
     → HasGiven all (given ++ option_to_list answer) (behind answer left)
 
--- Where no line is left, those that were given are all.
+-- If no line is left, the lines that were given are all.
 abbrev pub NoneLeft : Type 0
 NoneLeft = (all : List ℕ) (given : List Line) (left : Stream) → HasGiven all given left → lines_of left ≡ [] → lines all ≡ given

@@ -1,5 +1,5 @@
 pub mod Lines
 pub mod Stream
-pub mod Kept
+pub mod FeedBytes
 pub mod Texts
 pub mod Given

@@ -1,4 +1,6 @@
--- The lines of a list of bytes, as if all of it had come at once.
+-- The lines of a list of bytes, as if all of them had come at once.
+-- Used by: FeedBytes, Given, Stream, Texts, mw_session, the contracts of lines.rt. A change here changes what a line is, for
+-- every session.
 use Rattle.std.specs.Prelude.{ℕ, ◌==◌, ◌≤◌, ◌++◌, Bool, not, List, [], ◌∷◌, length, nat_lt, IsTrue, if◌then◌else◌}
 use Rattle.std.specs.List.{list_all}
 use Rattle.mw_words.specs.declared.limits.TheConstants.{MAX_LINE}
@@ -13,9 +15,9 @@ line_feed = 10
 abbrev pub text_line : List ℕ → Line
 text_line text = Text (record { items = text })
 
--- The lines of bytes that come behind a text whose line feed hasn't come yet. A line feed ends the text, and the next
--- text begins. Any other byte belongs to the text, if there is room for it; if not, the line is too long, and nothing
--- follows. A text whose line feed doesn't come is no line.
+-- The lines of bytes that follow a text whose line feed hasn't come yet. A line feed ends the text, and the next text
+-- begins. Any other byte is added to the text if there is room. If not, the line is too long, and nothing follows. A
+-- text without its line feed is no line.
 abbrev pub lines_behind : List ℕ → List ℕ → List Line
 lines_behind text [] = []
 lines_behind text (b ∷ bytes) =
@@ -31,7 +33,7 @@ lines bytes = lines_behind [] bytes
 abbrev pub is_text_byte : ℕ → Bool
 is_text_byte b = not (b == line_feed)
 
--- What the text of a line may be: bytes of a text, and no more of them than a line may have.
+-- A text of a line: it has no line feed, and at most as many bytes as a line may have.
 pub record IsText (text : List ℕ) : Type 0 where
   pub no_line_feed : IsTrue (list_all is_text_byte text)
   pub fits : length text ≤ MAX_LINE

@@ -1,10 +1,12 @@
 //! What holds of the lines of every stream: facts for proofs to cite. The functions do nothing.
+//!
+//! No code calls them, and no other crate cites them: they say for readers what the contracts of a feed come to.
 ghost use Rattle.mw_frame.specs.Given.{GivenAtFirst, GivenThenFed, GivenThenMore, HoweverCut, NoneLeft, SameLines};
 ghost use Rattle.mw_frame.specs.Texts.{EachIsCut, LinesStay, TextsAreLines, TooLongIsLast};
 
-/// What the lines of a list of bytes are. All bytes are texts with a line feed behind each, and then
-/// a part of a text or what begins too long. The texts are the lines; behind them stands nothing for
-/// a part, and a line too long for what begins so.
+/// Says what the lines of any bytes are. The bytes are texts, each with a line feed after it, and then a rest. The
+/// rest is a part of a text, or begins a line that is too long. The texts are the lines. After them a part gives no
+/// line, and the other rest gives one [`Line::TooLong`](crate::Line::TooLong).
 pub fn texts_are_lines()
     ensures cut { EachIsCut }
     ensures texts { TextsAreLines }
@@ -16,14 +18,14 @@ pub fn lines_stay()
     ensures { LinesStay }
 {}
 
-/// The lines that a feed has given, and then those that it will give, are the lines of all that was
-/// fed, however it was cut into pieces and whenever lines were asked for.
+/// The lines that a feed has given, and then those that it will give, are the lines of all that was fed. It makes
+/// no difference how that was cut into pieces, and when lines were asked for.
 pub fn however_cut()
     ensures whole { HoweverCut }
     ensures same_lines { SameLines }
 {}
 
-/// The same, a call at a time, for whoever reads pieces and asks for lines in a loop.
+/// The same call by call, for whoever reads pieces and asks for lines in a loop.
 pub fn call_by_call()
     ensures at_first { GivenAtFirst }
     ensures then_fed { GivenThenFed }

@@ -1,12 +1,12 @@
-//! Bytes to lines.
+//! Lines out of bytes, however the bytes are cut.
 //!
-//! A connection gives its bytes in pieces that are cut anywhere: in the middle of a line, or with
-//! many lines in one piece. A [`Feed`] takes the pieces as they come and gives the lines. The lines
-//! are those of all the bytes that were fed, however they were cut.
+//! A connection gives its bytes in pieces that are cut anywhere: in the middle of a line, or with many lines in one
+//! piece. A [`Feed`] takes the pieces as they come and gives the lines. They are the lines of all the bytes that were
+//! fed, however these were cut.
 //!
-//! A line is what stands before a line feed, of at most [`MAX_LINE`](mw_words::MAX_LINE) bytes.
-//! Where one byte more than that comes without a line feed, [`Line::TooLong`] is given, once, and
-//! nothing follows it. Bytes behind the last line feed stay in the feed until more come.
+//! A line is the bytes before a line feed, at most [`MAX_LINE`](mw_words::MAX_LINE) of them. If one byte more comes
+//! without a line feed, [`Line::TooLong`] is given, once, and nothing follows it. Bytes after the last line feed stay
+//! in the feed until more come.
 //!
 //! ```text
 //! let mut feed = Feed::new(alloc)?;
@@ -16,12 +16,14 @@
 //! feed.feed(b"T 1\n")?;
 //! feed.next();    // the text GET 1
 //! ```
+//!
+//! Sessions alone use it (mw_session). They see the stream of `specs/Stream`; how a feed keeps its bytes may change.
 #![tactic(auto)]
 
-mod framing;
+mod feed;
 mod laws;
 mod lines;
 
-pub use framing::Feed;
+pub use feed::Feed;
 pub use laws::{call_by_call, however_cut, lines_stay, texts_are_lines};
 pub use lines::Line;

@@ -1,8 +1,9 @@
--- Definitions of the laws below that crates above need too, passed on: these then name this crate alone.
-pub use Rattle.mw_law_runs.specs.Sound.{IsSound}
-pub use Rattle.mw_law_store.specs.Followed.{start_of}
+-- Definitions of the laws below that crates above need too, passed on so that they name this crate alone.
+-- Used by: mw_rule. Add and take out names as these crates need them.
+pub use Rattle.mw_law_runs.specs.RunInvariant.{IsSound}
+pub use Rattle.mw_law_store.specs.Simulation.{start_of}
 pub use Rattle.mw_law_store.specs.History.{AreNoStarts, IsBeginning, SealsHaveGoneOn}
-pub use Rattle.mw_law_store.specs.Moments.{Moment, SealedChange, after_marks, first_moment, moment_at, moment_of}
-pub use Rattle.mw_law_store.specs.OverCalls.{HasBegun, IsRightAt, IsRightSince, sealed_of, words_after, words_at_start}
-pub use Rattle.mw_law_store.specs.Tied.{AreApart}
-pub use Rattle.mw_law_store.specs.TurningBack.{FindsItsWay, is_as_named}
+pub use Rattle.mw_law_store.specs.AbstractStates.{AbstractState, SealedChange, after_marks, first_abstract_state, abstract_state_at, abstract_state_of}
+pub use Rattle.mw_law_store.specs.ReplyPlaces.{HasBegun, IsRightAt, IsRightSince, sealed_of, words_after, words_at_start}
+pub use Rattle.mw_law_store.specs.Refinement.{AreApart}
+pub use Rattle.mw_law_store.specs.ReadRetries.{FindsItsWay, is_as_named}

@@ -1,8 +1,8 @@
-pub mod Beside
-pub mod Calling
-pub mod Ending
+pub mod OtherEvents
+pub mod CallsByToken
+pub mod CallEnds
 pub mod FromLaws
-pub mod Rights
-pub mod Starting
-pub mod Tied
-pub mod Waiting
+pub mod FileTokens
+pub mod CallStarts
+pub mod TokensInWorlds
+pub mod StableStatuses

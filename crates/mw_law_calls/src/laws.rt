@@ -1,36 +1,40 @@
-//! What holds of calls on tenants' files: facts for proofs to cite. The functions do nothing.
+//! States what is proved of calls on tenants' files.
+//!
+//! The functions do nothing, and nothing calls them: each contract is a fact, proved in `proofs/laws`. Proofs
+//! of crates above import other pages of `proofs`, by which these facts are proved. To change a fact, change
+//! its definition in `specs`, and then its proof.
 ghost use Rattle.mw_law_store.specs.Quotas.{EventsTellQuotas};
-ghost use Rattle.mw_law_calls.specs.Beside.{OthersLeaveFiles, OthersLeaveFilesLong};
-ghost use Rattle.mw_law_calls.specs.Calling.{CallingStays, CallingStaysLong, CallsEndByRights};
-ghost use Rattle.mw_law_calls.specs.Ending.{CallsChangeNoMore, CallsEndWell, CallsFindFaults, CallsMeetFaults, CallsSkip, RequestsGoOnFromCalls};
-ghost use Rattle.mw_law_calls.specs.Rights.{RightsFollowCalls, RightsFollowFaults, RightsTellCalls, RightsTellFiles, RightsTellOpenedFiles};
-ghost use Rattle.mw_law_calls.specs.Starting.{CallsCanStart, CallsHaveWords};
-ghost use Rattle.mw_law_calls.specs.Tied.{CallsAreMadeByRights, EachFileHasRights, RightsStay, RightsStayLong, RightsStayOverCalls, RightsTellOfCalls, StartsHaveRights};
-ghost use Rattle.mw_law_calls.specs.Waiting.{StatusesWait, StatusesWaitLong};
+ghost use Rattle.mw_law_calls.specs.OtherEvents.{OthersLeaveFiles, OthersLeaveFilesLong};
+ghost use Rattle.mw_law_calls.specs.CallsByToken.{CallingStays, CallingStaysLong, CallsEndByFileToken};
+ghost use Rattle.mw_law_calls.specs.CallEnds.{CallsChangeNoMore, CallsEndWell, CallsFindFaults, CallsMeetFaults, CallsSkip, RequestsGoOnFromCalls};
+ghost use Rattle.mw_law_calls.specs.FileTokens.{FileTokensFollowCalls, FileTokensFollowFaults, FileTokensTellCalls, FileTokensTellFiles, FileTokensTellOpenedFiles};
+ghost use Rattle.mw_law_calls.specs.CallStarts.{CallsCanStart, CallsHaveWords};
+ghost use Rattle.mw_law_calls.specs.TokensInWorlds.{CallsAreMadeByFileToken, EachFileHasAToken, FileTokensStay, FileTokensStayLong, FileTokensStayOverCalls, FileTokensTellOfCalls, StartsHaveFileTokens};
+ghost use Rattle.mw_law_calls.specs.StableStatuses.{StatusesWait, StatusesWaitLong};
 
-/// In any world an event that is no start and no call on a tenant's file leaves the file, and so do any
-/// number of them. Every event leaves each tenant's file as many places as it had, and every event but a start
-/// leaves its quota; a start gives it the one that is told, if one is.
+/// Every event but a start and a call on a tenant's file leaves that file, and so do any number of such events. Every
+/// event leaves each tenant's file as many places as it had. Every event but a start leaves each tenant's quota; a
+/// start gives a tenant the quota that it tells, if it tells one.
 pub fn others_leave_files()
     ensures event { OthersLeaveFiles }
     ensures long { OthersLeaveFilesLong }
     ensures quotas { EventsTellQuotas }
 {}
 
-/// After every run the words with which a call may end are there: its change's status, and its tenant's door.
+/// After every run the words that a call's end may use are there: its change's status, and its tenant's door.
 pub fn calls_have_words()
     ensures { CallsHaveWords }
 {}
 
-/// After every run a call that starts can be made, if it doesn't fail on the file: it has a place of the
-/// file's that is as it needs it, and its change is one of the file's words.
+/// After every run a call that starts can be made, if it doesn't fail because the file had failed. It has a place of
+/// the file that is as it needs it, and its change is one of the file's words.
 pub fn calls_can_start()
     ensures { CallsCanStart }
 {}
 
-/// How a call ends after every run, by a step on one shared word that is its event: a load of its change's
-/// status, from which it doesn't start; an exchange of that status; or the fault at its tenant's door, where a
-/// device call fails, or the file had failed before.
+/// After every run a call ends by a step on one shared word, which is its event. The step is a load of its change's
+/// status, if the call doesn't start from it; an exchange of that status; or the fault at its tenant's door, if a
+/// device call fails or the file had failed before.
 pub fn calls_end()
     ensures skip { CallsSkip }
     ensures well { CallsEndWell }
@@ -38,63 +42,63 @@ pub fn calls_end()
     ensures find_faults { CallsFindFaults }
 {}
 
-/// What a call's event leaves of the world beside its words: the request is told how it went, its tenant has
-/// the file after it and the mark that it means, and nothing else is changed.
+/// A call's event changes nothing of the world beside the shared words but this: its request is told how it went, and
+/// its tenant gets the file after it and the mark that it means.
 pub fn calls_change_no_more()
     ensures { CallsChangeNoMore }
 {}
 
-/// A request that has come to a call asks for it, has no reply, and has none yet once it was told how the
-/// call went.
+/// A request that is at a call asks for that call and has no reply. It has no reply yet after it is told how the call
+/// went.
 pub fn requests_go_on_from_calls()
     ensures { RequestsGoOnFromCalls }
 {}
 
-/// After every run, while a request is at a call that starts from the status of its change, each event but a
-/// start and a call on the same file leaves the request, that status and the file; so do any number of them.
+/// The request, the status of its change and the file stay while the request is at a call that starts from that
+/// status. This holds after every run, over each event but a start and a call on the same file, and over any number
+/// of such events.
 pub fn statuses_wait()
     ensures event { StatusesWait }
     ensures long { StatusesWaitLong }
 {}
 
-/// The right to a file tells of each call on it which place it is about, and whether it can be made. There
-/// is one for each file, and one of a file that was just opened.
-pub fn rights_tell_files()
-    ensures calls { RightsTellCalls }
-    ensures files { RightsTellFiles }
-    ensures opened { RightsTellOpenedFiles }
+/// A file token tells of each call on the file which place it is about, and whether it can be made. Each file has a
+/// token, and so has a file that was just opened.
+pub fn file_tokens_tell_files()
+    ensures calls { FileTokensTellCalls }
+    ensures files { FileTokensTellFiles }
+    ensures opened { FileTokensTellOpenedFiles }
 {}
 
-/// The right to a file after a call tells of the file after it, whether the call went well or met a fault.
-pub fn rights_follow_files()
-    ensures well { RightsFollowCalls }
-    ensures faults { RightsFollowFaults }
+/// After a call, the token after it tells of the file after it, whether the call went well or met a fault.
+pub fn file_tokens_follow_files()
+    ensures well { FileTokensFollowCalls }
+    ensures faults { FileTokensFollowFaults }
 {}
 
-/// The right to a tenant's file in a world: a start gives it, there is one in each world, and every event but
-/// a start and a call that changes the file leaves it.
-pub fn rights_tell_tenants()
-    ensures start { StartsHaveRights }
-    ensures each { EachFileHasRights }
-    ensures event { RightsStay }
-    ensures long { RightsStayLong }
-    ensures same { RightsStayOverCalls }
+/// Each file has a token in each world, and the token stays true over events that don't change the file. A start
+/// gives it. Every event but a start and a call that changes the file leaves it true.
+pub fn file_tokens_tell_tenants()
+    ensures start { StartsHaveFileTokens }
+    ensures each { EachFileHasAToken }
+    ensures event { FileTokensStay }
+    ensures long { FileTokensStayLong }
+    ensures same { FileTokensStayOverCalls }
 {}
 
-/// After every run whoever has the right to a file knows of a call on it whether it fails as on a file that
-/// failed before, and which place it is about. A call that starts and doesn't fail can be made on the file of which
-/// the right tells, and leaves the right to the file after it.
-pub fn calls_are_made_by_rights()
-    ensures told { RightsTellOfCalls }
-    ensures made { CallsAreMadeByRights }
+/// After every run, whoever has the token of a file knows two things of a call on it: whether it fails because the
+/// file had failed, and which place it is about. If a call starts and doesn't fail, it can be made on the file that
+/// the token tells. The token after it is true of the file after it.
+pub fn calls_are_made_by_file_token()
+    ensures told { FileTokensTellOfCalls }
+    ensures made { CallsAreMadeByFileToken }
 {}
 
-/// A call by whoever has the right to the file, told by that right and by the status that was found. While it
-/// is under way each event but a start and a call on the same file leaves what it rests on; and it ends by one
-/// step on one shared word, wherever the right says that it may end so. Whether a device call failed is for whoever
-/// makes the call to say.
-pub fn calls_end_by_rights()
+/// A call by whoever has the file's token ends in each way that the token and the status that was found allow, by one
+/// step on one shared word. While it is under way, each event but a start and a call on the same file leaves what it
+/// rests on. Whoever makes the call says whether a device call failed.
+pub fn calls_end_by_file_token()
     ensures event { CallingStays }
     ensures long { CallingStaysLong }
-    ensures end { CallsEndByRights }
+    ensures end { CallsEndByFileToken }
 {}

@@ -1,4 +1,5 @@
--- What a change holds, is to free and has the door count after a step, by its stage and what it is told.
+-- What a change counts after a step, by its stage and what it learns: pins that it holds, slots that it will free, slots that its door counts for it.
+-- Used by: Points.
 use Rattle.std.specs.Prelude.{ℕ, ◌≡◌, ◌+◌, ◌==◌, Bool, true, false, cond, nat_lt, List}
 use Rattle.std.proofs.Common.{refl, sym, ap, arith}
 use Rattle.std.proofs.lemmas.Bool.Decides.{nat_tests}
@@ -7,8 +8,8 @@ use Rattle.mw_words.specs.declared.gates.Gate.{Gate}
 use Rattle.mw_words.specs.declared.jobs.Entry.{Entry}
 use Rattle.mw_words.specs.declared.limits.TheConstants.{WORN_NUMBER}
 use Rattle.mw_pool.specs.declared.doors.Admission.TheVariants.{Fault as HasFailed, Busy as IsBusy, To}
-use Rattle.mw_look.specs.declared.news.News.{News}
-use Rattle.mw_look.specs.declared.news.News.TheVariants.{SawDoor, SawGate, SawStatus, Won, Lost, Filed}
+use Rattle.mw_look.specs.declared.observations.Observation.{Observation}
+use Rattle.mw_look.specs.declared.observations.Observation.TheVariants.{SawDoor, SawGate, SawStatus, Won, Lost, Filed}
 use Rattle.mw_look.proofs.RangeLaws.{either_way}
 use Rattle.mw_look.specs.Runs.{if_same}
 use Rattle.mw_actor.specs.declared.points.Slot.{Slot}
@@ -17,9 +18,9 @@ use Rattle.mw_actor.specs.declared.points.After.{After}
 use Rattle.mw_actor.specs.declared.points.After.TheVariants.{Work, GiveUp as ThenGiveUp, Reply as ThenReply}
 use Rattle.mw_actor.specs.declared.points.Point.{Point}
 use Rattle.mw_actor.specs.declared.points.Point.TheVariants.{ReadDoor, Admit}
-use Rattle.mw_actor.specs.Acting.{Acting, is_alone, alone}
-use Rattle.mw_actor.specs.Admitting.{admitted}
-use Rattle.mw_actor.specs.Helping.{others_read}
+use Rattle.mw_actor.specs.ActorState.{ActorState, is_alone, alone}
+use Rattle.mw_actor.specs.Admission.{admitted}
+use Rattle.mw_actor.specs.Help.{others_read}
 use Rattle.mw_actor.specs.Program.{goes}
 use Rattle.mw_actor.specs.Stages.{Stage, Reading, Outside, Entering, Seeking, Claiming, WritingStatus, WritingCount, WritingAddr, WritingExpected, WritingNew, Preparing, Checking, Inspecting, Holding, Deciding, Working, Nearing, Pinning, Fetching, Leaving, Freeing, Lowering, GivingUp, stage, Resumes, turned, OnTask, Scans, Leads}
 use Rattle.mw_law_requests.proofs.StageLaws.{goes_leads}
@@ -28,14 +29,14 @@ use Rattle.mw_law_requests.proofs.BalanceLaws.{own_alone}
 use Rattle.mw_law_counts.specs.Ready.{IsReadyAt}
 use Rattle.mw_law_counts.specs.Then.{pins_then, frees_then, waits_then}
 
--- At a stage so many pins of each slot are held, so many slots are to be freed, and the door counts so many that aren't taken.
+-- At this stage a change holds so many pins of each slot, will free so many slots, and its door counts so many for it that aren't taken.
 pub record Holds (quota : ℕ) (pins frees : ℕ → ℕ) (waits : ℕ) (now : Stage) : Type 0 where
   pub pins_are : (slot : ℕ) → pins_at slot now ≡ pins slot
   pub frees_are : (slot : ℕ) → to_free slot now ≡ frees slot
   pub waits_are : to_lower now ≡ waits
   pub ready : IsReadyAt quota now
 
--- one's own change alone is pinned once, another's beside it once more
+-- the own change alone is pinned once, and another one beside it once more
 pins_alone : (slot : ℕ) (task : Task) → is_alone task ≡ true → task_pins slot task ≡ if_same task.own.slot slot
 pins_alone slot task is =
     let e : task_pins slot task ≡ if_same task.own.slot slot + 0 = ap (λ b. if_same task.own.slot slot + cond b 0 (if_same task.target.slot slot)) is in
@@ -44,7 +45,7 @@ pins_alone slot task is =
 pins_both : (slot : ℕ) (task : Task) → is_alone task ≡ false → task_pins slot task ≡ if_same task.own.slot slot + if_same task.target.slot slot
 pins_both slot task is = ap (λ b. if_same task.own.slot slot + cond b 0 (if_same task.target.slot slot)) is
 
--- what is held where this follows is held there
+-- what is held before `onward` is held at the point to which it leads
 resumes : (quota : ℕ) (pins frees : ℕ → ℕ) (onward : After) → ((slot : ℕ) → pins_after slot onward ≡ pins slot) → ((slot : ℕ) → 0 ≡ frees slot)
     → Resumes (Holds quota pins frees 0) onward
 resumes quota pins frees (Work task) are none = (
@@ -54,7 +55,7 @@ resumes quota pins frees (Work task) are none = (
 resumes quota pins frees (ThenGiveUp own undecided) are none = record { pins_are = are; frees_are = none; waits_are = refl; ready = tt }
 resumes quota pins frees (ThenReply reply) are none = record { pins_are = are; frees_are = none; waits_are = refl; ready = tt }
 
--- what is held in the work on a change is held wherever it leads
+-- what is held while a change is worked on is held at each point to which the work leads
 on_task : (quota : ℕ) (task : Task) → OnTask (Holds quota (λ slot. task_pins slot task) (λ slot. 0) 0) task
 on_task quota task =
     let back : Task = turned task task.own in
@@ -71,7 +72,7 @@ on_task quota task =
       leaves_and_gives_up = λ undecided two. record { pins_are = λ slot. omega (arith, pins_both slot task two); frees_are = λ slot. refl; waits_are = refl; ready = tt };
     }
 
--- while a slot is looked for, the door counts it
+-- while a change looks for a slot, the door counts it
 scans : (quota : ℕ) → Scans (Holds quota (λ slot. 0) (λ slot. 0) 1)
 scans quota = (
   record { pins_are = λ slot. refl; frees_are = λ slot. refl; waits_are = refl; ready = tt },
@@ -85,28 +86,28 @@ IsInside Outside = ⊥
 IsInside now = Unit {0}
 
 -- what is held after a step, stage by stage
-abbrev AfterStep : ℕ → Stage → News → Stage → Type 0
-AfterStep quota now news = Holds quota (λ slot. pins_then slot now news) (λ slot. frees_then slot now news) (waits_then now news)
+abbrev AfterStep : ℕ → Stage → Observation → Stage → Type 0
+AfterStep quota now observation = Holds quota (λ slot. pins_then slot now observation) (λ slot. frees_then slot now observation) (waits_then now observation)
 
 -- nothing changes but what is ready
 stays : (quota : ℕ) (pins : ℕ → ℕ) (later : Stage) → ((slot : ℕ) → pins_at slot later ≡ pins slot) → ((slot : ℕ) → to_free slot later ≡ 0) → to_lower later ≡ 0 → IsReadyAt quota later
     → Holds quota pins (λ slot. 0) 0 later
 stays quota pins later pins_are frees_are waits_are ready = record { pins_are = pins_are; frees_are = frees_are; waits_are = waits_are; ready = ready }
 
-leaving : (quota : ℕ) (actor : Acting) (others : List Entry) (given : Slot) (onward : After) (gate : Gate)
+leaving : (quota : ℕ) (actor : ActorState) (others : List Entry) (given : Slot) (onward : After) (gate : Gate)
     → Leads (AfterStep quota (Leaving given onward) (SawGate gate)) actor others (Leaving given onward) (SawGate gate)
 leaving quota actor others given onward gate = (
   (λ last. record { pins_are = λ slot. refl; frees_are = λ slot. sym (ap (λ b. cond b (if_same given.slot slot) 0) last); waits_are = refl; ready = tt }),
   (λ more. resumes quota (λ slot. pins_after slot onward) (λ slot. cond (gate.pins == 1) (if_same given.slot slot) 0) onward (λ slot. refl) (λ slot. sym (ap (λ b. cond b (if_same given.slot slot) 0) more))),
 )
 
-leads : (quota : ℕ) (actor : Acting) (others : List Entry) (now : Stage) (news : News) → IsInside now → IsReadyAt quota now
-    → Leads (AfterStep quota now news) actor others now news
-leads quota actor others (Reading tenant) news inside ready = absurd ready
-leads quota actor others Outside news inside ready = absurd inside
+leads : (quota : ℕ) (actor : ActorState) (others : List Entry) (now : Stage) (observation : Observation) → IsInside now → IsReadyAt quota now
+    → Leads (AfterStep quota now observation) actor others now observation
+leads quota actor others (Reading tenant) observation inside ready = absurd ready
+leads quota actor others Outside observation inside ready = absurd inside
 leads quota actor others (Entering from to) Won inside ready = record { pins_are = λ slot. refl; frees_are = λ slot. refl; waits_are = refl; ready = tt }
 leads quota actor others (Entering from to) Lost inside ready = record { pins_are = λ slot. refl; frees_are = λ slot. refl; waits_are = refl; ready = tt }
-leads quota actor others Seeking news inside ready = scans quota
+leads quota actor others Seeking observation inside ready = scans quota
 leads quota actor others (Claiming slot from to) Won inside ready = record { pins_are = λ k. refl; frees_are = λ k. refl; waits_are = refl; ready = tt }
 leads quota actor others (Claiming slot from to) Lost inside ready = scans quota
 leads quota actor others (WritingStatus own) Won inside ready = record { pins_are = λ slot. refl; frees_are = λ slot. refl; waits_are = refl; ready = tt }
@@ -121,18 +122,18 @@ leads quota actor others (Preparing own) (Filed went_well) inside ready = (
   (λ well. record { pins_are = λ slot. pins_alone slot (alone own) (own_alone own); frees_are = λ slot. refl; waits_are = refl; ready = tt }),
   (λ badly. record { pins_are = λ slot. refl; frees_are = λ slot. refl; waits_are = refl; ready = tt }),
 )
-leads quota actor others (Checking task) news inside ready = ((λ opened. stays quota (λ slot. task_pins slot task) (Inspecting task 0) (λ slot. refl) (λ slot. refl) refl tt), on_task quota task)
-leads quota actor others (Inspecting task entry) news inside ready = (
+leads quota actor others (Checking task) observation inside ready = ((λ opened. stays quota (λ slot. task_pins slot task) (Inspecting task 0) (λ slot. refl) (λ slot. refl) refl tt), on_task quota task)
+leads quota actor others (Inspecting task entry) observation inside ready = (
   stays quota (λ slot. task_pins slot task) (Inspecting task entry) (λ slot. refl) (λ slot. refl) refl tt,
   stays quota (λ slot. task_pins slot task) (Holding task entry) (λ slot. refl) (λ slot. refl) refl tt,
   (λ saw more. stays quota (λ slot. task_pins slot task) (Inspecting task (entry + 1)) (λ slot. refl) (λ slot. refl) refl tt),
   (λ saw last. stays quota (λ slot. task_pins slot task) (Deciding task) (λ slot. refl) (λ slot. refl) refl tt),
   on_task quota task,
 )
-leads quota actor others (Holding task entry) news inside ready = (stays quota (λ slot. task_pins slot task) (Holding task entry) (λ slot. refl) (λ slot. refl) refl tt, on_task quota task)
-leads quota actor others (Deciding task) news inside ready = (stays quota (λ slot. task_pins slot task) (Deciding task) (λ slot. refl) (λ slot. refl) refl tt, on_task quota task)
-leads quota actor others (Working task) news inside ready = on_task quota task
-leads quota actor others (Nearing task other) news inside ready = (
+leads quota actor others (Holding task entry) observation inside ready = (stays quota (λ slot. task_pins slot task) (Holding task entry) (λ slot. refl) (λ slot. refl) refl tt, on_task quota task)
+leads quota actor others (Deciding task) observation inside ready = (stays quota (λ slot. task_pins slot task) (Deciding task) (λ slot. refl) (λ slot. refl) refl tt, on_task quota task)
+leads quota actor others (Working task) observation inside ready = on_task quota task
+leads quota actor others (Nearing task other) observation inside ready = (
   stays quota (λ slot. task_pins slot task) (Nearing task other) (λ slot. refl) (λ slot. refl) refl ready,
   stays quota (λ slot. task_pins slot task) (Checking task) (λ slot. refl) (λ slot. refl) refl tt,
   (λ from to pins. stays quota (λ slot. task_pins slot task) (Pinning task other from to) (λ slot. refl) (λ slot. refl) refl (ready, pins)),
@@ -144,7 +145,7 @@ leads quota actor others (Pinning task other from to) Won inside ready =
       (λ two. record { pins_are = λ slot. omega (arith, pins_both slot task two, pins_both slot next ready.0); frees_are = λ slot. refl; waits_are = refl; ready = tt }),
     )
 leads quota actor others (Pinning task other from to) Lost inside ready = stays quota (λ slot. task_pins slot task) (Checking task) (λ slot. refl) (λ slot. refl) refl tt
-leads quota actor others (Fetching task) news inside ready = (
+leads quota actor others (Fetching task) observation inside ready = (
   stays quota (λ slot. task_pins slot task) (Fetching task) (λ slot. refl) (λ slot. refl) refl tt,
   (λ some. stays quota (λ slot. task_pins slot task) (Checking task) (λ slot. refl) (λ slot. refl) refl tt),
 )
@@ -152,9 +153,9 @@ leads quota actor others (Leaving given onward) (SawGate gate) inside ready = le
 leads quota actor others (Freeing given onward) Won inside ready = record { pins_are = λ slot. refl; frees_are = λ slot. refl; waits_are = refl; ready = tt }
 leads quota actor others (Lowering onward) (SawDoor door) inside ready = resumes quota (λ slot. pins_after slot onward) (λ slot. 0) onward (λ slot. refl) (λ slot. refl)
 leads quota actor others (GivingUp own) (SawStatus status) inside ready = record { pins_are = λ slot. refl; frees_are = λ slot. refl; waits_are = refl; ready = tt }
-leads quota actor others now news inside ready = record { pins_are = λ slot. refl; frees_are = λ slot. refl; waits_are = refl; ready = ready }
+leads quota actor others now observation inside ready = record { pins_are = λ slot. refl; frees_are = λ slot. refl; waits_are = refl; ready = ready }
 
--- at the door a change is admitted, or ends
+-- at the door a change is admitted, or it ends
 admission : (quota next : ℕ) (door : Door) (test : Bool) (below : Bool) → door.fault ≡ test → nat_lt door.used quota ≡ below
     → Holds quota (λ slot. 0) (λ slot. 0) 0 (stage (admitted next door (cond test HasFailed (cond below (To (record door { used = door.used + 1 })) IsBusy))))
 admission quota next door true below no_fault is = record { pins_are = λ slot. refl; frees_are = λ slot. refl; waits_are = refl; ready = tt }
@@ -166,11 +167,11 @@ admission quota next door false true no_fault is =
     (λ worn. record { pins_are = λ slot. refl; frees_are = λ slot. refl; waits_are = refl; ready = tt })
 
 -- a change goes on from the door
-from_door : (actor : Acting) (next : ℕ) (news : News) → Holds actor.quota (λ slot. 0) (λ slot. 0) 0 (stage (goes actor next ReadDoor news))
+from_door : (actor : ActorState) (next : ℕ) (observation : Observation) → Holds actor.quota (λ slot. 0) (λ slot. 0) 0 (stage (goes actor next ReadDoor observation))
 from_door actor next (SawDoor door) = admission actor.quota next door door.fault (nat_lt door.used actor.quota) refl refl
-from_door actor next news = record { pins_are = λ slot. refl; frees_are = λ slot. refl; waits_are = refl; ready = tt }
+from_door actor next observation = record { pins_are = λ slot. refl; frees_are = λ slot. refl; waits_are = refl; ready = tt }
 
--- the point is not the one at which a change loads its tenant's door
+-- the point isn't the one at which a change loads its tenant's door
 abbrev is_at_door : Stage → Bool
 is_at_door Outside = true
 is_at_door now = false
@@ -179,9 +180,9 @@ inside_of : (now : Stage) → is_at_door now ≡ false → IsInside now
 inside_of Outside is = grind (arith, is)
 inside_of now is = tt
 
--- What a change holds after a step.
-pub goes_on_with : (actor : Acting) (next : ℕ) (point : Point) (news : News) → IsReadyAt actor.quota (stage point)
-    → Holds actor.quota (λ slot. pins_then slot (stage point) news) (λ slot. frees_then slot (stage point) news) (waits_then (stage point) news) (stage (goes actor next point news))
-goes_on_with actor next ReadDoor news ready = from_door actor next news
-goes_on_with actor next point news ready =
-    goes_leads (AfterStep actor.quota (stage point) news) actor next point news (leads actor.quota actor (others_read actor.others point news) (stage point) news tt ready)
+-- What a change counts after a step.
+pub goes_on_with : (actor : ActorState) (next : ℕ) (point : Point) (observation : Observation) → IsReadyAt actor.quota (stage point)
+    → Holds actor.quota (λ slot. pins_then slot (stage point) observation) (λ slot. frees_then slot (stage point) observation) (waits_then (stage point) observation) (stage (goes actor next point observation))
+goes_on_with actor next ReadDoor observation ready = from_door actor next observation
+goes_on_with actor next point observation ready =
+    goes_leads (AfterStep actor.quota (stage point) observation) actor next point observation (leads actor.quota actor (others_read actor.others point observation) (stage point) observation tt ready)

@@ -1,4 +1,5 @@
--- What each kind of step does to a gate or a door, and that it does the same to both sides of each count.
+-- What each kind of step does to a gate or a door, which is the same on both sides of each count. Used by: GateSteps, QuietSteps, Room,
+-- ReadSteps, RequestsAndStarts.
 use Rattle.std.specs.Prelude.{ℕ, ◌≡◌, ◌≢◌, ◌<◌, ◌≤◌, ◌+◌, ◌-◌, ◌==◌, ◌&&◌, true, false, Bool, cond, if◌then◌else◌}
 use Rattle.std.proofs.Common.{refl, sym, ap, subst, ◌∙◌, inl, inr, arith}
 use Rattle.std.proofs.lemmas.Bool.{cases_eq}
@@ -12,12 +13,12 @@ use Rattle.mw_world.specs.declared.config.Config.{Config}
 use Rattle.mw_world.specs.Claim.Invariant.{IsPinnedAs}
 use Rattle.mw_world_file.specs.Maps.{upd, upd_two}
 use Rattle.mw_world.specs.Definition.State.{State, tenant_at, tenants_of}
-use Rattle.mw_law_counts.specs.Standing.{CountsStand}
+use Rattle.mw_law_counts.specs.CountInvariant.{CountsStand}
 use Rattle.mw_law_counts.specs.Sides.{left_pin, idle}
 use Rattle.mw_law_counts.proofs.Shifts.{of_tenant, Shifts, of_gate, of_door}
 use Rattle.mw_law_counts.proofs.Sums.{claimed}
 
--- 1 where this is so
+-- 1 if the test holds, else 0
 abbrev one_if : Bool → ℕ
 one_if b = if b then 1 else 0
 
@@ -30,7 +31,7 @@ upd_else f i k x apart = grind (arith, nat_tests, apart)
 upd_two_here : {A : Type 0} (f : ℕ → ℕ → A) (i j : ℕ) (x : A) → upd_two f i j x i j ≡ x
 upd_two_here f i j x = grind (arith, nat_tests)
 
--- what a map gives that was set there
+-- the value of a map at the place where it was set
 upd_two_at : {A : Type 0} (f g : ℕ → ℕ → A) (i j k : ℕ) (x : A) → g ≡ upd_two f i j x → k ≡ j → g i k ≡ x
 upd_two_at f g i j k x is e = ap (λ h. h i k) is ∙ ap (λ n. upd_two f i j x i n) e ∙ upd_two_here f i j x
 
@@ -46,7 +47,7 @@ same_once slot = grind (arith, nat_tests)
 other_none : (slot other : ℕ) → other ≢ slot → if_same slot other ≡ 0
 other_none slot other apart = grind (arith, nat_tests, apart)
 
--- what isn't so where it would give what isn't
+-- a test that would make a count at least 1 is false if the count is 0
 isnt : (b : Bool) (n : ℕ) → (b ≡ true → 1 ≤ n) → n ≡ 0 → b ≡ false
 isnt true n tells none = absurd (omega (arith, tells refl, none))
 isnt false n tells none = refl
@@ -110,11 +111,11 @@ unpinned_idle gate taken some = by_test (gate.pins == 1) refl
     by_test false is = grind (arith, nat_tests, taken, some, is)
 
 module _ (config : Config) (state later : State) (stand : CountsStand config state) (own : ℕ) where
-  -- a slot without a pin has none that was left behind
+  -- a slot without a pin has no pin that was left behind
   pub none_left : (slot seq : ℕ) → (state.cells.gates slot).pins ≡ 0 → state.history.stays slot seq ≡ false
   none_left slot seq none = isnt (state.history.stays slot seq) (state.cells.gates slot).pins (λ is. (stand.counts.left slot seq is).0.1) none
 
-  -- no gate changes, and no door but in its fault
+  -- no gate changes, and a door changes only in its fault
   pub quiet : (had freed : ℕ → ℕ) (waited : ℕ) → ((slot : ℕ) → later.cells.gates slot ≡ state.cells.gates slot)
       → ((tenant : ℕ) → (later.cells.doors tenant).used ≡ (state.cells.doors tenant).used)
       → ((slot seq : ℕ) → later.history.stays slot seq ≡ state.history.stays slot seq) → ((slot seq : ℕ) → later.history.tenant slot seq ≡ state.history.tenant slot seq)
@@ -129,15 +130,15 @@ module _ (config : Config) (state later : State) (stand : CountsStand config sta
     quotas = λ tenant low. omega (arith, used tenant, stand.counts.quotas tenant low);
   })
 
-  -- a change is admitted: its tenant's door counts a slot more
-  pub admits : (from to : Door) → state.cells.doors own ≡ from → Admits (state.accounts own).quota from to
+  -- a change is admitted: its tenant's door counts one slot more
+  pub admits : (from to : Door) → state.cells.doors own ≡ from → Admits (state.tenant_states own).quota from to
       → ((slot : ℕ) → later.cells.gates slot ≡ state.cells.gates slot) → later.cells.doors own ≡ to
       → ((tenant : ℕ) → tenant ≢ own → later.cells.doors tenant ≡ state.cells.doors tenant)
       → ((slot seq : ℕ) → later.history.stays slot seq ≡ state.history.stays slot seq) → ((slot seq : ℕ) → later.history.tenant slot seq ≡ state.history.tenant slot seq)
       → Shifts config state later own (λ slot. 0) (λ slot. 0) (λ slot. 0) (λ slot. 0) 0 1
   admits from to found allowed gates here elsewhere stays tenants =
       let one_more : (later.cells.doors own).used ≡ (state.cells.doors own).used + 1 = ap (λ d. d.used) here ∙ allowed.one_more ∙ ap (λ d. d.used + 1) (sym found) in
-      let below : (state.cells.doors own).used < (state.accounts own).quota = subst (λ d. d.used < (state.accounts own).quota) (sym found) allowed.was_below_quota in
+      let below : (state.cells.doors own).used < (state.tenant_states own).quota = subst (λ d. d.used < (state.tenant_states own).quota) (sym found) allowed.was_below_quota in
       of_door config state later own (λ slot. 0) (λ slot. 0) (λ slot. 0) (λ slot. 0) 0 1 stand (record {
         gates = gates;
         stays = stays;
@@ -149,7 +150,7 @@ module _ (config : Config) (state later : State) (stand : CountsStand config sta
           | inr apart ↦ omega (arith, ap (λ d. d.used) (elsewhere tenant apart), none_of own tenant, none_else own tenant apart)
         ];
         quotas = λ tenant low. elim (cases_eq tenant own) [
-          | inl e ↦ omega (arith, ap (λ t. (later.cells.doors t).used) e, ap (λ t. (state.accounts t).quota) e, one_more, below)
+          | inl e ↦ omega (arith, ap (λ t. (later.cells.doors t).used) e, ap (λ t. (state.tenant_states t).quota) e, one_more, below)
           | inr apart ↦ omega (arith, ap (λ d. d.used) (elsewhere tenant apart), stand.counts.quotas tenant low)
         ];
       })
@@ -178,7 +179,7 @@ module _ (config : Config) (state later : State) (stand : CountsStand config sta
 
   module _ (slot : ℕ) (there : slot < config.pool) (used : (tenant : ℕ) → (later.cells.doors tenant).used ≡ (state.cells.doors tenant).used)
       (elsewhere : (other : ℕ) → other ≢ slot → later.cells.gates other ≡ state.cells.gates other) where
-    -- a pin that was left behind is left still, where the slot has the same number
+    -- a pin that was left behind still is, if the slot has the same number
     same_left_here : (later.cells.gates slot).seq ≡ (state.cells.gates slot).seq → ((other seq : ℕ) → later.history.stays other seq ≡ state.history.stays other seq)
         → left_pin later slot ≡ left_pin state slot
     same_left_here number stays = ap one_if (stays slot (later.cells.gates slot).seq) ∙ ap (λ n. if state.history.stays slot n then 1 else 0) number
@@ -236,7 +237,7 @@ module _ (config : Config) (state later : State) (stand : CountsStand config sta
           taken_for = λ is. subst (λ t. t < tenants_of config) (sym owner) known;
         })
 
-    -- a pin more
+    -- one pin more
     pub pins : (seq : ℕ) (from to : Gate) (had held freed : ℕ → ℕ) (waited : ℕ) → state.cells.gates slot ≡ from → Pins seq from to → later.cells.gates slot ≡ to
         → ((other : ℕ) → held other ≡ if_same slot other + had other)
         → ((other seq : ℕ) → later.history.stays other seq ≡ state.history.stays other seq) → ((other seq : ℕ) → later.history.tenant other seq ≡ state.history.tenant other seq)
@@ -264,7 +265,7 @@ module _ (config : Config) (state later : State) (stand : CountsStand config sta
           taken_for = λ is. same_taken_for number tenants was_taken;
         })
 
-    -- a pin less
+    -- one pin less
     pub unpins : (had held : ℕ → ℕ) → left_pin state slot + 1 ≤ (state.cells.gates slot).pins → later.cells.gates slot ≡ after_unpin (state.cells.gates slot)
         → ((other : ℕ) → had other ≡ if_same slot other + held other)
         → ((other seq : ℕ) → later.history.stays other seq ≡ state.history.stays other seq) → ((other seq : ℕ) → later.history.tenant other seq ≡ state.history.tenant other seq)

@@ -1,4 +1,4 @@
--- Exchanges of doors and gates are exact, since what has the same bits is the same.
+-- Exchanges of doors and gates are exact, because values with the same bits are the same. Used by: exchanges_are_exact, mw_law_runs.
 use Rattle.std.specs.Prelude.{ℕ}
 use Rattle.std.proofs.Common.{arith}
 use Rattle.mw_words.specs.declared.places.At.TheVariants.{Door as AtDoor, Gate as AtGate}
@@ -10,12 +10,12 @@ use Rattle.mw_look.specs.Places.{nil}
 use Rattle.mw_look.specs.Program.{slot_of, asks_at as look_asks, IsPointInRange as IsReadPointInRange}
 use Rattle.mw_actor.specs.declared.points.Point.{Point}
 use Rattle.mw_actor.specs.declared.points.Point.TheVariants.{Read, Admit, Claim, PinOther, Unpin, FreeSlot, LowerDoor}
-use Rattle.mw_actor.specs.Acting.{Acting}
+use Rattle.mw_actor.specs.ActorState.{ActorState}
 use Rattle.mw_actor.specs.Asks.{asks_at}
 use Rattle.mw_actor.specs.Ranges.{IsPointInRange}
 use Rattle.mw_world.specs.Definition.Cells.{Cells, AllFit}
 use Rattle.mw_law_counts.specs.Exact.{IsLookInRange, ExchangesAreExact}
-use Rattle.mw_law_counts.specs.Standing.{IsExact}
+use Rattle.mw_law_counts.specs.CountInvariant.{IsExact}
 
 no_gate_fits : IsGateInRange (nil (AtGate 0))
 no_gate_fits = (omega arith, omega arith, λ is. omega arith)
@@ -31,7 +31,7 @@ module _ (cells : Cells) (fit : AllFit cells) where
   of_read tenant address (LowerOfRead next) range = λ same. packed_door_injective (cells.doors tenant) (nil (AtDoor tenant)) (fit (AtDoor tenant)) no_door_fits same
   of_read tenant address point range = tt
 
-  of_point : (actor : Acting) (point : Point) → IsPointInRange actor.others point → IsLookInRange point → IsExact cells (asks_at actor point)
+  of_point : (actor : ActorState) (point : Point) → IsPointInRange actor.others point → IsLookInRange point → IsExact cells (asks_at actor point)
   of_point actor (Read look) range look_range = of_read look.tenant look.address look.point look_range
   of_point actor (Admit from to) range look_range = λ same. packed_door_injective (cells.doors actor.tenant) from (fit (AtDoor actor.tenant)) range.0 same
   of_point actor (Claim slot saw_worn from to) range look_range = λ same. packed_gate_injective (cells.gates slot) from (fit (AtGate slot)) range.1 same

@@ -1,9 +1,9 @@
 pub mod Balance
-pub mod Calling
+pub mod FileCallsKeepCounts
 pub mod Effects
 pub mod Exact
 pub mod GateSteps
-pub mod Keeping
+pub mod RunsKeepCounts
 pub mod Points
 pub mod QuietSteps
 pub mod ReadBalance
@@ -11,6 +11,6 @@ pub mod ReadSteps
 pub mod Room
 pub mod Shifts
 pub mod Startable
-pub mod Starting
+pub mod RequestsAndStarts
 pub mod Sums
-pub mod Turning
+pub mod StepsKeepCounts

@@ -1,4 +1,5 @@
--- What a read holds, is to free and has the door count after a step, by its point and what it is told.
+-- What a read counts after a step, by its point and what it learns: pins that it holds, slots that it will free, slots that its door counts for it.
+-- Used by: Points.
 use Rattle.std.specs.Prelude.{ℕ, ◌≡◌, ◌+◌, ◌-◌, ◌==◌, ◌&&◌, Bool, true, false, cond, nat_lt, nat_le, IfSome, Option, Some, None}
 use Rattle.std.proofs.Common.{refl, sym, ap, arith}
 use Rattle.std.proofs.lemmas.Bool.Decides.{nat_tests}
@@ -8,8 +9,8 @@ use Rattle.mw_words.specs.declared.words.Word.TheVariants.{Plain, Planted, Held,
 use Rattle.mw_words.specs.declared.statuses.Status.{Status}
 use Rattle.mw_words.specs.declared.limits.TheConstants.{MAX_ENTRIES, MAX_PINS, WORN_NUMBER}
 use Rattle.mw_pool.specs.Moves.{Pins, after_pin}
-use Rattle.mw_look.specs.declared.news.News.{News}
-use Rattle.mw_look.specs.declared.news.News.TheVariants.{SawDoor, SawGate, SawWord, SawStatus, SawRow, SawNumber, Won, Lost}
+use Rattle.mw_look.specs.declared.observations.Observation.{Observation}
+use Rattle.mw_look.specs.declared.observations.Observation.TheVariants.{SawDoor, SawGate, SawWord, SawStatus, SawRow, SawNumber, Won, Lost}
 use Rattle.mw_look.specs.declared.points.After.{After}
 use Rattle.mw_look.specs.declared.points.After.TheVariants.{Again, Answer}
 use Rattle.mw_look.specs.declared.points.Point.{Point}
@@ -19,40 +20,40 @@ use Rattle.mw_look.specs.declared.points.Trail.TheVariants.{Held as ByHeld, Plan
 use Rattle.mw_look.specs.Program.{goes, same_word, word_of, word_seen, slot_of, seq_of, pinning, pinned, first_entry, next_entry, address_seen, resumed}
 use Rattle.mw_look.proofs.RangeLaws.{either_way}
 use Rattle.mw_look.specs.Runs.{holds_at, if_same}
-use Rattle.mw_world.specs.Definition.Counting.{pin_of, frees_by_read, waits_in_read}
+use Rattle.mw_world.specs.Definition.Counts.{pin_of, frees_by_read, waits_in_read}
 use Rattle.mw_law_counts.specs.Ready.{IsReadReady}
 
--- At a point of a read so many pins of each slot are held, so many slots are to be freed, and the door counts so many that aren't taken.
+-- At this point a read holds so many pins of each slot, will free so many slots, and its door counts so many for it that aren't taken.
 pub record ReadHolds (pins frees : ℕ → ℕ) (waits : ℕ) (now : Point) : Type 0 where
   pub pins_are : (slot : ℕ) → pin_of slot (holds_at now) ≡ pins slot
   pub frees_are : (slot : ℕ) → frees_by_read slot now ≡ frees slot
   pub waits_are : waits_in_read now ≡ waits
   pub ready : IsReadReady now
 
--- the pins of a slot that are held after a step
-abbrev pub pins_then : ℕ → Point → News → ℕ
+-- the pins of this slot that it holds after the step
+abbrev pub pins_then : ℕ → Point → Observation → ℕ
 pins_then slot (Pin trail from to) Won = if_same (slot_of trail) slot
 pins_then slot (Unpin other seq next) (SawGate gate) = 0
-pins_then slot now news = pin_of slot (holds_at now)
+pins_then slot now observation = pin_of slot (holds_at now)
 
--- 1 for a slot that is to be freed after a step
-abbrev pub frees_then : ℕ → Point → News → ℕ
+-- 1 if it will free this slot after the step, else 0
+abbrev pub frees_then : ℕ → Point → Observation → ℕ
 frees_then slot (Unpin other seq next) (SawGate gate) = cond (gate.pins == 1) (if_same other slot) 0
 frees_then slot (FreeSlot other seq next) Won = 0
-frees_then slot now news = frees_by_read slot now
+frees_then slot now observation = frees_by_read slot now
 
--- 1 where the door counts a slot that isn't taken after a step
-abbrev pub waits_then : Point → News → ℕ
+-- 1 if the door counts a slot for it that isn't taken after the step, else 0
+abbrev pub waits_then : Point → Observation → ℕ
 waits_then (FreeSlot other seq next) Won = 1
 waits_then (LowerDoor next) (SawDoor door) = 0
-waits_then now news = waits_in_read now
+waits_then now observation = waits_in_read now
 
--- a fact of what a test gives
+-- a fact of the value that a test lets through
 by_test : {B : Type 0} (test : Bool) (x : B) (P : B → Type 0) → (test ≡ true → P x) → IfSome (cond test (Some x) None) P
 by_test true x P here = here refl
 by_test false x P here = tt
 
--- what a pin gives is pinned
+-- a pin gives a pinned gate
 pins_of : (gate : Gate) (seq : ℕ) → IfSome (after_pin gate seq) (λ to. Pins seq gate to)
 pins_of gate seq = by_test (gate.taken && nat_le 1 gate.pins && nat_lt gate.pins MAX_PINS && (gate.seq == seq)) (record gate { pins = gate.pins + 1 }) (λ to. Pins seq gate to) (λ is. grind (arith, nat_tests, is))
 
@@ -71,7 +72,7 @@ pinning_holds trail gate = either_way (ReadHolds (λ slot. 0) (λ slot. 0) 0) (n
     (λ low. pinned_holds trail gate (after_pin gate (seq_of trail)) (pins_of gate (seq_of trail)))
     (λ worn. record { pins_are = λ slot. refl; frees_are = λ slot. refl; waits_are = refl; ready = tt })
 
--- a pin is held while the word's entry is looked for
+-- the read holds a pin while it looks for the word's entry
 first_entry_holds : (trail : Trail) (status : Status) → ReadHolds (λ slot. if_same (slot_of trail) slot) (λ slot. 0) 0 (first_entry trail status)
 first_entry_holds (ByHeld slot seq) status = record { pins_are = λ slot. refl; frees_are = λ slot. refl; waits_are = refl; ready = tt }
 first_entry_holds (ByPlanted worker attempt row) status = record { pins_are = λ slot. refl; frees_are = λ slot. refl; waits_are = refl; ready = tt }
@@ -90,9 +91,9 @@ resumed_holds : (frees : ℕ → ℕ) (onward : After) → ((slot : ℕ) → 0 �
 resumed_holds frees Again none = record { pins_are = λ slot. refl; frees_are = none; waits_are = refl; ready = tt }
 resumed_holds frees (Answer value) none = record { pins_are = λ slot. refl; frees_are = none; waits_are = refl; ready = tt }
 
--- What a read holds after a step.
-pub goes_on_with : (address : ℕ) (point : Point) (news : News) → IsReadReady point
-    → ReadHolds (λ slot. pins_then slot point news) (λ slot. frees_then slot point news) (waits_then point news) (goes address point news)
+-- What a read counts after a step.
+pub goes_on_with : (address : ℕ) (point : Point) (observation : Observation) → IsReadReady point
+    → ReadHolds (λ slot. pins_then slot point observation) (λ slot. frees_then slot point observation) (waits_then point observation) (goes address point observation)
 goes_on_with address ReadDoor (SawDoor door) ready = either_way (ReadHolds (λ slot. 0) (λ slot. 0) 0) door.fault _ ReadWord
     (λ e. record { pins_are = λ slot. refl; frees_are = λ slot. refl; waits_are = refl; ready = tt })
     (λ e. record { pins_are = λ slot. refl; frees_are = λ slot. refl; waits_are = refl; ready = tt })
@@ -116,4 +117,4 @@ goes_on_with address (Unpin other seq next) (SawGate gate) ready =
     (λ more. resumed_holds frees next (λ slot. sym (ap (λ b. cond b (if_same other slot) 0) more)))
 goes_on_with address (FreeSlot other seq next) Won ready = record { pins_are = λ slot. refl; frees_are = λ slot. refl; waits_are = refl; ready = tt }
 goes_on_with address (LowerDoor next) (SawDoor door) ready = resumed_holds (λ slot. 0) next (λ slot. refl)
-goes_on_with address point news ready = record { pins_are = λ slot. refl; frees_are = λ slot. refl; waits_are = refl; ready = ready }
+goes_on_with address point observation ready = record { pins_are = λ slot. refl; frees_are = λ slot. refl; waits_are = refl; ready = ready }

@@ -1,16 +1,17 @@
 -- There is room in the pool: the slots that are taken, summed by tenant, are no more than the doors count.
+-- Used by: the laws pool_has_room and who_frees_is_alone, RunsKeepCounts, mw_law_runs, mw_law_store.
 use Rattle.std.specs.Prelude.{ℕ, zero, suc, ◌≡◌, ◌≢◌, ◌<◌, ◌≤◌, ◌+◌, ◌==◌, ◌&&◌, Bool, true, false, if◌then◌else◌, Some}
 use Rattle.std.proofs.Common.{refl, ap, ◌∙◌, inl, inr, arith}
 use Rattle.std.proofs.lemmas.Bool.{cases_eq}
 use Rattle.std.proofs.lemmas.Bool.Decides.{nat_tests}
-use Rattle.mw_actor.specs.Acting.{Acting}
+use Rattle.mw_actor.specs.ActorState.{ActorState}
 use Rattle.mw_world.specs.declared.config.Config.{Config}
-use Rattle.mw_world.specs.Definition.Counting.{pins_held, frees_at, waits_at, waits_for, counted, over_workers, slots_taken_for, taken_slots, used_slots}
+use Rattle.mw_world.specs.Definition.Counts.{pins_held, frees_at, waits_at, waits_for, counted, over_workers, slots_taken_for, taken_slots, used_slots}
 use Rattle.mw_world.specs.Claim.Headline.{FreeSlot}
 use Rattle.mw_world.specs.Claim.Invariant.{IsOfWorker}
 use Rattle.mw_world.specs.Definition.State.{State, quotas_of, quotas_together, tenants_of}
 use Rattle.mw_law_counts.specs.Alone.{WhoFreesIsAlone, DoorsCountTheTaken, WhoWaitsHasRoom}
-use Rattle.mw_law_counts.specs.Standing.{CountsStand}
+use Rattle.mw_law_counts.specs.CountInvariant.{CountsStand}
 use Rattle.mw_law_counts.proofs.Effects.{none_left, taken_and_unpinned}
 use Rattle.mw_law_counts.specs.Sides.{idle}
 use Rattle.mw_law_counts.proofs.Sums.{over_at, over_two, of_actor, claimed}
@@ -24,9 +25,9 @@ at_most_one false = omega arith
 
 pub who-frees-is-alone : WhoFreesIsAlone
 who-frees-is-alone config state worker slot actor stand is some =
-    let low : worker < config.workers = (stand.seats worker actor is).there in
-    let own : 1 ≤ over_workers (λ a. frees_at slot a.point) state.seats config.workers =
-    omega (arith, some, over_at (λ a. frees_at slot a.point) state.seats worker config.workers low, of_actor (λ a. frees_at slot a.point) (state.seats worker) actor is) in
+    let low : worker < config.workers = (stand.worker_states worker actor is).there in
+    let own : 1 ≤ over_workers (λ a. frees_at slot a.point) state.worker_states config.workers =
+    omega (arith, some, over_at (λ a. frees_at slot a.point) state.worker_states worker config.workers low, of_actor (λ a. frees_at slot a.point) (state.worker_states worker) actor is) in
     let is_idle : idle state slot ≡ 1 = omega (arith, own, stand.counts.frees slot, at_most_one ((state.cells.gates slot).taken && ((state.cells.gates slot).pins == 0))) in
     let gate : ((state.cells.gates slot).taken ≡ true) × ((state.cells.gates slot).pins ≡ 0) = taken_and_unpinned (state.cells.gates slot) is_idle in
     record {
@@ -34,25 +35,25 @@ who-frees-is-alone config state worker slot actor stand is some =
       unpinned = gate.1;
       none_left = λ seq. none_left config state state stand 0 slot seq gate.1;
       none_held = λ other request its.
-          omega (arith, gate.1, stand.counts.pins slot, over_at (λ a. pins_held slot a.point) state.seats other config.workers (stand.seats other request its).there, of_actor (λ a. pins_held slot a.point) (state.seats other) request its);
+          omega (arith, gate.1, stand.counts.pins slot, over_at (λ a. pins_held slot a.point) state.worker_states other config.workers (stand.worker_states other request its).there, of_actor (λ a. pins_held slot a.point) (state.worker_states other) request its);
       none_frees = λ other request apart its.
           omega (
             arith,
             some,
             is_idle,
             stand.counts.frees slot,
-            over_two (λ a. frees_at slot a.point) state.seats other worker config.workers (stand.seats other request its).there low apart,
-            of_actor (λ a. frees_at slot a.point) (state.seats other) request its,
-            of_actor (λ a. frees_at slot a.point) (state.seats worker) actor is,
+            over_two (λ a. frees_at slot a.point) state.worker_states other worker config.workers (stand.worker_states other request its).there low apart,
+            of_actor (λ a. frees_at slot a.point) (state.worker_states other) request its,
+            of_actor (λ a. frees_at slot a.point) (state.worker_states worker) actor is,
           );
     }
 
--- the slots that are taken for the first so many tenants
+-- the number of slots that are taken for the first so many tenants
 abbrev taken_for_all : State → ℕ → ℕ → ℕ
 taken_for_all state zero slots = 0
 taken_for_all state (suc tenant) slots = taken_for_all state tenant slots + slots_taken_for state tenant slots
 
--- 1 for a slot that is taken for one of these
+-- 1 if the slot is taken for one of these, else 0
 abbrev claimed_for_all : State → ℕ → ℕ → ℕ
 claimed_for_all state zero slot = 0
 claimed_for_all state (suc tenant) slot = claimed_for_all state tenant slot + claimed state tenant slot
@@ -61,7 +62,7 @@ one_slot_more : (state : State) (tenants slot : ℕ) → taken_for_all state ten
 one_slot_more state zero slot = refl
 one_slot_more state (suc tenant) slot = omega (arith, one_slot_more state tenant slot)
 
--- a slot that is taken for one of these is counted once among them
+-- a slot that is taken for one of these is counted at least once
 one_of_them : (state : State) (tenants slot : ℕ) → (state.cells.gates slot).taken ≡ true → state.history.tenant slot (state.cells.gates slot).seq < tenants
     → 1 ≤ claimed_for_all state tenants slot
 one_of_them state zero slot taken low = absurd (omega (arith, low))
@@ -78,14 +79,14 @@ taken_once : (state : State) (tenants slot : ℕ) (taken : Bool) → (state.cell
 taken_once state tenants slot true is known = omega (arith, ap one_if is, one_of_them state tenants slot is (known is))
 taken_once state tenants slot false is known = omega (arith, ap one_if is)
 
--- the slots that are taken are taken for the tenants
+-- all slots that are taken are taken for one of the tenants
 taken_by_tenants : (state : State) (tenants slots : ℕ) → ((slot : ℕ) → (state.cells.gates slot).taken ≡ true → state.history.tenant slot (state.cells.gates slot).seq < tenants)
     → taken_slots state slots ≤ taken_for_all state tenants slots
 taken_by_tenants state tenants zero known = omega arith
 taken_by_tenants state tenants (suc slot) known =
     omega (arith, taken_by_tenants state tenants slot known, taken_once state tenants slot (state.cells.gates slot).taken refl (known slot), one_slot_more state tenants slot)
 
--- 1 where this tenant is one of the first so many
+-- 1 if this tenant is one of the first so many, else 0
 abbrev one_among : ℕ → ℕ → ℕ
 one_among tenant zero = 0
 one_among tenant (suc tenants) = one_among tenant tenants + (if tenants == tenant then 1 else 0)
@@ -106,12 +107,12 @@ module _ (config : Config) (state : State) (stand : CountsStand config state) wh
   taken_are_used zero few = omega arith
   taken_are_used (suc tenant) few = omega (arith, taken_are_used tenant (omega (arith, few)), stand.counts.doors tenant (omega (arith, few)))
 
-  module _ (worker : ℕ) (actor : Acting) (is : (state.seats worker).actor ≡ Some actor) (its : IsOfWorker config worker actor) (waits : waits_at actor.point ≡ 1) where
-    waited : (tenant : ℕ) → (if tenant == actor.tenant then 1 else 0) ≤ over_workers (waits_for tenant) state.seats config.workers
+  module _ (worker : ℕ) (actor : ActorState) (is : (state.worker_states worker).actor ≡ Some actor) (its : IsOfWorker config worker actor) (waits : waits_at actor.point ≡ 1) where
+    waited : (tenant : ℕ) → (if tenant == actor.tenant then 1 else 0) ≤ over_workers (waits_for tenant) state.worker_states config.workers
     waited tenant = elim (cases_eq tenant actor.tenant) [
       | inl e ↦
-          let counts : counted (waits_for tenant) (state.seats worker).actor ≡ 1 = of_actor (waits_for tenant) (state.seats worker) actor is ∙ waits_here actor.tenant tenant (waits_at actor.point) e ∙ waits in
-          omega (arith, at_most_one (tenant == actor.tenant), counts, over_at (waits_for tenant) state.seats worker config.workers its.there)
+          let counts : counted (waits_for tenant) (state.worker_states worker).actor ≡ 1 = of_actor (waits_for tenant) (state.worker_states worker) actor is ∙ waits_here actor.tenant tenant (waits_at actor.point) e ∙ waits in
+          omega (arith, at_most_one (tenant == actor.tenant), counts, over_at (waits_for tenant) state.worker_states worker config.workers its.there)
       | inr apart ↦ omega (arith, it_isnt tenant actor.tenant apart)
     ]
       where
@@ -129,12 +130,12 @@ pub doors-count-the-taken : DoorsCountTheTaken
 doors-count-the-taken config state stand =
     omega (arith, taken_by_tenants state (tenants_of config) config.pool stand.tenants, taken_are_used config state stand (tenants_of config) (omega arith))
 
--- slots of the doors that count no more than their quotas are no more than all quotas
+-- if no door counts more slots than its quota, the doors together count no more than all quotas
 no_more : (state : State) (quotas : ℕ → ℕ) (n : ℕ) → ((tenant : ℕ) → tenant < n → (state.cells.doors tenant).used ≤ quotas tenant) → used_slots state n ≤ quotas_together quotas n
 no_more state quotas zero each = omega arith
 no_more state quotas (suc n) each = omega (arith, each n (omega arith), no_more state quotas n (λ tenant low. each tenant (omega (arith, low))))
 
--- where fewer slots are taken than there are, there is one that isn't
+-- if fewer slots are taken than there are, one isn't taken
 find_free : (config : Config) (state : State) (slots : ℕ) → slots ≤ config.pool → taken_slots state slots < slots → FreeSlot config state
 find_free config state zero few low = absurd (omega (arith, low))
 find_free config state (suc slot) few low = look (state.cells.gates slot).taken refl (find_free config state slot (omega (arith, few)))
@@ -145,7 +146,7 @@ find_free config state (suc slot) few low = look (state.cells.gates slot).taken 
 
 pub who-waits-has-room : WhoWaitsHasRoom
 who-waits-has-room config state worker actor stand is waits =
-    let its : IsOfWorker config worker actor = stand.seats worker actor is in
+    let its : IsOfWorker config worker actor = stand.worker_states worker actor is in
     find_free config state config.pool (omega arith)
     (omega (
       arith,

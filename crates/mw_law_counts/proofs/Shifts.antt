@@ -1,31 +1,32 @@
--- One worker goes on, and with it one gate or one door: the counts stay right where what changes on both sides of each count is the same.
+-- When one worker goes on and one gate or one door changes with it, the counts stay right if both sides of each count change by the same.
+-- Used by: Effects, QuietSteps, RequestsAndStarts.
 use Rattle.std.specs.Prelude.{ℕ, zero, suc, ◌≡◌, ◌≢◌, ◌<◌, ◌≤◌, ◌+◌, ◌==◌, ◌&&◌, true, false, if◌then◌else◌, Option, Some, None}
 use Rattle.std.proofs.Common.{refl, sym, ap, subst, ◌∙◌, inl, inr, arith}
 use Rattle.std.proofs.lemmas.Bool.{cases_eq}
 use Rattle.std.proofs.lemmas.Bool.Decides.{nat_tests}
-use Rattle.mw_actor.specs.Acting.{Acting}
+use Rattle.mw_actor.specs.ActorState.{ActorState}
 use Rattle.mw_world.specs.declared.config.Config.{Config}
-use Rattle.mw_world.specs.Definition.Counting.{pins_held, frees_at, waits_for, waits_at, counted, over_workers, slots_taken_for}
+use Rattle.mw_world.specs.Definition.Counts.{pins_held, frees_at, waits_for, waits_at, counted, over_workers, slots_taken_for}
 use Rattle.mw_world.specs.Claim.Invariant.{IsPinnedAs, IsOfWorker}
 use Rattle.mw_world_file.specs.Maps.{upd}
-use Rattle.mw_world.specs.Definition.State.{Account, State, Seat, QuotasFit, places_of, quotas_of, quotas_together, tenants_of}
+use Rattle.mw_world.specs.Definition.State.{TenantState, State, WorkerState, QuotasFit, places_of, quotas_of, quotas_together, tenants_of}
 use Rattle.mw_law_counts.specs.Ready.{IsReady}
 use Rattle.mw_law_counts.specs.Sides.{left_pin, idle}
-use Rattle.mw_law_counts.specs.Standing.{CountsStand}
+use Rattle.mw_law_counts.specs.CountInvariant.{CountsStand}
 use Rattle.mw_law_counts.proofs.Points.{PointHolds}
 use Rattle.mw_law_counts.proofs.Sums.{over_update, claimed, slots_update, slots_same}
 
--- So many, of this tenant alone.
+-- This number for this tenant, and 0 for each other one.
 abbrev pub of_tenant : ℕ → ℕ → ℕ → ℕ
 of_tenant own waits tenant = if own == tenant then waits else 0
 
--- What is counted of a worker.
-pub record Counts (own : ℕ) (pins frees : ℕ → ℕ) (waits : ℕ) (seat : Option Acting) : Type 0 where
-  pub pins_are : (slot : ℕ) → counted (λ actor. pins_held slot actor.point) seat ≡ pins slot
-  pub frees_are : (slot : ℕ) → counted (λ actor. frees_at slot actor.point) seat ≡ frees slot
-  pub waits_are : (tenant : ℕ) → counted (waits_for tenant) seat ≡ of_tenant own waits tenant
+-- What is counted for a worker.
+pub record Counts (own : ℕ) (pins frees : ℕ → ℕ) (waits : ℕ) (worker_state : Option ActorState) : Type 0 where
+  pub pins_are : (slot : ℕ) → counted (λ actor. pins_held slot actor.point) worker_state ≡ pins slot
+  pub frees_are : (slot : ℕ) → counted (λ actor. frees_at slot actor.point) worker_state ≡ frees slot
+  pub waits_are : (tenant : ℕ) → counted (waits_for tenant) worker_state ≡ of_tenant own waits tenant
 
-pub of_point : (actor : Acting) (pins frees : ℕ → ℕ) (waits : ℕ) → PointHolds actor pins frees waits actor.point → Counts actor.tenant pins frees waits (Some actor)
+pub of_point : (actor : ActorState) (pins frees : ℕ → ℕ) (waits : ℕ) → PointHolds actor pins frees waits actor.point → Counts actor.tenant pins frees waits (Some actor)
 of_point actor pins frees waits on = record {
   pins_are = on.pins_are;
   frees_are = on.frees_are;
@@ -33,7 +34,7 @@ of_point actor pins frees waits on = record {
 }
 
 -- what is counted of a request at its point
-pub of_request : (actor : Acting) → Counts actor.tenant (λ slot. pins_held slot actor.point) (λ slot. frees_at slot actor.point) (waits_at actor.point) (Some actor)
+pub of_request : (actor : ActorState) → Counts actor.tenant (λ slot. pins_held slot actor.point) (λ slot. frees_at slot actor.point) (waits_at actor.point) (Some actor)
 of_request actor = record { pins_are = λ slot. refl; frees_are = λ slot. refl; waits_are = λ tenant. refl }
 
 none_of : (own tenant : ℕ) → 0 ≡ of_tenant own 0 tenant
@@ -43,7 +44,7 @@ pub of_idle : (own : ℕ) → Counts own (λ slot. 0) (λ slot. 0) 0 None
 of_idle own = record { pins_are = λ slot. refl; frees_are = λ slot. refl; waits_are = λ tenant. none_of own tenant }
 
 module _ (config : Config) (state later : State) (own : ℕ) (had freed held frees : ℕ → ℕ) (waited waits : ℕ) where
-  -- One worker held so many pins of each slot, was to free so many and waited for so many, and now holds, frees and waits for others: both sides
+  -- One worker held so many pins of each slot, was about to free so many and waited for so many. Now it holds, frees and waits for others. Both sides
   -- of each count change by the same.
   pub record Shifts : Type 0 where
     pub pins : (slot : ℕ) → (later.cells.gates slot).pins + had slot + left_pin state slot ≡ (state.cells.gates slot).pins + held slot + left_pin later slot
@@ -52,11 +53,11 @@ module _ (config : Config) (state later : State) (own : ℕ) (had freed held fre
     pub doors : (tenant : ℕ) → tenant < tenants_of config
         → (later.cells.doors tenant).used + of_tenant own waited tenant + slots_taken_for state tenant config.pool
         ≡ (state.cells.doors tenant).used + of_tenant own waits tenant + slots_taken_for later tenant config.pool
-    pub quotas : (tenant : ℕ) → tenant < tenants_of config → (later.cells.doors tenant).used ≤ (state.accounts tenant).quota
+    pub quotas : (tenant : ℕ) → tenant < tenants_of config → (later.cells.doors tenant).used ≤ (state.tenant_states tenant).quota
     pub unpinned : (slot : ℕ) → (later.cells.gates slot).taken ≡ false → (later.cells.gates slot).pins ≡ 0
     pub taken_for : (slot : ℕ) → (later.cells.gates slot).taken ≡ true → later.history.tenant slot (later.cells.gates slot).seq < tenants_of config
 
-  -- The same where one gate changes.
+  -- The same if one gate changes.
   pub record GateShifts (slot : ℕ) : Type 0 where
     pub there : slot < config.pool
     pub gates : (other : ℕ) → other ≢ slot → later.cells.gates other ≡ state.cells.gates other
@@ -70,11 +71,11 @@ module _ (config : Config) (state later : State) (own : ℕ) (had freed held fre
     pub doors : (tenant : ℕ) → tenant < tenants_of config
         → (later.cells.doors tenant).used + of_tenant own waited tenant + claimed state tenant slot
         ≡ (state.cells.doors tenant).used + of_tenant own waits tenant + claimed later tenant slot
-    pub quotas : (tenant : ℕ) → tenant < tenants_of config → (later.cells.doors tenant).used ≤ (state.accounts tenant).quota
+    pub quotas : (tenant : ℕ) → tenant < tenants_of config → (later.cells.doors tenant).used ≤ (state.tenant_states tenant).quota
     pub unpinned : (later.cells.gates slot).taken ≡ false → (later.cells.gates slot).pins ≡ 0
     pub taken_for : (later.cells.gates slot).taken ≡ true → later.history.tenant slot (later.cells.gates slot).seq < tenants_of config
 
-  -- The same where no gate changes.
+  -- The same if no gate changes.
   pub record DoorShifts : Type 0 where
     pub gates : (slot : ℕ) → later.cells.gates slot ≡ state.cells.gates slot
     pub stays : (slot seq : ℕ) → later.history.stays slot seq ≡ state.history.stays slot seq
@@ -83,9 +84,9 @@ module _ (config : Config) (state later : State) (own : ℕ) (had freed held fre
     pub frees_one : (slot : ℕ) → frees slot ≡ freed slot
     pub doors : (tenant : ℕ) → tenant < tenants_of config
         → (later.cells.doors tenant).used + of_tenant own waited tenant ≡ (state.cells.doors tenant).used + of_tenant own waits tenant
-    pub quotas : (tenant : ℕ) → tenant < tenants_of config → (later.cells.doors tenant).used ≤ (state.accounts tenant).quota
+    pub quotas : (tenant : ℕ) → tenant < tenants_of config → (later.cells.doors tenant).used ≤ (state.tenant_states tenant).quota
 
--- a slot whose gate is as it was, and of whose changes nothing new is known
+-- a slot whose gate didn't change, and about whose changes nothing new is known
 same_left : (state later : State) (slot : ℕ) → later.cells.gates slot ≡ state.cells.gates slot → ((seq : ℕ) → later.history.stays slot seq ≡ state.history.stays slot seq)
     → left_pin later slot ≡ left_pin state slot
 same_left state later slot gate stays =
@@ -113,7 +114,7 @@ still_taken_for config state later slot gate tenants was is =
     (subst (λ t. t < tenants_of config) (sym (tenants (state.cells.gates slot).seq)) (was (ap (λ g. g.taken) (sym gate) ∙ is)))
 
 module _ (config : Config) (state later : State) (own : ℕ) (had freed held frees : ℕ → ℕ) (waited waits : ℕ) (stand : CountsStand config state) where
-  -- where one gate changes, the sum of the slots that are taken for a tenant changes by that slot
+  -- if one gate changes, the sum of the slots that are taken for a tenant changes by that slot
   pub of_gate : (slot : ℕ) → GateShifts config state later own had freed held frees waited waits slot → Shifts config state later own had freed held frees waited waits
   of_gate slot on = record {
     pins = λ k. elim (cases_eq k slot) [
@@ -144,7 +145,7 @@ module _ (config : Config) (state later : State) (own : ℕ) (had freed held fre
     ];
   }
 
-  -- where no gate changes, that sum is the same
+  -- if no gate changes, that sum is the same
   pub of_door : DoorShifts config state later own had freed held frees waited waits → Shifts config state later own had freed held frees waited waits
   of_door on = record {
     pins = λ k. omega (arith, ap (λ g. g.pins) (on.gates k), on.pins k, same_left state later k (on.gates k) (on.stays k));
@@ -159,40 +160,40 @@ module _ (config : Config) (state later : State) (own : ℕ) (had freed held fre
     taken_for = λ k. still_taken_for config state later k (on.gates k) (on.tenants k) (stand.tenants k);
   }
 
--- a sum over workers of whom one went on
-over_later : (counts : Acting → ℕ) (state later : State) (worker : ℕ) (seat : Seat) (was is n : ℕ) → worker < n → later.seats ≡ upd state.seats worker seat
-    → counted counts (state.seats worker).actor ≡ was → counted counts seat.actor ≡ is
-    → over_workers counts later.seats n + was ≡ over_workers counts state.seats n + is
-over_later counts state later worker seat was is n low seats old new =
-    let sums : over_workers counts (upd state.seats worker seat) n + counted counts (state.seats worker).actor ≡ over_workers counts state.seats n + counted counts seat.actor =
-    over_update counts state.seats worker seat n low in
-    let same : over_workers counts later.seats n ≡ over_workers counts (upd state.seats worker seat) n = ap (λ s. over_workers counts s n) seats in
+-- a sum over workers of which one went on
+over_later : (counts : ActorState → ℕ) (state later : State) (worker : ℕ) (worker_state : WorkerState) (was is n : ℕ) → worker < n → later.worker_states ≡ upd state.worker_states worker worker_state
+    → counted counts (state.worker_states worker).actor ≡ was → counted counts worker_state.actor ≡ is
+    → over_workers counts later.worker_states n + was ≡ over_workers counts state.worker_states n + is
+over_later counts state later worker worker_state was is n low worker_states old new =
+    let sums : over_workers counts (upd state.worker_states worker worker_state) n + counted counts (state.worker_states worker).actor ≡ over_workers counts state.worker_states n + counted counts worker_state.actor =
+    over_update counts state.worker_states worker worker_state n low in
+    let same : over_workers counts later.worker_states n ≡ over_workers counts (upd state.worker_states worker worker_state) n = ap (λ s. over_workers counts s n) worker_states in
     omega (arith, sums, same, old, new)
 
 -- a tenant has the same quota, and its file as many places
-abbrev pub SameShare : Account → Account → Type 0
+abbrev pub SameShare : TenantState → TenantState → Type 0
 SameShare one other = (one.quota ≡ other.quota) × (one.places ≡ other.places)
 
-pub same_share : (accounts : ℕ → Account) (own : ℕ) (account : Account) → SameShare account (accounts own) → (tenant : ℕ) → SameShare (upd accounts own account tenant) (accounts tenant)
-same_share accounts own account same tenant = (grind (arith, nat_tests, same.0), grind (arith, nat_tests, same.1))
+pub same_share : (tenant_states : ℕ → TenantState) (own : ℕ) (tenant_state : TenantState) → SameShare tenant_state (tenant_states own) → (tenant : ℕ) → SameShare (upd tenant_states own tenant_state tenant) (tenant_states tenant)
+same_share tenant_states own tenant_state same tenant = (grind (arith, nat_tests, same.0), grind (arith, nat_tests, same.1))
 
--- what was so of the others' requests is so
-still_so : (P : ℕ → Acting → Type 0) (state later : State) (worker : ℕ) (seat : Seat) → later.seats ≡ upd state.seats worker seat
-    → ((other : ℕ) (actor : Acting) → (state.seats other).actor ≡ Some actor → P other actor)
-    → ((actor : Acting) → seat.actor ≡ Some actor → P worker actor)
-    → (other : ℕ) (actor : Acting) → (later.seats other).actor ≡ Some actor → P other actor
-still_so P state later worker seat seats were here other actor is = elim (cases_eq other worker) [
-  | inl e ↦ subst (λ w. P w actor) (sym e) (here actor (sym (ap (λ s. s.actor) (set_here other e)) ∙ sym (ap (λ s. (s other).actor) seats) ∙ is))
-  | inr apart ↦ were other actor (sym (ap (λ s. s.actor) (set_else other apart)) ∙ sym (ap (λ s. (s other).actor) seats) ∙ is)
+-- what held of the others' requests still holds
+still_so : (P : ℕ → ActorState → Type 0) (state later : State) (worker : ℕ) (worker_state : WorkerState) → later.worker_states ≡ upd state.worker_states worker worker_state
+    → ((other : ℕ) (actor : ActorState) → (state.worker_states other).actor ≡ Some actor → P other actor)
+    → ((actor : ActorState) → worker_state.actor ≡ Some actor → P worker actor)
+    → (other : ℕ) (actor : ActorState) → (later.worker_states other).actor ≡ Some actor → P other actor
+still_so P state later worker worker_state worker_states were here other actor is = elim (cases_eq other worker) [
+  | inl e ↦ subst (λ w. P w actor) (sym e) (here actor (sym (ap (λ s. s.actor) (set_here other e)) ∙ sym (ap (λ s. (s other).actor) worker_states) ∙ is))
+  | inr apart ↦ were other actor (sym (ap (λ s. s.actor) (set_else other apart)) ∙ sym (ap (λ s. (s other).actor) worker_states) ∙ is)
 ]
   where
-    set_here : (k : ℕ) → k ≡ worker → upd state.seats worker seat k ≡ seat
+    set_here : (k : ℕ) → k ≡ worker → upd state.worker_states worker worker_state k ≡ worker_state
     set_here k e = grind (arith, nat_tests, e)
 
-    set_else : (k : ℕ) → k ≢ worker → upd state.seats worker seat k ≡ state.seats k
+    set_else : (k : ℕ) → k ≢ worker → upd state.worker_states worker worker_state k ≡ state.worker_states k
     set_else k apart = grind (arith, nat_tests, apart)
 
--- quotas that are the same fit too, where files have as many places
+-- quotas that fit still fit, if they are the same and files have as many places
 quotas_fit_still : (config : Config) (old new places still : ℕ → ℕ) → ((tenant : ℕ) → new tenant ≡ old tenant) → ((tenant : ℕ) → still tenant ≡ places tenant)
     → QuotasFit config old places → QuotasFit config new still
 quotas_fit_still config old new places still same as_many fit = record {
@@ -205,31 +206,31 @@ quotas_fit_still config old new places still same as_many fit = record {
     same_together zero = refl
     same_together (suc n) = omega (arith, same n, same_together n)
 
--- The counts stand where one worker goes on and both sides of each count change by the same; quotas and places stay.
-pub shifted : (config : Config) (state later : State) (worker own : ℕ) (seat : Seat) (had freed held frees : ℕ → ℕ) (waited waits : ℕ)
-    → CountsStand config state → worker < config.workers → later.seats ≡ upd state.seats worker seat
-    → Counts own had freed waited (state.seats worker).actor → Counts own held frees waits seat.actor
-    → ((actor : Acting) → seat.actor ≡ Some actor → IsOfWorker config worker actor) → ((actor : Acting) → seat.actor ≡ Some actor → IsReady actor actor.point)
-    → ((actor : Acting) → seat.actor ≡ Some actor → actor.quota ≡ (state.accounts actor.tenant).quota) → ((tenant : ℕ) → SameShare (later.accounts tenant) (state.accounts tenant))
+-- The invariant of counts holds after one worker goes on, if both sides of each count change by the same; quotas and places stay.
+pub shifted : (config : Config) (state later : State) (worker own : ℕ) (worker_state : WorkerState) (had freed held frees : ℕ → ℕ) (waited waits : ℕ)
+    → CountsStand config state → worker < config.workers → later.worker_states ≡ upd state.worker_states worker worker_state
+    → Counts own had freed waited (state.worker_states worker).actor → Counts own held frees waits worker_state.actor
+    → ((actor : ActorState) → worker_state.actor ≡ Some actor → IsOfWorker config worker actor) → ((actor : ActorState) → worker_state.actor ≡ Some actor → IsReady actor actor.point)
+    → ((actor : ActorState) → worker_state.actor ≡ Some actor → actor.quota ≡ (state.tenant_states actor.tenant).quota) → ((tenant : ℕ) → SameShare (later.tenant_states tenant) (state.tenant_states tenant))
     → Shifts config state later own had freed held frees waited waits → CountsStand config later
-shifted config state later worker own seat had freed held frees waited waits stand low seats old new its ready quota kept on = record {
+shifted config state later worker own worker_state had freed held frees waited waits stand low worker_states old new its ready quota kept on = record {
   counts = record {
-    pins = λ slot. omega (arith, stand.counts.pins slot, on.pins slot, over_later (λ actor. pins_held slot actor.point) state later worker seat (had slot) (held slot) config.workers low seats (old.pins_are slot) (new.pins_are slot));
+    pins = λ slot. omega (arith, stand.counts.pins slot, on.pins slot, over_later (λ actor. pins_held slot actor.point) state later worker worker_state (had slot) (held slot) config.workers low worker_states (old.pins_are slot) (new.pins_are slot));
     left = on.left;
-    frees = λ slot. omega (arith, stand.counts.frees slot, on.frees_one slot, over_later (λ actor. frees_at slot actor.point) state later worker seat (freed slot) (frees slot) config.workers low seats (old.frees_are slot) (new.frees_are slot));
+    frees = λ slot. omega (arith, stand.counts.frees slot, on.frees_one slot, over_later (λ actor. frees_at slot actor.point) state later worker worker_state (freed slot) (frees slot) config.workers low worker_states (old.frees_are slot) (new.frees_are slot));
     doors = λ tenant there. omega (
       arith,
       stand.counts.doors tenant there,
       on.doors tenant there,
-      over_later (waits_for tenant) state later worker seat (of_tenant own waited tenant) (of_tenant own waits tenant) config.workers low seats (old.waits_are tenant) (new.waits_are tenant),
+      over_later (waits_for tenant) state later worker worker_state (of_tenant own waited tenant) (of_tenant own waits tenant) config.workers low worker_states (old.waits_are tenant) (new.waits_are tenant),
     );
     quotas = λ tenant there. omega (arith, on.quotas tenant there, (kept tenant).0);
     limits = quotas_fit_still config (quotas_of state) (quotas_of later) (places_of state) (places_of later) (λ tenant. (kept tenant).0) (λ tenant. (kept tenant).1) stand.counts.limits;
   };
   unpinned = on.unpinned;
   tenants = on.taken_for;
-  quotas = still_so (λ other actor. actor.quota ≡ (later.accounts actor.tenant).quota) state later worker seat seats
+  quotas = still_so (λ other actor. actor.quota ≡ (later.tenant_states actor.tenant).quota) state later worker worker_state worker_states
       (λ other actor is. stand.quotas other actor is ∙ sym (kept actor.tenant).0) (λ actor is. quota actor is ∙ sym (kept actor.tenant).0);
-  seats = still_so (IsOfWorker config) state later worker seat seats stand.seats its;
-  ready = still_so (λ other actor. IsReady actor actor.point) state later worker seat seats stand.ready ready;
+  worker_states = still_so (IsOfWorker config) state later worker worker_state worker_states stand.worker_states its;
+  ready = still_so (λ other actor. IsReady actor actor.point) state later worker worker_state worker_states stand.ready ready;
 }

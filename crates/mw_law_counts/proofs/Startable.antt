@@ -1,11 +1,12 @@
--- When all may stop and start again, as one test, and what it tells: so much was found, and the quotas that the start gives fit.
+-- The test of a restart, and what it tells: what is found of each tenant's file may be found, and the quotas that the start gives fit.
+-- Used by: RequestsAndStarts, mw_law_runs, mw_law_store.
 use Rattle.std.specs.Prelude.{ℕ, zero, suc, ◌≡◌, ◌<◌, ◌≤◌, ◌==◌, ◌&&◌, Bool, true, nat_le, List, length}
 use Rattle.std.proofs.Common.{refl, sym, subst, inl, inr, arith}
 use Rattle.std.proofs.lemmas.Bool.{and_from, and_parts, cases_eq, eqb-true, le-leb, leb-true}
 use Rattle.mw_words.specs.declared.limits.TheConstants.{MAX_QUOTA}
 use Rattle.mw_lone.specs.Store.{is_quota}
 use Rattle.mw_world.specs.declared.config.Config.{Config}
-use Rattle.mw_world.specs.Definition.Happenings.{Found}
+use Rattle.mw_world.specs.Definition.Events.{Found}
 use Rattle.mw_world.specs.Definition.Restarts.{may_all_be_found, quotas_then}
 use Rattle.mw_world.specs.Definition.State.{State, QuotasFit, each_fits, may_be_quotas, places_of, quotas_together, tenants_of}
 
@@ -19,7 +20,7 @@ one_fits quotas places many is =
     let quota = and_parts (nat_le 1 (quotas many)) (nat_le (quotas many) MAX_QUOTA) (and_parts (each_fits quotas places many) (is_quota (quotas many)) parts.0).1 in
     (leb-true 1 (quotas many) quota.0, leb-true (quotas many) MAX_QUOTA quota.1, leb-true (quotas many) (places many) parts.1)
 
--- each of the tenants that were tested is so
+-- this holds of each of the tenants that were tested
 pub each_is_fitting : (quotas places : ℕ → ℕ) (many : ℕ) → each_fits quotas places many ≡ true → (tenant : ℕ) → tenant < many → IsFitting quotas places tenant
 each_is_fitting quotas places zero is tenant low = absurd (omega (arith, low))
 each_is_fitting quotas places (suc many) is tenant low = elim (cases_eq tenant many) [
@@ -57,7 +58,7 @@ quotas_pass config quotas places fit =
     (each_passes quotas places (tenants_of config) (λ tenant low. ((fit.each tenant low).0, (fit.each tenant low).1, fit.room tenant low)))
     (le-leb (quotas_together quotas (tenants_of config)) config.pool fit.together)
 
--- All may stop and start again, and this is found of each tenant's file.
+-- A restart may happen, and this is found of each tenant's file.
 abbrev pub may_start : Config → State → List Found → Bool
 may_start config state founds =
     (length founds == tenants_of config) && may_all_be_found config state founds (tenants_of config) && may_be_quotas config (quotas_then state founds) (places_of state)
@@ -75,7 +76,7 @@ start_tells config state founds may =
     let files = and_parts (length founds == tenants_of config) all parts.0 in
     record { each = files.0; found = files.1; quotas = quotas_fit config (quotas_then state founds) (places_of state) parts.1 }
 
--- and a start that tells so much passes it
+-- a start of which this holds passes the test
 pub start_passes : (config : Config) (state : State) (founds : List Found) → MayStart config state founds → may_start config state founds ≡ true
 start_passes config state founds may =
     let all = may_all_be_found config state founds (tenants_of config) in

@@ -3,5 +3,5 @@ pub mod Exact
 pub mod Laws
 pub mod Ready
 pub mod Sides
-pub mod Standing
+pub mod CountInvariant
 pub mod Then

@@ -1,11 +1,11 @@
--- What the counts of a slot are compared with: its pin that was left behind, and whether it is to be freed. Only proofs speak of these.
+-- What the counts of a slot are compared with: its pin that was left behind, and whether it will be freed. Only proofs use these.
 use Rattle.std.specs.Prelude.{ℕ, ◌==◌, ◌&&◌, if◌then◌else◌}
 use Rattle.mw_world.specs.Definition.State.{State}
 
--- 1 for the pin of a slot that was left behind
+-- 1 if a pin of the slot was left behind under its number, else 0
 abbrev pub left_pin : State → ℕ → ℕ
 left_pin state slot = if state.history.stays slot (state.cells.gates slot).seq then 1 else 0
 
--- 1 for a slot that is taken and has no pin
+-- 1 if the slot is taken and has no pin, else 0
 abbrev pub idle : State → ℕ → ℕ
 idle state slot = if (state.cells.gates slot).taken && ((state.cells.gates slot).pins == 0) then 1 else 0

@@ -1,43 +1,49 @@
-//! What holds of the counts of a world: facts for proofs to cite. The functions do nothing.
+//! States facts about the counts of a world.
+//!
+//! The functions do nothing, and nothing calls them: each contract is a fact, proved in `proofs/laws`. Proofs
+//! of crates above import other pages of `proofs`, by which these facts are proved. To change a fact, change
+//! its definition in `specs`, and then its proof.
 ghost use Rattle.mw_law_counts.specs.Alone.{DoorsCountTheTaken, WhoFreesIsAlone, WhoWaitsHasRoom};
 ghost use Rattle.mw_law_counts.specs.Exact.{ExchangesAreExact};
 ghost use Rattle.mw_law_counts.specs.Laws.{EventsKeepCounts, RunsKeepCounts, RunsLeaveRoom, StartsStand};
 
-/// The counts stand at every start of a server's tenants (`CountsStand`).
+/// The invariant of counts (`CountsStand`) holds at every start with which a run may begin.
 pub fn starts_count_right()
     ensures { StartsStand }
 {}
 
-/// Every event keeps `CountsStand`: the counts are right (pins, slots that are to be freed, doors, quotas),
-/// a gate that isn't taken has no pins, a slot that is taken is taken for one of the tenants, and each
-/// request is its worker's and ready for its next step. That rests on `CountsRestOn` before the event.
+/// Every event keeps the invariant of counts (`CountsStand`), if `CountsRestOn` holds before the event.
+///
+/// The invariant says: the counts are right (pins, slots that will be freed, doors, quotas). A gate that isn't taken
+/// has no pins. A slot that is taken is taken for one of the tenants. Each request belongs to its worker and is ready
+/// for its next step.
 pub fn events_keep_counts()
     ensures { EventsKeepCounts }
 {}
 
-/// After every run the counts stand, and there is room in the pool, if `CountsRestOn` holds at each moment
-/// of the run.
+/// After every run the invariant of counts holds and there is room in the pool, if `CountsRestOn` holds at each
+/// moment of the run.
 pub fn runs_keep_counts()
     ensures counts { RunsKeepCounts }
     ensures room { RunsLeaveRoom }
 {}
 
-/// Where the counts stand, whoever is to free a slot, having taken its last pin back, is alone with it: see
-/// `IsAloneWith`.
+/// If the invariant of counts holds, a worker that will free a slot, because it took the last pin back, is alone with
+/// it: see `IsAloneWith`.
 pub fn who_frees_is_alone()
     ensures { WhoFreesIsAlone }
 {}
 
-/// Where the counts stand there is room in the pool: the slots that are taken are no more than the doors
-/// count; and while a tenant's door counts a slot that a request hasn't taken yet, or has freed already,
-/// some slot of the pool isn't taken.
+/// If the invariant of counts holds, there is room in the pool. No more slots are taken than the doors count. While a
+/// tenant's door counts a slot that a request hasn't taken yet, or has already freed, some slot of the pool isn't
+/// taken.
 pub fn pool_has_room()
     ensures taken { DoorsCountTheTaken }
     ensures free { WhoWaitsHasRoom }
 {}
 
-/// Where all that stands in the shared words is in range, and what a request expects is in range, its
-/// exchange of a door or a gate finds just what it expects if it finds the bits of that.
+/// An exchange of a door or a gate that finds the bits of the expected value finds exactly that value. The premises:
+/// all shared words are in range, and so is the request with the values that it expects.
 pub fn exchanges_are_exact()
     ensures { ExchangesAreExact }
 {}

@@ -1,9 +1,11 @@
-//! How many pins each slot has, and how many slots each tenant's door counts: an event of a world keeps
-//! these counts right if `CountsRestOn` holds before it, and what follows from that. That it holds in every
-//! run isn't shown here; of its three parts only `exact` is traced back, to ranges.
+//! Counts how many pins each slot has, and how many slots each tenant's door counts. If `CountsRestOn` holds before
+//! an event, the event keeps these counts right. This crate doesn't prove that `CountsRestOn` holds in every run; of
+//! its three parts it traces only `exact` back, to ranges.
 //!
-//! A door is a tenant's counter of slots in use; a gate is a slot's word, with a flag that it is taken, a
-//! count of references to it (its pins) and a sequence number.
+//! A door is a tenant's counter of slots in use. A gate is a slot's word, with a flag that it is taken, a count of
+//! references to it (its pins) and a sequence number.
+//!
+//! Used by: mw_law_runs, mw_law_store.
 #![tactic(auto)]
 
 mod laws;

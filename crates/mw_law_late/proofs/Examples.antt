@@ -1,4 +1,4 @@
--- The stores of the short run, mark by mark.
+-- The late mark of the example is legal at its place and illegal at the end. Used by: a_late_mark_comes_out.
 use Rattle.std.proofs.Common.{◌≡◌, ◌≢◌, ℕ, ◌<◌, true, List, [], ◌∷◌, refl, ap, ◌∙◌, arith, Option, Some}
 use Rattle.std.specs.Prelude.{slice_set}
 use Rattle.std.specs.Option.{option_and_then, option_map}
@@ -10,11 +10,11 @@ use Rattle.mw_lone.proofs.SoundStores.{get-insert_same, get-insert_other}
 use Rattle.mw_lone.specs.Store.{Store, RequestState, request, with_request, with_reply, asked, step, run, admit, seal, miss_at, entries_of}
 use Rattle.std.specs.List.{slice_get}
 use Rattle.mw_law_late.specs.Examples.{change, five, lines, refusal, LateMarkComesOut}
-use Rattle.mw_law_late.specs.Late.{marks_in, IsKeptFor}
-use Rattle.mw_law_late.proofs.Numbering.{runs-number}
-use Rattle.mw_law_late.proofs.Placing.{late-mark}
+use Rattle.mw_law_late.specs.LateMarks.{marks_in, IsReservedFor}
+use Rattle.mw_law_late.proofs.RequestNumbers.{runs-number}
+use Rattle.mw_law_late.proofs.LateAnswers.{late-mark}
 
--- request 0, asked and admitted
+-- request 0, asked and then admitted
 abbrev first : RequestState
 first = record (asked (change 7 9)) { admitted = true }
 
@@ -24,7 +24,7 @@ first_asked = record (with_request five 0 (asked (change 7 9))) { next = 1 }
 abbrev first_admitted : Store
 first_admitted = record (with_request first_asked 0 first) { used = 1 }
 
--- request 1, asked and admitted
+-- request 1, asked and then admitted
 abbrev second : RequestState
 second = record (asked (change 5 7)) { admitted = true }
 
@@ -53,7 +53,7 @@ seals_second = ap (option_and_then (seal second_admitted 1)) (get-insert_same se
 begins : run five (Ask 0 (change 7 9) ∷ Admit 0 ∷ []) ≡ Some first_admitted
 begins = goes five first_asked (Ask 0 (change 7 9)) (Admit 0 ∷ []) _ refl (goes first_asked first_admitted (Admit 0) [] _ admits_first refl)
 
--- and to the end
+-- the run to the end
 ends : run five (marks_in lines) ≡ Some end
 ends =
     goes five first_asked (Ask 0 (change 7 9)) (Admit 0 ∷ Ask 1 (change 5 7) ∷ Admit 1 ∷ Seal 1 ∷ []) _ refl
@@ -74,8 +74,8 @@ first_at_end =
     ∙ (get-insert_other second_asked.requests 1 0 second (differ 0 1 (omega arith))
     ∙ (get-insert_other first_admitted.requests 1 0 (asked (change 5 7)) (differ 0 1 (omega arith)) ∙ first_there))
 
-kept_place : IsKeptFor five lines 2 (Miss 0 0) 0 (No 0 5)
-kept_place = record {
+reserved_place : IsReservedFor five lines 2 (Miss 0 0) 0 (No 0 5)
+reserved_place = record {
   is_empty = refl;
   store = first_admitted;
   was = begins;
@@ -94,11 +94,11 @@ kept_place = record {
 }
 
 late_end : run five (marks_in (slice_set lines 2 refusal)) ≡ Some (with_reply end 0 first (No 0 5))
-late_end = late-mark five end lines 2 (Miss 0 0) 0 first (No 0 5) (runs-number (5 ∷ []) 2 [] five refl) kept_place ends (record { is_asked = first_at_end; has_no_reply = refl })
+late_end = late-mark five end lines 2 (Miss 0 0) 0 first (No 0 5) (runs-number (5 ∷ []) 2 [] five refl) reserved_place ends (record { is_asked = first_at_end; has_no_reply = refl })
 
 pub late-mark-comes-out : LateMarkComesOut
 late-mark-comes-out = record {
-  kept = kept_place;
+  kept = reserved_place;
   words = ap (option_map (λ s. s.words)) ends;
   at_the_end =
       run-extend five (marks_in lines) (Miss 0 0)

@@ -1,7 +1,7 @@
-pub mod Deciding
+pub mod MarkEffectLaws
 pub mod Examples
-pub mod Kept
+pub mod ReservedPlaces
 pub mod Lines
-pub mod Naming
-pub mod Numbering
-pub mod Placing
+pub mod RequestsOfMarks
+pub mod RequestNumbers
+pub mod LateAnswers

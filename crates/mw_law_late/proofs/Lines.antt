@@ -1,4 +1,4 @@
--- Lines and their marks.
+-- Running lines is running their marks. Used by: the law lines_are_run, LateAnswers, ReservedPlaces, mw_law_store.
 use Rattle.std.proofs.Common.{◌≡◌, ℕ, List, [], ◌∷◌, ◌++◌, refl, sym, ap, ◌∙◌, append-nil, Option, Some, None}
 use Rattle.std.proofs.Math.ListN.{take, drop}
 use Rattle.std.specs.Option.{option_and_then, option_to_list}
@@ -7,7 +7,7 @@ use Rattle.std.proofs.lemmas.List.{take-append-drop}
 use Rattle.mw_lone.specs.declared.marks.Mark.{Mark}
 use Rattle.mw_lone.proofs.KeptRuns.{run-extend}
 use Rattle.mw_lone.specs.Store.{Store, step, run}
-use Rattle.mw_law_late.specs.Late.{marks_in, more, run_lines}
+use Rattle.mw_law_late.specs.LateMarks.{marks_in, more, run_lines}
 use Rattle.mw_law_late.specs.Laws.{LinesAreRun, LinesExtend, EmptyPlaceAddsNothing}
 
 after_step : (o : Option Store) (lines : List (Option Mark)) → ((t : Store) → run_lines t lines ≡ run t (marks_in lines)) → option_and_then (λ t. run_lines t lines) o ≡ option_and_then (λ t. run t (marks_in lines)) o
@@ -34,7 +34,7 @@ pub lines-extend : LinesExtend
 lines-extend s lines None = ap (run s) (empty-place lines) ∙ as_it_was (run s (marks_in lines))
 lines-extend s lines (Some mark) = ap (run s) (mark-more lines mark) ∙ run-extend s (marks_in lines) mark
 
--- a run of two lists of marks is one after the other
+-- running two lists of marks is running one after the other
 run_on : (o : Option Store) (a b : List Mark) → ((t : Store) → run t (a ++ b) ≡ option_and_then (λ u. run u b) (run t a)) → option_and_then (λ t. run t (a ++ b)) o ≡ option_and_then (λ u. run u b) (option_and_then (λ t. run t a) o)
 run_on None a b h = refl
 run_on (Some t) a b h = h t

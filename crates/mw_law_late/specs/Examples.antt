@@ -1,4 +1,5 @@
--- A short run with a mark that comes late, and what comes of it.
+-- A short run with a late mark, and its results.
+-- Used by: the laws of src/laws.rt. A change here changes what these laws say.
 use Rattle.std.specs.Prelude.{ℕ, ◌≡◌, List, [], ◌∷◌, slice_set, Option, Some, None}
 use Rattle.std.specs.Option.{option_and_then, option_map}
 use Rattle.mw_words.specs.declared.jobs.Job.{Job}
@@ -8,7 +9,7 @@ use Rattle.mw_words.specs.declared.replies.Reply.TheVariants.{No}
 use Rattle.mw_lone.specs.declared.marks.Mark.{Mark}
 use Rattle.mw_lone.specs.declared.marks.Mark.TheVariants.{Ask, Admit, Miss, Seal}
 use Rattle.mw_lone.specs.Store.{Store, new_store, request, run}
-use Rattle.mw_law_late.specs.Late.{marks_in, more, IsKeptFor}
+use Rattle.mw_law_late.specs.LateMarks.{marks_in, more, IsReservedFor}
 
 -- a change of the only word
 abbrev pub change : ℕ → ℕ → Job
@@ -18,11 +19,11 @@ change expected new = Cas (record { items = record { addr = 0; expected = expect
 abbrev pub five : Store
 five = new_store (5 ∷ []) 2
 
--- Request 0, a change from 7 to 9, is admitted; a place is kept; and request 1 changes the word from 5 to 7.
+-- Request 0, a change from 7 to 9, is admitted. Then a place is reserved. Then request 1 changes the word from 5 to 7.
 abbrev pub lines : List (Option Mark)
 lines = Some (Ask 0 (change 7 9)) ∷ Some (Admit 0) ∷ None ∷ Some (Ask 1 (change 5 7)) ∷ Some (Admit 1) ∷ Some (Seal 1) ∷ []
 
--- the mark that request 0 is refused at its only entry
+-- the mark that refuses request 0 at its only entry
 abbrev pub refusal : Option Mark
 refusal = Some (Miss 0 0)
 
@@ -38,9 +39,9 @@ reply_after now = option_and_then (λ s. option_and_then (λ r. r.placed) (reque
 abbrev pub words_after : List (Option Mark) → Option (List ℕ)
 words_after now = option_map (λ s. s.words) (after now)
 
--- The word was 5 at the place and is 7 at the end: there the change can't be refused any more, and late it can.
+-- The word is 5 at the place and 7 at the end. At the end the change can't be refused any more; at the place it can.
 pub record LateMarkComesOut : Type 0 where
-  pub kept : IsKeptFor five lines 2 (Miss 0 0) 0 (No 0 5)
+  pub kept : IsReservedFor five lines 2 (Miss 0 0) 0 (No 0 5)
   pub words : words_after lines ≡ Some (7 ∷ [])
   pub at_the_end : after (more lines refusal) ≡ None
   pub late_words : words_after (slice_set lines 2 refusal) ≡ Some (7 ∷ [])

@@ -1,4 +1,5 @@
--- What holds of marks that come late.
+-- What is proved of marks that come late.
+-- Used by: the laws of src/laws.rt. A change here changes what these laws say.
 use Rattle.std.specs.Prelude.{ℕ, ◌≡◌, ◌≢◌, ◌++◌, true, false, not, List, length, Option, Some, None, slice_set}
 use Rattle.std.specs.List.{list_all}
 use Rattle.std.proofs.Math.ListN.{drop}
@@ -6,14 +7,14 @@ use Rattle.std.specs.Option.{option_and_then}
 use Rattle.mw_words.specs.declared.replies.Reply.{Reply}
 use Rattle.mw_lone.specs.declared.marks.Mark.{Mark}
 use Rattle.mw_lone.specs.Store.{Store, RequestState, new_store, request, with_reply, step, run}
-use Rattle.mw_law_late.specs.Doing.{Does}
-use Rattle.mw_law_late.specs.Late.{marks_in, more, step_line, run_lines, names, IsNumbered, IsOpen, WouldAnswer, IsKeptFor}
+use Rattle.mw_law_late.specs.MarkEffects.{Does}
+use Rattle.mw_law_late.specs.LateMarks.{marks_in, more, step_line, run_lines, names, IsNumbered, IsOpen, WouldAnswer, IsReservedFor}
 
--- a legal mark meets the conditions that are listed for it, and leaves the store that is listed for it
+-- a legal mark meets the conditions that `Does` lists for it, and leaves the store that `Does` lists
 abbrev pub MarksDo : Type 0
 MarksDo = (s t : Store) (mark : Mark) → step s mark ≡ Some t → Does s mark t
 
--- and a mark that meets them is legal, and leaves that store
+-- a mark that meets these conditions is legal, and leaves that store
 abbrev pub DoingIsMarked : Type 0
 DoingIsMarked = (s t : Store) (mark : Mark) → Does s mark t → step s mark ≡ Some t
 
@@ -21,21 +22,21 @@ DoingIsMarked = (s t : Store) (mark : Mark) → Does s mark t → step s mark �
 abbrev pub LinesAreRun : Type 0
 LinesAreRun = (s : Store) (lines : List (Option Mark)) → run_lines s lines ≡ run s (marks_in lines)
 
--- the store after lines and one more is the one after that line
+-- the store after lines and one more is the store after that line, run from the store after the lines
 abbrev pub LinesExtend : Type 0
 LinesExtend = (s : Store) (lines : List (Option Mark)) (line : Option Mark)
     → run s (marks_in (more lines line)) ≡ option_and_then (λ t. step_line t line) (run s (marks_in lines))
 
--- an empty place at the end adds no mark
+-- an empty line at the end adds no mark
 abbrev pub EmptyPlaceAddsNothing : Type 0
 EmptyPlaceAddsNothing = (lines : List (Option Mark)) → marks_in (more lines None) ≡ marks_in lines
 
--- a legal mark that isn't about a request stays legal if that request is given a reply before it, and leaves the same store as if it were given after it
+-- a legal mark that isn't about a request commutes with a reply to it: the mark stays legal after the reply, and either order leaves the same store
 abbrev pub RepliesCommute : Type 0
 RepliesCommute = (s t : Store) (n : ℕ) (r : RequestState) (reply : Reply) (mark : Mark) → names mark n ≡ false → step s mark ≡ Some t
     → step (with_reply s n r reply) mark ≡ Some (with_reply t n r reply)
 
--- such a mark leaves that request as it was
+-- such a mark leaves the request as it was
 abbrev pub OthersAreLeft : Type 0
 OthersAreLeft = (s t : Store) (n : ℕ) (mark : Mark) → names mark n ≡ false → step s mark ≡ Some t → request t n ≡ request s n
 
@@ -43,38 +44,38 @@ OthersAreLeft = (s t : Store) (n : ℕ) (mark : Mark) → names mark n ≡ false
 abbrev pub RunsNumber : Type 0
 RunsNumber = (words : List ℕ) (quota : ℕ) (marks : List Mark) (t : Store) → run (new_store words quota) marks ≡ Some t → IsNumbered t
 
--- A mark put in late. The lines are a legal run from a store whose requests have numbers below the next one; a place was kept for this mark,
--- which would have given this request that reply if it had none then; and at the end the request has no reply. Then the lines with the mark at that place are
--- a legal run, and the store at their end is the old one in which the request has that reply.
+-- A mark put in late. The lines are a legal run from a store whose requests have numbers below the next one. A place is reserved for the mark, which
+-- would have given the request this reply if it had none then. At the end the request has no reply. Then the lines with the mark at the place are a
+-- legal run, and leave the same store, except that the request has the reply.
 abbrev pub LateMark : Type 0
 LateMark = (start end : Store) (lines : List (Option Mark)) (place : ℕ) (mark : Mark) (n : ℕ) (r : RequestState) (reply : Reply) → IsNumbered start
-    → IsKeptFor start lines place mark n reply → run start (marks_in lines) ≡ Some end → IsOpen end n r
+    → IsReservedFor start lines place mark n reply → run start (marks_in lines) ≡ Some end → IsOpen end n r
     → run start (marks_in (slice_set lines place (Some mark))) ≡ Some (with_reply end n r reply)
 
 -- the same of a new store that went through all marks before these lines
 abbrev pub LateMarkOfAll : Type 0
 LateMarkOfAll = (words : List ℕ) (quota : ℕ) (closed : List Mark) (start end : Store) (lines : List (Option Mark)) (place : ℕ) (mark : Mark) (n : ℕ) (r : RequestState) (reply : Reply)
-    → run (new_store words quota) closed ≡ Some start → IsKeptFor start lines place mark n reply → run (new_store words quota) (closed ++ marks_in lines) ≡ Some end
+    → run (new_store words quota) closed ≡ Some start → IsReservedFor start lines place mark n reply → run (new_store words quota) (closed ++ marks_in lines) ≡ Some end
     → IsOpen end n r → run (new_store words quota) (closed ++ marks_in (slice_set lines place (Some mark))) ≡ Some (with_reply end n r reply)
 
--- as long as the request has no reply: since the place it is as it was there, and no mark is about it
+-- while the request has no reply, it is as it was at the place, and no mark after the place is about it
 abbrev pub NothingBetween : Type 0
-NothingBetween = (start end : Store) (lines : List (Option Mark)) (place : ℕ) (mark : Mark) (n : ℕ) (r : RequestState) (reply : Reply) (kept : IsKeptFor start lines place mark n reply)
+NothingBetween = (start end : Store) (lines : List (Option Mark)) (place : ℕ) (mark : Mark) (n : ℕ) (r : RequestState) (reply : Reply) (kept : IsReservedFor start lines place mark n reply)
     → IsNumbered start → run start (marks_in lines) ≡ Some end → IsOpen end n r
     → (request kept.store n ≡ Some r) × (list_all (λ later. not (names later n)) (marks_in (drop place lines)) ≡ true)
 
--- an empty place at the end of lines is kept for each mark that would decide a reply there
-abbrev pub PlaceIsKept : Type 0
-PlaceIsKept = (start end : Store) (lines : List (Option Mark)) (mark : Mark) (n : ℕ) (reply : Reply) → run start (marks_in lines) ≡ Some end
-    → WouldAnswer end mark n reply → IsKeptFor start (more lines None) (length lines) mark n reply
+-- an empty place at the end of lines is reserved for each mark that would decide a reply there
+abbrev pub PlaceIsReserved : Type 0
+PlaceIsReserved = (start end : Store) (lines : List (Option Mark)) (mark : Mark) (n : ℕ) (reply : Reply) → run start (marks_in lines) ≡ Some end
+    → WouldAnswer end mark n reply → IsReservedFor start (more lines None) (length lines) mark n reply
 
--- a kept place stays so when any line comes at the end
-abbrev pub KeptBesideALine : Type 0
-KeptBesideALine = (start : Store) (lines : List (Option Mark)) (line : Option Mark) (place : ℕ) (mark : Mark) (n : ℕ) (reply : Reply)
-    → IsKeptFor start lines place mark n reply → IsKeptFor start (more lines line) place mark n reply
+-- a reserved place stays reserved when any line is added at the end
+abbrev pub ReservedBesideALine : Type 0
+ReservedBesideALine = (start : Store) (lines : List (Option Mark)) (line : Option Mark) (place : ℕ) (mark : Mark) (n : ℕ) (reply : Reply)
+    → IsReservedFor start lines place mark n reply → IsReservedFor start (more lines line) place mark n reply
 
--- a kept place stays so when a late mark is put in at another, for whichever request that has no reply at the end
-abbrev pub KeptBesideALateMark : Type 0
-KeptBesideALateMark = (start end : Store) (lines : List (Option Mark)) (place other : ℕ) (mark late : Mark) (n m : ℕ) (reply said : Reply) (r : RequestState)
-    → IsNumbered start → place ≢ other → IsKeptFor start lines place mark n reply → IsKeptFor start lines other late m said → run start (marks_in lines) ≡ Some end
-    → IsOpen end m r → IsKeptFor start (slice_set lines other (Some late)) place mark n reply
+-- a reserved place stays reserved when a late mark is put in at another one, for any request that has no reply at the end
+abbrev pub ReservedBesideALateMark : Type 0
+ReservedBesideALateMark = (start end : Store) (lines : List (Option Mark)) (place other : ℕ) (mark late : Mark) (n m : ℕ) (reply said : Reply) (r : RequestState)
+    → IsNumbered start → place ≢ other → IsReservedFor start lines place mark n reply → IsReservedFor start lines other late m said → run start (marks_in lines) ≡ Some end
+    → IsOpen end m r → IsReservedFor start (slice_set lines other (Some late)) place mark n reply

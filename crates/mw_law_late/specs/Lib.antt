@@ -1,4 +1,4 @@
-pub mod Doing
+pub mod MarkEffects
 pub mod Examples
-pub mod Late
+pub mod LateMarks
 pub mod Laws

@@ -1,24 +1,28 @@
-//! What holds of marks that come late: facts for proofs to cite. The functions do nothing.
+//! States facts about marks that come late.
+//!
+//! The functions do nothing, and nothing calls them: each contract is a fact, proved in `proofs/laws`. Proofs
+//! of crates above import other pages of `proofs`, by which these facts are proved. To change a fact, change
+//! its definition in `specs`, and then its proof.
 ghost use Rattle.mw_law_late.specs.Examples.{LateMarkComesOut};
-ghost use Rattle.mw_law_late.specs.Laws.{MarksDo, DoingIsMarked, LinesAreRun, LinesExtend, EmptyPlaceAddsNothing, RepliesCommute, OthersAreLeft, RunsNumber, LateMark, LateMarkOfAll, NothingBetween, PlaceIsKept, KeptBesideALine, KeptBesideALateMark};
+ghost use Rattle.mw_law_late.specs.Laws.{MarksDo, DoingIsMarked, LinesAreRun, LinesExtend, EmptyPlaceAddsNothing, RepliesCommute, OthersAreLeft, RunsNumber, LateMark, LateMarkOfAll, NothingBetween, PlaceIsReserved, ReservedBesideALine, ReservedBesideALateMark};
 
-/// Each mark is legal just under the conditions that are listed for it, and leaves the store that is listed
+/// Each mark is legal exactly under the conditions that `Does` lists for it, and leaves the store that `Does` lists
 /// for it.
 pub fn marks_do()
     ensures does { MarksDo }
     ensures legal { DoingIsMarked }
 {}
 
-/// Lines of marks, of which some are empty, are run as their marks are; a line at their end is one step more, and an
-/// empty one changes nothing.
+/// Running lines, some of which are empty, is running their marks. A line added at the end is one more step. An empty
+/// line adds nothing.
 pub fn lines_are_run()
     ensures same { LinesAreRun }
     ensures extend { LinesExtend }
     ensures empty { EmptyPlaceAddsNothing }
 {}
 
-/// A legal mark that isn't about a request leaves it as it was, and stays legal if that request is given a
-/// reply before it: it leaves the same store as if the reply were given after it.
+/// A legal mark that isn't about a request leaves that request as it was. The mark also commutes with a reply to the
+/// request: it stays legal after the reply, and either order leaves the same store.
 pub fn replies_commute()
     ensures commute { RepliesCommute }
     ensures left { OthersAreLeft }
@@ -29,25 +33,27 @@ pub fn runs_number()
     ensures { RunsNumber }
 {}
 
-/// A mark may be put in late, at a place that was kept for it, if its request has no reply at the end: the marks are
-/// a legal run then too, and all that changes at the end is that the request has its reply. Until then no mark since the
-/// place is about that request, and the request is as it was there.
+/// A Look or a Miss may be put in late, at a place that was reserved for it, if its request has no reply at the end.
+/// The marks are then still a legal run, and at the end the store differs only in that the request has its reply.
+///
+/// While the request has no reply, no mark after the place is about it, and the request is as it was at the place.
 pub fn late_marks_are_legal()
     ensures late { LateMark }
     ensures all { LateMarkOfAll }
     ensures between { NothingBetween }
 {}
 
-/// An empty place at the end is kept for each Look or Miss that would answer a request there. It stays kept
-/// when a line comes at the end, and when a late mark is put in at another kept place.
-pub fn places_stay_kept()
-    ensures kept { PlaceIsKept }
-    ensures line { KeptBesideALine }
-    ensures other { KeptBesideALateMark }
+/// An empty place at the end is reserved for each Look or Miss that would answer a request there. It stays reserved
+/// when a line is added at the end. It also stays reserved when a late mark is put in at another reserved place, if
+/// the request of that mark has no reply at the end.
+pub fn places_stay_reserved()
+    ensures kept { PlaceIsReserved }
+    ensures line { ReservedBesideALine }
+    ensures other { ReservedBesideALateMark }
 {}
 
-/// An example: a change's only word differs from what the change expects at a kept place, and is as expected
-/// at the end. A refusal at the end is illegal; put in at the place it is legal, and tells the word of then.
+/// An example. At a reserved place a change's only word differs from the value that the change expects; at the end it
+/// has that value. So a refusal is illegal at the end. At the place it is legal, and tells the word of that moment.
 pub fn a_late_mark_comes_out()
     ensures { LateMarkComesOut }
 {}

@@ -1,4 +1,4 @@
--- What others may rely on where a slot is claimed, pinned, unpinned and freed.
+-- Claiming, pinning, unpinning and freeing a slot keep what others rely on. Used by: Relied.
 use Rattle.std.proofs.Common.{ℕ, List, arith}
 use Rattle.std.proofs.lemmas.Bool.Decides.{nat_tests}
 use Rattle.mw_words.specs.declared.jobs.Entry.{Entry}
@@ -9,9 +9,9 @@ use Rattle.mw_world.specs.Definition.State.{State}
 use Rattle.mw_law_moves.specs.Moves.{Claim, Pin, Unpin, Free, made}
 use Rattle.mw_law_moves.specs.Guards.{Guard}
 use Rattle.mw_law_moves.specs.Memory.{Memory}
-use Rattle.mw_law_moves.specs.Relying.{Later}
+use Rattle.mw_law_moves.specs.Rely.{Rely}
 
-pub claim_lets_rely : (config : Config) (state : State) (mover : ℕ) (own : Slot) (gate : Gate) (at_tenant : ℕ) (request : ℕ) (entries : List Entry) → Guard config state mover (Claim own gate at_tenant request entries) → Memory config state → Later mover state (made state mover (Claim own gate at_tenant request entries))
+pub claim_lets_rely : (config : Config) (state : State) (mover : ℕ) (own : Slot) (gate : Gate) (at_tenant : ℕ) (request : ℕ) (entries : List Entry) → Guard config state mover (Claim own gate at_tenant request entries) → Memory config state → Rely mover state (made state mover (Claim own gate at_tenant request entries))
 claim_lets_rely config state mover own gate at_tenant request entries guard memory =
     record {
       attempts = λ worker. grind (arith, nat_tests, guard.was_free, guard.had_number, guard.is_taken, guard.has_number);
@@ -21,12 +21,12 @@ claim_lets_rely config state mover own gate at_tenant request entries guard memo
       rows = λ worker apart. grind (arith, nat_tests, guard.was_free, guard.had_number, guard.is_taken, guard.has_number);
       own_attempts = λ worker apart. grind (arith, nat_tests, guard.was_free, guard.had_number, guard.is_taken, guard.has_number);
       standing = λ worker apart. grind (arith, nat_tests, guard.was_free, guard.had_number, guard.is_taken, guard.has_number);
-      arms = λ worker apart. grind (arith, nat_tests, guard.was_free, guard.had_number, guard.is_taken, guard.has_number);
+      permissions = λ worker apart. grind (arith, nat_tests, guard.was_free, guard.had_number, guard.is_taken, guard.has_number);
       stood = λ tenant address worker number old is. grind (arith, nat_tests, guard.was_free, guard.had_number, guard.is_taken, guard.has_number);
       births = λ slot seq is. grind (arith, nat_tests, guard.was_free, guard.had_number, guard.is_taken, guard.has_number, memory.claims.latest slot seq);
       stays = λ slot seq is. grind (arith, nat_tests, guard.was_free, guard.had_number, guard.is_taken, guard.has_number);
       stays_not = λ slot seq is apart. grind (arith, nat_tests, guard.was_free, guard.had_number, guard.is_taken, guard.has_number);
-      spoiled = λ slot seq is. grind (arith, nat_tests, guard.was_free, guard.had_number, guard.is_taken, guard.has_number);
+      fault_decided = λ slot seq is. grind (arith, nat_tests, guard.was_free, guard.had_number, guard.is_taken, guard.has_number);
       ready = λ slot seq was is. grind (arith, nat_tests, guard.was_free, guard.had_number, guard.is_taken, guard.has_number);
       was_open = λ slot seq was is. grind (arith, nat_tests, guard.was_free, guard.had_number, guard.is_taken, guard.has_number);
       is_made = λ slot seq was. grind (arith, nat_tests, guard.was_free, guard.had_number, guard.is_taken, guard.has_number);
@@ -37,12 +37,12 @@ claim_lets_rely config state mover own gate at_tenant request entries guard memo
       drafts = λ slot seq is apart was. grind (arith, nat_tests, guard.was_free, guard.had_number, guard.is_taken, guard.has_number, memory.claims.latest slot seq);
       filled = λ slot is claimed apart was same. grind (arith, nat_tests, guard.was_free, guard.had_number, guard.is_taken, guard.has_number);
       touched = λ slot seq address was is. grind (arith, nat_tests, guard.was_free, guard.had_number, guard.is_taken, guard.has_number);
-      was_keeping = λ slot seq address was is. grind (arith, nat_tests, guard.was_free, guard.had_number, guard.is_taken, guard.has_number);
-      keeping = λ slot seq address was is kept. grind (arith, nat_tests, guard.was_free, guard.had_number, guard.is_taken, guard.has_number);
-      gone = λ slot seq address was. grind (arith, nat_tests, guard.was_free, guard.had_number, guard.is_taken, guard.has_number);
+      was_acquired = λ slot seq address was is. grind (arith, nat_tests, guard.was_free, guard.had_number, guard.is_taken, guard.has_number);
+      acquired = λ slot seq address was is kept. grind (arith, nat_tests, guard.was_free, guard.had_number, guard.is_taken, guard.has_number);
+      was_released = λ slot seq address was. grind (arith, nat_tests, guard.was_free, guard.had_number, guard.is_taken, guard.has_number);
     }
 
-pub pin_lets_rely : (config : Config) (state : State) (mover : ℕ) (pinned : ℕ) (gate : Gate) → Guard config state mover (Pin pinned gate) → Memory config state → Later mover state (made state mover (Pin pinned gate))
+pub pin_lets_rely : (config : Config) (state : State) (mover : ℕ) (pinned : ℕ) (gate : Gate) → Guard config state mover (Pin pinned gate) → Memory config state → Rely mover state (made state mover (Pin pinned gate))
 pin_lets_rely config state mover pinned gate guard memory =
     record {
       attempts = λ worker. grind (arith, nat_tests, guard.pins.is_taken, guard.pins.same_number);
@@ -52,12 +52,12 @@ pin_lets_rely config state mover pinned gate guard memory =
       rows = λ worker apart. grind (arith, nat_tests, guard.pins.is_taken, guard.pins.same_number);
       own_attempts = λ worker apart. grind (arith, nat_tests, guard.pins.is_taken, guard.pins.same_number);
       standing = λ worker apart. grind (arith, nat_tests, guard.pins.is_taken, guard.pins.same_number);
-      arms = λ worker apart. grind (arith, nat_tests, guard.pins.is_taken, guard.pins.same_number);
+      permissions = λ worker apart. grind (arith, nat_tests, guard.pins.is_taken, guard.pins.same_number);
       stood = λ tenant address worker number old is. grind (arith, nat_tests, guard.pins.is_taken, guard.pins.same_number);
       births = λ slot seq is. grind (arith, nat_tests, guard.pins.is_taken, guard.pins.same_number);
       stays = λ slot seq is. grind (arith, nat_tests, guard.pins.is_taken, guard.pins.same_number);
       stays_not = λ slot seq is apart. grind (arith, nat_tests, guard.pins.is_taken, guard.pins.same_number);
-      spoiled = λ slot seq is. grind (arith, nat_tests, guard.pins.is_taken, guard.pins.same_number);
+      fault_decided = λ slot seq is. grind (arith, nat_tests, guard.pins.is_taken, guard.pins.same_number);
       ready = λ slot seq was is. grind (arith, nat_tests, guard.pins.is_taken, guard.pins.same_number);
       was_open = λ slot seq was is. grind (arith, nat_tests, guard.pins.is_taken, guard.pins.same_number);
       is_made = λ slot seq was. grind (arith, nat_tests, guard.pins.is_taken, guard.pins.same_number);
@@ -68,12 +68,12 @@ pin_lets_rely config state mover pinned gate guard memory =
       drafts = λ slot seq is apart was. grind (arith, nat_tests, guard.pins.is_taken, guard.pins.same_number);
       filled = λ slot is claimed apart was same. grind (arith, nat_tests, guard.pins.is_taken, guard.pins.same_number);
       touched = λ slot seq address was is. grind (arith, nat_tests, guard.pins.is_taken, guard.pins.same_number);
-      was_keeping = λ slot seq address was is. grind (arith, nat_tests, guard.pins.is_taken, guard.pins.same_number);
-      keeping = λ slot seq address was is kept. grind (arith, nat_tests, guard.pins.is_taken, guard.pins.same_number);
-      gone = λ slot seq address was. grind (arith, nat_tests, guard.pins.is_taken, guard.pins.same_number);
+      was_acquired = λ slot seq address was is. grind (arith, nat_tests, guard.pins.is_taken, guard.pins.same_number);
+      acquired = λ slot seq address was is kept. grind (arith, nat_tests, guard.pins.is_taken, guard.pins.same_number);
+      was_released = λ slot seq address was. grind (arith, nat_tests, guard.pins.is_taken, guard.pins.same_number);
     }
 
-pub unpin_lets_rely : (config : Config) (state : State) (mover : ℕ) (pinned : ℕ) → Guard config state mover (Unpin pinned) → Memory config state → Later mover state (made state mover (Unpin pinned))
+pub unpin_lets_rely : (config : Config) (state : State) (mover : ℕ) (pinned : ℕ) → Guard config state mover (Unpin pinned) → Memory config state → Rely mover state (made state mover (Unpin pinned))
 unpin_lets_rely config state mover pinned guard memory =
     record {
       attempts = λ worker. grind (arith, nat_tests);
@@ -83,12 +83,12 @@ unpin_lets_rely config state mover pinned guard memory =
       rows = λ worker apart. grind (arith, nat_tests);
       own_attempts = λ worker apart. grind (arith, nat_tests);
       standing = λ worker apart. grind (arith, nat_tests);
-      arms = λ worker apart. grind (arith, nat_tests);
+      permissions = λ worker apart. grind (arith, nat_tests);
       stood = λ tenant address worker number old is. grind (arith, nat_tests);
       births = λ slot seq is. grind (arith, nat_tests);
       stays = λ slot seq is. grind (arith, nat_tests);
       stays_not = λ slot seq is apart. grind (arith, nat_tests);
-      spoiled = λ slot seq is. grind (arith, nat_tests);
+      fault_decided = λ slot seq is. grind (arith, nat_tests);
       ready = λ slot seq was is. grind (arith, nat_tests);
       was_open = λ slot seq was is. grind (arith, nat_tests);
       is_made = λ slot seq was. grind (arith, nat_tests);
@@ -99,12 +99,12 @@ unpin_lets_rely config state mover pinned guard memory =
       drafts = λ slot seq is apart was. grind (arith, nat_tests);
       filled = λ slot is claimed apart was same. grind (arith, nat_tests);
       touched = λ slot seq address was is. grind (arith, nat_tests);
-      was_keeping = λ slot seq address was is. grind (arith, nat_tests);
-      keeping = λ slot seq address was is kept. grind (arith, nat_tests);
-      gone = λ slot seq address was. grind (arith, nat_tests);
+      was_acquired = λ slot seq address was is. grind (arith, nat_tests);
+      acquired = λ slot seq address was is kept. grind (arith, nat_tests);
+      was_released = λ slot seq address was. grind (arith, nat_tests);
     }
 
-pub free_lets_rely : (config : Config) (state : State) (mover : ℕ) (freed : ℕ) (gate : Gate) → Guard config state mover (Free freed gate) → Memory config state → Later mover state (made state mover (Free freed gate))
+pub free_lets_rely : (config : Config) (state : State) (mover : ℕ) (freed : ℕ) (gate : Gate) → Guard config state mover (Free freed gate) → Memory config state → Rely mover state (made state mover (Free freed gate))
 free_lets_rely config state mover freed gate guard memory =
     record {
       attempts = λ worker. grind (arith, nat_tests, guard.frees.next_number, guard.frees.is_not_taken);
@@ -114,12 +114,12 @@ free_lets_rely config state mover freed gate guard memory =
       rows = λ worker apart. grind (arith, nat_tests, guard.frees.next_number, guard.frees.is_not_taken);
       own_attempts = λ worker apart. grind (arith, nat_tests, guard.frees.next_number, guard.frees.is_not_taken);
       standing = λ worker apart. grind (arith, nat_tests, guard.frees.next_number, guard.frees.is_not_taken);
-      arms = λ worker apart. grind (arith, nat_tests, guard.frees.next_number, guard.frees.is_not_taken);
+      permissions = λ worker apart. grind (arith, nat_tests, guard.frees.next_number, guard.frees.is_not_taken);
       stood = λ tenant address worker number old is. grind (arith, nat_tests, guard.frees.next_number, guard.frees.is_not_taken);
       births = λ slot seq is. grind (arith, nat_tests, guard.frees.next_number, guard.frees.is_not_taken);
       stays = λ slot seq is. grind (arith, nat_tests, guard.frees.next_number, guard.frees.is_not_taken);
       stays_not = λ slot seq is apart. grind (arith, nat_tests, guard.frees.next_number, guard.frees.is_not_taken);
-      spoiled = λ slot seq is. grind (arith, nat_tests, guard.frees.next_number, guard.frees.is_not_taken);
+      fault_decided = λ slot seq is. grind (arith, nat_tests, guard.frees.next_number, guard.frees.is_not_taken);
       ready = λ slot seq was is. grind (arith, nat_tests, guard.frees.next_number, guard.frees.is_not_taken);
       was_open = λ slot seq was is. grind (arith, nat_tests, guard.frees.next_number, guard.frees.is_not_taken);
       is_made = λ slot seq was. grind (arith, nat_tests, guard.frees.next_number, guard.frees.is_not_taken);
@@ -130,7 +130,7 @@ free_lets_rely config state mover freed gate guard memory =
       drafts = λ slot seq is apart was. grind (arith, nat_tests, guard.frees.next_number, guard.frees.is_not_taken);
       filled = λ slot is claimed apart was same. grind (arith, nat_tests, guard.frees.next_number, guard.frees.is_not_taken);
       touched = λ slot seq address was is. grind (arith, nat_tests, guard.frees.next_number, guard.frees.is_not_taken);
-      was_keeping = λ slot seq address was is. grind (arith, nat_tests, guard.frees.next_number, guard.frees.is_not_taken);
-      keeping = λ slot seq address was is kept. grind (arith, nat_tests, guard.frees.next_number, guard.frees.is_not_taken);
-      gone = λ slot seq address was. grind (arith, nat_tests, guard.frees.next_number, guard.frees.is_not_taken);
+      was_acquired = λ slot seq address was is. grind (arith, nat_tests, guard.frees.next_number, guard.frees.is_not_taken);
+      acquired = λ slot seq address was is kept. grind (arith, nat_tests, guard.frees.next_number, guard.frees.is_not_taken);
+      was_released = λ slot seq address was. grind (arith, nat_tests, guard.frees.next_number, guard.frees.is_not_taken);
     }

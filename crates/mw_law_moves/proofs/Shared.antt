@@ -1,21 +1,22 @@
--- What holds of memory, and what others may rely on, rests on the shared words, the history and the numbers of attempts alone.
+-- The invariant of the shared words, and what others may rely on, depend on nothing but the shared words, the history and the numbers of attempts.
+-- Used by: the law memory_is_shared, StepsKeepMemory, mw_law_runs, mw_law_store.
 use Rattle.std.proofs.Common.{◌≡◌, ℕ, subst, sym, arith}
 use Rattle.std.proofs.lemmas.Bool.Decides.{nat_tests}
 use Rattle.mw_world.specs.declared.config.Config.{Config}
 use Rattle.mw_world.specs.Definition.Cells.{Cells}
 use Rattle.mw_world.specs.Definition.History.{History}
-use Rattle.mw_world.specs.Definition.State.{State, Seat, Account}
+use Rattle.mw_world.specs.Definition.State.{State, WorkerState, TenantState}
 use Rattle.mw_law_moves.specs.Memory.{Memory}
-use Rattle.mw_law_moves.specs.Relying.{Later}
-use Rattle.mw_law_moves.specs.Steps.{MemoryIsShared, RelianceIsShared}
-use Rattle.mw_law_moves.specs.Stepped.{SameMemory}
+use Rattle.mw_law_moves.specs.Rely.{Rely}
+use Rattle.mw_law_moves.specs.Steps.{MemoryIsShared, RelyIsOverMemory}
+use Rattle.mw_law_moves.specs.StepMoves.{SameMemory}
 
--- the world with other workers and tenants
-abbrev among : State → (ℕ → Seat) → (ℕ → Account) → State
-among state seats accounts = record state { seats = seats; accounts = accounts }
+-- the world with these workers and tenants
+abbrev among : State → (ℕ → WorkerState) → (ℕ → TenantState) → State
+among state worker_states tenant_states = record state { worker_states = worker_states; tenant_states = tenant_states }
 
-module _ (state : State) (seats : ℕ → Seat) (accounts : ℕ → Account) (same : (worker : ℕ) → (seats worker).attempt ≡ (state.seats worker).attempt) where
-  memory_among : (config : Config) → Memory config state → Memory config (among state seats accounts)
+module _ (state : State) (worker_states : ℕ → WorkerState) (tenant_states : ℕ → TenantState) (same : (worker : ℕ) → (worker_states worker).attempt ≡ (state.worker_states worker).attempt) where
+  memory_among : (config : Config) → Memory config state → Memory config (among state worker_states tenant_states)
   memory_among config memory = record {
     claims = record {
       there = λ slot taken. grind (arith, nat_tests, memory.claims.there slot);
@@ -23,7 +24,7 @@ module _ (state : State) (seats : ℕ → Seat) (accounts : ℕ → Account) (sa
       latest = λ slot seq is. grind (arith, nat_tests, memory.claims.latest slot seq);
       formed = λ slot seq is. grind (arith, nat_tests, memory.claims.formed slot seq);
       unclaimed = λ slot seq is. grind (arith, nat_tests, memory.claims.unclaimed slot seq);
-      born = λ slot seq is. grind (arith, nat_tests, memory.claims.born slot seq);
+      of_pool = λ slot seq is. grind (arith, nat_tests, memory.claims.of_pool slot seq);
       rows = λ worker. grind (arith, nat_tests, memory.claims.rows worker);
     };
     slots = record {
@@ -44,11 +45,11 @@ module _ (state : State) (seats : ℕ → Seat) (accounts : ℕ → Account) (sa
     words = record {
       allowed = λ slot seq address is. grind (arith, nat_tests, memory.words.allowed slot seq address);
       others = λ slot seq address is. grind (arith, nat_tests, memory.words.others slot seq address);
-      keeping = λ slot seq address is. grind (arith, nat_tests, memory.words.keeping slot seq address);
-      inked = λ slot seq address is. grind (arith, nat_tests, memory.words.inked slot seq address);
+      acquired = λ slot seq address is. grind (arith, nat_tests, memory.words.acquired slot seq address);
+      was_written = λ slot seq address is. grind (arith, nat_tests, memory.words.was_written slot seq address);
     };
     late = record {
-      armed = λ by tenant address worker attempt slot seq is. grind (arith, nat_tests, memory.late.armed by tenant address worker attempt slot seq, same worker);
+      permitted = λ by tenant address worker attempt slot seq is. grind (arith, nat_tests, memory.late.permitted by tenant address worker attempt slot seq, same worker);
       finds = λ by tenant address worker attempt slot seq is found. grind (arith, nat_tests, memory.late.finds by tenant address worker attempt slot seq, same worker);
       made = λ slot seq address is entry fresh. grind (arith, nat_tests, memory.late.made slot seq address);
       lose = λ by tenant address worker attempt slot seq is is_made found. grind (arith, nat_tests, memory.late.lose by tenant address worker attempt slot seq, same worker);
@@ -57,7 +58,7 @@ module _ (state : State) (seats : ℕ → Seat) (accounts : ℕ → Account) (sa
     fits = memory.fits;
   }
 
-  reliance_among : (by : ℕ) (old : State) → Later by old state → Later by old (among state seats accounts)
+  reliance_among : (by : ℕ) (old : State) → Rely by old state → Rely by old (among state worker_states tenant_states)
   reliance_among by old later = record {
     attempts = λ worker. grind (arith, nat_tests, later.attempts worker, same worker);
     seqs = λ slot. grind (arith, nat_tests, later.seqs slot);
@@ -66,12 +67,12 @@ module _ (state : State) (seats : ℕ → Seat) (accounts : ℕ → Account) (sa
     rows = λ worker apart. grind (arith, nat_tests, later.rows worker, same worker);
     own_attempts = λ worker apart. grind (arith, nat_tests, later.own_attempts worker, same worker);
     standing = λ worker apart. grind (arith, nat_tests, later.standing worker, same worker);
-    arms = λ worker apart. grind (arith, nat_tests, later.arms worker, same worker);
+    permissions = λ worker apart. grind (arith, nat_tests, later.permissions worker, same worker);
     stood = λ tenant address worker number old is. grind (arith, nat_tests, later.stood tenant address worker number, same worker);
     births = λ slot seq is. grind (arith, nat_tests, later.births slot seq);
     stays = λ slot seq is. grind (arith, nat_tests, later.stays slot seq);
     stays_not = λ slot seq is apart. grind (arith, nat_tests, later.stays_not slot seq);
-    spoiled = λ slot seq is. grind (arith, nat_tests, later.spoiled slot seq);
+    fault_decided = λ slot seq is. grind (arith, nat_tests, later.fault_decided slot seq);
     ready = λ slot seq was is. grind (arith, nat_tests, later.ready slot seq);
     was_open = λ slot seq was is. grind (arith, nat_tests, later.was_open slot seq);
     is_made = λ slot seq was. grind (arith, nat_tests, later.is_made slot seq);
@@ -82,9 +83,9 @@ module _ (state : State) (seats : ℕ → Seat) (accounts : ℕ → Account) (sa
     drafts = λ slot seq is apart was. grind (arith, nat_tests, later.drafts slot seq);
     filled = λ slot is claimed apart was same. grind (arith, nat_tests, later.filled slot);
     touched = λ slot seq address was is. grind (arith, nat_tests, later.touched slot seq address);
-    was_keeping = λ slot seq address was is. grind (arith, nat_tests, later.was_keeping slot seq address);
-    keeping = λ slot seq address was is kept. grind (arith, nat_tests, later.keeping slot seq address);
-    gone = λ slot seq address was. grind (arith, nat_tests, later.gone slot seq address);
+    was_acquired = λ slot seq address was is. grind (arith, nat_tests, later.was_acquired slot seq address);
+    acquired = λ slot seq address was is kept. grind (arith, nat_tests, later.acquired slot seq address);
+    was_released = λ slot seq address was. grind (arith, nat_tests, later.was_released slot seq address);
   }
 
 -- the world with these shared words and this history
@@ -92,13 +93,13 @@ abbrev holding : State → Cells → History → State
 holding state cells history = record state { cells = cells; history = history }
 
 module _ (one other : State) (same : SameMemory one other) where
-  pub is_shared : (P : State → Type 0) → P (among other one.seats one.accounts) → P one
+  pub is_shared : (P : State → Type 0) → P (among other one.worker_states one.tenant_states) → P one
   is_shared P holds =
       subst (λ (history : History). P (holding one one.cells history)) (sym same.history)
       (subst (λ (cells : Cells). P (holding one cells other.history)) (sym same.cells) holds)
 
 pub memory_is_shared : MemoryIsShared
-memory_is_shared config one other same memory = is_shared one other same (λ (state : State). Memory config state) (memory_among other one.seats one.accounts same.attempts config memory)
+memory_is_shared config one other same memory = is_shared one other same (λ (state : State). Memory config state) (memory_among other one.worker_states one.tenant_states same.attempts config memory)
 
-pub reliance_is_shared : RelianceIsShared
-reliance_is_shared by old one other same later = is_shared one other same (λ (state : State). Later by old state) (reliance_among other one.seats one.accounts same.attempts by old later)
+pub reliance_is_shared : RelyIsOverMemory
+reliance_is_shared by old one other same later = is_shared one other same (λ (state : State). Rely by old state) (reliance_among other one.worker_states one.tenant_states same.attempts by old later)

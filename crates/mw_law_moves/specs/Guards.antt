@@ -1,4 +1,6 @@
--- What each move asks for: what has to hold of the shared words and of the history where it is made. What a move writes fits its place.
+-- The precondition of each move: what must hold of the shared words and of the history when it is made. It also requires that what a move writes is
+-- in range.
+-- Used by: specs/Laws, specs/Rely, specs/Steps, specs/Values, mw_law_runs, mw_law_store. Contracts use it through these: a change here changes what they say.
 use Rattle.std.specs.Prelude.{ℕ, ◌≡◌, ◌≢◌, ◌<◌, ◌≤◌, ◌+◌, ◌^◌, true, false, List, [], ◌∷◌, length}
 use Rattle.mw_words.specs.declared.limits.TheConstants.{MAX_VALUE}
 use Rattle.mw_words.specs.declared.jobs.Entry.{Entry}
@@ -11,42 +13,42 @@ use Rattle.mw_words.specs.Change.{is_change}
 use Rattle.mw_words.specs.Patterns.{IsDoorInRange, IsGateInRange, IsRowInRange, IsStatusInRange, IsWordInRange}
 use Rattle.mw_pool.specs.Moves.{Pins, Frees}
 use Rattle.mw_actor.specs.declared.points.Slot.{Slot}
-use Rattle.mw_actor.specs.Acting.{entry_at}
+use Rattle.mw_actor.specs.ActorState.{entry_at}
 use Rattle.mw_world.specs.declared.config.Config.{Config}
-use Rattle.mw_world.specs.declared.notes.Phase.TheVariants.{Keeping}
-use Rattle.mw_world.specs.Definition.History.{Standing, Stands, Resting, Arm, Armed, has, expected, new}
+use Rattle.mw_world.specs.declared.step_labels.Phase.TheVariants.{Acquired}
+use Rattle.mw_world.specs.Definition.History.{StandingAttempt, AttemptIn, NoAttempt, HoldPermission, Permitted, has, expected, new}
 use Rattle.mw_world.specs.Claim.Invariant.{IsPinnedAs, HasWord, IsEntryOf, IsRefused}
-use Rattle.mw_world.specs.Claim.Owing.{IsEntryAt}
+use Rattle.mw_world.specs.Claim.Obligations.{IsEntryAt}
 use Rattle.mw_world.specs.Definition.State.{State, tenant_at, tenants_of}
-use Rattle.mw_law_moves.specs.Moves.{Move, SetDoor, FillStatus, FillCount, FillAddr, FillExpected, FillNew, SetRow, Claim, Pin, Unpin, Free, Prepare, SayYes, SayNo, Seal, Settle, Cancel, Plant, Forgo, TakeBack, Hold, Ink, LetGo, Clean, LeavePin, Spoil, Pose, made}
+use Rattle.mw_law_moves.specs.Moves.{Move, SetDoor, FillStatus, FillCount, FillAddr, FillExpected, FillNew, SetRow, Claim, Pin, Unpin, Free, Prepare, SayYes, SayNo, Seal, Settle, Cancel, Plant, SkipNumber, TakeBack, Hold, WriteNew, LetGo, Clean, LeavePin, DecideFault, SetIntent, made}
 
--- the slot is taken for this change
+-- The slot is taken for this change.
 pub record IsLive (state : State) (target : Slot) : Type 0 where
   pub taken : (state.cells.gates target.slot).taken ≡ true
   pub seq : (state.cells.gates target.slot).seq ≡ target.seq
 
--- A door becomes any other, but one that has the fault keeps it. How many slots it counts isn't looked at here.
+-- The door may become any other in range, but a door that has the fault keeps it. This doesn't look at how many slots it counts.
 pub record MaySetDoor (state : State) (tenant : ℕ) (door : Door) : Type 0 where
   pub fits : IsDoorInRange door
   pub fault : (state.cells.doors tenant).fault ≡ true → door.fault ≡ true
 
--- A slot that is taken is written to by the worker that claimed it, while its change is a draft.
+-- If the slot is taken, its change is a draft, and this worker claimed the slot.
 pub record IsDraftOf (state : State) (by slot : ℕ) : Type 0 where
   pub draft : (state.cells.gates slot).taken ≡ true → state.history.fate slot (state.cells.gates slot).seq ≡ Draft
   pub own : (state.cells.gates slot).taken ≡ true → state.history.owner slot (state.cells.gates slot).seq ≡ by
 
--- The number fits a shared word.
+-- The worker may fill the slot, and the number fits a shared word.
 pub record MayFill (state : State) (by slot number : ℕ) : Type 0 where
   pub draft : IsDraftOf state by slot
   pub fits : number < 2 ^ 64
 
--- A worker's row names another entry, of a slot of the pool, once no attempt of the worker stands.
+-- The worker's row may name another entry, of a slot of the pool, while the worker has no standing attempt.
 pub record MaySetRow (config : Config) (state : State) (by : ℕ) (row : Row) : Type 0 where
   pub fits : IsRowInRange row
   pub there : row.slot < config.pool
-  pub rests : state.history.standing by ≡ Resting
+  pub rests : state.history.standing by ≡ NoAttempt
 
--- A slot of the pool that isn't taken is claimed for a well-formed change of a tenant, with a pin and under the number that it has.
+-- A slot of the pool that isn't taken may be claimed for a well-formed change of a tenant. It gets a pin and keeps its number.
 pub record MayClaim (config : Config) (state : State) (own : Slot) (gate : Gate) (tenant : ℕ) (entries : List Entry) : Type 0 where
   pub was_free : (state.cells.gates own.slot).taken ≡ false
   pub had_number : (state.cells.gates own.slot).seq ≡ own.seq
@@ -58,29 +60,29 @@ pub record MayClaim (config : Config) (state : State) (own : Slot) (gate : Gate)
   pub tenant_there : tenant < tenants_of config
   pub formed : is_change (tenant_at config tenant).words entries ≡ true
 
--- A taken slot that has a pin has one more.
+-- A taken slot that has a pin may get one more.
 pub record MayPin (state : State) (slot : ℕ) (gate : Gate) : Type 0 where
   pub pins : Pins (state.cells.gates slot).seq (state.cells.gates slot) gate
   pub fits : IsGateInRange gate
 
--- No word refers to a slot: none is held for it, none was written by it, and no worker's attempt stands whose row names it.
+-- No word refers to the slot: no word is held for it or was written by it, and no attempt is in a word whose worker's row names it.
 pub record NoWordRefers (state : State) (slot : ℕ) : Type 0 where
   pub held : (tenant address seq : ℕ) → state.cells.words tenant address ≢ Held slot seq
   pub dirty : (tenant address value : ℕ) → state.cells.words tenant address ≢ Dirty slot value
   pub planted : (tenant address worker attempt : ℕ) → state.cells.words tenant address ≡ Planted worker attempt → (state.cells.rows worker).slot ≢ slot
 
--- A pin is taken back, and the last one once no word refers to the slot.
+-- A pin may be taken back; the last one only when no word refers to the slot.
 pub record MayUnpin (state : State) (slot : ℕ) : Type 0 where
   pub taken : (state.cells.gates slot).taken ≡ true
   pub pinned : 1 ≤ (state.cells.gates slot).pins
   pub last : (state.cells.gates slot).pins ≡ 1 → NoWordRefers state slot
 
--- A taken slot that has no pin is freed.
+-- A taken slot that has no pin may be freed.
 pub record MayFree (state : State) (slot : ℕ) (gate : Gate) : Type 0 where
   pub frees : Frees (state.cells.gates slot) gate
   pub fits : IsGateInRange gate
 
--- A draft is opened by the worker that claimed its slot, once the slot has its entries.
+-- A draft may be opened by the worker that claimed its slot, when the slot has all its entries.
 pub record MayPrepare (state : State) (by : ℕ) (target : Slot) : Type 0 where
   pub live : IsLive state target
   pub draft : state.history.fate target.slot target.seq ≡ Draft
@@ -89,100 +91,100 @@ pub record MayPrepare (state : State) (by : ℕ) (target : Slot) : Type 0 where
   pub entries : (index : ℕ) → index < length (state.history.change target.slot target.seq)
       → IsEntryOf state.cells target.slot index (entry_at (state.history.change target.slot target.seq) index)
 
--- An open change is decided to be made once it holds each of its words.
+-- An open change may be decided to be made when it holds each of its words.
 pub record MaySayYes (state : State) (target : Slot) : Type 0 where
   pub live : IsLive state target
   pub is_open : state.history.fate target.slot target.seq ≡ Open
-  pub keeps : (address : ℕ) → has state.history target.slot target.seq address ≡ true → state.history.phase target.slot target.seq address ≡ Keeping
+  pub keeps : (address : ℕ) → has state.history target.slot target.seq address ≡ true → state.history.phase target.slot target.seq address ≡ Acquired
 
--- An open change is decided not to be made.
+-- An open change may be decided not to be made.
 pub record MaySayNo (state : State) (target : Slot) (entry value : ℕ) : Type 0 where
   pub live : IsLive state target
   pub is_open : state.history.fate target.slot target.seq ≡ Open
   pub fits : IsStatusInRange (No entry value)
 
--- A change is made that was decided to be.
+-- A change that was decided to be made may be made.
 pub record MaySeal (state : State) (target : Slot) : Type 0 where
   pub live : IsLive state target
   pub decided : state.history.fate target.slot target.seq ≡ YesDirty
 
--- A made change is done with once it holds no word.
+-- A made change may be done with when it holds no word.
 pub record MaySettle (state : State) (target : Slot) : Type 0 where
   pub live : IsLive state target
   pub is_made : state.history.fate target.slot target.seq ≡ Yes
-  pub let_go : (address : ℕ) → state.history.phase target.slot target.seq address ≢ Keeping
+  pub let_go : (address : ℕ) → state.history.phase target.slot target.seq address ≢ Acquired
 
--- A refused change is done with.
+-- A refused change may be done with.
 pub record MayCancel (state : State) (target : Slot) (entry value : ℕ) : Type 0 where
   pub live : IsLive state target
   pub refused : state.history.fate target.slot target.seq ≡ No entry value
 
--- A worker that knows of no attempt of its own makes its next one at a plain word, which has the value that the entry expects which the
--- worker's row names. The entry is of this word, its change is one of this tenant and no draft, and its slot is pinned under its number. How
--- far the change is beyond that doesn't matter.
+-- A worker without a standing attempt may plant its next one in a plain word. The word has the expected value of the entry that the worker's row names,
+-- and the entry is for this word. The change is one of this tenant and no draft, and its slot is pinned under its number. Its status doesn't matter
+-- beyond that.
 pub record MayPlant (state : State) (by tenant address number : ℕ) (row : Row) : Type 0 where
   pub word : state.cells.words tenant address ≡ Plain (expected state.history row.slot row.seq address)
   pub change : HasWord state.history tenant address row.slot row.seq
   pub entry : IsEntryAt (state.history.change row.slot row.seq) row.entry address
   pub pinned : IsPinnedAs row.seq (state.cells.gates row.slot)
-  pub rests : state.history.standing by ≡ Resting
-  pub next : number ≡ (state.seats by).attempt
+  pub rests : state.history.standing by ≡ NoAttempt
+  pub next : number ≡ (state.worker_states by).attempt
   pub fits : IsWordInRange (Planted by number)
 
--- An attempt that stands is taken back: the word has again the value that the entry expects which the row of the attempt's worker names.
+-- An attempt in a word may be taken back: the word gets the expected value of the entry that the row of the attempt's worker names.
 pub record MayTakeBack (state : State) (tenant address worker number value : ℕ) (row : Row) : Type 0 where
   pub word : state.cells.words tenant address ≡ Planted worker number
   pub old_value : value ≡ expected state.history row.slot row.seq address
   pub fits : value ≤ MAX_VALUE
 
--- Who may hold a word for a change, by an attempt, does so where the attempt stands.
+-- A worker with the permission to hold the word for a change by this attempt may do so while the attempt is in the word.
 pub record MayHold (state : State) (by tenant address worker number : ℕ) (target : Slot) : Type 0 where
-  pub arm : state.history.arm by ≡ Armed tenant address worker number target.slot target.seq
+  pub permission : state.history.permission by ≡ Permitted tenant address worker number target.slot target.seq
   pub word : state.cells.words tenant address ≡ Planted worker number
   pub fits : IsWordInRange (Held target.slot target.seq)
 
--- A word that is held for a made change gets the value that the change writes.
-pub record MayInk (state : State) (tenant address : ℕ) (target : Slot) (value : ℕ) : Type 0 where
+-- A word that is held for a made change may get the value that the change writes.
+pub record MayWriteNew (state : State) (tenant address : ℕ) (target : Slot) (value : ℕ) : Type 0 where
   pub word : state.cells.words tenant address ≡ Held target.slot target.seq
   pub is_made : state.history.fate target.slot target.seq ≡ Yes
   pub new_value : value ≡ new state.history target.slot target.seq address
   pub fits : IsWordInRange (Dirty target.slot value)
 
--- A word that is held for a refused change gets the value back that the change expected.
+-- A word that is held for a refused change may get the value back that the change expects.
 pub record MayLetGo (state : State) (tenant address : ℕ) (target : Slot) (value : ℕ) : Type 0 where
   pub word : state.cells.words tenant address ≡ Held target.slot target.seq
   pub refused : IsRefused (state.history.fate target.slot target.seq)
   pub old_value : value ≡ expected state.history target.slot target.seq address
   pub fits : value ≤ MAX_VALUE
 
--- A word that a change has written no longer names its slot once the change is made and done with.
+-- A word that a change has written may be cleaned when the change is done with as made.
 pub record MayClean (state : State) (tenant address : ℕ) (target : Slot) (value : ℕ) : Type 0 where
   pub word : state.cells.words tenant address ≡ Dirty target.slot value
   pub seq : (state.cells.gates target.slot).seq ≡ target.seq
   pub done : state.history.fate target.slot target.seq ≡ DoneYes
 
--- A worker may come to hold a word for an open change that has an entry of it: by an attempt whose number was given out, and whose worker's
--- row names that change if the attempt stands.
-pub record MayArm (state : State) (tenant address worker number : ℕ) (target : Slot) : Type 0 where
+-- A worker may get the permission to hold a word for an open change with an entry for it. It gets it for an attempt whose number was given out. If
+-- that attempt is in the word, its worker's row names the change.
+pub record MayPermit (state : State) (tenant address worker number : ℕ) (target : Slot) : Type 0 where
   pub change : HasWord state.history tenant address target.slot target.seq
   pub is_open : state.history.fate target.slot target.seq ≡ Open
-  pub was_given : number < (state.seats worker).attempt
+  pub was_given : number < (state.worker_states worker).attempt
   pub row_slot : state.cells.words tenant address ≡ Planted worker number → (state.cells.rows worker).slot ≡ target.slot
   pub row_seq : state.cells.words tenant address ≡ Planted worker number → (state.cells.rows worker).seq ≡ target.seq
 
--- A worker goes on knowing of its attempt as long as that stands. An attempt that it comes to know of has a number that was given out and is
--- for no draft; and a word that it may hold from now on is as just said.
-pub record MayPose (state : State) (by : ℕ) (standing : Standing) (arm : Arm) : Type 0 where
-  pub still : (tenant address number : ℕ) → state.history.standing by ≡ Stands tenant address number
-      → state.cells.words tenant address ≡ Planted by number → standing ≡ Stands tenant address number
-  pub was_given : (tenant address number : ℕ) → standing ≡ Stands tenant address number → number < (state.seats by).attempt
-  pub ready : (tenant address number : ℕ) → standing ≡ Stands tenant address number
+-- A worker keeps its standing attempt while that is in its word. A new standing attempt has a number that was given out, and is not for a draft. A
+-- new permission is one that `MayPermit` allows.
+pub record MaySetIntent (state : State) (by : ℕ) (standing : StandingAttempt) (permission : HoldPermission) : Type 0 where
+  pub still : (tenant address number : ℕ) → state.history.standing by ≡ AttemptIn tenant address number
+      → state.cells.words tenant address ≡ Planted by number → standing ≡ AttemptIn tenant address number
+  pub was_given : (tenant address number : ℕ) → standing ≡ AttemptIn tenant address number → number < (state.worker_states by).attempt
+  pub ready : (tenant address number : ℕ) → standing ≡ AttemptIn tenant address number
       → state.history.fate (state.cells.rows by).slot (state.cells.rows by).seq ≢ Draft
-  pub arms : (tenant address other number slot seq : ℕ) → arm ≡ Armed tenant address other number slot seq
-      → MayArm state tenant address other number (record { slot = slot; seq = seq })
+  pub permissions : (tenant address other number slot seq : ℕ) → permission ≡ Permitted tenant address other number slot seq
+      → MayPermit state tenant address other number (record { slot = slot; seq = seq })
 
--- What a move of a worker asks for. An attempt's number is given up only where no lower one is next. A pin is left behind by the worker that
--- claimed its slot. A reply is decided without asking for anything, since nothing that is to hold of memory speaks of it.
+-- The precondition of a move of a worker. A number may be skipped if the number of the worker's next attempt doesn't fall by it. A pin may be left
+-- behind by the worker that claimed its slot. The reply FAULT may always be decided, because the invariant of the shared words doesn't speak of it.
 abbrev pub Guard : Config → State → ℕ → Move → Type 0
 Guard config state by (SetDoor tenant door) = MaySetDoor state tenant door
 Guard config state by (FillStatus slot) = IsDraftOf state by slot
@@ -202,17 +204,17 @@ Guard config state by (Seal target) = MaySeal state target
 Guard config state by (Settle target) = MaySettle state target
 Guard config state by (Cancel target entry value) = MayCancel state target entry value
 Guard config state by (Plant tenant address number) = MayPlant state by tenant address number (state.cells.rows by)
-Guard config state by (Forgo number) = (state.seats by).attempt ≤ number + 1
+Guard config state by (SkipNumber number) = (state.worker_states by).attempt ≤ number + 1
 Guard config state by (TakeBack tenant address worker number value) = MayTakeBack state tenant address worker number value (state.cells.rows worker)
 Guard config state by (Hold tenant address worker number target) = MayHold state by tenant address worker number target
-Guard config state by (Ink tenant address target value) = MayInk state tenant address target value
+Guard config state by (WriteNew tenant address target value) = MayWriteNew state tenant address target value
 Guard config state by (LetGo tenant address target value) = MayLetGo state tenant address target value
 Guard config state by (Clean tenant address target value) = MayClean state tenant address target value
 Guard config state by (LeavePin target) = state.history.owner target.slot target.seq ≡ by
-Guard config state by (Spoil target) = Unit {0}
-Guard config state by (Pose standing arm) = MayPose state by standing arm
+Guard config state by (DecideFault target) = Unit {0}
+Guard config state by (SetIntent standing permission) = MaySetIntent state by standing permission
 
--- Each of these moves of a worker has what it asks for when it is made, one after the other.
+-- Each of these moves of a worker has its precondition when it is made, one after the other.
 abbrev pub Guards : Config → State → ℕ → List Move → Type 0
 Guards config state by [] = Unit {0}
 Guards config state by (move ∷ moves) = Guard config state by move × Guards config (made state by move) by moves

@@ -2,7 +2,7 @@ pub mod Guards
 pub mod Laws
 pub mod Memory
 pub mod Moves
-pub mod Relying
-pub mod Stepped
+pub mod Rely
+pub mod StepMoves
 pub mod Steps
 pub mod Values

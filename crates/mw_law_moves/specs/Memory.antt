@@ -1,20 +1,23 @@
--- What is to hold of memory at every moment of a run. Memory is here the shared words, the history and the numbers of the workers' attempts:
--- of what is to hold of a whole world, the part that speaks of neither requests nor files, and what it takes besides for each step to keep it.
+-- The invariant of the shared words, which holds at every moment of a run. It speaks of the shared words, of the history and of the numbers of the
+-- workers' attempts; these three are called *memory* here. It is the part of the world's invariant that speaks of neither requests nor files, and
+-- what else each step needs to keep it.
+-- Used by: specs/Laws, specs/Rely, specs/Steps, specs/Values, mw_law_runs, mw_law_store. Contracts use it through these: a change here changes what they say.
 use Rattle.std.specs.Prelude.{ℕ, ◌≡◌}
 use Rattle.mw_world.specs.declared.config.Config.{Config}
-use Rattle.mw_world.specs.declared.notes.Phase.TheVariants.{Inked}
-use Rattle.mw_world.specs.Claim.Invariant.{ChangesClaimTheirSlots, SlotsTellTheirChanges, ReferencesArePinned, AttemptsAreTheirWorkers, WordsFollowTheirChanges, LateFinishersLose}
+use Rattle.mw_world.specs.declared.step_labels.Phase.TheVariants.{Written}
+use Rattle.mw_world.specs.Claim.Invariant.{ChangesClaimTheirSlots, SlotsTellTheirChanges, ReferencesArePinned, AttemptsAreTheirWorkers, WordsFollowTheirChanges, StaleHelpersLose}
 use Rattle.mw_world.specs.Definition.State.{State}
 use Rattle.mw_world.specs.Definition.Cells.{AllFit}
 
--- Claims, slots, references, attempts, changes' words and late finishers are as they are to be. A change that has written a word, and whose
--- slot the word still names, has that slot now. What stands at each place is in range; so a gate that isn't taken has no pins.
+-- The invariant of the shared words. The parts about claims, slots, references, attempts, changes' words and stale helpers are those of the world's
+-- invariant. If a change has written a word that still names its slot, the slot still has the change's number. The value at each place is in range, so a gate
+-- that isn't taken has no pins.
 pub record Memory (config : Config) (state : State) : Type 0 where
   pub claims : ChangesClaimTheirSlots config state
   pub slots : SlotsTellTheirChanges state
   pub references : ReferencesArePinned state
   pub attempts : AttemptsAreTheirWorkers state
   pub words : WordsFollowTheirChanges state
-  pub late : LateFinishersLose state
-  pub written : (slot seq address : ℕ) → state.history.phase slot seq address ≡ Inked → (state.cells.gates slot).seq ≡ seq
+  pub late : StaleHelpersLose state
+  pub written : (slot seq address : ℕ) → state.history.phase slot seq address ≡ Written → (state.cells.gates slot).seq ≡ seq
   pub fits : AllFit state.cells

@@ -1,5 +1,6 @@
--- The moves: each thing that a step may do to the shared words, to the history and to the numbers of the workers' attempts. No move rests
--- on where a request is in its program, and none changes that.
+-- The moves: each thing that a step may do to the shared words, to the history and to the numbers of the workers' attempts.
+-- No move depends on the point of a request or changes it.
+-- Used by: many specs of this crate, mw_law_runs, mw_law_store. Contracts use it through these: a change here changes what they say.
 use Rattle.std.specs.Prelude.{ℕ, ◌+◌, List, [], ◌∷◌}
 use Rattle.mw_words.specs.declared.jobs.Entry.{Entry}
 use Rattle.mw_words.specs.declared.places.At.{At}
@@ -14,19 +15,19 @@ use Rattle.mw_words.specs.declared.statuses.Status.TheVariants.{Draft, Open, Yes
 use Rattle.mw_pool.specs.Moves.{after_unpin}
 use Rattle.mw_look.specs.Places.{Val}
 use Rattle.mw_actor.specs.declared.points.Slot.{Slot}
-use Rattle.mw_world.specs.declared.notes.Phase.{Phase}
-use Rattle.mw_world.specs.declared.notes.Phase.TheVariants.{Keeping, Inked, Gone}
+use Rattle.mw_world.specs.declared.step_labels.Phase.{Phase}
+use Rattle.mw_world.specs.declared.step_labels.Phase.TheVariants.{Acquired, Written, Released}
 use Rattle.mw_world.specs.Definition.Cells.{write}
-use Rattle.mw_world.specs.Definition.History.{Standing, Stands, Arm}
+use Rattle.mw_world.specs.Definition.History.{StandingAttempt, AttemptIn, HoldPermission}
 use Rattle.mw_world_file.specs.Maps.{upd, upd_three}
-use Rattle.mw_world.specs.Definition.Noting.{born, fated, left, spoiled}
-use Rattle.mw_world.specs.Definition.State.{State, Seat}
+use Rattle.mw_world.specs.Definition.LabelEffects.{with_claim, with_status, left, with_fault_decided}
+use Rattle.mw_world.specs.Definition.State.{State, WorkerState}
 
--- A move of a worker. A change, of a tenant's words, is named by its slot under its number.
+-- A move of a worker. A change is named by its slot and the slot's number.
 pub data Move : Type 0 where
-  -- a tenant's door is another one: it counts a slot more or less, or has the fault
+  -- a tenant's door is replaced: it counts a slot more or less, or has the fault
   SetDoor : (tenant : ℕ) (door : Door) → Move
-  -- a change is written down in its slot: its status as a draft, how many entries it has, and each part of an entry
+  -- a change is written into its slot: its status as a draft, how many entries it has, and each part of an entry
   FillStatus : (slot : ℕ) → Move
   FillCount : (slot number : ℕ) → Move
   FillAddr : (slot entry number : ℕ) → Move
@@ -34,49 +35,49 @@ pub data Move : Type 0 where
   FillNew : (slot entry number : ℕ) → Move
   -- the worker's row names another entry
   SetRow : (row : Row) → Move
-  -- the worker claims a slot for a tenant's request, with these entries
+  -- the worker claims a slot for a tenant's request with these entries
   Claim : (own : Slot) (gate : Gate) (tenant request : ℕ) (entries : List Entry) → Move
-  -- a slot has a pin more, or less; it is freed
+  -- a slot gets a pin more, or one less; it is freed
   Pin : (slot : ℕ) (gate : Gate) → Move
   Unpin : (slot : ℕ) → Move
   Free : (slot : ℕ) (gate : Gate) → Move
-  -- a change is opened; decided to be made, or not to be; made; done with as made, or as not made
+  -- a change is opened; it is decided to be made, or not to be made; it is made; it is done with as made, or as not made
   Prepare : (target : Slot) → Move
   SayYes : (target : Slot) → Move
   SayNo : (target : Slot) (entry value : ℕ) → Move
   Seal : (target : Slot) → Move
   Settle : (target : Slot) → Move
   Cancel : (target : Slot) (entry value : ℕ) → Move
-  -- the worker's attempt stands in a word; its attempt's number is given up; an attempt is taken back, and the word has this value
+  -- the worker's attempt is planted in a word; the number of its attempt is skipped; an attempt is taken back, and the word gets this value
   Plant : (tenant address number : ℕ) → Move
-  Forgo : (number : ℕ) → Move
+  SkipNumber : (number : ℕ) → Move
   TakeBack : (tenant address worker number value : ℕ) → Move
-  -- the worker, which may hold a word for a change, does so in place of an attempt
+  -- the worker, which has the permission to hold the word for the change, does so in place of an attempt
   Hold : (tenant address worker number : ℕ) (target : Slot) → Move
-  -- a held word gets the value that its change writes, or the one that its change expects; a written one no longer names its slot
-  Ink : (tenant address : ℕ) (target : Slot) (value : ℕ) → Move
+  -- a held word gets its change's new value, or its expected value; a written word no longer names its slot
+  WriteNew : (tenant address : ℕ) (target : Slot) (value : ℕ) → Move
   LetGo : (tenant address : ℕ) (target : Slot) (value : ℕ) → Move
   Clean : (tenant address : ℕ) (target : Slot) (value : ℕ) → Move
-  -- a request's pin stays behind; the reply FAULT is decided for a change's request
+  -- a request leaves its pin behind; the reply FAULT is decided for a change's request
   LeavePin : (target : Slot) → Move
-  Spoil : (target : Slot) → Move
-  -- the worker's attempt is this one or none, and it may hold this word or none
-  Pose : (standing : Standing) (arm : Arm) → Move
+  DecideFault : (target : Slot) → Move
+  -- the worker's standing attempt becomes this one or none, and it gets the permission to hold this word or none
+  SetIntent : (standing : StandingAttempt) (permission : HoldPermission) → Move
 
 module _ (state : State) where
-  -- the world once this stands at a place
+  -- the world with this value at a place
   abbrev pub put : (at : At) → Val at → State
   put at x = record state { cells = write state.cells at x }
 
-  -- the world once a change has another status
+  -- the world in which a change has this status
   abbrev pub decide : Slot → Status → State
-  decide target status = record state { cells = write state.cells (AtStatus target.slot) status; history = fated state.history target status }
+  decide target status = record state { cells = write state.cells (AtStatus target.slot) status; history = with_status state.history target status }
 
-  -- the workers once one's next attempt has the number after this one
-  abbrev pub counted_on : ℕ → ℕ → ℕ → Seat
-  counted_on worker number = upd state.seats worker (record (state.seats worker) { attempt = number + 1 })
+  -- the workers, after one of them has used this attempt number
+  abbrev pub counted_on : ℕ → ℕ → ℕ → WorkerState
+  counted_on worker number = upd state.worker_states worker (record (state.worker_states worker) { attempt = number + 1 })
 
-  -- the world once another word stands at a tenant's address, and so much has become of the word for a change
+  -- the world with this word at a tenant's address, and the word in this phase for the change
   abbrev pub exchange : ℕ → ℕ → Slot → Word → Phase → State
   exchange tenant address target word phase = record state {
     cells = write state.cells (Data tenant address) word;
@@ -94,7 +95,7 @@ module _ (state : State) where
   made by (SetRow row) = put (AtRow by) row
   made by (Claim own gate tenant request entries) = record state {
     cells = write state.cells (AtGate own.slot) gate;
-    history = born state.history own.slot own.seq by tenant request entries;
+    history = with_claim state.history own.slot own.seq by tenant request entries;
   }
   made by (Pin slot gate) = put (AtGate slot) gate
   made by (Unpin slot) = put (AtGate slot) (after_unpin (state.cells.gates slot))
@@ -107,19 +108,19 @@ module _ (state : State) where
   made by (Cancel target entry value) = decide target (DoneNo entry value)
   made by (Plant tenant address number) = record state {
     cells = write state.cells (Data tenant address) (Planted by number);
-    seats = counted_on by number;
-    history = record state.history { standing = upd state.history.standing by (Stands tenant address number) };
+    worker_states = counted_on by number;
+    history = record state.history { standing = upd state.history.standing by (AttemptIn tenant address number) };
   }
-  made by (Forgo number) = record state { seats = counted_on by number }
+  made by (SkipNumber number) = record state { worker_states = counted_on by number }
   made by (TakeBack tenant address worker number value) = put (Data tenant address) (Plain value)
-  made by (Hold tenant address worker number target) = exchange tenant address target (Held target.slot target.seq) Keeping
-  made by (Ink tenant address target value) = exchange tenant address target (Dirty target.slot value) Inked
-  made by (LetGo tenant address target value) = exchange tenant address target (Plain value) Gone
-  made by (Clean tenant address target value) = exchange tenant address target (Plain value) Gone
+  made by (Hold tenant address worker number target) = exchange tenant address target (Held target.slot target.seq) Acquired
+  made by (WriteNew tenant address target value) = exchange tenant address target (Dirty target.slot value) Written
+  made by (LetGo tenant address target value) = exchange tenant address target (Plain value) Released
+  made by (Clean tenant address target value) = exchange tenant address target (Plain value) Released
   made by (LeavePin target) = record state { history = left state.history target }
-  made by (Spoil target) = record state { history = spoiled state.history target }
-  made by (Pose standing arm) = record state {
-    history = record state.history { standing = upd state.history.standing by standing; arm = upd state.history.arm by arm };
+  made by (DecideFault target) = record state { history = with_fault_decided state.history target }
+  made by (SetIntent standing permission) = record state {
+    history = record state.history { standing = upd state.history.standing by standing; permission = upd state.history.permission by permission };
   }
 
 -- the world after these moves of a worker, in their order

@@ -1,9 +1,10 @@
--- The value that each word stands for, as the history tells it, and what the moves do to it.
+-- The value that each word represents according to the history, and what the moves do to it.
+-- Used by: the laws of src/laws.rt, mw_law_store. A change here changes what these laws say.
 use Rattle.std.specs.Prelude.{ℕ, ◌≡◌, ◌==◌, ◌&&◌, Bool, true, false, if◌then◌else◌, List, [], ◌∷◌, Some}
 use Rattle.mw_words.specs.declared.words.Word.{Word}
 use Rattle.mw_words.specs.declared.words.Word.TheVariants.{Plain, Planted, Held, Dirty}
 use Rattle.mw_actor.specs.declared.points.Slot.{Slot}
-use Rattle.mw_actor.specs.Acting.{Acting}
+use Rattle.mw_actor.specs.ActorState.{ActorState}
 use Rattle.mw_world.specs.declared.config.Config.{Config}
 use Rattle.mw_world.specs.Definition.History.{has, expected, new}
 use Rattle.mw_world.specs.Definition.Logical.{held_value, logical}
@@ -12,10 +13,10 @@ use Rattle.mw_world.specs.Definition.Turns.{turn}
 use Rattle.mw_law_moves.specs.Guards.{Guard, Guards}
 use Rattle.mw_law_moves.specs.Memory.{Memory}
 use Rattle.mw_law_moves.specs.Moves.{Move, Seal, made}
-use Rattle.mw_law_moves.specs.Stepped.{moves_of_turn}
+use Rattle.mw_law_moves.specs.StepMoves.{moves_of_turn}
 
--- The value of a word by the change that it refers to: an attempt stands for the value that the change expects which the row of the
--- attempt's worker names, and a held word for that one or, once its change is made, for the new one.
+-- The value of a word by the change that it refers to. An attempt represents the value that is expected by the change that the row of the attempt's
+-- worker names. A held word represents its change's expected value or, when the change is made, the new one.
 abbrev pub value_told : State → ℕ → Word → ℕ
 value_told state address (Plain value) = value
 value_told state address (Planted worker number) = expected state.history (state.cells.rows worker).slot (state.cells.rows worker).seq address
@@ -26,7 +27,7 @@ value_told state address (Dirty slot value) = value
 abbrev pub told_at : State → ℕ → ℕ → ℕ
 told_at state tenant address = value_told state address (state.cells.words tenant address)
 
--- The shared words tell the same values.
+-- The shared words tell the same values as the history, if the invariant of the shared words holds.
 abbrev pub WordsTellValues : Type 0
 WordsTellValues = (config : Config) (state : State) (tenant address : ℕ) → Memory config state → logical state.cells tenant address ≡ told_at state tenant address
 
@@ -35,13 +36,13 @@ abbrev pub is_seal : Move → Bool
 is_seal (Seal target) = true
 is_seal move = false
 
--- No move but the one that makes a change gives a word another value.
+-- No move changes the value of a word, except the one that makes a change, if its precondition and the invariant of the shared words hold.
 abbrev pub MovesKeepValues : Type 0
 MovesKeepValues = (config : Config) (state : State) (by : ℕ) (move : Move) (tenant address : ℕ) → is_seal move ≡ false → Guard config state by move
     → Memory config state
     → logical (made state by move).cells tenant address ≡ logical state.cells tenant address
 
--- That one gives each word of the change its new value, and leaves the others.
+-- The move that makes a change gives each word of the change its new value, and leaves the others, under the same premises.
 abbrev pub SealsPutValues : Type 0
 SealsPutValues = (config : Config) (state : State) (by : ℕ) (target : Slot) (tenant address : ℕ) → Guard config state by (Seal target) → Memory config state
     → logical (made state by (Seal target)).cells tenant address
@@ -53,8 +54,8 @@ abbrev pub AreNoSeals : List Move → Type 0
 AreNoSeals [] = Unit {0}
 AreNoSeals (move ∷ moves) = (is_seal move ≡ false) × AreNoSeals moves
 
--- Where each of its moves has what it asks for, a step that is no call on a file gives no word another value.
+-- A step that is no call on a file changes no value, if the invariant holds and each of its moves has its precondition.
 abbrev pub TurnsKeepValues : Type 0
-TurnsKeepValues = (config : Config) (state next : State) (worker : ℕ) (actor : Acting) (tenant address : ℕ) → actor.worker ≡ worker
+TurnsKeepValues = (config : Config) (state next : State) (worker : ℕ) (actor : ActorState) (tenant address : ℕ) → actor.worker ≡ worker
     → turn config state worker (Some actor) ≡ Some next → Guards config state worker (moves_of_turn state worker actor) → Memory config state
     → logical next.cells tenant address ≡ logical state.cells tenant address

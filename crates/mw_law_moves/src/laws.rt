@@ -1,31 +1,38 @@
-//! What holds of the moves: facts for proofs to cite. The functions do nothing.
+//! States facts about the moves.
+//!
+//! The functions do nothing, and nothing calls them: each contract is a fact, proved in `proofs/laws`. Proofs
+//! of crates above import other pages of `proofs`, by which these facts are proved. To change a fact, change
+//! its definition in `specs`, and then its proof.
 ghost use Rattle.mw_law_moves.specs.Laws.{MoveKeepsMemory, MovesKeepMemory, StartsHaveMemory};
-ghost use Rattle.mw_law_moves.specs.Relying.{OthersRely, OthersRelyOnAll, RelianceGoesOn};
-ghost use Rattle.mw_law_moves.specs.Stepped.{CallsAreMoves, TurnsAreMoves};
+ghost use Rattle.mw_law_moves.specs.Rely.{MovesKeepRely, MoveListsKeepRely, RelyIsTransitive};
+ghost use Rattle.mw_law_moves.specs.StepMoves.{CallsAreMoves, TurnsAreMoves};
 ghost use Rattle.mw_law_moves.specs.Values.{MovesKeepValues, SealsPutValues, TurnsKeepValues, WordsTellValues};
-ghost use Rattle.mw_law_moves.specs.Steps.{CallsKeep, ComesLeaveMemory, EventsTellPoints, ExchangesAreTyped, HandsLeaveMemory, MemoryIsShared, RelianceIsShared, RestartsHaveMemory, TurnsKeep};
+ghost use Rattle.mw_law_moves.specs.Steps.{CallsKeep, ComesLeaveMemory, EventsTellPoints, ExchangesAreTyped, HandsLeaveMemory, MemoryIsShared, RelyIsOverMemory, RestartsHaveMemory, TurnsKeep};
 
-/// What holds of memory is kept by each move that has what it asks for, and by several such moves, one
+/// A move whose precondition holds keeps the invariant of the shared words (`Memory`). So do several such moves, one
 /// after the other.
 pub fn moves_keep_memory()
     ensures one { MoveKeepsMemory }
     ensures all { MovesKeepMemory }
 {}
 
-/// It holds at each start at which the files have words that fit.
+/// If a world can be made of the configuration, the invariant of the shared words holds at each start at which no
+/// word of a file is above the greatest value.
 pub fn starts_have_memory()
     ensures { StartsHaveMemory }
 {}
 
-/// What others may rely on where a worker moves: at each move that has what it asks for, over one
-/// stretch and then another, and at several moves.
+/// Others may rely on what `Rely` says while one worker moves: over one move, over two stretches one after the other,
+/// and over several moves. The premises: the invariant of the shared words holds at first, and each move has its
+/// precondition.
 pub fn others_may_rely()
-    ensures one { OthersRely }
-    ensures goes_on { RelianceGoesOn }
-    ensures all { OthersRelyOnAll }
+    ensures one { MovesKeepRely }
+    ensures goes_on { RelyIsTransitive }
+    ensures all { MoveListsKeepRely }
 {}
 
-/// A worker's step changes the shared words, the history and the numbers of attempts by its moves.
+/// A worker's step changes the shared words, the history and the numbers of attempts as its moves do. A request that
+/// arrives and a reply that is handed out change none of them.
 pub fn steps_are_moves()
     ensures turns { TurnsAreMoves }
     ensures calls { CallsAreMoves }
@@ -33,34 +40,36 @@ pub fn steps_are_moves()
     ensures hands { HandsLeaveMemory }
 {}
 
-/// Where each move of a worker's step has what it asks for, the step keeps what holds of memory, and
-/// others may rely on the rest. It holds after each restart that finds words that fit.
+/// If the precondition of each move of a worker's step holds, the step keeps the invariant of the shared words, and
+/// others may rely on the rest. The invariant also holds after each restart that finds no word above the greatest
+/// value, if a world can be made of the configuration.
 pub fn steps_keep_memory()
     ensures turns { TurnsKeep }
     ensures calls { CallsKeep }
     ensures restarts { RestartsHaveMemory }
 {}
 
-/// What holds of memory, and what others may rely on, rests on the shared words, the history and the
-/// numbers of attempts alone.
+/// The invariant of the shared words, and what others may rely on, depend on nothing but the shared words, the
+/// history and the numbers of attempts.
 pub fn memory_is_shared()
     ensures memory { MemoryIsShared }
-    ensures reliance { RelianceIsShared }
+    ensures reliance { RelyIsOverMemory }
 {}
 
-/// An exchange that finds the bits of what it expects finds what it expects.
+/// An exchange that finds the bits of the value that it expects finds that value, if all places and the value are in
+/// range.
 pub fn exchanges_are_typed()
     ensures { ExchangesAreTyped }
 {}
 
-/// What a worker may do is told by where its request is, whatever happens to a world.
+/// Every event keeps `PointsAreTold`: what a worker may do is what its request's point says.
 pub fn events_tell_points()
     ensures { EventsTellPoints }
 {}
 
-/// The shared words tell each word's value as the history does. No move but the one that makes a change
-/// gives a word another value, and that one gives each word of the change its new one. No step that is
-/// no call on a file does.
+/// The shared words tell each word's value as the history does. Only the move that makes a change changes values: it
+/// gives each word of the change its new value, and leaves the others. So a step that is no call on a file changes no
+/// value. The premises: the invariant of the shared words holds, and each move has its precondition.
 pub fn moves_keep_values()
     ensures told { WordsTellValues }
     ensures same { MovesKeepValues }

@@ -1,4 +1,7 @@
-//! The moves of the world's workers on their shared words, and what every move keeps.
+//! Defines the moves of which every step on the shared words is made, each with its precondition, and proves what
+//! every such move keeps.
+//!
+//! Used by: mw_law_runs, mw_law_store.
 #![tactic(auto)]
 
 mod laws;

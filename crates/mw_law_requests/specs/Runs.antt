@@ -1,4 +1,5 @@
--- Whole runs of a request: what it asked for and was told, and what holds of every run, whatever it is told.
+-- Whole runs of one request: what it asks for, what it is told, and what holds of every run.
+-- Used by: the laws of src/laws.rt, specs/HoldOrder, specs/Order. A change here changes what these laws say.
 use Rattle.std.specs.Prelude.{ℕ, ◌≡◌, ◌+◌, ◌<◌, ◌==◌, false, Some, None, List, [], ◌∷◌, ◌⊎◌}
 use Rattle.arrayvec.specs.ArrayVec.{ArrayVec}
 use Rattle.mw_words.specs.declared.places.At.{At}
@@ -9,34 +10,34 @@ use Rattle.mw_words.specs.declared.jobs.Job.TheVariants.{Cas}
 use Rattle.mw_words.specs.declared.replies.Reply.{Reply}
 use Rattle.mw_pool.specs.Moves.{Claims, Pins}
 use Rattle.mw_look.specs.declared.steps.Kind.TheVariants.{Admit as AdmitKind, Claim as ClaimKind, Pin as PinKind, Unpin as UnpinKind, Free as FreeKind, Drop as DropKind}
-use Rattle.mw_look.specs.declared.news.News.{News}
-use Rattle.mw_look.specs.declared.news.News.TheVariants.{SawGate, Won}
+use Rattle.mw_look.specs.declared.observations.Observation.{Observation}
+use Rattle.mw_look.specs.declared.observations.Observation.TheVariants.{SawGate, Won}
 use Rattle.mw_look.specs.Steps.{Step, Load, Change, File, place, fetch, store}
 use Rattle.mw_look.specs.Program.{freed}
 use Rattle.mw_look.specs.Runs.{Event, times, if_same, takes_back, takes_last, frees, frees_any, lowers}
 use Rattle.mw_actor.specs.declared.points.Slot.{Slot}
-use Rattle.mw_actor.specs.Acting.{Acting, first}
+use Rattle.mw_actor.specs.ActorState.{ActorState, first}
 use Rattle.mw_actor.specs.Asks.{asks}
 use Rattle.mw_actor.specs.Program.{tells, replied}
 
--- What a request was told of a step: what it found, and the worker's next attempt number.
+-- What a request is told of one step: what it found, and the worker's next attempt number.
 pub record Heard : Type 0 where
-  pub news : News
+  pub observation : Observation
   pub next : ℕ
 
--- a request once it was told these, the latest first
-abbrev pub after : Acting → List Heard → Acting
+-- the request after it was told these, the latest first
+abbrev pub after : ActorState → List Heard → ActorState
 after actor [] = actor
-after actor (latest ∷ earlier) = tells (after actor earlier) latest.news latest.next
+after actor (latest ∷ earlier) = tells (after actor earlier) latest.observation latest.next
 
 -- the steps that it has made by then, the latest first
-abbrev pub past : Acting → List Heard → List Event
+abbrev pub past : ActorState → List Heard → List Event
 past actor [] = []
-past actor (latest ∷ earlier) = record { asked = asks (after actor earlier); told = latest.news } ∷ past actor earlier
+past actor (latest ∷ earlier) = record { asked = asks (after actor earlier); told = latest.observation } ∷ past actor earlier
 
 -- the step that a request makes next, if it finds this
-abbrev pub made : Acting → News → Event
-made actor news = record { asked = asks actor; told = news }
+abbrev pub made : ActorState → Observation → Event
+made actor observation = record { asked = asks actor; told = observation }
 
 -- The place is no door and no word of another tenant.
 abbrev pub IsPlaceFor : ℕ → At → Type 0
@@ -44,12 +45,12 @@ IsPlaceFor tenant (AtDoor other) = other ≡ tenant
 IsPlaceFor tenant (Data other address) = other ≡ tenant
 IsPlaceFor tenant at = Unit {0}
 
--- every step of every request is at such a place
+-- the step of every request is at such a place
 abbrev pub RequestsStayWithTheirTenant : Type 0
 RequestsStayWithTheirTenant = (worker tenant quota pool : ℕ) (job : Job) (heard : List Heard) → IsPlaceFor tenant (place (asks (after (first worker tenant quota pool job) heard)))
 
--- The step wins a slot under a number: the slot's gate is claimed, or pinned, by an exchange from one with that number.
-abbrev pub WinsSlot : Slot → Step → News → Type 0
+-- The step wins a slot under its number: its exchange claims or pins the slot's gate, which has that number.
+abbrev pub WinsSlot : Slot → Step → Observation → Type 0
 WinsSlot slot (Change ClaimKind (AtGate other) from to) Won = (other ≡ slot.slot) × (from.seq ≡ slot.seq) × Claims from to
 WinsSlot slot (Change PinKind (AtGate other) from to) Won = (other ≡ slot.slot) × (from.seq ≡ slot.seq) × Pins slot.seq from to
 WinsSlot slot step told = ⊥
@@ -60,28 +61,28 @@ WasWon [] slot = ⊥
 WasWon (latest ∷ earlier) slot = WinsSlot slot latest.asked latest.told ⊎ WasWon earlier slot
 
 -- The step claims the slot under its number.
-abbrev pub ClaimsSlot : Slot → Step → News → Type 0
+abbrev pub ClaimsSlot : Slot → Step → Observation → Type 0
 ClaimsSlot slot (Change ClaimKind (AtGate other) from to) Won = (other ≡ slot.slot) × (from.seq ≡ slot.seq) × Claims from to
 ClaimsSlot slot step told = ⊥
 
--- One of these steps claimed the slot under its number: the slot is the change's own.
+-- One of these steps claimed the slot under its number, so the slot is the change's own.
 abbrev pub WasClaimed : List Event → Slot → Type 0
 WasClaimed [] slot = ⊥
 WasClaimed (latest ∷ earlier) slot = ClaimsSlot slot latest.asked latest.told ⊎ WasClaimed earlier slot
 
--- 1 for a pin of the slot that is won: its gate is claimed, with the first pin, or gets a pin more
-abbrev pub wins_pin : ℕ → Step → News → ℕ
+-- 1 if the step wins a pin of the slot, by a claim or by a pin; else 0
+abbrev pub wins_pin : ℕ → Step → Observation → ℕ
 wins_pin slot (Change ClaimKind (AtGate other) from to) Won = if_same other slot
 wins_pin slot (Change PinKind (AtGate other) from to) Won = if_same other slot
 wins_pin slot step told = 0
 
--- 1 for a change that is admitted: its tenant's door counts a slot more
-abbrev pub admits : Step → News → ℕ
+-- 1 if the step admits a change: its tenant's door counts one slot more; else 0
+abbrev pub admits : Step → Observation → ℕ
 admits (Change AdmitKind (AtDoor tenant) from to) Won = 1
 admits step told = 0
 
--- 1 for any slot that is claimed
-abbrev pub claims : Step → News → ℕ
+-- 1 if the step claims a slot, else 0
+abbrev pub claims : Step → Observation → ℕ
 claims (Change ClaimKind (AtGate slot) from to) Won = 1
 claims step told = 0
 
@@ -89,18 +90,18 @@ claims step told = 0
 abbrev pub IsPinned : List Event → ℕ → Type 0
 IsPinned events slot = times (takes_back slot) events < times (wins_pin slot) events
 
--- A call on the file is for a slot of which a pin is held.
+-- If the step is a call on the file, it is for a slot of which a pin is held.
 abbrev pub IsOfPinnedSlot : List Event → Step → Type 0
 IsOfPinnedSlot events (File call slot) = IsPinned events slot
 IsOfPinnedSlot events step = Unit {0}
 
--- every call on the file, of every request, is for a slot of which it holds a pin then
+-- each call on the file, of every request, is for a slot of which the request holds a pin then
 abbrev pub FileCallsAreOfPinnedSlots : Type 0
 FileCallsAreOfPinnedSlots = (worker tenant quota pool : ℕ) (job : Job) (heard : List Heard) →
     let actor = first worker tenant quota pool job in
     IsOfPinnedSlot (past actor heard) (asks (after actor heard))
 
--- An exchange of a gate is one of those that gates allow: one that claims, or one that pins under the gate's number.
+-- If the step exchanges a gate, gates allow the exchange: it claims, or it pins under the gate's number.
 abbrev pub IsGateMove : Step → Type 0
 IsGateMove (Change ClaimKind (AtGate slot) from to) = Claims from to
 IsGateMove (Change PinKind (AtGate slot) from to) = Pins from.seq from to
@@ -111,23 +112,23 @@ abbrev pub GatesAreMovedByTheRules : Type 0
 GatesAreMovedByTheRules = (worker tenant quota pool : ℕ) (entries : ArrayVec Entry) (heard : List Heard) →
     IsGateMove (asks (after (first worker tenant quota pool (Cas entries)) heard))
 
--- A slot whose last pin was taken back is freed next, under the number after one that its pin was won under; and after it
--- was freed it is counted off the tenant's door next.
-abbrev pub IsFollowed : ℕ → List Event → Step → News → Step → Type 0
+-- After the last pin of a slot was taken back, the next step frees the slot under the next number: the one after a number under which the slot was won.
+-- After a slot was freed, the next step counts it off the tenant's door.
+abbrev pub IsFollowed : ℕ → List Event → Step → Observation → Step → Type 0
 IsFollowed tenant events (Change UnpinKind (AtGate slot) from to) (SawGate gate) next = gate.pins ≡ 1 → (seq : ℕ) × WasWon events (record { slot = slot; seq = seq }) × (next ≡ store FreeKind (AtGate slot) (freed seq))
 IsFollowed tenant events (Change FreeKind at from to) Won next = next ≡ fetch DropKind (AtDoor tenant)
 IsFollowed tenant events step told next = Unit {0}
 
--- every change frees each slot whose last pin it took back, and counts it off the door
+-- a change frees each slot whose last pin it took back, and counts it off the door
 abbrev pub LastPinsAreFreed : Type 0
-LastPinsAreFreed = (worker tenant quota pool : ℕ) (entries : ArrayVec Entry) (heard : List Heard) (news : News) (next : ℕ) →
+LastPinsAreFreed = (worker tenant quota pool : ℕ) (entries : ArrayVec Entry) (heard : List Heard) (observation : Observation) (next : ℕ) →
     let begun = first worker tenant quota pool (Cas entries) in
     let actor = after begun heard in
-    IsFollowed tenant (past begun heard) (asks actor) news (asks (tells actor news next))
+    IsFollowed tenant (past begun heard) (asks actor) observation (asks (tells actor observation next))
 
--- All is given back but so many pins of each slot: the other pins that were won were taken back; a slot was freed as often
--- as a pin that was taken back was its last; and the door, which counts a slot more for a change that is admitted, was
--- lowered as often as a slot was freed, and once more for a change that was admitted and claimed none.
+-- All is given back except so many pins of each slot. The other pins that were won were taken back. A slot was freed as often as a pin that was taken
+-- back was its last. The door counts one slot more for each admission. It was lowered as often as a slot was freed, and once more for a change that
+-- was admitted and claimed none.
 pub record GivesBack (kept : ℕ → ℕ) (events : List Event) : Type 0 where
   pub pins : (slot : ℕ) → times (wins_pin slot) events ≡ times (takes_back slot) events + kept slot
   pub slots : (slot : ℕ) → times (takes_last slot) events ≡ times (frees slot) events
@@ -141,23 +142,23 @@ none slot = 0
 abbrev pub one_of : ℕ → ℕ → ℕ
 one_of slot other = if_same slot other
 
--- the slot is the change's own: it claimed it, under some number
+-- the slot is the change's own: the change claimed it, under some number
 abbrev pub IsItsOwn : List Event → ℕ → Type 0
 IsItsOwn events slot = (seq : ℕ) × WasClaimed events (record { slot = slot; seq = seq })
 
--- The step may be the last one of a change, and by then all is given back: at the load of the door, before anything is
--- taken; at a pin that is taken back, where others are left; or where a slot is counted off the door. At the load of a
--- status the request gives up: that slot is its own, which it claimed, and it keeps one pin of it.
-abbrev pub EndsBy : Step → News → List Event → Type 0
+-- The step may be the last one of a change, and all is given back after it. It is a load of the door, before anything is taken; or it takes back a
+-- pin and others are left; or it counts a slot off the door. If it loads a status, the request gives up: the slot is its own, and it keeps one pin of
+-- it.
+abbrev pub EndsBy : Step → Observation → List Event → Type 0
 EndsBy (Load (AtDoor tenant)) told events = GivesBack none events
 EndsBy (Change UnpinKind at from to) (SawGate gate) events = ((gate.pins == 1) ≡ false) × GivesBack none events
 EndsBy (Change DropKind at from to) told events = GivesBack none events
 EndsBy (Load (AtStatus slot)) told events = GivesBack (one_of slot) events × IsItsOwn events slot
 EndsBy step told events = ⊥
 
--- where a reply to a change comes to stand, its latest step is one that may be the last one, and all is given back
+-- when a change gets its reply, its latest step is one that may be the last one, and all is given back
 abbrev pub RepliesGiveBack : Type 0
-RepliesGiveBack = (worker tenant quota pool : ℕ) (entries : ArrayVec Entry) (heard : List Heard) (news : News) (next : ℕ) (reply : Reply) →
+RepliesGiveBack = (worker tenant quota pool : ℕ) (entries : ArrayVec Entry) (heard : List Heard) (observation : Observation) (next : ℕ) (reply : Reply) →
     let begun = first worker tenant quota pool (Cas entries) in
     let actor = after begun heard in
-    replied actor ≡ None → replied (tells actor news next) ≡ Some reply → EndsBy (asks actor) news (made actor news ∷ past begun heard)
+    replied actor ≡ None → replied (tells actor observation next) ≡ Some reply → EndsBy (asks actor) observation (made actor observation ∷ past begun heard)

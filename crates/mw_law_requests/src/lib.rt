@@ -1,5 +1,8 @@
-//! What holds of every run of one request, whatever it is told: `specs/Runs` of its tenant, its pins and its
-//! slots, `specs/Order` of the order of its steps, `specs/Rising` of the entries that it plants.
+//! Proves what holds of every run of one request, whatever it is told: its tenant, its pins and its slots
+//! (`specs/Runs`), the order of its steps (`specs/Order`), and the order of the words that it holds
+//! (`specs/HoldOrder`).
+//!
+//! Used by: mw_law_counts, mw_law_runs.
 #![tactic(auto)]
 
 mod laws;

@@ -1,4 +1,4 @@
--- The tenants' files keep words that fit.
+-- The tenants' files keep words that fit. Used by: RunsAreSound, ArrivalsAndStarts.
 use Rattle.std.specs.Prelude.{ℕ, zero, suc, ◌≡◌, ◌<◌, ◌≤◌, ◌==◌, ◌&&◌, ◌||◌, Bool, true, false, if◌then◌else◌, nat_lt, List, [], ◌∷◌, length, slice_set, bytes_eq, Option, Some, None}
 use Rattle.std.specs.Option.{option_map}
 use Rattle.std.proofs.Common.{refl, sym, subst, arith}
@@ -15,21 +15,21 @@ use Rattle.mw_words.specs.Change.{AreWords, is_change, put, word_at}
 use Rattle.mw_look.specs.declared.steps.Call.{Call}
 use Rattle.mw_look.specs.declared.steps.Call.TheVariants.{Prepare as PrepareCall, Seal as SealCall, Settle as SettleCall, Cancel as CancelCall}
 use Rattle.mw_actor.specs.declared.points.Slot.{Slot}
-use Rattle.mw_actor.specs.Acting.{Acting, entries_of_job, own_entries}
+use Rattle.mw_actor.specs.ActorState.{ActorState, entries_of_job, own_entries}
 use Rattle.mw_actor.specs.Ranges.{IsFormed}
 use Rattle.mw_world_file.specs.declared.outcomes.Outcome.{Outcome}
 use Rattle.mw_world_file.specs.declared.outcomes.Outcome.TheVariants.{Good, Fail}
 use Rattle.mw_world_file.specs.Files.{File, Place, Empty, Prepared, Sealed, file_of, entries_in, entries_at, broken}
 use Rattle.mw_world_file.specs.Maps.{upd}
 use Rattle.mw_world.specs.declared.config.Config.{Config}
-use Rattle.mw_world.specs.declared.notes.Note.TheVariants.{Nothing}
+use Rattle.mw_world.specs.declared.step_labels.StepLabel.TheVariants.{Nothing}
 use Rattle.mw_world.specs.Definition.Calls.{Called, breaks, called_at, doubt_of, ends, faults, filed, goes_well, is_made, moved_if, place_for, skips}
 use Rattle.mw_world.specs.declared.events.Interrupted.{Interrupted}
-use Rattle.mw_world.specs.Definition.Happenings.{Found}
+use Rattle.mw_world.specs.Definition.Events.{Found}
 use Rattle.mw_world.specs.Definition.Restarts.{UnderWay, stopped_call, doubt_if, doubt_then, found_of, is_sealed_then, may_all_be_found, may_be_found, may_fail, may_find, may_interrupt, nothing_found, opened_file, stopped_at, takes, under_way}
-use Rattle.mw_world.specs.Definition.State.{State, Account, tenants_of}
+use Rattle.mw_world.specs.Definition.State.{State, TenantState, tenants_of}
 use Rattle.mw_world.specs.Definition.Turns.{Made, moved}
-use Rattle.mw_law_runs.proofs.Tests.{first_holds, second_holds}
+use Rattle.mw_law_runs.proofs.GuardedEvents.{first_holds, second_holds}
 use Rattle.mw_law_runs.specs.Files.{AreEntries, FileFits, FilesFit}
 
 -- words that fit, one by one
@@ -61,7 +61,7 @@ own_fit (Cas entries) formed = by_change entries.items formed
 place_set : (places : ℕ → Place) (place other : ℕ) (to : Place) → AreEntries (entries_in to) → ((place : ℕ) → AreEntries (entries_in (places place))) → AreEntries (entries_in (upd places place to other))
 place_set places place other to here there = grind (arith, nat_tests, here, there other)
 
--- A file after a call on it that went well, and one in which the device failed.
+-- A file after a call that went well, and after one in which the device failed.
 filed_fits : (call : Call) (file : File) (slot place : ℕ) (entries : List Entry) → AreEntries entries → FileFits file → FileFits (filed call file slot place entries)
 filed_fits PrepareCall file slot place entries fit fits = record { contents = fits.contents; places = λ other. place_set file.places place other (Prepared entries) fit fits.places; doubt = fits.doubt }
 filed_fits SealCall file slot place entries fit fits = record {
@@ -89,24 +89,24 @@ pub opened_fits : (words : List ℕ) (fails : Option ℕ) → AreWords words →
 opened_fits words None are = new_fits words are
 opened_fits words (Some number) are = broken_fits (file_of words) [] refl (new_fits words are)
 
--- A start: what a call that was cut off leaves in doubt, and what may be found.
+-- A start: what an interrupted call leaves in doubt, and what may be found.
 abbrev CallFits : Option UnderWay → Type 0
 CallFits None = Unit {0}
 CallFits (Some call) = AreEntries call.entries
 
 module _ (config : Config) (state : State) (fit : FilesFit state) where
-  stopped_fits : (made : ℕ) (found : Option Acting) → CallFits (stopped_at config state made found)
+  stopped_fits : (made : ℕ) (found : Option ActorState) → CallFits (stopped_at config state made found)
   stopped_fits made None = tt
   stopped_fits made (Some actor) = by_called (called_at actor.point)
     where
       by_called : (called : Option Called) → CallFits (option_map (stopped_call config state actor made) called)
       by_called None = tt
       by_called (Some called) =
-          (fit actor.tenant).places (place_for called.call (state.accounts actor.tenant).file (state.accounts actor.tenant).quota called.change.slot)
+          (fit actor.tenant).places (place_for called.call (state.tenant_states actor.tenant).file (state.tenant_states actor.tenant).quota called.change.slot)
 
   under_way_fits : (interrupted : Option Interrupted) → CallFits (under_way config state interrupted)
   under_way_fits None = tt
-  under_way_fits (Some interrupted) = stopped_fits interrupted.made (state.seats interrupted.worker).actor
+  under_way_fits (Some interrupted) = stopped_fits interrupted.made (state.worker_states interrupted.worker).actor
 
 in_doubt_fits : (call : Call) (doubt entries : List Entry) (made : ℕ) → AreEntries doubt → AreEntries entries → AreEntries (doubt_if call doubt made entries)
 in_doubt_fits SealCall doubt entries made old new = by_test (made == 0)
@@ -145,7 +145,7 @@ middle false two three is = absurd (grind (arith, is))
 module _ (config : Config) (state : State) (founds : List Found) (fit : FilesFit state) where
   one_found : (tenant : ℕ) (found : Found) → may_be_found config state tenant found ≡ true → AreWords found.words
   one_found tenant found may =
-      let file = (state.accounts tenant).file in
+      let file = (state.tenant_states tenant).file in
       let call = under_way config state found.interrupted in
       found_fits (is_sealed_then call) file.contents (doubt_then file call) found.words
       (middle (may_interrupt config state tenant found.interrupted) (may_find (is_sealed_then call) file.contents (doubt_then file call) found.words) (may_fail found.opening_calls found.fails_at) may)
@@ -173,17 +173,17 @@ module _ (config : Config) (state : State) (founds : List Found) (fit : FilesFit
       by_test true is = one_found tenant (found_of founds tenant) (among_all (tenants_of config) tenant may (grind (arith, nat_tests, is)))
       by_test false is = subst (λ (found : Found). AreWords found.words) (sym (get_or_past founds tenant nothing_found (grind (arith, nat_tests, is, many)))) no_words
 
--- An account that is another one.
-account_set : (accounts : ℕ → Account) (tenant other : ℕ) (account : Account) → FileFits account.file → ((tenant : ℕ) → FileFits (accounts tenant).file) → FileFits (upd accounts tenant account other).file
-account_set accounts tenant other account here there = by_test (other == tenant) refl
+-- Files still fit after one tenant's state is replaced by one whose file fits.
+tenant_state_set : (tenant_states : ℕ → TenantState) (tenant other : ℕ) (tenant_state : TenantState) → FileFits tenant_state.file → ((tenant : ℕ) → FileFits (tenant_states tenant).file) → FileFits (upd tenant_states tenant tenant_state other).file
+tenant_state_set tenant_states tenant other tenant_state here there = by_test (other == tenant) refl
   where
-    by_test : (b : Bool) → (other == tenant) ≡ b → FileFits (if b then account else accounts other).file
+    by_test : (b : Bool) → (other == tenant) ≡ b → FileFits (if b then tenant_state else tenant_states other).file
     by_test true is = here
     by_test false is = there other
 
-module _ (state : State) (worker : ℕ) (actor : Acting) (fit : FilesFit state) (entries : AreEntries (own_entries actor)) where
+module _ (state : State) (worker : ℕ) (actor : ActorState) (fit : FilesFit state) (entries : AreEntries (own_entries actor)) where
   after_made : (made : Made) (next : State) → FileFits made.file → moved_if state worker actor (Some made) ≡ Some next → FilesFit next
-  after_made made next fits is = subst FilesFit (some_same (moved state worker actor made) next is) (λ tenant. account_set state.accounts actor.tenant tenant _ fits fit)
+  after_made made next fits is = subst FilesFit (some_same (moved state worker actor made) next is) (λ tenant. tenant_state_set state.tenant_states actor.tenant tenant _ fits fit)
     where
       some_same : (one next : State) → Some one ≡ Some next → one ≡ next
       some_same one next is = cc
@@ -195,22 +195,22 @@ module _ (state : State) (worker : ℕ) (actor : Acting) (fit : FilesFit state) 
       none_some next e = cc
 
   broken_if : (test : Bool) (call : Call) (change : Slot) (place : ℕ) (next : State)
-      → moved_if state worker actor (if test then Some (breaks state actor change (state.accounts actor.tenant).file call place) else None) ≡ Some next → FilesFit next
+      → moved_if state worker actor (if test then Some (breaks state actor change (state.tenant_states actor.tenant).file call place) else None) ≡ Some next → FilesFit next
   broken_if true call change place next is =
-      let file = (state.accounts actor.tenant).file in
+      let file = (state.tenant_states actor.tenant).file in
       after_made (breaks state actor change file call place) next (broken_fits file (doubt_of call (entries_at file place)) (doubt_fits call file place (fit actor.tenant)) (fit actor.tenant)) is
   broken_if false call change place next is = after_none next is
 
   -- a call, by whether it starts, whether the file had failed, and whether it can be made
   pub called_fits : (starts had_failed can_be : Bool) (call : Call) (change : Slot) (status : Status) (place calls : ℕ) (outcome : Outcome) (next : State)
-      → moved_if state worker actor (ends state actor change (state.accounts actor.tenant).file starts had_failed can_be call status place calls outcome) ≡ Some next → FilesFit next
-  called_fits false had_failed can_be call change status place calls Good next is = after_made (skips state actor change (state.accounts actor.tenant).file) next (fit actor.tenant) is
+      → moved_if state worker actor (ends state actor change (state.tenant_states actor.tenant).file starts had_failed can_be call status place calls outcome) ≡ Some next → FilesFit next
+  called_fits false had_failed can_be call change status place calls Good next is = after_made (skips state actor change (state.tenant_states actor.tenant).file) next (fit actor.tenant) is
   called_fits false had_failed can_be call change status place calls (Fail number) next is = after_none next is
   called_fits true true can_be call change status place calls Good next is =
-      after_made (faults state actor change (state.accounts actor.tenant).file (state.accounts actor.tenant).file Nothing) next (fit actor.tenant) is
+      after_made (faults state actor change (state.tenant_states actor.tenant).file (state.tenant_states actor.tenant).file Nothing) next (fit actor.tenant) is
   called_fits true true can_be call change status place calls (Fail number) next is = after_none next is
   called_fits true false true call change status place calls Good next is =
-      let file = (state.accounts actor.tenant).file in
+      let file = (state.tenant_states actor.tenant).file in
       after_made (goes_well state actor change file call status place) next (filed_fits call file change.slot place (own_entries actor) entries (fit actor.tenant)) is
   called_fits true false true call change status place calls (Fail number) next is = broken_if (is_made calls number) call change place next is
   called_fits true false false call change status place calls outcome next is = after_none next is

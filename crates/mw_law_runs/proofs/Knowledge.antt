@@ -1,8 +1,9 @@
+-- The proofs about what requests know at their points.
 pub mod Calls
-pub mod Deeds
-pub mod GoingOn
+pub mod Updates
+pub mod LiveSlotsOverSteps
 pub mod Guards
-pub mod Living
-pub mod Looks
-pub mod Staying
+pub mod LiveSlots
+pub mod Reads
+pub mod Stability
 pub mod StayingFacts

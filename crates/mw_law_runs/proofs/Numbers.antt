@@ -1,9 +1,10 @@
--- Numbers that are the same, or none.
+-- Two numbers are equal or not, and a number is 0 or at least 1. Used by: Others, ShortRuns, ArrivalsAndStarts,
+-- Places/PlaceInvariant, Statuses, mw_law_store, mw_law_calls, mw_rule.
 use Rattle.std.specs.Prelude.{ℕ, zero, suc, ◌≡◌, ◌≢◌, ◌≤◌, ◌⊎◌, ◌==◌, Bool, true, false}
 use Rattle.std.proofs.Common.{refl, inl, inr, arith}
 use Rattle.std.proofs.lemmas.Bool.Decides.{nat_tests}
 
--- one number or another
+-- equal or not
 pub same_or_other : (one other : ℕ) → (one ≡ other) ⊎ (one ≢ other)
 same_or_other one other = by_test (one == other) refl
   where
@@ -11,7 +12,7 @@ same_or_other one other = by_test (one == other) refl
     by_test true is = inl (grind (arith, nat_tests, is))
     by_test false is = inr (λ same. absurd (grind (arith, nat_tests, is, same)))
 
--- none or some
+-- 0 or at least 1
 pub nothing_or_some : (n : ℕ) → (n ≡ 0) ⊎ (1 ≤ n)
 nothing_or_some zero = inl refl
 nothing_or_some (suc n) = inr (omega arith)

@@ -1,5 +1,6 @@
--- While a request is at a call on its file, and its change has the status that the call starts from, no other worker changes that status, unless by a call on the
--- same tenant's file.
+-- A request is at a call on its file, and its change has the status that the call starts from. Then no other worker changes that status, except by a
+-- call on the same tenant's file.
+-- Used by: callers_status_stays, mw_law_calls.
 use Rattle.std.specs.Prelude.{ℕ, ◌≡◌, ◌≢◌, ◌⊎◌, ◌==◌, ◌++◌, Bool, true, false, not, cond, ◌&&◌, is_some, if◌then◌else◌, [], ◌∷◌, Option, Some, None}
 use Rattle.std.proofs.Common.{refl, sym, ap, subst, ◌∙◌, inl, inr, arith}
 use Rattle.std.proofs.lemmas.Bool.Decides.{nat_tests}
@@ -7,8 +8,8 @@ use Rattle.mw_words.specs.declared.places.At.{At}
 use Rattle.mw_words.specs.declared.places.At.TheVariants.{Door as AtDoor, Gate as AtGate, Row as AtRow, Data, Status as AtStatus, Count, Addr, Expected, New}
 use Rattle.mw_words.specs.declared.statuses.Status.{Status}
 use Rattle.mw_words.specs.declared.statuses.Status.TheVariants.{Draft, Open, YesDirty, No}
-use Rattle.mw_look.specs.declared.news.News.{News}
-use Rattle.mw_look.specs.declared.news.News.TheVariants.{Won, Lost, Filed}
+use Rattle.mw_look.specs.declared.observations.Observation.{Observation}
+use Rattle.mw_look.specs.declared.observations.Observation.TheVariants.{Won, Lost, Filed}
 use Rattle.mw_look.specs.declared.points.Point.{Point as ReadPoint}
 use Rattle.mw_look.specs.declared.points.Point.TheVariants.{ReadDoor}
 use Rattle.mw_look.specs.declared.steps.Call.{Call}
@@ -20,36 +21,36 @@ use Rattle.mw_look.specs.Steps.{Step, Load, Change, File as FileStep}
 use Rattle.mw_actor.specs.declared.points.Point.{Point}
 use Rattle.mw_actor.specs.declared.points.Point.TheVariants.{Read, FillStatus, DecideYes, DecideNo, Prepare, Seal, Settle, Cancel}
 use Rattle.mw_actor.specs.declared.points.Slot.{Slot}
-use Rattle.mw_actor.specs.Acting.{Acting}
+use Rattle.mw_actor.specs.ActorState.{ActorState}
 use Rattle.mw_actor.specs.Asks.{asks, asks_at}
 use Rattle.mw_actor.specs.Program.{replied}
 use Rattle.mw_world_file.specs.declared.outcomes.Outcome.{Outcome}
 use Rattle.mw_world_file.specs.declared.outcomes.Outcome.TheVariants.{Good, Fail}
 use Rattle.mw_world_file.specs.Maps.{upd}
 use Rattle.mw_world.specs.declared.config.Config.{Config}
-use Rattle.mw_world.specs.Claim.Lawful.{CallersStatusStays, IsBeside}
+use Rattle.mw_world.specs.Claim.BitExactness.{CallersStatusStays, IsBeside}
 use Rattle.mw_world.specs.Definition.Calls.{Called, call, call_if, called_at, fails_on, starts_from}
 use Rattle.mw_world.specs.Definition.Cells.{Cells, read, write}
 use Rattle.mw_look.specs.declared.steps.Shape.{Shape}
 use Rattle.mw_look.specs.declared.steps.Shape.TheVariants.{Exchange, Store, Fetch}
 use Rattle.mw_look.specs.Shapes.{shape_of}
 use Rattle.mw_world.specs.Definition.Changes.{fetched, changed, done}
-use Rattle.mw_world.specs.Definition.Happenings.{Happening, Step as StepEvent, File as FileEvent}
+use Rattle.mw_world.specs.Definition.Events.{WorldEvent, Step as StepEvent, File as FileEvent}
 use Rattle.mw_world.specs.Definition.State.{State}
 use Rattle.mw_world.specs.Definition.Turns.{turn, turned, may_make, moved, made_of}
 use Rattle.mw_world.specs.Definition.World.{step}
 use Rattle.mw_law_moves.specs.Moves.{SetDoor, made_all}
-use Rattle.mw_law_moves.specs.Stepped.{broken_moves, faulted, moves_called, moves_of_call, next_of, pose, status_moves}
-use Rattle.mw_law_moves.proofs.Called.{calls_are_moves}
-use Rattle.mw_law_moves.proofs.Stepping.{exchanges_are_typed}
+use Rattle.mw_law_moves.specs.StepMoves.{broken_moves, faulted, moves_called, moves_of_call, next_of, set_intent, status_moves}
+use Rattle.mw_law_moves.proofs.CallMoves.{calls_are_moves}
+use Rattle.mw_law_moves.proofs.StepsKeepMemory.{exchanges_are_typed}
 use Rattle.mw_law_runs.specs.Knowledge.Informed.{IsInformed}
-use Rattle.mw_law_runs.specs.Knowledge.Told.{KnowsItsPoint}
-use Rattle.mw_law_runs.proofs.Knowledge.Deeds.Keeping.{upd_else}
-use Rattle.mw_law_runs.specs.Sound.{IsSound}
+use Rattle.mw_law_runs.specs.Knowledge.NextState.{KnowsItsPoint}
+use Rattle.mw_law_runs.proofs.Knowledge.Updates.Preservation.{upd_else}
+use Rattle.mw_law_runs.specs.RunInvariant.{IsSound}
 use Rattle.mw_law_runs.proofs.Callers.{of_caller}
 use Rattle.mw_law_runs.proofs.Numbers.{same_or_other}
-use Rattle.mw_law_runs.proofs.Owed.Pins.{none_some, some_same}
-use Rattle.mw_law_runs.proofs.Running.{runs_are_sound}
+use Rattle.mw_law_runs.proofs.Obligations.Pins.{none_some, some_same}
+use Rattle.mw_law_runs.proofs.RunsAreSound.{runs_are_sound}
 
 -- the step changes no status
 abbrev IsElsewhere : At → Type 0
@@ -71,7 +72,7 @@ same_statuses cells (Addr other entry) x slot apart = refl
 same_statuses cells (Expected other entry) x slot apart = refl
 same_statuses cells (New other entry) x slot apart = refl
 
-module _ {A : Type 0} (P : A → Type 0) (cells : Cells) (slot : ℕ) (next : Cells → News → A) (all : (after : Cells) (news : News) → after.statuses slot ≡ cells.statuses slot → P (next after news)) where
+module _ {A : Type 0} (P : A → Type 0) (cells : Cells) (slot : ℕ) (next : Cells → Observation → A) (all : (after : Cells) (observation : Observation) → after.statuses slot ≡ cells.statuses slot → P (next after observation)) where
   chosen : (test : Bool) (one other : A) → P one → P other → P (cond test one other)
   chosen true one other is isnt = is
   chosen false one other is isnt = isnt
@@ -87,7 +88,7 @@ module _ {A : Type 0} (P : A → Type 0) (cells : Cells) (slot : ℕ) (next : Ce
   after_step (Change kind at from to) apart = after_change (shape_of kind) kind at from to apart
   after_step (FileStep call other) apart = all cells _ refl
 
--- no step of a read changes one
+-- no step of a read changes a status
 reads_leave : (tenant address : ℕ) (point : ReadPoint) → LeavesStatuses (read_asks_at tenant address point)
 reads_leave tenant address ReadDoor = tt
 reads_leave tenant address point = tt
@@ -99,19 +100,19 @@ not_open SettleCall is = cc
 not_open CancelCall is = cc
 
 -- What is known of the change of a call, for what others may do to its status.
-abbrev IsKeptBy : State → Acting → Slot → Type 0
+abbrev IsKeptBy : State → ActorState → Slot → Type 0
 IsKeptBy state actor change = (state.history.owner change.slot change.seq ≡ actor.worker) ⊎ (state.history.fate change.slot change.seq ≢ Draft)
 
-kept_by : (state : State) (actor : Acting) (point : Point) (called : Called) → KnowsItsPoint state (record actor { point = point }) → called_at point ≡ Some called → IsKeptBy state actor called.change
+kept_by : (state : State) (actor : ActorState) (point : Point) (called : Called) → KnowsItsPoint state (record actor { point = point }) → called_at point ≡ Some called → IsKeptBy state actor called.change
 kept_by state actor (Prepare own) called knows is = subst (λ (one : Called). IsKeptBy state actor one.change) (some_same _ called is) (inl knows.knows.drafted.own.same_worker)
 kept_by state actor (Seal task) called knows is = subst (λ (one : Called). IsKeptBy state actor one.change) (some_same _ called is) (inr knows.knows.0.at_work.target.ready)
 kept_by state actor (Settle task) called knows is = subst (λ (one : Called). IsKeptBy state actor one.change) (some_same _ called is) (inr knows.knows.0.at_work.target.ready)
 kept_by state actor (Cancel task) called knows is = subst (λ (one : Called). IsKeptBy state actor one.change) (some_same _ called is) (inr knows.knows.0.at_work.target.ready)
 kept_by state actor point called knows is = absurd (none_some called is)
 
-module _ (config : Config) (state next : State) (sound : IsSound config state) (worker other : ℕ) (actor another : Acting) (called : Called) (sits : (state.seats worker).actor ≡ Some actor)
+module _ (config : Config) (state next : State) (sound : IsSound config state) (worker other : ℕ) (actor another : ActorState) (called : Called) (sits : (state.worker_states worker).actor ≡ Some actor)
     (at : called_at actor.point ≡ Some called) (starts : starts_from called.call (state.cells.statuses called.change.slot) ≡ true) (apart : other ≢ worker)
-    (there : (state.seats other).actor ≡ Some another) where
+    (there : (state.worker_states other).actor ≡ Some another) where
   abbrev slot : ℕ
   slot = called.change.slot
 
@@ -121,7 +122,7 @@ module _ (config : Config) (state next : State) (sound : IsSound config state) (
   abbrev Stays : State → Type 0
   Stays after = after.cells.statuses slot ≡ state.cells.statuses slot
 
-  -- a draft is another one
+  -- the other worker's draft is another change
   no_draft : (own : Slot) → own.slot ≡ slot → (state.cells.gates own.slot).seq ≡ own.seq → state.history.owner own.slot own.seq ≡ another.worker → state.history.fate own.slot own.seq ≡ Draft → ⊥
   no_draft own here seq owner draft = by_kept (kept_by state actor actor.point called (sound.requests worker actor sits).stands at)
     where
@@ -130,19 +131,19 @@ module _ (config : Config) (state next : State) (sound : IsSound config state) (
 
       by_kept : IsKeptBy state actor called.change → ⊥
       by_kept (inl owned) =
-          apart (sym (sound.counts.seats other another there).same_worker ∙ sym owner ∙ ap (λ (n : ℕ). state.history.owner n own.seq) here ∙ ap (λ (n : ℕ). state.history.owner slot n) same_seq ∙ owned
-          ∙ (sound.counts.seats worker actor sits).same_worker)
+          apart (sym (sound.counts.worker_states other another there).same_worker ∙ sym owner ∙ ap (λ (n : ℕ). state.history.owner n own.seq) here ∙ ap (λ (n : ℕ). state.history.owner slot n) same_seq ∙ owned
+          ∙ (sound.counts.worker_states worker actor sits).same_worker)
       by_kept (inr ready) = ready (sym (ap (λ (n : ℕ). state.history.fate n own.seq) here ∙ ap (λ (n : ℕ). state.history.fate slot n) same_seq) ∙ draft)
 
-  -- a decision is another's
+  -- the other worker decides another change
   no_decision : (target : ℕ) (to : Status) → (pack (AtStatus target) (state.cells.statuses target) == pack (AtStatus target) Open) ≡ true → target ≡ slot → ⊥
   no_decision target to same here =
       not_open called.call (subst (λ (status : Status). starts_from called.call status ≡ true)
       (ap (λ (n : ℕ). state.cells.statuses n) (sym here) ∙ exchanges_are_typed state.cells (AtStatus target) Open sound.memory.fits tt same) starts)
 
-  decided : (target : ℕ) (to : Status) (news : News) → (pack (AtStatus target) (state.cells.statuses target) == pack (AtStatus target) Open) ≡ true
+  decided : (target : ℕ) (to : Status) (observation : Observation) → (pack (AtStatus target) (state.cells.statuses target) == pack (AtStatus target) Open) ≡ true
       → (write state.cells (AtStatus target) to).statuses slot ≡ state.cells.statuses slot
-  decided target to news same = by_slot (same_or_other slot target)
+  decided target to observation same = by_slot (same_or_other slot target)
     where
       by_slot : (slot ≡ target) ⊎ (slot ≢ target) → (write state.cells (AtStatus target) to).statuses slot ≡ state.cells.statuses slot
       by_slot (inl here) = absurd (no_decision target to same (sym here))
@@ -165,13 +166,13 @@ module _ (config : Config) (state next : State) (sound : IsSound config state) (
       by_test (pack (AtStatus task.target.slot) (state.cells.statuses task.target.slot) == pack (AtStatus task.target.slot) Open) _ _
       (λ same. decided task.target.slot (No entry value) Won same) refl
   at_point (Read look) knows =
-      after_step Stays state.cells slot (λ cells news. moved state other (record another { point = Read look }) (made_of state other (record another { point = Read look }) cells news))
-      (λ cells news same. same) (read_asks_at look.tenant look.address look.point) (reads_leave look.tenant look.address look.point)
+      after_step Stays state.cells slot (λ cells observation. moved state other (record another { point = Read look }) (made_of state other (record another { point = Read look }) cells observation))
+      (λ cells observation same. same) (read_asks_at look.tenant look.address look.point) (reads_leave look.tenant look.address look.point)
   at_point point knows =
-      after_step Stays state.cells slot (λ cells news. moved state other (record another { point = point }) (made_of state other (record another { point = point }) cells news))
-      (λ cells news same. same) (asks_at (record another { point = point }) point) tt
+      after_step Stays state.cells slot (λ cells observation. moved state other (record another { point = point }) (made_of state other (record another { point = point }) cells observation))
+      (λ cells observation same. same) (asks_at (record another { point = point }) point) tt
 
-  -- another's step
+  -- a step of another worker that is no call on a file leaves the status
   step_stays : turn config state other (Some another) ≡ Some next → Stays next
   step_stays is = by_may (not (is_some (replied another)) && may_make config (asks another)) is
     where
@@ -179,16 +180,16 @@ module _ (config : Config) (state next : State) (sound : IsSound config state) (
       by_may true came = subst Stays (some_same (turned state other another) next came) (at_point another.point (sound.requests other another there).stands)
       by_may false came = absurd (none_some next came)
 
-  -- another's call on another tenant's file
+  -- a call of another worker on another tenant's file leaves the status
   module _ (its : Called) (elsewhere : slot ≢ its.change.slot) where
-    good_stays : (call : Call) (status : Status) (later : Acting) → Stays (made_all state other (status_moves call its.change status ++ pose later ∷ []))
+    good_stays : (call : Call) (status : Status) (later : ActorState) → Stays (made_all state other (status_moves call its.change status ++ set_intent later ∷ []))
     good_stays PrepareCall status later = upd_else state.cells.statuses its.change.slot slot _ elsewhere
     good_stays SealCall status later = upd_else state.cells.statuses its.change.slot slot _ elsewhere
     good_stays SettleCall status later = upd_else state.cells.statuses its.change.slot slot _ elsewhere
     good_stays CancelCall (No entry value) later = upd_else state.cells.statuses its.change.slot slot _ elsewhere
     good_stays CancelCall status later = refl
 
-    bad_stays : (call : Call) (later : Acting) → Stays (made_all state other (SetDoor another.tenant (faulted state another.tenant) ∷ broken_moves call its.change ++ pose later ∷ []))
+    bad_stays : (call : Call) (later : ActorState) → Stays (made_all state other (SetDoor another.tenant (faulted state another.tenant) ∷ broken_moves call its.change ++ set_intent later ∷ []))
     bad_stays SealCall later = refl
     bad_stays call later = refl
 
@@ -210,15 +211,15 @@ module _ (config : Config) (state next : State) (sound : IsSound config state) (
   call_stays outcome (Some its) its_at neighbour is =
       ap (λ (cells : Cells). cells.statuses slot) (calls_are_moves config state next other another its outcome its_at is).cells
       ∙ moves_stay its (other_slot its its_at neighbour) (state.cells.statuses its.change.slot) (starts_from its.call (state.cells.statuses its.change.slot))
-      (fails_on its.call (state.accounts another.tenant).file) outcome
+      (fails_on its.call (state.tenant_states another.tenant).file) outcome
 
-  -- either of them
-  beside_stays : (event : Happening) → IsBeside actor.tenant other another event → step config state event ≡ Some next → Stays next
+  -- such a step or such a call leaves the status
+  beside_stays : (event : WorldEvent) → IsBeside actor.tenant other another event → step config state event ≡ Some next → Stays next
   beside_stays event (inl is_step) is =
-      step_stays (ap (λ (found : Option Acting). turn config state other found) (sym there) ∙ ap (λ (one : Happening). step config state one) (sym is_step) ∙ is)
+      step_stays (ap (λ (found : Option ActorState). turn config state other found) (sym there) ∙ ap (λ (one : WorldEvent). step config state one) (sym is_step) ∙ is)
   beside_stays event (inr is_call) is =
       call_stays is_call.0 (called_at another.point) refl is_call.2
-      (ap (λ (found : Option Acting). call config state other found is_call.0) (sym there) ∙ ap (λ (one : Happening). step config state one) (sym is_call.1) ∙ is)
+      (ap (λ (found : Option ActorState). call config state other found is_call.0) (sym there) ∙ ap (λ (one : WorldEvent). step config state one) (sym is_call.1) ∙ is)
 
 pub callers_status_stays : CallersStatusStays
 callers_status_stays config openings events state next worker other actor another called event played sits at starts apart there beside is =

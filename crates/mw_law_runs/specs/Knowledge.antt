@@ -1,12 +1,13 @@
+-- What requests know at their points, what they need for a step, and what is proved of it.
 pub mod Calls
-pub mod Deeds
+pub mod Updates
 pub mod Facts
-pub mod Guarding
+pub mod MoveGuards
 pub mod Informed
-pub mod Keeping
+pub mod OwnKnowledge
 pub mod Laws
-pub mod Leaving
+pub mod LastPins
 pub mod Live
-pub mod Looks
+pub mod Reads
 pub mod Points
-pub mod Told
+pub mod NextState

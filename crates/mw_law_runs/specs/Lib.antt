@@ -1,7 +1,7 @@
 pub mod Files
 pub mod Knowledge
 pub mod Laws
-pub mod Owed
-pub mod Owing
+pub mod Obligations
+pub mod ObligationLaws
 pub mod Places
-pub mod Sound
+pub mod RunInvariant

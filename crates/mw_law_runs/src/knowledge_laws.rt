@@ -1,56 +1,59 @@
-//! What holds of the facts that requests know: facts for proofs to cite. The functions do nothing.
+//! States facts about what requests know.
+//!
+//! The functions do nothing, and nothing calls them: each contract is a fact, proved in
+//! `proofs/knowledge_laws`. Proofs of crates above import other pages of `proofs`, by which these facts are
+//! proved. To change a fact, change its definition in `specs`, and then its proof.
 ghost use Rattle.mw_law_runs.specs.Knowledge.Calls.{CallsHaveGuards, CallsInform};
-ghost use Rattle.mw_law_runs.specs.Knowledge.Deeds.{DeedsInform};
-ghost use Rattle.mw_law_runs.specs.Knowledge.Guarding.{DeedsHaveGuards, LooksHaveGuards};
+ghost use Rattle.mw_law_runs.specs.Knowledge.Updates.{UpdatesInform};
+ghost use Rattle.mw_law_runs.specs.Knowledge.MoveGuards.{UpdatesHaveGuards, ReadsHaveGuards};
 ghost use Rattle.mw_law_runs.specs.Knowledge.Laws.{FactsStay, LiveSlotsGoOn, LiveSlotsStay, OthersKeepOwn};
-ghost use Rattle.mw_law_runs.specs.Knowledge.Looks.{LooksInform};
+ghost use Rattle.mw_law_runs.specs.Knowledge.Reads.{ReadsInform};
 
-/// The slots of which a request holds a pin, and the one that it is to free, stay taken under the numbers
-/// by which it knows them, if each of these slots stays taken under its number.
+/// Slots stay live for a request if each of them stays taken under its number: those of which it holds a pin, and the
+/// one that it will free. A slot is live for a request if it is taken under the number by which the request knows it.
 pub fn live_slots_stay()
     ensures { LiveSlotsStay }
 {}
 
-/// Where its step takes no pin, a request goes on to a point whose slots are taken in the same world under
-/// the numbers by which it knows them, if those of its point before were.
+/// If a request's slots are live and its step takes no pin, the slots of its next point are live in the same world.
 pub fn live_slots_go_on()
     ensures { LiveSlotsGoOn }
 {}
 
-/// Other workers keep what is a request's own: that its pin isn't left behind, its draft and what stands in
-/// the draft's slot, the number of its worker's next attempt, and its worker's row.
+/// Other workers leave what is a request's own. Its pin isn't left behind. Its draft stays a draft, and the draft's
+/// slot keeps its contents. The number of its worker's next attempt and its worker's row stay.
 pub fn others_keep_own()
     ensures { OthersKeepOwn }
 {}
 
-/// What a request knows at its point stays so while a worker moves as workers may, if the request's own is
-/// kept and its slots stay taken under the numbers by which it knows them.
+/// What a request knows at its point stays true while a worker moves as workers may, if the request's own is kept and
+/// its slots stay live.
 pub fn facts_stay()
     ensures { FactsStay }
 {}
 
-/// A request that knows what it is to know (`IsInformed`) goes on, by what it was told of a step that
-/// changes no shared word, to a point whose facts hold too, in the world as it was before the step.
-pub fn looks_inform()
-    ensures { LooksInform }
+/// After a step that changes no shared word, an informed request (`IsInformed`) is at a point whose facts hold too,
+/// in the world before the step.
+pub fn reads_inform()
+    ensures { ReadsInform }
 {}
 
-/// A request that knows what it is to know goes on, by its step and what it was told of it, to a point whose
-/// facts hold too, if the counts stand, its worker has it, and each move of the step has what it asks for.
-pub fn deeds_inform()
-    ensures { DeedsInform }
+/// After a step that changes a shared word, an informed request is at a point whose facts hold too. The premises: the
+/// invariant of counts holds, its worker has the request, and the precondition of each move of the step holds.
+pub fn updates_inform()
+    ensures { UpdatesInform }
 {}
 
-/// Each move of a step of a request has what it asks for, if the request knows what it is to know. If the
-/// step changes a shared word, this asks besides that the counts stand, that its worker has the request,
-/// that its place is there, and that no word refers to a slot of which it takes the last pin back.
+/// The precondition of each move of a request's step holds, if the request is informed. A step that changes a shared
+/// word has four premises more: the invariant of counts holds, its worker has the request, its place exists, and no
+/// word refers to a slot of which it takes back the last pin.
 pub fn moves_have_guards()
-    ensures looks { LooksHaveGuards }
-    ensures deeds { DeedsHaveGuards }
+    ensures looks { ReadsHaveGuards }
+    ensures updates { UpdatesHaveGuards }
 {}
 
-/// Each move of a call on a file has what it asks for, where its request knows what it is to know; and the
-/// request goes on, however the call ends, to a point whose facts hold too.
+/// The precondition of each move of a file call holds, if its request is informed. However the call ends, the request
+/// is then at a point whose facts hold too.
 pub fn calls_inform()
     ensures guards { CallsHaveGuards }
     ensures informs { CallsInform }

@@ -1,5 +1,6 @@
-pub mod Ending
+-- The proofs that each step leaves due of its request what its label says.
+pub mod StepEnds
 pub mod Noted
 pub mod Onward
-pub mod Reading
-pub mod Stepping
+pub mod Reads
+pub mod Steps

@@ -1,19 +1,20 @@
--- The end of a step for its request's row of the tie, by the program point before and the one after.
+-- The kinds of end that a step may have for its request, by the point before and the point after. Used by: RequestFrames, MarkedSteps,
+-- Dues/StepEnds, CallMarks, Claims, other pages.
 use Rattle.std.specs.Prelude.{◌≡◌, ◌≢◌, ◌⊎◌, true, false, Some, None}
 use Rattle.mw_words.specs.declared.replies.Reply.{Reply}
 use Rattle.mw_actor.specs.declared.points.Point.{Point}
 use Rattle.mw_actor.specs.declared.points.Slot.{Slot}
-use Rattle.mw_law_runs.specs.Owed.{own_of}
+use Rattle.mw_law_runs.specs.Obligations.{own_of}
 use Rattle.mw_law_store.specs.Due.{Waits, Works, Answers, Quits, due, Retiring, Dropping, lowers}
 
 pub data End : Type 0 where
-  -- what is due and the own change are as before, and no door is to be lowered
+  -- what is due and the own change are as before, and the door is not lowered for a slot that was freed
   Same : End
   -- a slot is counted for it
   Enters : End
   -- it has a slot of its own
   Claiming : (own : Slot) → End
-  -- it freed the slot of a request, whose door it is to lower
+  -- it freed the slot of a request, and will lower the door for it
   Freeing : End
   -- it lowered the door for the request whose slot it freed
   Lowered : End
@@ -23,10 +24,10 @@ pub data End : Type 0 where
   Settles : (own : Slot) (reply : Reply) → End
   -- it has this reply, and no change
   Placed : (reply : Reply) → End
-  -- a number is used up
+  -- a number is used up, so the request ends
   Quitting : End
 
--- No change becomes one's own.
+-- No change becomes the request's own.
 abbrev pub OwnGoes : Point → Point → Type 0
 OwnGoes point after = (mine : Slot) → own_of after ≡ Some mine → own_of point ≡ Some mine
 

@@ -1,15 +1,16 @@
+-- The proofs about the tenants' files and their places.
 pub mod Apart
-pub mod Beginning
-pub mod Calling
-pub mod Enabling
+pub mod ArrivalsAndStarts
+pub mod CallFiles
+pub mod EnabledEvents
 pub mod Filed
-pub mod Making
-pub mod Moving
-pub mod Placing
+pub mod CallsCanBeMade
+pub mod MovesKeepFiles
+pub mod PlacesBySlot
 pub mod Readiness
 pub mod Room
-pub mod Running
-pub mod Staying
+pub mod RunsKeepFiles
+pub mod StepsLeaveFiles
 pub mod Tenants
-pub mod Turning
-pub mod Wells
+pub mod TurnFiles
+pub mod SuccessfulCalls

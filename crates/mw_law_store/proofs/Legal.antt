@@ -1,4 +1,6 @@
--- Lines that are a legal run from a store stay so after whatever is said, and places that are kept for a legal mark stay so too.
+-- Lines that are a legal run stay one after the legal step of any label, and a place that is reserved for a legal mark stays so.
+-- Used by: ReservedPlaceLaws, ServiceLaws, SimulationSteps/Met, SimulationSteps/Started, SimulationSteps/StepsWithoutPlace,
+-- SimulationSteps/Turns.
 use Rattle.std.specs.Prelude.{ℕ, ◌≡◌, ◌≢◌, ◌++◌, Bool, true, List, [], ◌∷◌, length, slice_get, Option, Some, None}
 use Rattle.std.specs.FinMap as map
 use Rattle.std.specs.Option.{option_and_then}
@@ -14,49 +16,49 @@ use Rattle.mw_lone.specs.declared.marks.Mark.{Mark}
 use Rattle.mw_lone.specs.declared.marks.Mark.TheVariants.{Look, Miss, Restart}
 use Rattle.mw_lone.specs.Store.{Store, RequestState, request, entries_of, store_after_start, step, run as run_of_store}
 use Rattle.mw_lone.proofs.KeptRuns.{run-extend}
-use Rattle.mw_law_late.specs.Doing.{Restarts}
-use Rattle.mw_law_late.specs.Late.{marks_in, more, step_line, IsNumbered, IsKeptFor}
-use Rattle.mw_law_late.proofs.Deciding.{doing-marks}
-use Rattle.mw_law_late.proofs.Kept.{place-is-kept, kept-beside-line, kept-beside-late}
+use Rattle.mw_law_late.specs.MarkEffects.{Restarts}
+use Rattle.mw_law_late.specs.LateMarks.{marks_in, more, step_line, IsNumbered, IsReservedFor}
+use Rattle.mw_law_late.proofs.MarkEffectLaws.{doing-marks}
+use Rattle.mw_law_late.proofs.ReservedPlaces.{place-is-reserved, reserved-beside-line, reserved-beside-late}
 use Rattle.mw_law_late.proofs.Lines.{lines-extend, empty-place, run-append}
-use Rattle.mw_law_late.proofs.Placing.{late-mark}
-use Rattle.mw_law_store.specs.Going.{Saying, Silent, Says, KeepsPlace, SaysLate, StoreDoes, lines_after}
+use Rattle.mw_law_late.proofs.LateAnswers.{late-mark}
+use Rattle.mw_law_store.specs.RelaxedSteps.{StoreLabel, NoLabel, Says, ReservesPlace, MarksLate, LabelStep, lines_after}
 
--- a late mark has a place that was kept for it
-abbrev pub LatePlace : Store → List (Option Mark) → Saying → Type 0
-LatePlace base lines Silent = Unit {0}
+-- a late mark has a place that was reserved for it
+abbrev pub LatePlace : Store → List (Option Mark) → StoreLabel → Type 0
+LatePlace base lines NoLabel = Unit {0}
 LatePlace base lines (Says mark) = Unit {0}
-LatePlace base lines KeepsPlace = Unit {0}
-LatePlace base lines (SaysLate place mark n reply) = IsKeptFor base lines place mark n reply
+LatePlace base lines ReservesPlace = Unit {0}
+LatePlace base lines (MarksLate place mark n reply) = IsReservedFor base lines place mark n reply
 
--- what is said is said at another place than this
-abbrev pub IsElse : ℕ → Saying → Type 0
-IsElse place Silent = Unit {0}
+-- the label is added at another place than this
+abbrev pub IsElse : ℕ → StoreLabel → Type 0
+IsElse place NoLabel = Unit {0}
 IsElse place (Says mark) = Unit {0}
-IsElse place KeepsPlace = Unit {0}
-IsElse place (SaysLate other mark n reply) = place ≢ other
+IsElse place ReservesPlace = Unit {0}
+IsElse place (MarksLate other mark n reply) = place ≢ other
 
-pub says_legal : (base s t : Store) (lines : List (Option Mark)) (says : Saying) → IsNumbered base → run_of_store base (marks_in lines) ≡ Some s → StoreDoes says s t → LatePlace base lines says
+pub says_legal : (base s t : Store) (lines : List (Option Mark)) (says : StoreLabel) → IsNumbered base → run_of_store base (marks_in lines) ≡ Some s → LabelStep says s t → LatePlace base lines says
     → run_of_store base (marks_in (lines_after says lines)) ≡ Some t
-says_legal base s t lines Silent numbered e does late = e ∙ ap Some (sym does)
+says_legal base s t lines NoLabel numbered e does late = e ∙ ap Some (sym does)
 says_legal base s t lines (Says mark) numbered e does late = lines-extend base lines (Some mark) ∙ ap (option_and_then (λ u. step_line u (Some mark))) e ∙ doing-marks s t mark does
-says_legal base s t lines KeepsPlace numbered e does late = ap (run_of_store base) (empty-place lines) ∙ e ∙ ap Some (sym does)
-says_legal base s t lines (SaysLate place mark n reply) numbered e does late = late-mark base s lines place mark n does.found reply numbered late e does.is_open ∙ ap Some (sym does.after)
+says_legal base s t lines ReservesPlace numbered e does late = ap (run_of_store base) (empty-place lines) ∙ e ∙ ap Some (sym does)
+says_legal base s t lines (MarksLate place mark n reply) numbered e does late = late-mark base s lines place mark n does.found reply numbered late e does.is_open ∙ ap Some (sym does.after)
 
-pub legal_stays : (base s t : Store) (lines : List (Option Mark)) (says : Saying) (place : ℕ) (mark : Mark) (n : ℕ) (reply : Reply) → IsNumbered base → run_of_store base (marks_in lines) ≡ Some s → StoreDoes says s t
-    → LatePlace base lines says → IsElse place says → IsKeptFor base lines place mark n reply → IsKeptFor base (lines_after says lines) place mark n reply
-legal_stays base s t lines Silent place mark n reply numbered e does late apart kept = kept
-legal_stays base s t lines (Says said) place mark n reply numbered e does late apart kept = kept-beside-line base lines (Some said) place mark n reply kept
-legal_stays base s t lines KeepsPlace place mark n reply numbered e does late apart kept = kept-beside-line base lines None place mark n reply kept
-legal_stays base s t lines (SaysLate other said m given) place mark n reply numbered e does late apart kept =
-    kept-beside-late base s lines place other mark said n m reply given does.found numbered apart kept late e does.is_open
+pub legal_stays : (base s t : Store) (lines : List (Option Mark)) (says : StoreLabel) (place : ℕ) (mark : Mark) (n : ℕ) (reply : Reply) → IsNumbered base → run_of_store base (marks_in lines) ≡ Some s → LabelStep says s t
+    → LatePlace base lines says → IsElse place says → IsReservedFor base lines place mark n reply → IsReservedFor base (lines_after says lines) place mark n reply
+legal_stays base s t lines NoLabel place mark n reply numbered e does late apart kept = kept
+legal_stays base s t lines (Says said) place mark n reply numbered e does late apart kept = reserved-beside-line base lines (Some said) place mark n reply kept
+legal_stays base s t lines ReservesPlace place mark n reply numbered e does late apart kept = reserved-beside-line base lines None place mark n reply kept
+legal_stays base s t lines (MarksLate other said m given) place mark n reply numbered e does late apart kept =
+    reserved-beside-late base s lines place other mark said n m reply given does.found numbered apart kept late e does.is_open
 
 -- From the beginning on, with the marks up to the last start.
 
 pub whole_run : (first base : Store) (closed marks : List Mark) → run_of_store first closed ≡ Some base → run_of_store first (closed ++ marks) ≡ run_of_store base marks
 whole_run first base closed marks from = run-append first closed marks ∙ ap (option_and_then (λ u. run_of_store u marks)) from
 
--- a start is said at the end of all marks
+-- a start is added at the end of all marks
 pub restart_legal : (first s t : Store) (marks : List Mark) (interrupted : Option ℕ) (found opened : Bool) (quota : ℕ) → run_of_store first marks ≡ Some s → Restarts s interrupted found opened quota t
     → run_of_store first (marks ++ Restart interrupted found opened quota ∷ []) ≡ Some t
 restart_legal first s t marks interrupted found opened quota e does =
@@ -66,21 +68,21 @@ restart_legal first s t marks interrupted found opened quota e does =
 pub start_numbered : (s : Store) (words : List ℕ) (opened : Bool) (quota : ℕ) → IsNumbered (store_after_start s words opened quota)
 start_numbered s words opened quota n r at = absurd (none-some r (sym (map.get-empty nat_cmp n) ∙ at))
 
--- A place that was made just now.
+-- A place that was just reserved.
 
--- is kept for a look, by a request that reads this word
+-- it is reserved for the Look of a request that reads this word
 pub look_is_kept : (base s : Store) (lines : List (Option Mark)) (n : ℕ) (r : RequestState) (address value : ℕ) → run_of_store base (marks_in lines) ≡ Some s → request s n ≡ Some r → r.job ≡ Get address
-    → word_at s.words address ≡ value → IsKeptFor base (more lines None) (length lines) (Look n) n (Val value)
+    → word_at s.words address ≡ value → IsReservedFor base (more lines None) (length lines) (Look n) n (Val value)
 look_is_kept base s lines n r address value e is_asked reads says =
-    place-is-kept base s lines (Look n) n (Val value) e (refl, record { found = r; is_asked = is_asked; address = address; reads = reads; says = ap Val (sym says) })
+    place-is-reserved base s lines (Look n) n (Val value) e (refl, record { found = r; is_asked = is_asked; address = address; reads = reads; says = ap Val (sym says) })
 
--- is kept for a refusal, of a change that has a slot, at an entry whose word isn't as expected
+-- it is reserved for the Miss of a change that has a slot, at an entry whose word is not as expected
 pub miss_is_kept : (base s : Store) (lines : List (Option Mark)) (n index : ℕ) (r : RequestState) (entry : Entry) (address value : ℕ) → run_of_store base (marks_in lines) ≡ Some s → request s n ≡ Some r
     → r.admitted ≡ true → slice_get (entries_of r.job) index ≡ Some entry → address ≡ entry.addr → word_at s.words address ≡ value → value ≢ entry.expected
-    → IsKeptFor base (more lines None) (length lines) (Miss n index) n (SaysNo address value)
+    → IsReservedFor base (more lines None) (length lines) (Miss n index) n (SaysNo address value)
 miss_is_kept base s lines n index r entry address value e is_asked has_slot is_entry same says differs =
     let value_is : word_at s.words entry.addr ≡ value = ap (word_at s.words) (sym same) ∙ says in
-    place-is-kept base s lines (Miss n index) n (SaysNo address value) e (
+    place-is-reserved base s lines (Miss n index) n (SaysNo address value) e (
       refl,
       record {
         found = r;

@@ -1,4 +1,5 @@
--- Quotas and places over events, and over runs.
+-- Only a start changes a tenant's quota, and no event changes its places: over events, and over runs. Used by: the law
+-- quotas_are_told, mw_law_calls.
 use Rattle.std.specs.Prelude.{ℕ, zero, suc, ◌≡◌, ◌≢◌, ◌⊎◌, ◌++◌, List, [], ◌∷◌, Option, Some, None}
 use Rattle.std.specs.Option.{unwrap_or}
 use Rattle.std.proofs.Common.{refl, sym, ap, subst, ◌∙◌, inl, inr, arith}
@@ -6,69 +7,69 @@ use Rattle.std.proofs.lemmas.Option.{none-some}
 use Rattle.mw_lone.specs.declared.marks.Mark.{Mark}
 use Rattle.mw_lone.specs.declared.marks.Mark.TheVariants.{Ask, Admit, Busy, Look, Miss, Seal, SealFail, FileFail, GiveUp, Retire, Reply as HandOut, Restart as IsRestart}
 use Rattle.mw_lone.specs.Laws.{quota_after, quota_by}
-use Rattle.mw_actor.specs.Acting.{Acting}
+use Rattle.mw_actor.specs.ActorState.{ActorState}
 use Rattle.mw_world_file.specs.Maps.{upd}
 use Rattle.mw_world_file.specs.declared.outcomes.Outcome.{Outcome}
 use Rattle.mw_world.specs.declared.config.Config.{Config}
-use Rattle.mw_world.specs.Claim.Headline.{IsPlayed}
+use Rattle.mw_world.specs.Claim.Headline.{IsExecution}
 use Rattle.mw_world.specs.Definition.Calls.{call}
-use Rattle.mw_world.specs.Definition.Happenings.{Happening, Come, Step, File, Hand, Restart}
+use Rattle.mw_world.specs.Definition.Events.{WorldEvent, Come, Step, File, Hand, Restart}
 use Rattle.mw_world.specs.Definition.Restarts.{quotas_then, restarted}
-use Rattle.mw_world.specs.Definition.State.{State, Account, Opening, QuotasFit, marks_in, marks_of, places_of, quotas_of, quotas_together, tenants_of}
+use Rattle.mw_world.specs.Definition.State.{State, TenantState, TenantStart, QuotasFit, marks_in, marks_of, places_of, quotas_of, quotas_together, tenants_of}
 use Rattle.mw_world.specs.Definition.Turns.{turn}
 use Rattle.mw_world.specs.Definition.World.{hand, step}
 use Rattle.mw_law_counts.proofs.Startable.{may_start}
-use Rattle.mw_law_runs.proofs.Knowledge.Deeds.Keeping.{upd_here, upd_else}
+use Rattle.mw_law_runs.proofs.Knowledge.Updates.Preservation.{upd_here, upd_else}
 use Rattle.mw_law_runs.proofs.Numbers.{same_or_other}
-use Rattle.mw_law_runs.proofs.Running.{runs_are_sound}
-use Rattle.mw_law_runs.proofs.Tests.{guarded}
+use Rattle.mw_law_runs.proofs.RunsAreSound.{runs_are_sound}
+use Rattle.mw_law_runs.proofs.GuardedEvents.{guarded}
 use Rattle.mw_law_store.specs.History.{HasNoStart, IsNoStart}
 use Rattle.mw_law_store.specs.Quotas.{EventsTellQuotas, QuotasAreTold, QuotasMayStay, QuotasStayWithinThePool}
 use Rattle.mw_law_store.proofs.Beginnings.{played_by_events}
 use Rattle.mw_law_store.proofs.Histories.{asks_stand_once}
-use Rattle.mw_law_store.proofs.Owning.{call_comes, come_comes, hand_comes, turn_comes}
-use Rattle.mw_law_store.proofs.Running.{runs_are_followed}
+use Rattle.mw_law_store.proofs.MarksOfEvents.{call_comes, come_comes, hand_comes, turn_comes}
+use Rattle.mw_law_store.proofs.RunSimulation.{runs_are_simulated}
 
--- What a start gave a tenant is there still, and its marks up to that start.
-record IsAsGiven (old new : Account) : Type 0 where
+-- What a start gave a tenant is still there, with its marks up to that start.
+record IsAsGiven (old new : TenantState) : Type 0 where
   quota : new.quota ≡ old.quota
   places : new.places ≡ old.places
   closed : new.closed ≡ old.closed
 
-one_given : (accounts : ℕ → Account) (tenant : ℕ) (now : Account) → IsAsGiven (accounts tenant) now → (other : ℕ) → IsAsGiven (accounts other) (upd accounts tenant now other)
-one_given accounts tenant now is other = by_tenant (same_or_other other tenant)
+one_given : (tenant_states : ℕ → TenantState) (tenant : ℕ) (now : TenantState) → IsAsGiven (tenant_states tenant) now → (other : ℕ) → IsAsGiven (tenant_states other) (upd tenant_states tenant now other)
+one_given tenant_states tenant now is other = by_tenant (same_or_other other tenant)
   where
-    by_tenant : (other ≡ tenant) ⊎ (other ≢ tenant) → IsAsGiven (accounts other) (upd accounts tenant now other)
-    by_tenant (inl same) = subst (λ k. IsAsGiven (accounts k) (upd accounts tenant now k)) (sym same) (subst (IsAsGiven (accounts tenant)) (sym (upd_here accounts tenant now)) is)
-    by_tenant (inr apart) = subst (IsAsGiven (accounts other)) (sym (upd_else accounts tenant other now apart)) (record { quota = refl; places = refl; closed = refl })
+    by_tenant : (other ≡ tenant) ⊎ (other ≢ tenant) → IsAsGiven (tenant_states other) (upd tenant_states tenant now other)
+    by_tenant (inl same) = subst (λ k. IsAsGiven (tenant_states k) (upd tenant_states tenant now k)) (sym same) (subst (IsAsGiven (tenant_states tenant)) (sym (upd_here tenant_states tenant now)) is)
+    by_tenant (inr apart) = subst (IsAsGiven (tenant_states other)) (sym (upd_else tenant_states tenant other now apart)) (record { quota = refl; places = refl; closed = refl })
 
 -- Over one event.
 
 module _ (config : Config) (state next : State) (tenant : ℕ) where
   abbrev Stays : State → Type 0
-  Stays after = IsAsGiven (state.accounts tenant) (after.accounts tenant)
+  Stays after = IsAsGiven (state.tenant_states tenant) (after.tenant_states tenant)
 
-  turn_stays : (worker : ℕ) (found : Option Acting) → turn config state worker found ≡ Some next → Stays next
+  turn_stays : (worker : ℕ) (found : Option ActorState) → turn config state worker found ≡ Some next → Stays next
   turn_stays worker None is = absurd (none-some next is)
   turn_stays worker (Some actor) is =
-      turn_comes Stays config state next worker actor (λ cells news. one_given state.accounts actor.tenant _ (record { quota = refl; places = refl; closed = refl }) tenant) is
+      turn_comes Stays config state next worker actor (λ cells observation. one_given state.tenant_states actor.tenant _ (record { quota = refl; places = refl; closed = refl }) tenant) is
 
-  call_stays : (worker : ℕ) (outcome : Outcome) (found : Option Acting) → call config state worker found outcome ≡ Some next → Stays next
+  call_stays : (worker : ℕ) (outcome : Outcome) (found : Option ActorState) → call config state worker found outcome ≡ Some next → Stays next
   call_stays worker outcome None is = absurd (none-some next is)
   call_stays worker outcome (Some actor) is =
-      call_comes Stays config state next worker actor outcome (λ made ends. one_given state.accounts actor.tenant _ (record { quota = refl; places = refl; closed = refl }) tenant) is
+      call_comes Stays config state next worker actor outcome (λ made ends. one_given state.tenant_states actor.tenant _ (record { quota = refl; places = refl; closed = refl }) tenant) is
 
-  hand_stays : (worker : ℕ) (found : Option Acting) → hand state worker found ≡ Some next → Stays next
+  hand_stays : (worker : ℕ) (found : Option ActorState) → hand state worker found ≡ Some next → Stays next
   hand_stays worker None is = absurd (none-some next is)
   hand_stays worker (Some actor) is =
-      hand_comes Stays config state next worker actor (λ reply stands. one_given state.accounts actor.tenant _ (record { quota = refl; places = refl; closed = refl }) tenant) is
+      hand_comes Stays config state next worker actor (λ reply stands. one_given state.tenant_states actor.tenant _ (record { quota = refl; places = refl; closed = refl }) tenant) is
 
-  event_stays : (event : Happening) → IsNoStart event → step config state event ≡ Some next → Stays next
+  event_stays : (event : WorldEvent) → IsNoStart event → step config state event ≡ Some next → Stays next
   event_stays (Come worker its job) no_start is =
-      come_comes Stays config state next worker its job (λ may. one_given state.accounts its _ (record { quota = refl; places = refl; closed = refl }) tenant) is
-  event_stays (Step worker) no_start is = turn_stays worker (state.seats worker).actor is
-  event_stays (File worker outcome) no_start is = call_stays worker outcome (state.seats worker).actor is
-  event_stays (Hand worker) no_start is = hand_stays worker (state.seats worker).actor is
+      come_comes Stays config state next worker its job (λ may. one_given state.tenant_states its _ (record { quota = refl; places = refl; closed = refl }) tenant) is
+  event_stays (Step worker) no_start is = turn_stays worker (state.worker_states worker).actor is
+  event_stays (File worker outcome) no_start is = call_stays worker outcome (state.worker_states worker).actor is
+  event_stays (Hand worker) no_start is = hand_stays worker (state.worker_states worker).actor is
   event_stays (Restart founds) no_start is = absurd no_start
 
 pub events_tell_quotas : EventsTellQuotas
@@ -77,7 +78,7 @@ events_tell_quotas config state next (Step worker) tenant is = let stays = event
 events_tell_quotas config state next (File worker outcome) tenant is = let stays = event_stays config state next tenant (File worker outcome) tt is in (stays.quota, stays.places)
 events_tell_quotas config state next (Hand worker) tenant is = let stays = event_stays config state next tenant (Hand worker) tt is in (stays.quota, stays.places)
 events_tell_quotas config state next (Restart founds) tenant is =
-    guarded (λ (one : State). ((one.accounts tenant).quota ≡ quotas_then state founds tenant) × ((one.accounts tenant).places ≡ (state.accounts tenant).places)) (may_start config state founds)
+    guarded (λ (one : State). ((one.tenant_states tenant).quota ≡ quotas_then state founds tenant) × ((one.tenant_states tenant).places ≡ (state.tenant_states tenant).places)) (may_start config state founds)
     (restarted config state founds) next (λ may. (refl, refl)) is
 
 -- Of marks.
@@ -112,19 +113,19 @@ quota_of_lines quota (Some mark ∷ lines) none = ap (λ now. quota_after now (m
 
 -- Over runs.
 
-module _ (config : Config) (openings : ℕ → Opening) (tenant : ℕ) where
-  -- the quota by the marks up to the last start, and the places
+module _ (config : Config) (openings : ℕ → TenantStart) (tenant : ℕ) where
+  -- The quota by the marks up to the last start, and the places.
   record IsAtStart (state : State) : Type 0 where
-    quota : (state.accounts tenant).quota ≡ quota_after (openings tenant).quota (state.accounts tenant).closed
-    places : (state.accounts tenant).places ≡ (openings tenant).places
+    quota : (state.tenant_states tenant).quota ≡ quota_after (openings tenant).quota (state.tenant_states tenant).closed
+    places : (state.tenant_states tenant).places ≡ (openings tenant).places
 
-  stays_so : (state next : State) → IsAtStart state → IsAsGiven (state.accounts tenant) (next.accounts tenant) → IsAtStart next
+  stays_so : (state next : State) → IsAtStart state → IsAsGiven (state.tenant_states tenant) (next.tenant_states tenant) → IsAtStart next
   stays_so state next was stays = record {
     quota = stays.quota ∙ was.quota ∙ ap (quota_after (openings tenant).quota) (sym stays.closed);
     places = stays.places ∙ was.places;
   }
 
-  goes_on : (state next : State) (event : Happening) → IsAtStart state → step config state event ≡ Some next → IsAtStart next
+  goes_on : (state next : State) (event : WorldEvent) → IsAtStart state → step config state event ≡ Some next → IsAtStart next
   goes_on state next (Come worker its job) was is = stays_so state next was (event_stays config state next tenant (Come worker its job) tt is)
   goes_on state next (Step worker) was is = stays_so state next was (event_stays config state next tenant (Step worker) tt is)
   goes_on state next (File worker outcome) was is = stays_so state next was (event_stays config state next tenant (File worker outcome) tt is)
@@ -133,19 +134,19 @@ module _ (config : Config) (openings : ℕ → Opening) (tenant : ℕ) where
       guarded IsAtStart (may_start config state founds) (restarted config state founds) next
       (λ may. record { quota = sym (quota_more (openings tenant).quota (marks_of state tenant) _); places = was.places }) is
 
-  at_start : (events : List Happening) (state : State) → IsPlayed config openings events state → IsAtStart state
+  at_start : (events : List WorldEvent) (state : State) → IsExecution config openings events state → IsAtStart state
   at_start = played_by_events config openings (λ before now. IsAtStart now) (record { quota = refl; places = refl }) (λ before event now next played was is. goes_on now next event was is)
 
 pub quotas_are_told : QuotasAreTold
 quotas_are_told config openings events state tenant played low =
-    let account = state.accounts tenant in
+    let tenant_state = state.tenant_states tenant in
     let first = (openings tenant).quota in
     let was = at_start config openings tenant events state played in
     let fit = (runs_are_sound config openings events state played).0.counts.counts.limits in
     record {
       told =
-          was.quota ∙ sym (quota_of_lines (quota_after first account.closed) account.lines (asks_stand_once runs_are_followed config openings events state tenant played low).no_start)
-          ∙ sym (quota_append first account.closed (marks_in account.lines));
+          was.quota ∙ sym (quota_of_lines (quota_after first tenant_state.closed) tenant_state.lines (asks_stand_once runs_are_simulated config openings events state tenant played low).no_start)
+          ∙ sym (quota_append first tenant_state.closed (marks_in tenant_state.lines));
       limits = fit.each tenant low;
       room = fit.room tenant low;
       places = was.places;
@@ -168,5 +169,5 @@ fit_still config old new places same fit = record {
 
 pub quotas_may_stay : QuotasMayStay
 quotas_may_stay config openings events state founds played none =
-    fit_still config (quotas_of state) (quotas_then state founds) (places_of state) (λ tenant. ap (λ (told : Option ℕ). unwrap_or told (state.accounts tenant).quota) (none tenant))
+    fit_still config (quotas_of state) (quotas_then state founds) (places_of state) (λ tenant. ap (λ (told : Option ℕ). unwrap_or told (state.tenant_states tenant).quota) (none tenant))
     (runs_are_sound config openings events state played).0.counts.counts.limits

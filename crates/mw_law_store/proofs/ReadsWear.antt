@@ -1,4 +1,4 @@
--- Where a read goes: never on the way to WORN, unless it was so.
+-- A read does not come to be on the way to WORN, unless it was so before. Used by: WornNumbers.
 use Rattle.std.specs.Prelude.{ℕ, ◌-◌, ◌≡◌, ◌==◌, Bool, false, nat_lt, Option, Some, None}
 use Rattle.std.proofs.Common.{refl}
 use Rattle.mw_words.specs.declared.gates.Gate.{Gate}
@@ -7,8 +7,8 @@ use Rattle.mw_words.specs.declared.statuses.Status.{Status}
 use Rattle.mw_words.specs.declared.words.Word.{Word}
 use Rattle.mw_words.specs.declared.words.Word.TheVariants.{Plain, Planted, Held, Dirty}
 use Rattle.mw_pool.specs.Moves.{after_pin}
-use Rattle.mw_look.specs.declared.news.News.{News}
-use Rattle.mw_look.specs.declared.news.News.TheVariants.{SawDoor, SawGate, SawWord, SawStatus, SawRow, SawNumber, Won, Lost}
+use Rattle.mw_look.specs.declared.observations.Observation.{Observation}
+use Rattle.mw_look.specs.declared.observations.Observation.TheVariants.{SawDoor, SawGate, SawWord, SawStatus, SawRow, SawNumber, Won, Lost}
 use Rattle.mw_look.specs.declared.points.After.{After as AfterRead}
 use Rattle.mw_look.specs.declared.points.After.TheVariants.{Again, Answer}
 use Rattle.mw_look.specs.declared.points.Point.{Point as ReadPoint}
@@ -50,7 +50,7 @@ resumed_read_fresh : (after : AfterRead) → ReadIsFresh (resumed_read after)
 resumed_read_fresh Again = refl
 resumed_read_fresh (Answer value) = refl
 
-pub read_fresh : (address : ℕ) (point : ReadPoint) (news : News) → ReadIsFresh point → ReadIsFresh (goes_read address point news)
+pub read_fresh : (address : ℕ) (point : ReadPoint) (observation : Observation) → ReadIsFresh point → ReadIsFresh (goes_read address point observation)
 read_fresh address look.ReadDoor (SawDoor door) fresh = either_way ReadIsFresh door.fault _ _ (λ e. refl) (λ e. refl)
 read_fresh address look.ReadWord (SawWord word) fresh = word_seen_fresh word
 read_fresh address (look.ReadRow worker attempt) (SawRow row) fresh = refl
@@ -66,4 +66,4 @@ read_fresh address (look.RecheckWord trail status expected new) (SawWord word) f
 read_fresh address (look.Unpin slot seq after) (SawGate gate) fresh = either_way ReadIsFresh (gate.pins == 1) _ _ (λ e. refl) (λ e. resumed_read_fresh after)
 read_fresh address (look.FreeSlot slot seq after) Won fresh = refl
 read_fresh address (look.LowerDoor after) (SawDoor door) fresh = resumed_read_fresh after
-read_fresh address point news fresh = fresh
+read_fresh address point observation fresh = fresh

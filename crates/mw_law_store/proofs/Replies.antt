@@ -1,4 +1,5 @@
--- A mark that comes late hands out nothing, and leaves what was handed out.
+-- A late mark hands out nothing, and leaves what was handed out. Used by: the law late_marks_leave_replies, DurabilityLaws,
+-- ServiceLaws.
 use Rattle.std.specs.Prelude.{ℕ, zero, suc, ◌==◌, ◌&&◌, ◌≡◌, ◌++◌, Bool, true, false, not, List, [], ◌∷◌, slice_get, slice_set, Option, Some, None}
 use Rattle.std.specs.List.{list_all}
 use Rattle.std.specs.Option.{option_and_then, option_map, option_to_list, unwrap_or}
@@ -11,18 +12,18 @@ use Rattle.mw_lone.specs.declared.marks.Mark.{Mark}
 use Rattle.mw_lone.specs.declared.marks.Mark.TheVariants.{Ask, Admit, Busy, Look, Miss, Seal, SealFail, FileFail, GiveUp, Retire, Reply as HandOut, Restart}
 use Rattle.mw_lone.specs.Store.{Store, RequestState, with_reply, due_reply, step, outgoing, run as run_of_store, replies_from}
 use Rattle.mw_lone.proofs.SoundStores.{get-insert_other}
-use Rattle.mw_law_late.specs.Late.{marks_in, names, IsNumbered, WouldAnswer}
-use Rattle.mw_law_late.proofs.Naming.{replies-commute}
-use Rattle.mw_law_late.proofs.Numbering.{number-step}
-use Rattle.mw_law_late.proofs.Placing.{answers, decided, not-done, IsDone}
+use Rattle.mw_law_late.specs.LateMarks.{marks_in, names, IsNumbered, WouldAnswer}
+use Rattle.mw_law_late.proofs.RequestsOfMarks.{replies-commute}
+use Rattle.mw_law_late.proofs.RequestNumbers.{number-step}
+use Rattle.mw_law_late.proofs.LateAnswers.{answers, decided, not-done, IsDone}
 use Rattle.mw_law_store.specs.Laws.{LateMarksLeaveReplies}
-use Rattle.mw_law_store.proofs.Momenting.{not_empty}
+use Rattle.mw_law_store.proofs.AbstractStateLaws.{not_empty}
 
--- what a mark that is legal hands out, and what the marks after it do
+-- what a legal mark hands out, followed by what the marks after it do
 pub replies_step : (s u : Store) (mark : Mark) (marks : List Mark) → step s mark ≡ Some u → replies_from s (mark ∷ marks) ≡ option_to_list (outgoing s mark) ++ replies_from u marks
 replies_step s u mark marks at = ap (λ o. option_to_list (outgoing s mark) ++ unwrap_or (option_map (λ t. replies_from t marks) o) []) at
 
--- one list of marks after another
+-- the replies of one list of marks, followed by those of another
 pub replies_append : (s u : Store) (first rest : List Mark) → run_of_store s first ≡ Some u → replies_from s (first ++ rest) ≡ replies_from s first ++ replies_from u rest
 replies_append s u [] rest e = ap (λ t. replies_from t rest) (same_Some s u e)
 replies_append s u (mark ∷ first) rest e =
@@ -32,7 +33,7 @@ replies_append s u (mark ∷ first) rest e =
     ∙ sym (append_assoc (option_to_list (outgoing s mark)) (replies_from t first) (replies_from u rest))
     ∙ ap (λ said. said ++ replies_from u rest) (sym (replies_step s t mark first at)))
 
--- a mark that isn't about a request hands out the same where that one has a reply
+-- a mark that is not about a request hands out the same after that request gets a reply
 pub others_hand_out : (s : Store) (n : ℕ) (r : RequestState) (reply : Reply) (mark : Mark) → names mark n ≡ false → outgoing (with_reply s n r reply) mark ≡ outgoing s mark
 others_hand_out s n r reply (HandOut k) apart =
     ap (λ o. option_map (λ said. (k, said)) (option_and_then due_reply o)) (get-insert_other s.requests n k (record r { placed = Some reply }) (λ same. let test : (k == n) ≡ true = grind (arith, nat_tests, same) in absurd (cc)))
@@ -56,7 +57,7 @@ rest_unnamed : (named rest : Bool) → not named && rest ≡ true → rest ≡ t
 rest_unnamed true rest h = absurd (cc)
 rest_unnamed false rest h = h
 
--- marks that are not about a request hand out the same where that one has a reply
+-- marks that are not about a request hand out the same after that request gets a reply
 pub replied_runs : (s t : Store) (n : ℕ) (r : RequestState) (reply : Reply) (marks : List Mark) → list_all (λ later. not (names later n)) marks ≡ true → run_of_store s marks ≡ Some t
     → replies_from (with_reply s n r reply) marks ≡ replies_from s marks
 replied_runs s t n r reply [] unnamed e = refl
@@ -84,7 +85,7 @@ hands_out_nothing s (Retire k) n reply d = absurd d
 hands_out_nothing s (HandOut k) n reply d = absurd d
 hands_out_nothing s (Restart interrupted found opened quota) n reply d = absurd d
 
--- at the first place
+-- the late mark comes at the first place
 late_first : (start end : Store) (mark : Mark) (n : ℕ) (reply : Reply) (marks : List Mark) → IsNumbered start → WouldAnswer start mark n reply → run_of_store start marks ≡ Some end → (IsDone end n → ⊥)
     → replies_from start (mark ∷ marks) ≡ replies_from start marks
 late_first start end mark n reply marks numbered would e never =

@@ -1,26 +1,26 @@
--- Words and sealed changes of moments: in their order.
+-- Words and sealed changes of abstract states follow the order of the lines. Used by: SealedLists, the law sealed_come_in_order.
 use Rattle.std.specs.Prelude.{ℕ, zero, suc, ◌≡◌, List, [], ◌∷◌, ◌++◌, slice_get, Option, Some, None}
 use Rattle.std.proofs.Common.{refl, sym, ap, ◌∙◌, append_assoc, append-nil}
 use Rattle.std.proofs.lemmas.Option.{same_Some, none-some}
 use Rattle.mw_lone.specs.declared.marks.Mark.{Mark}
 use Rattle.mw_lone.specs.declared.marks.Mark.TheVariants.{Ask, Admit, Busy, Look, Miss, Seal, SealFail, FileFail, GiveUp, Retire, Reply as HandOut, Restart}
 use Rattle.mw_law_store.specs.History.{put_sealed, IsBeginning, HasNoStart, WordsAreOfSealed, SealedComeInOrder}
-use Rattle.mw_law_store.specs.Moments.{Moment, SealedChange, after_mark, after_line, moment_of, moment_at}
+use Rattle.mw_law_store.specs.AbstractStates.{AbstractState, SealedChange, after_mark, after_line, abstract_state_of, abstract_state_at}
 
--- what is sealed from one moment to a later one, put over its words, gives those of the later one
-record Grows (now then : Moment) : Type 0 where
+-- The changes that are sealed from one abstract state to a later one, put over its words, give the later one's words.
+record Grows (now then : AbstractState) : Type 0 where
   since : List SealedChange
   sealed : then.sealed ≡ now.sealed ++ since
   words : then.words ≡ put_sealed now.words since
 
-stays : (now then : Moment) → then.sealed ≡ now.sealed → then.words ≡ now.words → Grows now then
+stays : (now then : AbstractState) → then.sealed ≡ now.sealed → then.words ≡ now.words → Grows now then
 stays now then sealed words = record { since = []; sealed = sealed ∙ sym (append-nil now.sealed); words = words }
 
 put_sealed_more : (words : List ℕ) (first rest : List SealedChange) → put_sealed words (first ++ rest) ≡ put_sealed (put_sealed words first) rest
 put_sealed_more words [] rest = refl
 put_sealed_more words (one ∷ first) rest = put_sealed_more _ first rest
 
-grows_on : (now then end : Moment) → Grows now then → Grows then end → Grows now end
+grows_on : (now then end : AbstractState) → Grows now then → Grows then end → Grows now end
 grows_on now then end one two = record {
   since = one.since ++ two.since;
   sealed = two.sealed ∙ ap (λ (ones : List SealedChange). ones ++ two.since) one.sealed ∙ append_assoc now.sealed one.since two.since;
@@ -34,7 +34,7 @@ no_start_here line lines none (suc place) interrupted found opened quota at = ab
 no_start_later : (line : Option Mark) (lines : List (Option Mark)) → HasNoStart (line ∷ lines) → HasNoStart lines
 no_start_later line lines none place interrupted found opened quota at = none (suc place) interrupted found opened quota at
 
-line_grows : (now : Moment) (line : Option Mark) → HasNoStart (line ∷ []) → Grows now (after_line now line)
+line_grows : (now : AbstractState) (line : Option Mark) → HasNoStart (line ∷ []) → Grows now (after_line now line)
 line_grows now None none = stays now now refl refl
 line_grows now (Some (Ask k job)) none = stays now (after_mark now (Ask k job)) refl refl
 line_grows now (Some (Admit k)) none = stays now now refl refl
@@ -49,22 +49,22 @@ line_grows now (Some (Retire k)) none = stays now now refl refl
 line_grows now (Some (HandOut k)) none = stays now now refl refl
 line_grows now (Some (Restart interrupted found opened quota)) none = absurd (none zero interrupted found opened quota refl)
 
-lines_grow : (now : Moment) (lines : List (Option Mark)) → HasNoStart lines → Grows now (moment_of now lines)
+lines_grow : (now : AbstractState) (lines : List (Option Mark)) → HasNoStart lines → Grows now (abstract_state_of now lines)
 lines_grow now [] none = stays now now refl refl
 lines_grow now (line ∷ lines) none =
-    grows_on now (after_line now line) (moment_of (after_line now line) lines) (line_grows now line (no_start_here line lines none)) (lines_grow (after_line now line) lines (no_start_later line lines none))
+    grows_on now (after_line now line) (abstract_state_of (after_line now line) lines) (line_grows now line (no_start_here line lines none)) (lines_grow (after_line now line) lines (no_start_later line lines none))
 
 pub words_are_of_sealed : WordsAreOfSealed
 words_are_of_sealed start lines none = let grown = lines_grow start lines none in (grown.since, grown.sealed, grown.words)
 
-begins : (start : Moment) (lines : List (Option Mark)) → HasNoStart lines → (place : ℕ) → IsBeginning (moment_at start lines place).sealed (moment_of start lines).sealed
+begins : (start : AbstractState) (lines : List (Option Mark)) → HasNoStart lines → (place : ℕ) → IsBeginning (abstract_state_at start lines place).sealed (abstract_state_of start lines).sealed
 begins start [] none zero = record { rest = []; parted = sym (append-nil start.sealed) }
 begins start [] none (suc place) = record { rest = []; parted = sym (append-nil start.sealed) }
 begins start (line ∷ lines) none zero = let grown = lines_grow start (line ∷ lines) none in record { rest = grown.since; parted = grown.sealed }
 begins start (line ∷ lines) none (suc place) = begins (after_line start line) lines (no_start_later line lines none) place
 
-seal_begins : (start : Moment) (lines : List (Option Mark)) → HasNoStart lines → (place n : ℕ) → slice_get lines place ≡ Some (Some (Seal n))
-    → IsBeginning ((moment_at start lines place).sealed ++ record { request = n; entries = (moment_at start lines place).entries n } ∷ []) (moment_of start lines).sealed
+seal_begins : (start : AbstractState) (lines : List (Option Mark)) → HasNoStart lines → (place n : ℕ) → slice_get lines place ≡ Some (Some (Seal n))
+    → IsBeginning ((abstract_state_at start lines place).sealed ++ record { request = n; entries = (abstract_state_at start lines place).entries n } ∷ []) (abstract_state_of start lines).sealed
 seal_begins start [] none place n at = absurd (none-some (Some (Seal n)) at)
 seal_begins start (line ∷ lines) none zero n at =
     let is : line ≡ Some (Seal n) = same_Some line (Some (Seal n)) at in

@@ -1,4 +1,5 @@
--- A tenant's sealed changes as a list: which line each stands at, and what a place among the lines is in it.
+-- A tenant's sealed changes as a list: at which line each was sealed, and which place of the list a place among the lines is.
+-- Used by: the law replies_are_linearized, ReplyPlaceLaws, mw_law_calls, mw_rule.
 use Rattle.std.specs.Prelude.{ℕ, zero, suc, ◌≡◌, ◌<◌, ◌≤◌, ◌⊎◌, ◌++◌, true, List, [], ◌∷◌, length, slice_get, Option, Some, None}
 use Rattle.std.proofs.Common.{refl, sym, ap, ◌∙◌, append_assoc, inl, inr, arith, length-append}
 use Rattle.std.proofs.Math.ListN.{take}
@@ -11,9 +12,9 @@ use Rattle.mw_words.specs.Change.{fits, word_at}
 use Rattle.mw_lone.specs.declared.marks.Mark.{Mark}
 use Rattle.mw_lone.specs.declared.marks.Mark.TheVariants.{Ask, Admit, Busy, Look, Miss, Seal, SealFail, FileFail, GiveUp, Retire, Reply as HandOut, Restart}
 use Rattle.mw_law_store.specs.History.{put_sealed, IsBeginning, HasNoStart}
-use Rattle.mw_law_store.specs.Moments.{Moment, SealedChange, after_line, moment_of, moment_at, HasPlace}
-use Rattle.mw_law_store.specs.OverCalls.{IsRightSince, PlacesStayRight, words_after}
-use Rattle.mw_law_store.specs.Recalled.{SealsFitThere}
+use Rattle.mw_law_store.specs.AbstractStates.{AbstractState, SealedChange, after_line, abstract_state_of, abstract_state_at, HasPlace}
+use Rattle.mw_law_store.specs.ReplyPlaces.{IsRightSince, PlacesStayRight, words_after}
+use Rattle.mw_law_store.specs.HistoryMatches.{SealsFitThere}
 use Rattle.mw_law_store.proofs.Sealed.{words_are_of_sealed, sealed_come_in_order}
 
 -- Lists.
@@ -46,7 +47,7 @@ got_taken (x ∷ xs) zero place one is = absurd (none-some one is)
 got_taken (x ∷ xs) (suc many) zero one is = is
 got_taken (x ∷ xs) (suc many) (suc place) one is = got_taken xs many place one is
 
--- what comes first of a list is as much of it as it is long
+-- a prefix of a list is as much of it as it is long
 begins_taken : (first all : List SealedChange) → IsBeginning first all → take (length first) all ≡ first
 begins_taken first all begins = ap (take (length first)) begins.parted ∙ taken_first first begins.rest
 
@@ -74,44 +75,44 @@ places_stay_right words sealed more place n job SaysWorn within right = tt
 no_start_taken : (lines : List (Option Mark)) (many : ℕ) → HasNoStart lines → HasNoStart (take many lines)
 no_start_taken lines many none place interrupted found opened quota at = none place interrupted found opened quota (got_taken lines many place _ at)
 
-module _ (start : Moment) (lines : List (Option Mark)) (fresh : start.sealed ≡ []) (none : HasNoStart lines) where
+module _ (start : AbstractState) (lines : List (Option Mark)) (fresh : start.sealed ≡ []) (none : HasNoStart lines) where
   -- how many are sealed before a place, and the words there
-  pub at_place : (place : ℕ) → take (length (moment_at start lines place).sealed) (moment_of start lines).sealed ≡ (moment_at start lines place).sealed
-  at_place place = begins_taken (moment_at start lines place).sealed (moment_of start lines).sealed ((sealed_come_in_order start lines none).0 place)
+  pub at_place : (place : ℕ) → take (length (abstract_state_at start lines place).sealed) (abstract_state_of start lines).sealed ≡ (abstract_state_at start lines place).sealed
+  at_place place = begins_taken (abstract_state_at start lines place).sealed (abstract_state_of start lines).sealed ((sealed_come_in_order start lines none).0 place)
 
-  pub not_past : (place : ℕ) → length (moment_at start lines place).sealed ≤ length (moment_of start lines).sealed
-  not_past place = begins_shorter (moment_at start lines place).sealed (moment_of start lines).sealed ((sealed_come_in_order start lines none).0 place)
+  pub not_past : (place : ℕ) → length (abstract_state_at start lines place).sealed ≤ length (abstract_state_of start lines).sealed
+  not_past place = begins_shorter (abstract_state_at start lines place).sealed (abstract_state_of start lines).sealed ((sealed_come_in_order start lines none).0 place)
 
-  words_of : (some : List (Option Mark)) → HasNoStart some → (moment_of start some).words ≡ put_sealed start.words (moment_of start some).sealed
+  words_of : (some : List (Option Mark)) → HasNoStart some → (abstract_state_of start some).words ≡ put_sealed start.words (abstract_state_of start some).sealed
   words_of some without =
       let grown = words_are_of_sealed start some without in
       grown.2 ∙ ap (put_sealed start.words) (sym (grown.1 ∙ ap (λ (ones : List SealedChange). ones ++ grown.0) fresh))
 
-  pub words_then : (place : ℕ) → (moment_at start lines place).words ≡ words_after start.words (moment_of start lines).sealed (length (moment_at start lines place).sealed)
+  pub words_then : (place : ℕ) → (abstract_state_at start lines place).words ≡ words_after start.words (abstract_state_of start lines).sealed (length (abstract_state_at start lines place).sealed)
   words_then place = words_of (take place lines) (no_start_taken lines place none) ∙ ap (put_sealed start.words) (sym (at_place place))
 
-  pub words_at_end : put_sealed start.words (moment_of start lines).sealed ≡ (moment_of start lines).words
+  pub words_at_end : put_sealed start.words (abstract_state_of start lines).sealed ≡ (abstract_state_of start lines).words
   words_at_end = sym (words_of lines none)
 
   -- a sealed change at its seal's place
   pub seal_at : (place n : ℕ) → slice_get lines place ≡ Some (Some (Seal n))
-      → slice_get (moment_of start lines).sealed (length (moment_at start lines place).sealed) ≡ Some (record { request = n; entries = (moment_at start lines place).entries n })
+      → slice_get (abstract_state_of start lines).sealed (length (abstract_state_at start lines place).sealed) ≡ Some (record { request = n; entries = (abstract_state_at start lines place).entries n })
   seal_at place n at =
       let begins = (sealed_come_in_order start lines none).1 place n at in
-      let one : SealedChange = record { request = n; entries = (moment_at start lines place).entries n } in
-      let before = (moment_at start lines place).sealed in
+      let one : SealedChange = record { request = n; entries = (abstract_state_at start lines place).entries n } in
+      let before = (abstract_state_at start lines place).sealed in
       ap (λ (all : List SealedChange). slice_get all (length before)) (begins.parted ∙ append_assoc before (one ∷ []) begins.rest) ∙ got_next before begins.rest one
 
--- fewer are sealed before an earlier place
-pub fewer_before : (start : Moment) (lines : List (Option Mark)) → HasNoStart lines → (place later : ℕ) → place ≤ later
-    → length (moment_at start lines place).sealed ≤ length (moment_at start lines later).sealed
+-- no more are sealed before an earlier place
+pub fewer_before : (start : AbstractState) (lines : List (Option Mark)) → HasNoStart lines → (place later : ℕ) → place ≤ later
+    → length (abstract_state_at start lines place).sealed ≤ length (abstract_state_at start lines later).sealed
 fewer_before start lines none zero later low =
     let grown = words_are_of_sealed start (take later lines) (no_start_taken lines later none) in
     let long = ap length grown.1 ∙ length-append start.sealed grown.0 in
     let same = none_taken start lines in
     omega (arith, long, same)
   where
-    none_taken : (start : Moment) (lines : List (Option Mark)) → length (moment_at start lines zero).sealed ≡ length start.sealed
+    none_taken : (start : AbstractState) (lines : List (Option Mark)) → length (abstract_state_at start lines zero).sealed ≡ length start.sealed
     none_taken start [] = refl
     none_taken start (line ∷ lines) = refl
 fewer_before start lines none (suc place) zero low = absurd (omega (arith, low))
@@ -119,14 +120,14 @@ fewer_before start [] none (suc place) (suc later) low = omega arith
 fewer_before start (line ∷ lines) none (suc place) (suc later) low =
     fewer_before (after_line start line) lines (λ other interrupted found opened quota at. none (suc other) interrupted found opened quota at) place later (omega (arith, low))
 
--- The line at which a sealed change stands that was sealed since the first moment.
-pub record StandsAt (start : Moment) (lines : List (Option Mark)) (place : ℕ) (one : SealedChange) : Type 0 where
+-- A change that was sealed after the first abstract state was sealed at this line.
+pub record StandsAt (start : AbstractState) (lines : List (Option Mark)) (place : ℕ) (one : SealedChange) : Type 0 where
   pub line : ℕ
   pub is : slice_get lines line ≡ Some (Some (Seal one.request))
-  pub entries : (moment_at start lines line).entries one.request ≡ one.entries
-  pub before : length (moment_at start lines line).sealed ≡ place
+  pub entries : (abstract_state_at start lines line).entries one.request ≡ one.entries
+  pub before : length (abstract_state_at start lines line).sealed ≡ place
 
-by_line : (now : Moment) (line : Option Mark) (place : ℕ) (one : SealedChange) → HasNoStart (line ∷ []) → slice_get (after_line now line).sealed place ≡ Some one
+by_line : (now : AbstractState) (line : Option Mark) (place : ℕ) (one : SealedChange) → HasNoStart (line ∷ []) → slice_get (after_line now line).sealed place ≡ Some one
     → (slice_get now.sealed place ≡ Some one) ⊎ ((line ≡ Some (Seal one.request)) × (now.entries one.request ≡ one.entries) × (length now.sealed ≡ place))
 by_line now None place one none at = inl at
 by_line now (Some (Ask k job)) place one none at = inl at
@@ -149,7 +150,7 @@ by_line now (Some (Retire k)) place one none at = inl at
 by_line now (Some (HandOut k)) place one none at = inl at
 by_line now (Some (Restart interrupted found opened quota)) place one none at = absurd (none zero interrupted found opened quota refl)
 
-stands_since : (start : Moment) (lines : List (Option Mark)) (place : ℕ) (one : SealedChange) → HasNoStart lines → slice_get (moment_of start lines).sealed place ≡ Some one
+stands_since : (start : AbstractState) (lines : List (Option Mark)) (place : ℕ) (one : SealedChange) → HasNoStart lines → slice_get (abstract_state_of start lines).sealed place ≡ Some one
     → (slice_get start.sealed place ≡ Some one) ⊎ StandsAt start lines place one
 stands_since start [] place one none at = inl at
 stands_since start (line ∷ lines) place one none at =
@@ -165,42 +166,43 @@ stands_since start (line ∷ lines) place one none at =
     first zero interrupted found opened quota is = none zero interrupted found opened quota is
     first (suc other) interrupted found opened quota is = absurd (none-some _ is)
 
-pub stands_at : (start : Moment) (lines : List (Option Mark)) (place : ℕ) (one : SealedChange) → start.sealed ≡ [] → HasNoStart lines → slice_get (moment_of start lines).sealed place ≡ Some one
+pub stands_at : (start : AbstractState) (lines : List (Option Mark)) (place : ℕ) (one : SealedChange) → start.sealed ≡ [] → HasNoStart lines → slice_get (abstract_state_of start lines).sealed place ≡ Some one
     → StandsAt start lines place one
 stands_at start lines place one fresh none at = elim (stands_since start lines place one none at) [
   | inl before ↦ absurd (none-some one (ap (λ (ones : List SealedChange). slice_get ones place) (sym fresh) ∙ before))
   | inr there ↦ there
 ]
 
--- Each sealed change fits the words before it, where each seal fits its moment.
-pub all_fit : (start : Moment) (lines : List (Option Mark)) → start.sealed ≡ [] → HasNoStart lines → SealsFitThere start lines → (place : ℕ) (one : SealedChange)
-    → slice_get (moment_of start lines).sealed place ≡ Some one → fits (words_after start.words (moment_of start lines).sealed place) one.entries ≡ true
+-- Each sealed change fits the words before it, if each seal fits the words at its line.
+pub all_fit : (start : AbstractState) (lines : List (Option Mark)) → start.sealed ≡ [] → HasNoStart lines → SealsFitThere start lines → (place : ℕ) (one : SealedChange)
+    → slice_get (abstract_state_of start lines).sealed place ≡ Some one → fits (words_after start.words (abstract_state_of start lines).sealed place) one.entries ≡ true
 all_fit start lines fresh none fit place one at =
     let there = stands_at start lines place one fresh none at in
-    let sealed = (moment_of start lines).sealed in
+    let sealed = (abstract_state_of start lines).sealed in
     ap (λ (many : ℕ). fits (words_after start.words sealed many) one.entries) (sym there.before)
     ∙ ap (λ (words : List ℕ). fits words one.entries) (sym (words_then start lines fresh none there.line))
-    ∙ ap (fits (moment_at start lines there.line).words) (sym there.entries)
+    ∙ ap (fits (abstract_state_at start lines there.line).words) (sym there.entries)
     ∙ fit there.line one.request there.is
 
--- A reply that has its place among the lines is right after as many changes as are sealed before it, which are no fewer than those before the line with which its request came.
-module _ (start : Moment) (lines : List (Option Mark)) (n : ℕ) (job : Job) (fresh : start.sealed ≡ []) (none : HasNoStart lines) (ask : ℕ)
+-- A reply that has its place among the lines is right after as many changes as are sealed before it. These are at least as many
+-- as before the line with which its request came.
+module _ (start : AbstractState) (lines : List (Option Mark)) (n : ℕ) (job : Job) (fresh : start.sealed ≡ []) (none : HasNoStart lines) (ask : ℕ)
     (came_once : (other : ℕ) (another : Job) → slice_get lines other ≡ Some (Some (Ask n another)) → other ≡ ask) where
   abbrev begun : ℕ
-  begun = length (moment_at start lines ask).sealed
+  begun = length (abstract_state_at start lines ask).sealed
 
-  no_smaller : (place other : ℕ) → other ≡ ask → other < place → begun ≤ length (moment_at start lines place).sealed
+  no_smaller : (place other : ℕ) → other ≡ ask → other < place → begun ≤ length (abstract_state_at start lines place).sealed
   no_smaller place other same before = fewer_before start lines none ask place (omega (arith, same, before))
 
-  pub right_since : (reply : Reply) → HasPlace start lines n job reply → IsRightSince begun start.words (moment_of start lines).sealed n job reply
+  pub right_since : (reply : Reply) → HasPlace start lines n job reply → IsRightSince begun start.words (abstract_state_of start lines).sealed n job reply
   right_since (Val value) at = record {
-    place = length (moment_at start lines at.place).sealed;
+    place = length (abstract_state_at start lines at.place).sealed;
     no_smaller = no_smaller at.place at.could.asked.ask (came_once at.could.asked.ask at.could.asked.job at.could.asked.is_asked) at.could.asked.before;
     within = not_past start lines fresh none at.place;
     right = record { address = at.could.address; reads = at.could.reads; says = ap (λ (words : List ℕ). word_at words at.could.address) (sym (words_then start lines fresh none at.place)) ∙ at.could.says };
   }
   right_since (SaysNo address value) at = record {
-    place = length (moment_at start lines at.place).sealed;
+    place = length (abstract_state_at start lines at.place).sealed;
     no_smaller = no_smaller at.place at.could.asked.ask (came_once at.could.asked.ask at.could.asked.job at.could.asked.is_asked) at.could.asked.before;
     within = not_past start lines fresh none at.place;
     right = record {
@@ -213,7 +215,7 @@ module _ (start : Moment) (lines : List (Option Mark)) (n : ℕ) (job : Job) (fr
     };
   }
   right_since SaysYes at = record {
-    place = length (moment_at start lines at.place).sealed;
+    place = length (abstract_state_at start lines at.place).sealed;
     no_smaller = no_smaller at.place at.asked.ask (came_once at.asked.ask at.asked.job at.asked.is_asked) at.asked.before;
     within = not_past start lines fresh none at.place;
     right = seal_at start lines fresh none at.place n at.is ∙ ap (λ entries. Some (record { request = n; entries = entries })) at.its_entries;

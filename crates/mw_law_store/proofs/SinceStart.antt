@@ -1,4 +1,5 @@
--- Each request came with one line, under the next number: so it stays with whatever is said.
+-- Each request came with one line, under a number below the next one, and any label keeps this. Used by: HistoryMatchLaws,
+-- LastLines.
 use Rattle.std.specs.Prelude.{ℕ, ◌+◌, ◌≡◌, List, [], slice_get, slice_set, Option, Some, None}
 use Rattle.std.proofs.Common.{sym, subst, ◌∙◌, inl, inr, arith}
 use Rattle.std.proofs.lemmas.Option.{same_Some, none-some}
@@ -6,11 +7,11 @@ use Rattle.mw_words.specs.declared.jobs.Job.{Job}
 use Rattle.mw_lone.specs.declared.marks.Mark.{Mark}
 use Rattle.mw_lone.specs.declared.marks.Mark.TheVariants.{Ask, Admit, Busy, Look, Miss, Seal, SealFail, FileFail, GiveUp, Retire, Reply as HandOut, Restart}
 use Rattle.mw_lone.specs.Store.{Store}
-use Rattle.mw_law_late.specs.Late.{more}
-use Rattle.mw_law_store.specs.Going.{Says, Goes}
-use Rattle.mw_law_store.specs.Moments.{Moment}
-use Rattle.mw_law_store.specs.Recalled.{AreSinceStart, MayBeSaid}
-use Rattle.mw_law_store.proofs.Momenting.{IsMild, got_which, got_late_which}
+use Rattle.mw_law_late.specs.LateMarks.{more}
+use Rattle.mw_law_store.specs.RelaxedSteps.{Says, RelaxedStep}
+use Rattle.mw_law_store.specs.AbstractStates.{AbstractState}
+use Rattle.mw_law_store.specs.HistoryMatches.{AreSinceStart, MayBeLabeled}
+use Rattle.mw_law_store.proofs.AbstractStateLaws.{IsMild, got_which, got_late_which}
 
 pub none_since : (next : ℕ) → AreSinceStart [] next
 none_since next = record {
@@ -89,7 +90,7 @@ since_late lines kept mark next mild free old =
 next_of : (lines : List (Option Mark)) (t u : Store) → t ≡ u → AreSinceStart lines u.next → AreSinceStart lines t.next
 next_of lines t u e = subst (λ (v : Store). AreSinceStart lines v.next) (sym e)
 
-pub goes_since : (start : Moment) (lines : List (Option Mark)) (s t : Store) (mark : Mark) → MayBeSaid start lines (Says mark) s → Goes s mark t → AreSinceStart lines s.next → AreSinceStart (more lines (Some mark)) t.next
+pub goes_since : (start : AbstractState) (lines : List (Option Mark)) (s t : Store) (mark : Mark) → MayBeLabeled start lines (Says mark) s → RelaxedStep s mark t → AreSinceStart lines s.next → AreSinceStart (more lines (Some mark)) t.next
 goes_since start lines s t (Ask k job) may d old =
     next_of (more lines (Some (Ask k job))) t _ d.after (subst (λ m. AreSinceStart (more lines (Some (Ask k job))) (m + 1)) d.is_next (since_ask lines k job (subst (AreSinceStart lines) (sym d.is_next) old)))
 goes_since start lines s t (Admit k) may d old = next_of _ t _ d.after (since_more lines (Some (Admit k)) s.next tt old)

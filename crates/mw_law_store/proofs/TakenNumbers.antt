@@ -1,4 +1,5 @@
--- A slot that is taken has a number below the worn one, since no claim takes a worn number: kept by every event.
+-- A slot that is taken has a number below the worn one, because no claim takes a worn number; every event keeps this. Used by:
+-- ReadRetryLaws.
 use Rattle.std.specs.Prelude.{ℕ, ◌≡◌, ◌<◌, ◌==◌, ◌&&◌, not, Bool, true, false, cond, is_some, if◌then◌else◌, Option, Some, None}
 use Rattle.std.proofs.Common.{refl, sym, subst, ◌∙◌, arith}
 use Rattle.mw_words.specs.declared.gates.Gate.{Gate}
@@ -6,8 +7,8 @@ use Rattle.mw_words.specs.declared.limits.TheConstants.{WORN_NUMBER}
 use Rattle.mw_words.specs.declared.places.At.{At}
 use Rattle.mw_words.specs.declared.places.At.TheVariants.{Door as AtDoor, Gate as AtGate, Row as AtRow, Data, Status as AtStatus, Count, Addr, Expected, New}
 use Rattle.mw_pool.specs.Moves.{Claims, Pins}
-use Rattle.mw_look.specs.declared.news.News.{News}
-use Rattle.mw_look.specs.declared.news.News.TheVariants.{Won, Lost}
+use Rattle.mw_look.specs.declared.observations.Observation.{Observation}
+use Rattle.mw_look.specs.declared.observations.Observation.TheVariants.{Won, Lost}
 use Rattle.mw_look.specs.declared.points.Point.{Point as ReadPoint}
 use Rattle.mw_look.specs.declared.points.Point.TheVariants.{Pin as PinOfRead, Unpin as UnpinOfRead, FreeSlot as FreeOfRead, LowerDoor as LowerOfRead}
 use Rattle.mw_look.specs.declared.steps.Kind.{Kind}
@@ -17,7 +18,7 @@ use Rattle.mw_look.specs.Program.{IsPointInRange as IsReadPointInRange, asks_at 
 use Rattle.mw_look.specs.Steps.{Step, Load, Change, File as FileStep}
 use Rattle.mw_actor.specs.declared.points.Point.{Point}
 use Rattle.mw_actor.specs.declared.points.Point.TheVariants.{Read, Admit, Claim, PinOther, Unpin, FreeSlot, LowerDoor}
-use Rattle.mw_actor.specs.Acting.{Acting, own_entries}
+use Rattle.mw_actor.specs.ActorState.{ActorState, own_entries}
 use Rattle.mw_actor.specs.Asks.{asks, asks_at}
 use Rattle.mw_actor.specs.Program.{replied}
 use Rattle.mw_world_file.specs.declared.outcomes.Outcome.{Outcome}
@@ -30,20 +31,20 @@ use Rattle.mw_look.specs.declared.steps.Shape.TheVariants.{Exchange, Store, Fetc
 use Rattle.mw_look.specs.Shapes.{shape_of}
 use Rattle.mw_world.specs.Definition.Changes.{changed, done, fetched}
 use Rattle.mw_world.specs.Definition.Extent.{has_slot}
-use Rattle.mw_world.specs.Definition.Happenings.{Happening, Come, Step as StepEvent, File as FileEvent, Hand, Restart}
+use Rattle.mw_world.specs.Definition.Events.{WorldEvent, Come, Step as StepEvent, File as FileEvent, Hand, Restart}
 use Rattle.mw_world.specs.Definition.Restarts.{restarted}
 use Rattle.mw_world.specs.Definition.State.{State}
 use Rattle.mw_world.specs.Definition.Turns.{may_make, made_of, moved, turn, turned}
 use Rattle.mw_world.specs.Definition.World.{step}
 use Rattle.mw_law_counts.proofs.Startable.{may_start}
 use Rattle.mw_law_counts.specs.Ready.{IsReadReady}
-use Rattle.mw_law_moves.proofs.Stepping.{comes_leave, hands_leave}
+use Rattle.mw_law_moves.proofs.StepsKeepMemory.{comes_leave, hands_leave}
 use Rattle.mw_law_runs.specs.Knowledge.Informed.{IsInformed}
-use Rattle.mw_law_runs.specs.Sound.{IsSound}
-use Rattle.mw_law_runs.proofs.Owed.Pins.{none_some}
-use Rattle.mw_law_runs.proofs.Seating.{are_seated}
-use Rattle.mw_law_runs.proofs.Tests.{guarded, if_slot}
-use Rattle.mw_law_store.proofs.Files.Calling.{ended}
+use Rattle.mw_law_runs.specs.RunInvariant.{IsSound}
+use Rattle.mw_law_runs.proofs.Obligations.Pins.{none_some}
+use Rattle.mw_law_runs.proofs.RequestsInWorlds.{have_their_requests}
+use Rattle.mw_law_runs.proofs.GuardedEvents.{guarded, if_slot}
+use Rattle.mw_law_store.proofs.Files.CallFiles.{ended}
 
 -- a gate that is taken has a lower number than the worn one
 abbrev pub IsLow : Gate → Type 0
@@ -55,7 +56,7 @@ AreLow cells = (slot : ℕ) → IsLow (cells.gates slot)
 false_true : false ≡ true → ⊥
 false_true e = cc
 
--- What is written somewhere is so, if it is a gate.
+-- What is written at a place has such a number, if it is a gate.
 abbrev LowAt : (at : At) → Val at → Type 0
 LowAt (AtGate slot) gate = IsLow gate
 LowAt (AtDoor tenant) door = Unit {0}
@@ -103,14 +104,14 @@ fetched_low DropKind (AtDoor tenant) door low = tt
 fetched_low FaultKind (AtDoor tenant) door low = tt
 fetched_low kind at x low = low
 
--- What a step leaves at its place, if that is a gate, is so.
+-- What a step leaves at its place has such a number, if that is a gate.
 abbrev LeavesLow : Step → Type 0
 LeavesLow (Load at) = Unit {0}
 LeavesLow (Change kind at from to) = LowAt at to
 LeavesLow (FileStep called slot) = Unit {0}
 
--- what follows such a step
-follows_low : (P : State → Type 0) (gives : Cells → News → State) → ((cells : Cells) (news : News) → AreLow cells → P (gives cells news)) → (asked : Step) (cells : Cells) → LeavesLow asked → AreLow cells
+-- so it is in all worlds that may follow such a step
+follows_low : (P : State → Type 0) (gives : Cells → Observation → State) → ((cells : Cells) (observation : Observation) → AreLow cells → P (gives cells observation)) → (asked : Step) (cells : Cells) → LeavesLow asked → AreLow cells
     → P (done asked cells gives)
 follows_low P gives all (Load at) cells leaves low = all _ _ low
 follows_low P gives all (FileStep called slot) cells leaves low = all _ _ low
@@ -125,7 +126,7 @@ follows_low P gives all (Change kind at from to) cells leaves low = by_shape (sh
     by_shape Store = all _ _ (write_low cells at to leaves low)
     by_shape Fetch = all _ _ (write_low cells at (fetched kind at (read cells at)) (fetched_low kind at (read cells at) (read_low cells at low)) low)
 
--- Each step of a request is such a one.
+-- Each step of a request is such a step.
 
 pinned_low : (seq : ℕ) (from to : Gate) → Pins seq from to → seq < WORN_NUMBER → IsLow to
 pinned_low seq from to pins low taken = omega (arith, pins.same_number, pins.had_that_number, low)
@@ -140,7 +141,7 @@ read_leaves tenant address (FreeOfRead slot seq after) in_range ready = λ taken
 read_leaves tenant address (LowerOfRead after) in_range ready = tt
 read_leaves tenant address point in_range ready = tt
 
-leaves_low : (config : Config) (state : State) (actor : Acting) (point : Point) → let me = record actor { point = point } in IsInformed config state me → LeavesLow (asks_at me point)
+leaves_low : (config : Config) (state : State) (actor : ActorState) (point : Point) → let me = record actor { point = point } in IsInformed config state me → LeavesLow (asks_at me point)
 leaves_low config state actor (Read look) informed = read_leaves look.tenant look.address look.point informed.look_in_range informed.ready.1
 leaves_low config state actor (Claim slot saw_worn from to) informed = claimed_low from to informed.ready
 leaves_low config state actor (PinOther task other from to) informed = pinned_low other.seq from to informed.ready.1 informed.in_range.point.1
@@ -151,19 +152,19 @@ leaves_low config state actor (Admit from to) informed = tt
 leaves_low config state actor point informed = tt
 
 module _ (config : Config) (state next : State) (sound : IsSound config state) (low : AreLow state.cells) where
-  turn_low : (worker : ℕ) (found : Option Acting) → (state.seats worker).actor ≡ found → turn config state worker found ≡ Some next → AreLow next.cells
+  turn_low : (worker : ℕ) (found : Option ActorState) → (state.worker_states worker).actor ≡ found → turn config state worker found ≡ Some next → AreLow next.cells
   turn_low worker None sits is = absurd (none_some next is)
   turn_low worker (Some actor) sits is =
       guarded (λ (one : State). AreLow one.cells) (not (is_some (replied actor)) && may_make config (asks actor)) (turned state worker actor) next
-      (λ may. follows_low (λ (one : State). AreLow one.cells) (λ cells news. moved state worker actor (made_of state worker actor cells news)) (λ cells news after. after) (asks actor) state.cells
-      (leaves_low config state actor actor.point (are_seated config state sound worker actor sits).informed) low) is
+      (λ may. follows_low (λ (one : State). AreLow one.cells) (λ cells observation. moved state worker actor (made_of state worker actor cells observation)) (λ cells observation after. after) (asks actor) state.cells
+      (leaves_low config state actor actor.point (have_their_requests config state sound worker actor sits).informed) low) is
 
   -- a call changes no gate
-  call_so : (worker : ℕ) (actor : Acting) (found : Option Called) (outcome : Outcome) → call_if config state worker actor found outcome ≡ Some next → AreLow next.cells
+  call_so : (worker : ℕ) (actor : ActorState) (found : Option Called) (outcome : Outcome) → call_if config state worker actor found outcome ≡ Some next → AreLow next.cells
   call_so worker actor None outcome is = absurd (none_some next is)
   call_so worker actor (Some called) outcome is =
-      let file = (state.accounts actor.tenant).file in
-      let places = (state.accounts actor.tenant).quota in
+      let file = (state.tenant_states actor.tenant).file in
+      let places = (state.tenant_states actor.tenant).quota in
       let status = state.cells.statuses called.change.slot in
       let place = place_for called.call file places called.change.slot in
       ended (λ (one : State). AreLow one.cells) state worker actor called.change file called.call status place (starts_from called.call status) (fails_on called.call file)
@@ -171,14 +172,14 @@ module _ (config : Config) (state next : State) (sound : IsSound config state) (
       (record { skipped = λ not_so. low; faulted = λ so failed. low; well = λ so fine can. low; broke = λ so fine. low })
       (if_slot (has_slot config called.change.slot) (moved_if state worker actor (calling config state actor called outcome)) next is)
 
-  call_low : (worker : ℕ) (found : Option Acting) (outcome : Outcome) → call config state worker found outcome ≡ Some next → AreLow next.cells
+  call_low : (worker : ℕ) (found : Option ActorState) (outcome : Outcome) → call config state worker found outcome ≡ Some next → AreLow next.cells
   call_low worker None outcome is = absurd (none_some next is)
   call_low worker (Some actor) outcome is = call_so worker actor (called_at actor.point) outcome is
 
-pub event_low : (config : Config) (state next : State) (event : Happening) → IsSound config state → AreLow state.cells → step config state event ≡ Some next → AreLow next.cells
+pub event_low : (config : Config) (state next : State) (event : WorldEvent) → IsSound config state → AreLow state.cells → step config state event ≡ Some next → AreLow next.cells
 event_low config state next (Come worker tenant job) sound low is = subst AreLow (sym (comes_leave config state next worker tenant job is).cells) low
-event_low config state next (StepEvent worker) sound low is = turn_low config state next sound low worker (state.seats worker).actor refl is
-event_low config state next (FileEvent worker outcome) sound low is = call_low config state next sound low worker (state.seats worker).actor outcome is
+event_low config state next (StepEvent worker) sound low is = turn_low config state next sound low worker (state.worker_states worker).actor refl is
+event_low config state next (FileEvent worker outcome) sound low is = call_low config state next sound low worker (state.worker_states worker).actor outcome is
 event_low config state next (Hand worker) sound low is = subst AreLow (sym (hands_leave state next worker is).cells) low
 event_low config state next (Restart founds) sound low is =
     guarded (λ (one : State). AreLow one.cells) (may_start config state founds) (restarted config state founds) next (λ may slot taken. absurd (false_true taken)) is

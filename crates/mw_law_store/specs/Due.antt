@@ -1,4 +1,5 @@
--- What the store alone is to have of a request, by the request's point, and of a change's request, by the change's status.
+-- What the store alone must have of a request: by the point of the request, and by the status of its change.
+-- Used by: specs/Refinement. Contracts use it through these: a change here changes what they say.
 use Rattle.std.specs.Prelude.{Bool, true, false, List, Option, Some, None}
 use Rattle.mw_words.specs.declared.jobs.Entry.{Entry}
 use Rattle.mw_words.specs.declared.replies.Reply.{Reply}
@@ -13,35 +14,40 @@ use Rattle.mw_actor.specs.declared.points.After.{After}
 use Rattle.mw_actor.specs.declared.points.After.TheVariants.{Reply as ThenReply}
 use Rattle.mw_actor.specs.declared.points.Point.{Point}
 use Rattle.mw_actor.specs.declared.points.Point.TheVariants.{Read, ReadDoor, Admit, ScanGate, Claim, Unpin, FreeSlot, LowerDoor, Replied}
-use Rattle.mw_actor.specs.Acting.{entry_at}
+use Rattle.mw_actor.specs.ActorState.{entry_at}
 
+-- What the store has of a request.
 pub data Due : Type 0 where
-  -- it has no reply and no change; a slot is counted for it, or not
+  -- it has no reply and no change of its own; a slot is counted for it, or not
   Waits : (admitted : Bool) → Due
-  -- it has a slot of its own, whose change tells its reply
+  -- it has a slot of its own, and the change there decides its reply
   Works : Due
   -- it has this reply
   Answers : (reply : Reply) → Due
-  -- it ends, since a number is used up; of its reply nothing is said
+  -- it ends because a number is used up; nothing is said of its reply
   Quits : Due
 
+-- what is due of a request that has this reply
 abbrev pub due_reply : Reply → Due
 due_reply SaysWorn = Quits
 due_reply reply = Answers reply
 
+-- what is due after a pin is given back, by what follows
 abbrev pub due_then : After → Due
 due_then (ThenReply reply) = due_reply reply
 due_then onward = Works
 
--- where the door is lowered of a change that found no slot, that one waits still
+-- what is due when the door is lowered, by what follows; a change that found no slot still waits
 abbrev pub due_lowering : After → Due
 due_lowering (ThenReply SaysWorn) = Waits true
 due_lowering onward = due_then onward
 
+-- what is due of a read after its pin is given back, by what follows
 abbrev pub due_after_read : AfterRead → Due
 due_after_read Again = Waits false
 due_after_read (Answer value) = Answers (Val value)
 
+-- what is due at a point of a read
 abbrev pub due_read : ReadPoint → Due
 due_read (UnpinOfRead slot seq after) = due_after_read after
 due_read (FreeOfRead slot seq after) = due_after_read after
@@ -49,6 +55,7 @@ due_read (LowerOfRead after) = due_after_read after
 due_read (RepliedOfRead reply) = due_reply reply
 due_read point = Waits false
 
+-- what is due at a point
 abbrev pub due : Point → Due
 due (Read look) = due_read look.point
 due ReadDoor = Waits false
@@ -61,30 +68,36 @@ due (LowerDoor onward) = due_lowering onward
 due (Replied reply) = due_reply reply
 due point = Works
 
+-- the request has no change of its own and no reply
 abbrev pub waits : Due → Bool
 waits (Waits admitted) = true
 waits is = false
 
--- Whether the door is about to be lowered: it isn't; for the request whose slot was freed last; or for one's own, which found no slot.
+-- Whether a request is about to lower the door: it is not; for the request whose slot it freed last; or for its own, which found
+-- no slot.
 pub data Lowering : Type 0 where
   Elsewhere : Lowering
   Retiring : Lowering
   Dropping : Lowering
 
+-- why a request that goes on so lowers the door
 abbrev pub lowers_then : After → Lowering
 lowers_then (ThenReply SaysWorn) = Dropping
 lowers_then onward = Retiring
 
+-- whether a read is about to lower the door at this point
 abbrev pub lowers_in_read : ReadPoint → Lowering
 lowers_in_read (LowerOfRead after) = Retiring
 lowers_in_read point = Elsewhere
 
+-- whether a request is about to lower the door at this point
 abbrev pub lowers : Point → Lowering
 lowers (Read look) = lowers_in_read look.point
 lowers (LowerDoor onward) = lowers_then onward
 lowers point = Elsewhere
 
--- The reply of a change's request, by whether it is spoiled, its status and its entries. A spoiled one has FAULT, whatever becomes of the change.
+-- The reply to a change's request, if it is decided: by whether FAULT was decided for it, by the change's status and by its
+-- entries. FAULT stays its reply, whatever becomes of the change.
 abbrev pub told : Bool → Status → List Entry → Option Reply
 told true status change = Some SaysFault
 told false Yes change = Some SaysYes

@@ -1,3 +1,4 @@
+-- The facts about the tenants' files: what they are, which events keep them, and what they allow.
 pub mod Enabled
 pub mod Files
 pub mod Laws

@@ -1,83 +1,90 @@
--- What is proved of tenants and their stores.
+-- The main facts that this crate proves of tenants and their stores.
+-- Used by: the laws of src/laws.rt. A change here changes what these laws say.
 use Rattle.std.specs.Prelude.{ℕ, ◌≡◌, ◌<◌, Bool, true, List, slice_set, Option, Some}
 use Rattle.mw_words.specs.Change.{fits}
 use Rattle.mw_words.specs.declared.replies.Reply.{Reply}
 use Rattle.mw_words.specs.declared.statuses.Status.TheVariants.{YesDirty}
 use Rattle.mw_lone.specs.declared.marks.Mark.{Mark}
 use Rattle.mw_lone.specs.Store.{Store, RequestState, run as run_of_store, replies_from}
-use Rattle.mw_law_late.specs.Late.{marks_in, IsKeptFor, IsNumbered, IsOpen}
+use Rattle.mw_law_late.specs.LateMarks.{marks_in, IsReservedFor, IsNumbered, IsOpen}
 use Rattle.mw_actor.specs.declared.points.Slot.{Slot}
 use Rattle.mw_world.specs.declared.config.Config.{Config}
-use Rattle.mw_world.specs.Claim.Headline.{IsPlayed}
-use Rattle.mw_world.specs.Definition.Happenings.{Found, Happening}
+use Rattle.mw_world.specs.Claim.Headline.{IsExecution}
+use Rattle.mw_world.specs.Definition.Events.{Found, WorldEvent}
 use Rattle.mw_world.specs.Definition.Restarts.{restart}
-use Rattle.mw_world.specs.Definition.State.{State, IsConfig, IsStart, Opening, tenants_of, world_at}
+use Rattle.mw_world.specs.Definition.State.{State, IsConfig, IsStart, TenantStart, tenants_of, world_at}
 use Rattle.mw_world.specs.Definition.World.{step}
 use Rattle.mw_law_moves.specs.Guards.{IsLive}
 use Rattle.mw_law_runs.specs.Files.{FilesFit}
-use Rattle.mw_law_runs.specs.Sound.{IsSound}
+use Rattle.mw_law_runs.specs.RunInvariant.{IsSound}
 use Rattle.mw_law_store.specs.Files.Files.{HasFiles}
-use Rattle.mw_law_store.specs.Acknowledged.{begun}
-use Rattle.mw_law_store.specs.Followed.{IsFollowed, IsFollowedBy, GoesOn}
-use Rattle.mw_law_store.specs.Going.{Saying, lines_after, StoreGoes}
-use Rattle.mw_law_store.specs.Grounds.{HasGrounds}
+use Rattle.mw_law_store.specs.Durability.{begun}
+use Rattle.mw_law_store.specs.Simulation.{IsSimulated, IsSimulatedBy, SimulatesStep}
+use Rattle.mw_law_store.specs.RelaxedSteps.{StoreLabel, lines_after, RelaxedLabelStep}
+use Rattle.mw_law_store.specs.WorldFacts.{HasWorldFacts}
 use Rattle.mw_law_store.specs.History.{IsNoStart}
-use Rattle.mw_law_store.specs.Moments.{Moment, first_moment, moment_of, after_marks}
-use Rattle.mw_law_store.specs.Recalled.{Recalled, MayBeSaid}
+use Rattle.mw_law_store.specs.AbstractStates.{AbstractState, first_abstract_state, abstract_state_of, after_marks}
+use Rattle.mw_law_store.specs.HistoryMatches.{HistoryMatch, MayBeLabeled}
 
--- Of lines and stores, without a world.
+-- Facts about lines and stores, without a world.
 
--- The moment after lines is the one after their marks; what a legal run leaves of a store has the moment's words, and its change in doubt. So after every run of
--- the store alone, whose file opened at first or didn't, its words are the first ones, with the changes of all seals put over them and of all starts that took
--- one, in their order.
+-- After every legal run of the store alone, whether its file opened at first or not, its words are the first ones with changes
+-- put over them: the change of each seal, and of each start that took one, in the order of the marks. Its change in doubt is that
+-- of the abstract state.
 abbrev pub WordsAreOfMarks : Type 0
 WordsAreOfMarks = (words : List ℕ) (quota : ℕ) (opened : Bool) (marks : List Mark) (t : Store) → run_of_store (begun words quota opened) marks ≡ Some t
-    → (t.words ≡ (after_marks (first_moment words) marks).words) × (t.in_doubt ≡ (after_marks (first_moment words) marks).doubt)
+    → (t.words ≡ (after_marks (first_abstract_state words) marks).words) × (t.in_doubt ≡ (after_marks (first_abstract_state words) marks).doubt)
 
-abbrev pub LinesAreMoments : Type 0
-LinesAreMoments = (start : Moment) (lines : List (Option Mark)) → moment_of start lines ≡ after_marks start (marks_in lines)
+-- The abstract state after lines is the one after the marks among them.
+abbrev pub LinesAreAbstractStates : Type 0
+LinesAreAbstractStates = (start : AbstractState) (lines : List (Option Mark)) → abstract_state_of start lines ≡ after_marks start (marks_in lines)
 
--- What lines recall of a store they recall after each saying.
-abbrev pub SayingsAreRecalled : Type 0
-SayingsAreRecalled = (start : Moment) (lines : List (Option Mark)) (says : Saying) (s t : Store) → IsNumbered s → Recalled start lines s → MayBeSaid start lines says s → StoreGoes says s t
-    → Recalled start (lines_after says lines) t
+-- If lines match a store, they match it after the relaxed step of each label that may be added.
+abbrev pub LabelsKeepHistoryMatch : Type 0
+LabelsKeepHistoryMatch = (start : AbstractState) (lines : List (Option Mark)) (says : StoreLabel) (s t : Store) → IsNumbered s → HistoryMatch start lines s → MayBeLabeled start lines says s → RelaxedLabelStep says s t
+    → HistoryMatch start (lines_after says lines) t
 
 -- A late mark hands out nothing, and leaves what was handed out.
 abbrev pub LateMarksLeaveReplies : Type 0
 LateMarksLeaveReplies = (start end : Store) (lines : List (Option Mark)) (place : ℕ) (mark : Mark) (n : ℕ) (r : RequestState) (reply : Reply) → IsNumbered start
-    → IsKeptFor start lines place mark n reply → run_of_store start (marks_in lines) ≡ Some end → IsOpen end n r
+    → IsReservedFor start lines place mark n reply → run_of_store start (marks_in lines) ≡ Some end → IsOpen end n r
     → replies_from start (marks_in (slice_set lines place (Some mark))) ≡ replies_from start (marks_in lines)
 
--- Of worlds, without a store.
+-- Facts about worlds, without a store.
 
-abbrev pub EventsKeepGrounds : Type 0
-EventsKeepGrounds = (config : Config) (state next : State) (event : Happening) → IsConfig config → IsSound config state → FilesFit state → HasFiles config state → HasGrounds state
-    → step config state event ≡ Some next → HasGrounds next
+-- Every event of a sound world with right files keeps the world facts.
+abbrev pub EventsKeepWorldFacts : Type 0
+EventsKeepWorldFacts = (config : Config) (state next : State) (event : WorldEvent) → IsConfig config → IsSound config state → FilesFit state → HasFiles config state → HasWorldFacts state
+    → step config state event ≡ Some next → HasWorldFacts next
 
-abbrev pub RunsHaveGrounds : Type 0
-RunsHaveGrounds = (config : Config) (openings : ℕ → Opening) (events : List Happening) (state : State) → IsPlayed config openings events state → HasGrounds state
+-- The world facts hold after every run.
+abbrev pub RunsHaveWorldFacts : Type 0
+RunsHaveWorldFacts = (config : Config) (openings : ℕ → TenantStart) (events : List WorldEvent) (state : State) → IsExecution config openings events state → HasWorldFacts state
 
--- A change that was decided to be made, in a file that works, fits the file's words.
+-- A change that is decided to be made, and not yet made, fits the words of its tenant's file.
 abbrev pub DecidedChangesFit : Type 0
-DecidedChangesFit = (config : Config) (state : State) (target : Slot) → IsSound config state → HasFiles config state → HasGrounds state → IsLive state target
-    → state.history.is_born target.slot target.seq ≡ true → state.history.fate target.slot target.seq ≡ YesDirty
-    → fits (state.accounts (state.history.tenant target.slot target.seq)).file.contents (state.history.change target.slot target.seq) ≡ true
+DecidedChangesFit = (config : Config) (state : State) (target : Slot) → IsSound config state → HasFiles config state → HasWorldFacts state → IsLive state target
+    → state.history.is_claimed target.slot target.seq ≡ true → state.history.fate target.slot target.seq ≡ YesDirty
+    → fits (state.tenant_states (state.history.tenant target.slot target.seq)).file.contents (state.history.change target.slot target.seq) ≡ true
 
--- Both.
+-- Facts about worlds and stores.
 
--- Each event but a start, of any run, keeps a tenant followed, by a store that goes on as the event says.
-abbrev pub EventsAreFollowed : Type 0
-EventsAreFollowed = (config : Config) (openings : ℕ → Opening) (events : List Happening) (state next : State) (event : Happening) (tenant : ℕ) (store : Store) → IsPlayed config openings events state
-    → tenant < tenants_of config → IsFollowedBy openings state tenant store → IsNoStart event → step config state event ≡ Some next → GoesOn openings state next event tenant store
+-- In every run each event but a start is simulated by a store that simulated the world before it.
+abbrev pub EventsAreSimulated : Type 0
+EventsAreSimulated = (config : Config) (openings : ℕ → TenantStart) (events : List WorldEvent) (state next : State) (event : WorldEvent) (tenant : ℕ) (store : Store) → IsExecution config openings events state
+    → tenant < tenants_of config → IsSimulatedBy openings state tenant store → IsNoStart event → step config state event ≡ Some next → SimulatesStep openings state next event tenant store
 
-abbrev pub StartsAreFollowed : Type 0
-StartsAreFollowed = (config : Config) (openings : ℕ → Opening) (tenant : ℕ) → IsStart config openings → tenant < tenants_of config → IsFollowed openings (world_at config openings) tenant
+-- Some store simulates each tenant at every start with which a run may begin.
+abbrev pub StartsAreSimulated : Type 0
+StartsAreSimulated = (config : Config) (openings : ℕ → TenantStart) (tenant : ℕ) → IsStart config openings → tenant < tenants_of config → IsSimulated openings (world_at config openings) tenant
 
-abbrev pub RestartsAreFollowed : Type 0
-RestartsAreFollowed = (config : Config) (openings : ℕ → Opening) (state next : State) (founds : List Found) (tenant : ℕ) (store : Store) → IsSound config state
-    → HasFiles config state → HasGrounds state → tenant < tenants_of config
-    → IsFollowedBy openings state tenant store → restart config state founds ≡ Some next → IsFollowed openings next tenant
+-- If a store simulates a tenant of a sound world before a start, some store simulates it after the start.
+abbrev pub RestartsAreSimulated : Type 0
+RestartsAreSimulated = (config : Config) (openings : ℕ → TenantStart) (state next : State) (founds : List Found) (tenant : ℕ) (store : Store) → IsSound config state
+    → HasFiles config state → HasWorldFacts state → tenant < tenants_of config
+    → IsSimulatedBy openings state tenant store → restart config state founds ≡ Some next → IsSimulated openings next tenant
 
-abbrev pub RunsAreFollowed : Type 0
-RunsAreFollowed = (config : Config) (openings : ℕ → Opening) (events : List Happening) (state : State) (tenant : ℕ) → IsPlayed config openings events state → tenant < tenants_of config
-    → IsFollowed openings state tenant
+-- Some store simulates each tenant after every run.
+abbrev pub RunsAreSimulated : Type 0
+RunsAreSimulated = (config : Config) (openings : ℕ → TenantStart) (events : List WorldEvent) (state : State) (tenant : ℕ) → IsExecution config openings events state → tenant < tenants_of config
+    → IsSimulated openings state tenant

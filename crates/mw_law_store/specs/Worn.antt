@@ -1,4 +1,5 @@
--- Where numbers are left no request comes to say WORN; and what holds of numbers also where they are used up.
+-- In a run with numbers left no request comes to say WORN; and what holds of numbers also when they are used up.
+-- Used by: the laws of src/laws.rt, specs/Simulation. A change here changes what these laws say.
 use Rattle.std.specs.Prelude.{ℕ, ◌≡◌, ◌≤◌, Bool, true, false, List, Some}
 use Rattle.mw_words.specs.declared.limits.TheConstants.{WORN_NUMBER}
 use Rattle.mw_words.specs.declared.replies.Reply.{Reply}
@@ -9,21 +10,24 @@ use Rattle.mw_actor.specs.declared.points.After.{After}
 use Rattle.mw_actor.specs.declared.points.After.TheVariants.{GiveUp as ThenGiveUp, Reply as ThenReply}
 use Rattle.mw_actor.specs.declared.points.Point.{Point}
 use Rattle.mw_actor.specs.declared.points.Point.TheVariants.{Read, ScanGate, Claim, Unpin, FreeSlot, LowerDoor, GiveUp, Replied}
-use Rattle.mw_actor.specs.Acting.{Acting}
+use Rattle.mw_actor.specs.ActorState.{ActorState}
 use Rattle.mw_world.specs.declared.config.Config.{Config}
-use Rattle.mw_world.specs.Claim.Headline.{IsPlayed, IsRun}
-use Rattle.mw_world.specs.Definition.Happenings.{Happening}
-use Rattle.mw_world.specs.Definition.State.{State, Opening}
+use Rattle.mw_world.specs.Claim.Headline.{IsExecution, IsRun}
+use Rattle.mw_world.specs.Definition.Events.{WorldEvent}
+use Rattle.mw_world.specs.Definition.State.{State, TenantStart}
 
+-- the reply is WORN
 abbrev pub is_worn_reply : Reply → Bool
 is_worn_reply SaysWorn = true
 is_worn_reply reply = false
 
+-- a request that goes on so ends with WORN
 abbrev pub is_worn_after : After → Bool
 is_worn_after (ThenGiveUp own reply) = is_worn_reply reply
 is_worn_after (ThenReply reply) = is_worn_reply reply
 is_worn_after onward = false
 
+-- the read has the reply WORN
 abbrev pub is_worn_read : ReadPoint → Bool
 is_worn_read (RepliedOfRead reply) = is_worn_reply reply
 is_worn_read point = false
@@ -40,13 +44,15 @@ is_worn_at (GiveUp own reply) = is_worn_reply reply
 is_worn_at (Replied reply) = is_worn_reply reply
 is_worn_at point = false
 
+-- No request is on the way to WORN, and no worker's next attempt has a number above the worn one.
 pub record NoneIsWorn (state : State) : Type 0 where
-  pub points : (worker : ℕ) (actor : Acting) → (state.seats worker).actor ≡ Some actor → is_worn_at actor.point ≡ false
-  pub attempts : (worker : ℕ) → (state.seats worker).attempt ≤ WORN_NUMBER
+  pub points : (worker : ℕ) (actor : ActorState) → (state.worker_states worker).actor ≡ Some actor → is_worn_at actor.point ≡ false
+  pub attempts : (worker : ℕ) → (state.worker_states worker).attempt ≤ WORN_NUMBER
 
+-- After every run with numbers left that is so.
 abbrev pub RunsAreNotWorn : Type 0
-RunsAreNotWorn = (config : Config) (openings : ℕ → Opening) (events : List Happening) (state : State) → IsRun config openings events state → NoneIsWorn state
+RunsAreNotWorn = (config : Config) (openings : ℕ → TenantStart) (events : List WorldEvent) (state : State) → IsRun config openings events state → NoneIsWorn state
 
--- In every run no worker's next attempt has a number past the last one.
+-- After every run no worker's next attempt has a number above the worn one.
 abbrev pub AttemptsAreNumbers : Type 0
-AttemptsAreNumbers = (config : Config) (openings : ℕ → Opening) (events : List Happening) (state : State) → IsPlayed config openings events state → (worker : ℕ) → (state.seats worker).attempt ≤ WORN_NUMBER
+AttemptsAreNumbers = (config : Config) (openings : ℕ → TenantStart) (events : List WorldEvent) (state : State) → IsExecution config openings events state → (worker : ℕ) → (state.worker_states worker).attempt ≤ WORN_NUMBER

@@ -1,86 +1,97 @@
-//! What holds of tenants and their stores: facts for proofs to cite. The functions do nothing.
-ghost use Rattle.mw_world.specs.Claim.Headline.{EqualMarksHaveEqualReplies, EveryRunServesAlone};
-ghost use Rattle.mw_law_store.specs.Acknowledged.{SealsAreHeld};
-ghost use Rattle.mw_law_store.specs.HeldInRuns.{RunsHoldChanges};
+//! Facts about tenants and the store alone, for proofs to cite. The functions do nothing.
+//!
+//! No code calls them. Proofs of mw_law_calls, mw_rule and mw_simulator cite the lemmas behind them. A change of a
+//! contract here changes a theorem: the last one is the theorem of docs/THEOREM.md.
+ghost use Rattle.mw_world.specs.Claim.Headline.{EqualMarksHaveEqualReplies, EveryRunIsDurablyLinearizable};
+ghost use Rattle.mw_law_store.specs.Durability.{SealsAreDurable};
+ghost use Rattle.mw_law_store.specs.DurabilityInRuns.{RunsKeepAcknowledged};
 ghost use Rattle.mw_law_store.specs.History.{AsksStandOnce, RepliesHavePlaces, SealedComeInOrder, SealsFit, SealsStay, SealsStayLong, WordsAreOfSealed};
-ghost use Rattle.mw_law_store.specs.OverCalls.{AsksTellTheirJobs, CallsKeepTheirPlace, PlacesStayRight, RepliesKeepTheirPlace, RequestsBegin, RequestsHaveBegun, RequestsStayBegun, SealedAreRight, SealedGoOn, SealsBegin, StartsSealNothing};
+ghost use Rattle.mw_law_store.specs.ReplyPlaces.{AsksTellTheirJobs, CallsKeepTheirPlace, PlacesStayRight, RepliesAreLinearized, RequestsBegin, RequestsHaveBegun, RequestsStayBegun, SealedAreRight, SealedGoOn, SealsBegin, StartsSealNothing};
 ghost use Rattle.mw_law_store.specs.Own.{FaultsAreCounted, FaultsAreOwn, MarksAreOwn, NeighboursFaultsLeaveNoMark};
 ghost use Rattle.mw_law_store.specs.Quotas.{EventsTellQuotas, QuotasAreTold, QuotasMayStay, QuotasStayWithinThePool};
-ghost use Rattle.mw_law_store.specs.Laws.{DecidedChangesFit, EventsAreFollowed, EventsKeepGrounds, LateMarksLeaveReplies, LinesAreMoments, RunsAreFollowed, RunsHaveGrounds, SayingsAreRecalled, WordsAreOfMarks};
-ghost use Rattle.mw_law_store.specs.TurningBack.{ReadsFindTheirWay, ReadsTurnBackForThreeReasons};
+ghost use Rattle.mw_law_store.specs.Laws.{DecidedChangesFit, EventsAreSimulated, EventsKeepWorldFacts, LateMarksLeaveReplies, LinesAreAbstractStates, RunsAreSimulated, RunsHaveWorldFacts, LabelsKeepHistoryMatch, WordsAreOfMarks};
+ghost use Rattle.mw_law_store.specs.ReadRetries.{ReadsFindTheirWay, ReadsTurnBackForThreeReasons};
 ghost use Rattle.mw_law_store.specs.Worn.{AttemptsAreNumbers, RunsAreNotWorn};
 
-/// After every run of the store alone its words are the first ones, with the changes of all seals put over
-/// them and of all starts that took one, in the order of the marks.
+/// After every legal run of the store alone, its words are the first ones with changes put over them, in the
+/// order of the marks: the change of each seal, and of each start that took one. Lines lead to the same
+/// abstract state as the marks among them.
 pub fn words_are_of_marks()
     ensures words { WordsAreOfMarks }
-    ensures lines { LinesAreMoments }
+    ensures lines { LinesAreAbstractStates }
 {}
 
-/// The words of a moment are those before it with the changes sealed since put over them, in order; those sealed before a
-/// place come first of all, and at a seal's place its request's stands right after them.
+/// Lines without a start put the changes that they seal over the words, in order. The changes sealed before a
+/// place are a prefix of those sealed by all lines. At the place of a seal, its request's change comes right
+/// after that prefix.
 pub fn sealed_come_in_order()
     ensures words { WordsAreOfSealed }
     ensures order { SealedComeInOrder }
 {}
 
-/// What was acknowledged is held: each request that was handed YES was sealed before that, since it came and with no
-/// start in between, and what it asked for is one of the changes that were put over the words.
+/// Acknowledged changes are durable. After every legal run of the store alone, its words are the first ones
+/// with all changes put over them. Each request that was handed YES came, was sealed and then got its reply,
+/// with no start in between. What it asked for is one of the changes that were put over the words.
 pub fn seals_are_held()
-    ensures { SealsAreHeld }
+    ensures { SealsAreDurable }
 {}
 
-/// What lines recall of a store they recall after whatever is said.
-pub fn sayings_are_recalled()
-    ensures { SayingsAreRecalled }
+/// If lines match a store, they match it after each relaxed step, with any label that may be added.
+pub fn labels_keep_history_match()
+    ensures { LabelsKeepHistoryMatch }
 {}
 
-/// A mark that comes late leaves the replies that were handed out.
+/// A mark that is put in late leaves the replies that were handed out.
 pub fn late_marks_leave_replies()
     ensures { LateMarksLeaveReplies }
 {}
 
-/// What marks need to know of a world is kept by every event, and holds after every run.
-pub fn runs_have_grounds()
-    ensures keep { EventsKeepGrounds }
-    ensures runs { RunsHaveGrounds }
+/// Every event of a sound world keeps the facts about it that marks need, and they hold after every run.
+pub fn runs_have_world_facts()
+    ensures keep { EventsKeepWorldFacts }
+    ensures runs { RunsHaveWorldFacts }
 {}
 
-/// A change that was decided to be made fits the words of a file that works.
+/// A change that is decided to be made, and not yet made, fits the words of its tenant's file.
 pub fn changes_fit()
     ensures { DecidedChangesFit }
 {}
 
-/// Where numbers are left no request comes to say WORN.
+/// In a run in which there are numbers left, no request is on the way to WORN.
 pub fn runs_are_not_worn()
     ensures { RunsAreNotWorn }
 {}
 
-/// In every run, also where numbers are used up, the number of a worker's next attempt is one that an attempt can have,
-/// or the next after these, which none has.
+/// After every run, also when numbers are used up, the number of a worker's next attempt is one that an attempt
+/// can have, or the next one, which no attempt has.
 pub fn attempts_are_numbers()
     ensures { AttemptsAreNumbers }
 {}
 
-/// A read begins again for three reasons alone, in every run, also where numbers are used up: the word was
-/// another one when it was loaded again; the gate of its slot wasn't as the word, or the row of its attempt,
-/// implies; or the gate had changed between its load and the exchange that was to pin it. For the gate of such a
-/// slot has room for a pin, and a number that isn't worn; one of the slot's entries is the word's; and no word
-/// is held by a change that was made and is done with.
+/// A read begins again for three reasons only, in every run, also when numbers are used up:
+///
+/// - The word was another one when the read loaded it again.
+/// - The gate of its slot was not as the word, or the row of its attempt, implies.
+/// - The gate changed between its load and the exchange that should pin it.
+///
+/// `ways` says why there is no other reason. The gate of such a slot has room for a pin, and a number that is
+/// not worn. One of the slot's entries is the word's. No word is held by a change that was made and is done
+/// with.
 pub fn reads_turn_back_for_three_reasons()
     ensures ways { ReadsFindTheirWay }
     ensures reasons { ReadsTurnBackForThreeReasons }
 {}
 
-/// Each tenant's store follows its part of a world after every run, also where a number was used up.
-pub fn runs_are_followed()
-    ensures keep { EventsAreFollowed }
-    ensures runs { RunsAreFollowed }
+/// A store alone simulates each tenant's part of a world after every run, also when a number was used up. Each
+/// event that is not a start makes at most one step of that store.
+pub fn runs_are_simulated()
+    ensures keep { EventsAreSimulated }
+    ensures runs { RunsAreSimulated }
 {}
 
-/// After every run, also where a number was used up, each reply has its place among its tenant's sealed
-/// changes, each of which fits the words before it; each request came at one line alone; and while all goes
-/// on without a start, what stands among the lines stays.
+/// After every run, also when a number was used up, each reply has its place among its tenant's lines and
+/// sealed changes. Each of these changes fits the words before it, and each request came at one line alone.
+/// Until the next start, each mark among the lines stays at its place.
 pub fn replies_have_places()
     ensures places { RepliesHavePlaces }
     ensures asks { AsksStandOnce }
@@ -89,9 +100,10 @@ pub fn replies_have_places()
     ensures long { SealsStayLong }
 {}
 
-/// A tenant's sealed changes since its last start: none are where a run begins and at each start; every other
-/// event leaves them, or adds one at the end; each fits the words after those before it, no request has two,
-/// and its file's words are those after all.
+/// The changes of a tenant that were sealed since its last start grow one by one. There are none when a run
+/// begins, and none after each start. Every other event leaves them, or adds one at the end. Each fits the
+/// words after those before it, and no request has two. The words after all of them are the words of the
+/// tenant's file.
 pub fn sealed_changes_go_on()
     ensures begin { SealsBegin }
     ensures start { StartsSealNothing }
@@ -99,9 +111,9 @@ pub fn sealed_changes_go_on()
     ensures right { SealedAreRight }
 {}
 
-/// How many changes of its tenant were sealed when a request came: it is told where the request comes, and
-/// stays told over every event but a start, while the worker has the request; so each request that is there has
-/// such a number. A line that tells that the request came tells its job.
+/// Each worker's request has a count: how many of its tenant's changes were sealed when it came. The count is
+/// known when the request comes. It stays known over every event but a start, while the worker has the request.
+/// A line that says that the request came has its job.
 pub fn requests_have_begun()
     ensures come { RequestsBegin }
     ensures stay { RequestsStayBegun }
@@ -109,17 +121,18 @@ pub fn requests_have_begun()
     ensures jobs { AsksTellTheirJobs }
 {}
 
-/// A reply that stands is right at a place among its tenant's sealed changes that is no smaller than what was
-/// sealed when its request came; so it is over a whole call; and it stays right where more is sealed.
-pub fn replies_keep_their_place()
-    ensures replies { RepliesKeepTheirPlace }
+/// A reply has a linearization point: it is right at a place among its tenant's sealed changes that is no
+/// smaller than the number of changes that were sealed when its request came. The same holds over a whole call.
+/// The reply stays right there when more changes are sealed. BUSY, FAULT and WORN are right at every place.
+pub fn replies_are_linearized()
+    ensures replies { RepliesAreLinearized }
     ensures calls { CallsKeepTheirPlace }
     ensures stay { PlacesStayRight }
 {}
 
-/// A tenant's marks, and its whole account, are changed by events of its own requests alone, and by starts. A
-/// mark that tells of a failure of its file is added by each call on its own file in which a device call
-/// fails, and by nothing else: no neighbour's failing disk leaves a mark.
+/// Only events of a tenant's own requests, and starts, change its tenant state, with its marks and its file. A
+/// mark of a failure of its file is added by each call on its own file in which a device call fails, and by
+/// nothing else. So a neighbour's failing disk leaves no mark.
 pub fn marks_are_own()
     ensures own { MarksAreOwn }
     ensures neighbours { NeighboursFaultsLeaveNoMark }
@@ -127,11 +140,15 @@ pub fn marks_are_own()
     ensures counted { FaultsAreCounted }
 {}
 
-/// A start alone changes a tenant's quota, and nothing changes how many places its file has. So after every
-/// run, also where a number was used up, the quota is the one that the last start among the tenant's marks
-/// tells, else the one with which the run began; it is within its limits, and no more than the places of the
-/// file, which are as many as at the beginning; and the pool has slots for the quotas of all tenants together.
-/// A start that tells none gives quotas that fit.
+/// A tenant's marks tell its quota. Only a start changes the quota, and nothing changes how many places the
+/// tenant's file has. After every run, also when a number was used up:
+///
+/// - The quota is the one that the last start among the marks gives, else the one with which the run began.
+/// - It is within its limits, and at most the number of the file's places, which are as many as at the
+///   beginning.
+/// - The pool has slots for the quotas of all tenants together.
+///
+/// A start that gives no quota to any tenant leaves quotas that fit.
 pub fn quotas_are_told()
     ensures events { EventsTellQuotas }
     ensures told { QuotasAreTold }
@@ -139,11 +156,11 @@ pub fn quotas_are_told()
     ensures stay { QuotasMayStay }
 {}
 
-/// Every run in which there are numbers left serves each tenant as its store alone would; runs in which a
-/// tenant began alike, and that agree on its marks, hand out the same replies to it; and its file's words hold
-/// each change that was acknowledged.
-pub fn every_run_serves_alone()
-    ensures alone { EveryRunServesAlone }
+/// The theorem. In every run in which there are numbers left, each tenant is served as its store alone would
+/// serve it. Two tenants of such runs that began alike and have the same marks are handed the same replies. The
+/// words of a tenant's file hold each change that was acknowledged.
+pub fn every_run_is_durably_linearizable()
+    ensures alone { EveryRunIsDurablyLinearizable }
     ensures equal { EqualMarksHaveEqualReplies }
-    ensures held { RunsHoldChanges }
+    ensures held { RunsKeepAcknowledged }
 {}

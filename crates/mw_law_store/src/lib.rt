@@ -1,4 +1,7 @@
-//! A tenant's part of a world follows its store alone: in every run by a relaxed step, and legally where numbers are left.
+//! The proof that a store alone simulates each tenant's part of a world. In every run each event but a start
+//! makes at most one relaxed step of the store. If there are numbers left it is a legal step.
+//!
+//! Used by: mw_law_calls, mw_simulator.
 #![tactic(auto)]
 
 mod file_laws;
@@ -10,8 +13,9 @@ pub use file_laws::{
     starts_find_words, starts_have_files, turns_keep_files,
 };
 pub use laws::{
-    changes_fit, every_run_serves_alone, late_marks_leave_replies, marks_are_own, quotas_are_told,
-    replies_have_places, replies_keep_their_place, requests_have_begun, runs_are_followed,
-    runs_are_not_worn, runs_have_grounds, sayings_are_recalled, sealed_changes_go_on,
-    sealed_come_in_order, seals_are_held, words_are_of_marks,
+    changes_fit, every_run_is_durably_linearizable, labels_keep_history_match,
+    late_marks_leave_replies, marks_are_own, quotas_are_told, replies_are_linearized,
+    replies_have_places, requests_have_begun, runs_are_not_worn, runs_are_simulated,
+    runs_have_world_facts, sealed_changes_go_on, sealed_come_in_order, seals_are_held,
+    words_are_of_marks,
 };

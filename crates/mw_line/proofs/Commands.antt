@@ -1,4 +1,5 @@
--- A command's text is read as that command, and what is read as a command is its text.
+-- A command's text is read as that command, and what is read as a command is its text. Used by: Faults, the proof of
+-- one_spelling. It may change freely as long as this crate checks.
 use Rattle.std.proofs.Common.{◌≡◌, ℕ, ◌<◌, eqb, List, [], ◌∷◌, ◌++◌, length, map, Option, Some, None, ◌⊎◌, inl, inr, refl, sym, ap, ◌∙◌, arith, append-nil, eqb-true, ne_eqb, map-id}
 use Rattle.std.specs.Prelude.{codes, flat_map, bytes_eq}
 use Rattle.std.proofs.lemmas.Bool.{eqb-false}
@@ -9,7 +10,7 @@ use Rattle.mw_words.specs.declared.jobs.Entry.{Entry}
 use Rattle.mw_words.specs.Name.{is_name}
 use Rattle.mw_line.specs.Number.{numeral}
 use Rattle.mw_line.specs.Grammar.{Command, Tenant, Admin, Get, Cas, Report, Quit, spaced, spelling, IsCommand, Spells}
-use Rattle.mw_line.specs.Reading.{Sight, plain, behind, number_at, entries_of, tenant_of, get_of, cas_of, word_of, read_behind, reading}
+use Rattle.mw_line.specs.LineReader.{Sight, plain, behind, number_at, entries_of, tenant_of, get_of, cas_of, word_of, read_behind, reading}
 use Rattle.mw_line.proofs.Fronts.{behind_found}
 use Rattle.mw_line.proofs.Numerals.{number_again, number_found}
 use Rattle.mw_line.proofs.Entries.{seen_entry, bind_some, entries_again, entries_found, length_entries, cases_cond_is}

@@ -1,8 +1,9 @@
--- Digits in front, one at a time.
+-- The digits at the front of a text are read one at a time. Used by: Numerals, Entries, the proof of digits_at. It may change
+-- freely as long as this crate checks.
 use Rattle.std.proofs.Common.{◌≡◌, ℕ, ◌+◌, ◌-◌, ◌*◌, ◌<◌, ◌≤◌, min, true, false, List, [], ◌∷◌, length, get_or, take, drop, take_all, ◌⊎◌, inl, inr, refl, sym, ap, ◌∙◌, arith, le-leb}
 use Rattle.std.proofs.lemmas.Bool.Decides.{nat_tests}
 use Rattle.mw_words.specs.Name.{is_digit}
-use Rattle.mw_line.specs.Reading.{digits_at, seen, narrow}
+use Rattle.mw_line.specs.LineReader.{digits_at, seen, narrow}
 
 pub is_digit_within : (b : ℕ) → 48 ≤ b → b ≤ 57 → is_digit b ≡ true
 is_digit_within b low high = rw (le-leb 48 b low, le-leb b 57 high) refl
@@ -13,7 +14,7 @@ no_digit_below b low = grind (arith, nat_tests)
 pub no_digit_above : (b : ℕ) → 57 < b → is_digit b ≡ false
 no_digit_above b high = grind (arith, nat_tests)
 
--- the byte in front is no digit, or there is none
+-- the first byte is no digit, or there is none
 abbrev pub Ends : List ℕ → Type 0
 Ends rest = (length rest ≡ 0) ⊎ (is_digit (get_or rest 0 0) ≡ false)
 

@@ -1,4 +1,5 @@
--- The text of entries is read as those entries, and what is read as entries is their text.
+-- The text of entries is read as those entries, and what is read as entries is their text. Used by: ChangeReader,
+-- Commands, Faults, and in mw_client and mw_config. Its statements may change with those crates; its proofs may change freely.
 use Rattle.std.proofs.Common.{◌≡◌, ℕ, zero, suc, ◌≤◌, Bool, true, false, cond, eqb, List, [], ◌∷◌, ◌++◌, length, map, Option, Some, None, ◌⊎◌, inl, inr, refl, sym, ap, subst, ◌∙◌, arith, append_assoc, eqb-true, ne_eqb, ap₂}
 use Rattle.std.specs.Prelude.{codes, flat_map}
 use Rattle.std.proofs.lemmas.List.{length-append}
@@ -6,7 +7,7 @@ use Rattle.std.proofs.lemmas.Option.{none-some, same_Some}
 use Rattle.mw_words.specs.declared.jobs.Entry.{Entry}
 use Rattle.mw_line.specs.Number.{numeral}
 use Rattle.mw_line.specs.Grammar.{entry_text, spaced}
-use Rattle.mw_line.specs.Reading.{◌>>=◌, Sight, behind, number_at, entry_at, entries_of}
+use Rattle.mw_line.specs.LineReader.{◌>>=◌, Sight, behind, number_at, entry_at, entries_of}
 use Rattle.mw_line.proofs.Digits.{Ends}
 use Rattle.mw_line.proofs.Fronts.{behind_found}
 use Rattle.mw_line.proofs.Numerals.{number_again, number_found, IsNumberRead}

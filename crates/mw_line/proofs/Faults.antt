@@ -1,4 +1,5 @@
--- A command and what a narrow reader sees of it have the same fault, and without one they are the same.
+-- A command has the same fault as what a narrow reader sees of it; without a fault they are the same. So a line is
+-- answered as read_line promises. Used by: the proof of read_line. It may change freely as long as this crate checks.
 use Rattle.std.proofs.Common.{◌≡◌, ℕ, ◌+◌, Bool, true, false, cond, ltb, leb, ◌&&◌, List, [], ◌∷◌, length, map, Option, Some, None, Result, Ok, Err, ◌⊎◌, inl, inr, refl, sym, ap, ap₂, subst, ◌∙◌, arith}
 use Rattle.std.specs.List.{list_all}
 use Rattle.std.specs.Prelude.{IfOk, ◌↔◌}
@@ -14,9 +15,9 @@ use Rattle.mw_line.specs.declared.requests.Request.TheVariants as request
 use Rattle.mw_words.specs.declared.jobs.Job.TheVariants as job
 use Rattle.mw_line.specs.Grammar.{Command, Tenant, Admin, Get, Cas, Report, Quit, IsCommand, Spells}
 use Rattle.mw_line.specs.Limits.{addr_fits, values_fit, first_fault, command_of, Answers, FitsLargestTenant}
-use Rattle.mw_line.specs.Reading.{narrow, reading, Answered}
+use Rattle.mw_line.specs.LineReader.{narrow, reading, Answered}
 use Rattle.mw_line.proofs.Entries.{seen_entry}
-use Rattle.mw_line.proofs.Gathering.{order_is_left}
+use Rattle.mw_line.proofs.ChangeReader.{order_is_left}
 use Rattle.mw_line.proofs.Commands.{seen_command, reading_again, reading_found}
 
 -- ---- entry by entry
@@ -157,7 +158,7 @@ fits_largest (request.Job (job.Cas entries)) c h =
 fits_largest request.Report c h = tt
 fits_largest request.Quit c h = tt
 
--- ---- what a line is answered
+-- ---- how a line is answered
 
 pub is_answered : (line : List ℕ) (r : Result Request LineFault) → Answered (reading narrow line) r → (c : Command) → Spells c line → Answers c r
 is_answered line r h c spells =
@@ -167,7 +168,7 @@ ok_read : (line : List ℕ) (c : Command) (r : Result Request LineFault) → Spe
 ok_read line c (Ok q) spells h = subst (λ (d : Command). Spells d line × (first_fault d ≡ None)) (sym h.1) (spells, h.0)
 ok_read line c (Err f) spells h = tt
 
--- what reading says of a line: it says no command and is answered so, or a command
+-- what reading says of a line: the line says no command, and is answered so, or it says this command
 unread : (line : List ℕ) (r : Result Request LineFault) (o : Option Command) → reading narrow line ≡ o → Answered o r → (r ≡ Err NotACommand) ⊎ ((c : Command) × Spells c line × Answers c r)
 unread line r None e h = inl h
 unread line r (Some m) e h =

@@ -1,10 +1,11 @@
--- A text in front.
+-- What `behind` and `field_at` read is the front of the bytes. Used by: Commands, Entries, the proofs of `behind` and `field`,
+-- among others. Other crates cite its statements; its proofs may change freely.
 use Rattle.std.proofs.Common.{◌≡◌, ℕ, suc, Bool, true, false, cond, eqb, ltb, List, [], ◌∷◌, ◌++◌, length, take, drop, Option, Some, None, MatchOption, refl, sym, ap, ◌⊎◌, inl, inr, arith, ◌&&◌, ◌+◌, Bor, eqb-true, eq-eqb, lt-ltb, le-ltb}
 use Rattle.std.specs.Prelude.{option_map, position}
 use Rattle.std.specs.List.{position_or_len}
 use Rattle.std.specs.Cmp.Lexicographic.{pointwise}
 use Rattle.std.proofs.lemmas.Bool.{cases_lt}
-use Rattle.mw_line.specs.Reading.{◌>>=◌, Gives, behind, field_at}
+use Rattle.mw_line.specs.LineReader.{◌>>=◌, Gives, behind, field_at}
 
 one_more : {A : Type 0} (same rest : Bool) (x : A) (read : Option A) → read ≡ cond rest (Some x) None → cond same read None ≡ cond (same && rest) (Some x) None
 one_more true rest x read e = e
@@ -23,7 +24,7 @@ taken : {A : Type 0} (same : Bool) (read : Option A) (x : A) → cond same read 
 taken true read x e = (refl, e)
 taken false read x e = absurd cc
 
--- what is read behind a text follows it
+-- what is read after a text follows it
 pub behind_found : (t b rest : List ℕ) → behind t b ≡ Some rest → b ≡ t ++ rest
 behind_found [] b rest e = cc
 behind_found (t ∷ ts) [] rest e = absurd cc
@@ -40,9 +41,9 @@ behind_text (t ∷ ts) rest = rw (eq-eqb t t refl) (behind_text ts rest)
 pub cases_eqb : (a b : ℕ) → (eqb a b ≡ true) ⊎ (eqb a b ≡ false)
 cases_eqb a b = elim (eqb a b) as (λ v. (v ≡ true) ⊎ (v ≡ false)) [ true ↦ inl refl | false ↦ inr refl ]
 
--- ---- a field by the place of its end
+-- ---- a field, by the place of its end
 
--- the field before the end at this place, and what is behind it
+-- the field before the end at this place, and the bytes after the end
 abbrev pub cut_at : List ℕ → ℕ → List ℕ × List ℕ
 cut_at bytes k = (take k bytes, drop (k + 1) bytes)
 

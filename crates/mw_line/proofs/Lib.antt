@@ -5,4 +5,4 @@ pub mod Entries
 pub mod Commands
 pub mod Faults
 pub mod Printed
-pub mod Gathering
+pub mod ChangeReader

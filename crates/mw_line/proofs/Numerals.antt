@@ -1,4 +1,5 @@
--- The digits of a number are read as that number, and what is read as a number is its digits.
+-- The digits of a number are read as that number, and what is read as a number is its digits. Used by: Commands, Entries, the
+-- proofs of number_texts and numbers_as_printed, among others. Other crates cite its statements; its proofs may change freely.
 use Rattle.std.proofs.Common.{◌≡◌, ℕ, zero, suc, ◌+◌, ◌-◌, ◌*◌, ◌/◌, ◌%◌, ◌^◌, ◌<◌, ◌≤◌, min, Bool, true, false, cond, eqb, List, [], ◌∷◌, ◌++◌, length, Some, None, ◌&&◌, ◌⊎◌, inl, inr, refl, sym, ap, ◌∙◌, arith, append_assoc, lt-ltb, le-ltb, eqb-true, ne_eqb, decimal, leb, leb-true, not, ap₂, append-nil}
 use Rattle.std.specs.Prelude.{OkIff, Result, Ok, Err, IsTrue, ◌↔◌}
 use Rattle.std.specs.List.{list_all}
@@ -9,7 +10,7 @@ use Rattle.std.proofs.lemmas.Fmt.{decimal_from_appends, length-decimal-le_succ}
 use Rattle.std.proofs.lemmas.Option.{some_pair_parts, none-some}
 use Rattle.mw_words.specs.Name.{is_digit}
 use Rattle.mw_line.specs.Number.{last_digits, numeral, is_number_text}
-use Rattle.mw_line.specs.Reading.{◌>>=◌, digits_at, seen, number_at, narrow}
+use Rattle.mw_line.specs.LineReader.{◌>>=◌, digits_at, seen, number_at, narrow}
 use Rattle.mw_line.proofs.Digits.{is_digit_within, no_digit_below, no_digit_above, one_digit, ended, Ends}
 
 -- ---- the digits themselves
@@ -38,7 +39,7 @@ pub more_numeral : (n : ℕ) → 10 ≤ n → numeral n ≡ numeral (n / 10) ++ 
 unfolding numeral
 more_numeral n high = more n n high ∙ ap (λ (ds : List ℕ). ds ++ ((48 + n % 10) ∷ [])) (enough n (suc (n / 10)) (n / 10) (omega arith) (omega arith))
 
--- one digit behind those of a number
+-- one more digit after those of a number
 pub numeral_push : (n d : ℕ) → 0 < n → d < 10 → numeral (n * 10 + d) ≡ numeral n ++ ((48 + d) ∷ [])
 numeral_push n d some low =
     let q : (n * 10 + d) / 10 ≡ n = omega arith in
@@ -94,7 +95,7 @@ digits_again see (suc k) n rest lk some =
           ∙ ap (λ (r : ℕ × List ℕ). Some (seen see r)) step
     ]
 
--- where no digit follows, a number is read as itself
+-- if no digit follows, a number is read as itself
 pub number_again : (see : ℕ → ℕ) (n : ℕ) (rest : List ℕ) → Ends rest → number_at see (numeral n ++ rest) ≡ Some (see n, rest)
 unfolding number_at
 number_again see zero rest end = ap (λ (ds : List ℕ). number_at see (ds ++ rest)) (one_numeral 0 (omega arith))

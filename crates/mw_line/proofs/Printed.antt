@@ -1,4 +1,5 @@
--- How long printed numbers are.
+-- A printed number has at most 20 digits in 64 bits, and at most 5 in 16 bits. Used by: the proofs of Say::text and
+-- put_reply. It may change freely as long as this crate checks.
 use Rattle.std.proofs.Common.{◌≡◌, ℕ, ◌^◌, ◌<◌, ◌≤◌, ◌++◌, List, [], ◌∷◌, length, decimal, ap, arith, length-append}
 use Rattle.std.proofs.lemmas.Fmt.{length-decimal-le}
 
@@ -8,7 +9,7 @@ printed_long n fits = length-decimal-le 20 n (omega arith) (omega arith) fits
 pub printed_short : (n : ℕ) → n < 2 ^ 16 → length (decimal n) ≤ 5
 printed_short n fits = length-decimal-le 5 n (omega arith) (omega arith) (omega arith)
 
--- what stands before the value of a reply that says which word differed
+-- what is before the value in a NO, which tells the word that differed
 pub no_front_short : (t a b c : List ℕ) (addr : ℕ) → addr < 2 ^ 16 → t ≡ [] → a ≡ t ++ 78 ∷ 79 ∷ 32 ∷ [] → b ≡ a ++ decimal addr → c ≡ b ++ 32 ∷ [] → length c ≤ 9
 no_front_short t a b c addr fits e1 e2 e3 e4 =
     omega (arith, printed_short addr fits, ap length e1, ap length e2, ap length e3, ap length e4, length-append t (78 ∷ 79 ∷ 32 ∷ []), length-append a (decimal addr), length-append b (32 ∷ []))

@@ -1,10 +1,12 @@
--- Which bytes are a line of the protocol, and what each line means, before any limit is looked at.
+-- Which bytes are a line of the protocol, and which command each line says. The limits are in Limits.
+-- Used by: Limits, LineReader, mw_session, mw_client, the contracts of changes.rt, laws.rt and requests.rt. A change here is a
+-- change of the protocol: docs/PROTOCOL, mw_session and both clients change with it.
 use Rattle.std.specs.Prelude.{◌≡◌, ℕ, ◌<◌, List, ◌++◌, length, codes, flat_map, IsTrue}
 use Rattle.mw_words.specs.declared.jobs.Entry.{Entry}
 use Rattle.mw_words.specs.Name.{is_name}
 use Rattle.mw_line.specs.Number.{numeral}
 
--- What a line may say. Here numbers have any size, also those of an entry, and a change has any number of entries.
+-- What a line may say. Here numbers may have any size, also those of an entry, and a change any number of entries.
 pub data Command : Type 0 where
   Tenant : List ℕ → Command
   Admin : Command
@@ -13,11 +15,11 @@ pub data Command : Type 0 where
   Report : Command
   Quit : Command
 
--- address, expected value and new value, with colons between them
+-- the text of an entry: address, expected value and new value, with colons between them
 abbrev pub entry_text : Entry → List ℕ
 entry_text e = numeral e.addr ++ codes ":" ++ numeral e.expected ++ codes ":" ++ numeral e.new
 
--- an entry with the space that stands before it
+-- an entry's text with a space before it
 abbrev pub spaced : Entry → List ℕ
 spaced e = codes " " ++ entry_text e
 

@@ -1,6 +1,6 @@
 pub mod Number
 pub mod Grammar
 pub mod Limits
-pub mod Reading
-pub mod Listing
+pub mod LineReader
+pub mod EntryList
 pub mod Replies

@@ -1,4 +1,6 @@
--- Which commands keep the limits, and what a line is answered.
+-- Which commands keep the limits, and how a line is answered.
+-- Used by: LineReader, mw_session, mw_client, the contracts of changes.rt and requests.rt. A change here changes which fault
+-- answers a line, and so the protocol.
 use Rattle.std.specs.Prelude.{◌≡◌, ◌&&◌, Bool, length, nat_le, nat_lt, if◌then◌else◌, Option, Some, None, Result, Ok, Err, IsTrue}
 use Rattle.std.specs.List.{list_all}
 use Rattle.mw_words.specs.declared.limits.TheConstants.{MAX_ENTRIES, MAX_VALUE, MAX_WORDS}
@@ -15,13 +17,13 @@ use Rattle.mw_line.specs.Grammar.{Command, Tenant, Admin, Get, Cas, Report, Quit
 abbrev pub addr_fits : Entry → Bool
 addr_fits e = nat_lt e.addr MAX_WORDS
 
--- a word can hold the entry's values
+-- a word can have the entry's values
 abbrev pub values_fit : Entry → Bool
 values_fit e = nat_le e.expected MAX_VALUE && nat_le e.new MAX_VALUE
 
--- What is wrong with a command, if anything. Of several faults it is the first in this order, each
--- looked for in all entries: too many entries, a value too large, an address that no tenant has, and
--- an address that isn't above the one before it.
+-- What is wrong with a command, if anything. Of several faults it is the first in this order, each looked for in all
+-- entries: too many entries, a value too large, an address that no tenant has, an address that isn't above the one
+-- before it.
 abbrev pub first_fault : Command → Option LineFault
 first_fault (Tenant name) = None
 first_fault Admin = None
@@ -36,7 +38,7 @@ first_fault (Cas entries) =
 first_fault Report = None
 first_fault Quit = None
 
--- the command that a request stands for
+-- the command of a request
 abbrev pub command_of : Request → Command
 command_of (request.Tenant name) = Tenant name.items
 command_of request.Admin = Admin
@@ -45,7 +47,7 @@ command_of (request.Job (job.Cas entries)) = Cas entries.items
 command_of request.Report = Report
 command_of request.Quit = Quit
 
--- a request for a job is one that a tenant with the most words may ask for
+-- if the request is a job, it is well formed for a tenant with the most words
 abbrev pub FitsLargestTenant : Request → Type 0
 FitsLargestTenant (request.Job wanted) = IsTrue (is_well_formed MAX_WORDS wanted)
 FitsLargestTenant (request.Tenant name) = Unit {0}
@@ -53,7 +55,7 @@ FitsLargestTenant request.Admin = Unit {0}
 FitsLargestTenant request.Report = Unit {0}
 FitsLargestTenant request.Quit = Unit {0}
 
--- what a line that says this command is answered: a request that stands for it, or its first fault
+-- the answer to a line that says this command: a request of this command, or the command's first fault
 abbrev pub Answers : Command → Result Request LineFault → Type 0
 Answers c (Ok r) = (first_fault c ≡ None) × (command_of r ≡ c)
 Answers c (Err fault) = first_fault c ≡ Some fault

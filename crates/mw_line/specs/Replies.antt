@@ -1,4 +1,6 @@
 -- The texts of what the server says, each with the line feed that ends it.
+-- Used by: mw_session, mw_client, mw_player, the contracts of replies.rt. A change here is a change of the protocol:
+-- docs/PROTOCOL and both clients change with it.
 use Rattle.std.specs.Prelude.{ℕ, List, ◌++◌, codes, decimal}
 use Rattle.mw_words.specs.declared.replies.Reply.{Reply}
 use Rattle.mw_words.specs.declared.replies.Reply.TheVariants as reply
@@ -9,7 +11,7 @@ use Rattle.mw_line.specs.declared.replies.ErrCode.TheVariants as fault
 use Rattle.mw_line.specs.declared.replies.Say.{Say}
 use Rattle.mw_line.specs.declared.replies.Say.TheVariants as say
 
--- what is wrong with a line, among all that may be wrong
+-- the fault of a line, among all faults that an answer may tell
 abbrev pub fault_of : LineFault → ErrCode
 fault_of line_fault.NotACommand = fault.NotACommand
 fault_of line_fault.AddressRange = fault.AddressRange
@@ -17,7 +19,7 @@ fault_of line_fault.AddressOrder = fault.AddressOrder
 fault_of line_fault.TooManyEntries = fault.TooManyEntries
 fault_of line_fault.ValueRange = fault.ValueRange
 
--- the number that stands for a fault
+-- the number of a fault
 abbrev pub number_of : ErrCode → ℕ
 number_of fault.LineTooLong = 1
 number_of fault.NotACommand = 2
@@ -30,7 +32,7 @@ number_of fault.TooManyEntries = 8
 number_of fault.ValueRange = 9
 number_of fault.WrongSession = 10
 
--- what the reply to a job says
+-- the text of the reply to a job
 abbrev pub reply_text : Reply → List ℕ
 reply_text (reply.Val value) = codes "VAL " ++ decimal value
 reply_text reply.Yes = codes "YES"

@@ -1,26 +1,30 @@
 //! The entries of a change, as a line lists them.
+//!
+//! Only `requests.rt` calls it. It may change with `specs/EntryList`, as long as `read_line` keeps its contract.
 ghost use Rattle.std.specs.Prelude.{◌≡◌, ◌<◌, ◌++◌, List, [], ◌∷◌, length, MatchResult};
 ghost use Rattle.mw_line.specs.Grammar.{Cas};
 ghost use Rattle.std.specs.List.{list_all};
 ghost use Rattle.mw_words.specs.declared.jobs.Entry.{Entry as EntryRead};
 ghost use Rattle.mw_line.specs.Limits as limits;
-ghost use Rattle.mw_line.specs.Reading as spec;
-ghost use Rattle.mw_line.specs.Reading.{Gives, narrow};
-ghost use Rattle.mw_line.specs.Listing.{Lists, ListsAll, Adds};
+ghost use Rattle.mw_line.specs.LineReader as spec;
+ghost use Rattle.mw_line.specs.LineReader.{Gives, narrow};
+ghost use Rattle.mw_line.specs.EntryList.{Lists, ListsAll, Adds};
 
 use crate::numbers::{address_at, behind, value_at};
 use crate::requests::LineFault;
 use mw_words::{Entries, Entry, MAX_VALUE, MAX_WORDS, rises};
 
-/// The entries of a line: as many as a change may have, and whether there are more. A number that
-/// is too large for its field is the greatest that the field holds, which no limit allows.
+/// The entries of a line: as many as a change may have, and whether there are more. A number that is too large for
+/// its field is kept as the field's greatest value, which no limit allows.
 #[derive(Drop)]
 pub struct Listing {
+    /// The first entries, at most as many as a change may have.
     pub kept: Entries,
+    /// Whether the line has more entries.
     pub more: bool,
 }
 
-/// The entries that are all of the bytes, with a space before each.
+/// Reads entries, each with a space before it, to the end of the bytes. `None` if the bytes are anything else.
 pub fn listing_of(bytes: &[u8]) -> Option<Listing>
     ensures { ListsAll (spec.entries_of narrow (length bytes.now) bytes.now) result }
 {
@@ -34,8 +38,8 @@ pub fn listing_of(bytes: &[u8]) -> Option<Listing>
     Some(listing)
 }
 
-/// The entry in front: its address, its expected value and its new value, with colons between them.
-#[tactic(auto, unfolding(crate::specs::Reading::entry_at))]
+/// Reads the first entry: its address, its expected value and its new value, with colons between them.
+#[tactic(auto, unfolding(crate::specs::LineReader::entry_at))]
 fn entry_at(bytes: &[u8]) -> Option<(Entry, &[u8])>
     ensures { Gives (λ x. (x.0, x.1.now)) result (spec.entry_at narrow bytes.now) }
 {
@@ -68,7 +72,11 @@ impl Listing {
         }
     }
 
-    /// The change of these entries, of which there is at least one, or its first fault.
+    /// Gives the change of these entries, of which there must be at least one.
+    ///
+    /// # Errors
+    ///
+    /// The change's first fault: see [`LineFault`].
     pub fn change(self) -> Result<Entries, LineFault>
         ensures { (es : List EntryRead) → 0 < length es → Lists es self
             → MatchResult result

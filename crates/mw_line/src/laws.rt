@@ -1,14 +1,18 @@
-//! Laws of the grammar that readers and writers of lines rest on.
+//! Laws of the protocol's grammar: a line says one command, and a number has one text. The functions do nothing.
+//!
+//! No code calls them. They follow from `specs/Grammar` and `specs/Number` alone: after a change there, they must be
+//! proved again. The lemmas behind them are in `proofs/Commands` and `proofs/Numerals`; proofs of mw_config and
+//! mw_client cite the latter.
 ghost use Rattle.std.specs.Prelude.{◌≡◌, ◌↔◌, ℕ, ◌<◌, ◌^◌, IsTrue, List, decimal};
 ghost use Rattle.mw_line.specs.Grammar.{Command, Spells};
 ghost use Rattle.mw_line.specs.Number.{numeral, is_number_text};
 
-/// Each line says one command at most. Since a command has one text, each command has one line.
+/// Each line says at most one command. Because a command has one text, each command has one line.
 pub fn one_spelling()
     ensures { (c d : Command) (line : List ℕ) → Spells c line → Spells d line → c ≡ d }
 {}
 
-/// The texts of numbers are those of the grammar: a 0 alone, or a digit of 1 to 9 and any digits.
+/// The texts of numbers are those of the grammar: a 0 alone, or a digit from 1 to 9 and then any digits.
 pub fn number_texts()
     ensures { (text : List ℕ) → IsTrue (is_number_text text) ↔ ((n : ℕ) × (text ≡ numeral n)) }
 {}

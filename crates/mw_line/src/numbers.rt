@@ -1,17 +1,20 @@
-//! What stands at the front of a text: a fixed text, a field with the byte behind it, or a number.
-//! Each reader gives the bytes behind what it read.
+//! Readers of the front of a text: a fixed text, a field up to its end byte, or a number. Each gives the bytes
+//! after what it read.
+//!
+//! Used by `requests.rt` and `changes.rt`, and by the readers of tenants files (mw_config), of replies (mw_client)
+//! and of schedules (mw_schedule). Their proofs rest on these contracts.
 ghost use Rattle.std.specs.Prelude.{◌≡◌, ◌+◌, ◌==◌, length, position, IfSome};
-ghost use Rattle.mw_line.specs.Reading as spec;
-ghost use Rattle.mw_line.specs.Reading.{Gives, narrow};
+ghost use Rattle.mw_line.specs.LineReader as spec;
+ghost use Rattle.mw_line.specs.LineReader.{Gives, narrow};
 
-/// The bytes behind `text`, if it stands in front.
+/// The bytes after `text`, if they begin with it.
 pub fn behind<'a>(text: &[u8], bytes: &'a [u8]) -> Option<&'a [u8]>
     ensures { Gives (λ x. x.now) result (spec.behind text.now bytes.now) }
 {
     bytes.strip_prefix(text)
 }
 
-/// The bytes before the first `end`, and those behind it.
+/// The bytes before the first `end`, and those after it.
 pub fn field(end: u8, bytes: &[u8]) -> Option<(&[u8], &[u8])>
     ensures read { Gives (λ x. (x.0.now, x.1.now)) result (spec.field_at end bytes.now) }
     ensures long { IfSome result (λ x. length x.0.now + 1 + length x.1.now ≡ length bytes.now) }
@@ -28,7 +31,8 @@ fn place_of(end: u8, bytes: &[u8]) -> Option<usize>
     bytes.iter().position(|byte| *byte == end)
 }
 
-/// The number in front, which has no 0 before other digits. One of more than 16 bits is `u16::MAX`.
+/// The number at the front, and the bytes after it. A number has no 0 before other digits. One of more than 16 bits
+/// is given as `u16::MAX`.
 pub fn address_at(bytes: &[u8]) -> Option<(u16, &[u8])>
     ensures { Gives (λ x. (x.0, x.1.now)) result (spec.number_at narrow.addr bytes.now) }
 {
@@ -36,8 +40,9 @@ pub fn address_at(bytes: &[u8]) -> Option<(u16, &[u8])>
     Some((u16::try_from(number).unwrap_or(u16::MAX), rest))
 }
 
-/// The number in front, which has no 0 before other digits. One of more than 64 bits is `u64::MAX`.
-#[tactic(auto, unfolding(crate::specs::Reading::number_at))]
+/// The number at the front, and the bytes after it. A number has no 0 before other digits. One of more than 64 bits
+/// is given as `u64::MAX`.
+#[tactic(auto, unfolding(crate::specs::LineReader::number_at))]
 pub fn value_at(bytes: &[u8]) -> Option<(u64, &[u8])>
     ensures { Gives (λ x. (x.0, x.1.now)) result (spec.number_at narrow.value bytes.now) }
 {

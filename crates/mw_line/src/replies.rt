@@ -1,4 +1,7 @@
 //! What the server says to a client.
+//!
+//! mw_session writes these lines, and mw_client reads them. A new [`Say`] or [`ErrCode`] needs its text in
+//! `specs/Replies`, and a case in both crates. [`MAX_REPLY`] must be as long as the longest.
 ghost use Rattle.std.specs.Prelude.{◌≡◌, ◌+◌, ◌≤◌, ◌<◌, ◌++◌, [], decimal, length};
 ghost use Rattle.mw_line.specs.Replies as spec;
 ghost use Rattle.mw_line.specs.Replies.{fault_of};
@@ -8,7 +11,7 @@ use arrayvec::ArrayVec;
 use itoa::Buffer;
 use mw_words::Reply;
 
-/// Room for the text of a [`Say`], with its line feed.
+/// Room for the text of a [`Say`], with its line feed, in bytes.
 pub const MAX_REPLY: usize = 32;
 
 /// Why a line is refused.
@@ -18,9 +21,9 @@ pub enum ErrCode {
     LineTooLong,
     /// The line isn't in the grammar.
     NotACommand,
-    /// The session speaks for nobody yet.
+    /// The session isn't bound yet.
     NotBound,
-    /// The session speaks for somebody already.
+    /// The session is bound already.
     AlreadyBound,
     /// No tenant has this name.
     NoSuchTenant,
@@ -37,7 +40,7 @@ pub enum ErrCode {
 }
 
 impl ErrCode {
-    /// The number that stands for the fault on the wire, from 1 to 10.
+    /// The number of the fault in the protocol, from 1 to 10.
     pub fn number(self) -> u8
         ensures { result ≡ spec.number_of self }
     {
@@ -73,13 +76,13 @@ impl From<LineFault> for ErrCode {
 /// One line of an answer.
 #[derive(Clone, Copy, Debug, PartialEq, Eq)]
 pub enum Say {
-    /// The session speaks for a tenant from now on, who has so many words.
+    /// The session is bound to a tenant from now on, which has so many words.
     Ok(u16),
-    /// The session speaks for the administrator from now on.
+    /// The session is bound to the administrator from now on.
     OkAdmin,
     /// The reply to a job.
     Store(Reply),
-    /// The session ends, as it was asked to.
+    /// The session ends, as the client asked.
     Bye,
     /// The line was refused.
     Err(ErrCode),
@@ -89,7 +92,7 @@ pub enum Say {
 type Text = ArrayVec<u8, MAX_REPLY>;
 
 impl Say {
-    /// The line as bytes, with its line feed.
+    /// Gives the line as bytes, with its line feed.
     #[tactic(auto, using(crate::proofs::Printed::printed_long))]
     pub fn text(&self) -> ArrayVec<u8, MAX_REPLY>
         ensures { result.items ≡ spec.text_of self.now }

@@ -1,9 +1,12 @@
 //! What a client may ask for, and how a line says it.
+//!
+//! mw_session calls [`read_line`] for each line of a client, and mw_client writes these lines. CONTRIBUTING lists
+//! under *A command* what a new request needs.
 ghost use Rattle.std.specs.Prelude.{◌≡◌, ◌↔◌, IfOk};
 ghost use Rattle.mw_line.specs.Grammar.{Command, Spells};
 ghost use Rattle.mw_line.specs.Limits.{first_fault, command_of, Answers, FitsLargestTenant};
-ghost use Rattle.mw_line.specs.Reading as spec;
-ghost use Rattle.mw_line.specs.Reading.{Answered, narrow};
+ghost use Rattle.mw_line.specs.LineReader as spec;
+ghost use Rattle.mw_line.specs.LineReader.{Answered, narrow};
 
 use crate::changes::listing_of;
 use crate::numbers::{address_at, behind};
@@ -12,9 +15,9 @@ use mw_words::{Job, MAX_WORDS, Name, is_name};
 /// What a client asks for.
 #[derive(Debug, PartialEq, Eq, Drop)]
 pub enum Request {
-    /// To speak for the tenant with this name.
+    /// To bind the session to the tenant with this name.
     Tenant(Name),
-    /// To speak as the administrator.
+    /// To bind the session to the administrator.
     Admin,
     /// A tenant's job.
     Job(Job),
@@ -24,8 +27,8 @@ pub enum Request {
     Quit,
 }
 
-/// What is wrong with a line. The faults are looked for in this order, and the first is answered: no
-/// command, too many entries, a value out of range, an address out of range, addresses out of order.
+/// What is wrong with a line. The faults are looked for in this order, and the first is answered: no command, too
+/// many entries, a value out of range, an address out of range, addresses out of order.
 #[derive(Clone, Copy, Debug, PartialEq, Eq)]
 pub enum LineFault {
     /// The line isn't in the grammar.
@@ -40,8 +43,8 @@ pub enum LineFault {
     ValueRange,
 }
 
-/// Reads a line, which comes without its line feed. How long it is doesn't matter. A line is one of these, with no other space and
-/// nothing behind it:
+/// Reads a line, given without its line feed. A line may have any length here. It is one of these, with no other space
+/// and nothing after it:
 ///
 /// ```text
 /// TENANT name          name: a to z, and then up to 15 of a to z, 0 to 9 and -
@@ -52,22 +55,26 @@ pub enum LineFault {
 /// QUIT
 /// ```
 ///
-/// A number is `0`, or a digit from 1 to 9 and any number of digits. A line that is none of these is
-/// no command. One that is may still break a limit: see [`LineFault`].
+/// A number is `0`, or a digit from 1 to 9 and then any digits.
+///
+/// # Errors
+///
+/// [`LineFault::NotACommand`] if the line is none of these. Else the first limit that the line breaks: see
+/// [`LineFault`].
 pub fn read_line(line: &[u8]) -> Result<Request, LineFault>
-    // What is read is what the line says, and keeps the limits.
+    // A request that is read is what the line says, and keeps the limits.
     ensures read { IfOk result (λ r. Spells (command_of r) line.now × (first_fault (command_of r) ≡ None)) }
     // A job that is read is well formed for a tenant with the most words.
     ensures fits { IfOk result FitsLargestTenant }
     // A line that says a command is answered by that command, or by the command's first fault.
     ensures answered { (c : Command) → Spells c line.now → Answers c result }
-    // Just the lines that say no command are answered so.
+    // A line is answered so just if it says no command.
     ensures not_a_command { (result ≡ Err LineFault.NotACommand) ↔ ((c : Command) → ¬ Spells c line.now) }
 {
     request_of(line)
 }
 
-#[tactic(auto, unfolding(crate::specs::Reading::reading))]
+#[tactic(auto, unfolding(crate::specs::LineReader::reading))]
 fn request_of(line: &[u8]) -> Result<Request, LineFault>
     ensures { Answered (spec.reading narrow line.now) result }
 {
@@ -83,7 +90,7 @@ fn request_of(line: &[u8]) -> Result<Request, LineFault>
     one_word(line)
 }
 
-#[tactic(auto, unfolding(crate::specs::Reading::tenant_of))]
+#[tactic(auto, unfolding(crate::specs::LineReader::tenant_of))]
 fn tenant(name: &[u8]) -> Result<Request, LineFault>
     ensures { Answered (spec.tenant_of name.now) result }
 {
@@ -93,7 +100,7 @@ fn tenant(name: &[u8]) -> Result<Request, LineFault>
     }
 }
 
-#[tactic(auto, unfolding(crate::specs::Reading::get_of))]
+#[tactic(auto, unfolding(crate::specs::LineReader::get_of))]
 fn get(text: &[u8]) -> Result<Request, LineFault>
     ensures { Answered (spec.get_of narrow text.now) result }
 {
@@ -104,7 +111,7 @@ fn get(text: &[u8]) -> Result<Request, LineFault>
     }
 }
 
-#[tactic(auto, unfolding(crate::specs::Reading::cas_of))]
+#[tactic(auto, unfolding(crate::specs::LineReader::cas_of))]
 fn cas(text: &[u8]) -> Result<Request, LineFault>
     ensures { Answered (spec.cas_of narrow text.now) result }
 {
@@ -118,7 +125,7 @@ fn cas(text: &[u8]) -> Result<Request, LineFault>
     Ok(Request::Job(Job::Cas(entries)))
 }
 
-#[tactic(auto, unfolding(crate::specs::Reading::word_of))]
+#[tactic(auto, unfolding(crate::specs::LineReader::word_of))]
 fn one_word(line: &[u8]) -> Result<Request, LineFault>
     ensures { Answered (spec.word_of line.now) result }
 {

@@ -1,8 +1,9 @@
--- Whether words are what they were and as many more as changes of them were made.
+-- When each word is its old value plus the number of changes of it that were made.
+-- Used by: the contracts of src/sums.rt. A change here changes what these contracts say.
 use Rattle.std.specs.Prelude.{◌≡◌, ℕ, ◌+◌, ◌-◌, ◌^◌, ◌<◌, ◌&&◌, min, List, [], ◌∷◌, length, nat_le, nat_lt, slice_index, if◌then◌else◌}
-use Rattle.mw_load.specs.declared.loading.Done.{Done}
+use Rattle.mw_load.specs.declared.crowd.Done.{Done}
 
--- numbers stay at the greatest of 64 bits
+-- a number, at most the greatest of 64 bits
 abbrev pub capped : ℕ → ℕ
 capped n = min n (2 ^ 64 - 1)
 
@@ -11,12 +12,12 @@ abbrev pub made_at : ℕ → Done → ℕ
 made_at address done =
     if nat_le done.task.first address && nat_lt (address - done.task.first) done.task.words then done.counts.made else 0
 
--- how many all of them made, beside so many
+-- how many all of them made, added to a sum
 abbrev pub made_beside : ℕ → ℕ → List Done → ℕ
 made_beside sum address [] = sum
 made_beside sum address (d ∷ done) = made_beside (capped (sum + made_at address d)) address done
 
--- Each word is what it was and as many more as changes of it were made.
+-- Each word is its old value plus the number of changes of it that were made. Sums stop at the greatest of 64 bits.
 abbrev pub AreSums : List ℕ → List ℕ → List Done → Type 0
 AreSums before after done = (address : ℕ) → address < length before
     → slice_index after address ≡ capped (slice_index before address + made_beside 0 address done)

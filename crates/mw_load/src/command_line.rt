@@ -1,4 +1,6 @@
-//! What the command line asks for.
+//! Reads what the command line asks for.
+//!
+//! Used by: `run`.
 use arrayvec::ArrayVec;
 use clap::builder::ValueParser;
 use clap::{Arg, ArgAction, ArgMatches, Command};
@@ -6,7 +8,7 @@ use mw_main::VERSION;
 use mw_words::{MAX_ENTRIES, Name};
 use std::alloc::{AllocError, Global};
 
-/// The most clients, which is as many as a server serves at once.
+/// The most clients: as many as a server serves at once.
 const MAX_CLIENTS: u64 = 64;
 
 /// The longest run, in seconds.
@@ -15,7 +17,7 @@ const MAX_SECONDS: u64 = 60_000;
 /// The most lines that a client sends before it reads a reply.
 pub const MAX_PIPELINE: usize = 64;
 
-/// What is to be run.
+/// What is run.
 #[derive(Drop)]
 pub struct Settings {
     /// Where the server listens.
@@ -28,7 +30,7 @@ pub struct Settings {
     pub words: u16,
     /// For how many seconds they work.
     pub seconds: u64,
-    /// Whether all clients change the same words, and not each its own.
+    /// Whether all clients change the same words. If not, each changes its own.
     pub shared: bool,
     /// How many of a hundred requests are reads.
     pub reads: u64,
@@ -36,12 +38,11 @@ pub struct Settings {
     pub pipeline: u16,
 }
 
-/// Reads a command line, the program's own name first.
+/// Reads a command line. Its first argument is the program's own name.
 ///
 /// # Errors
 ///
-/// Clap's, with the text that is to be shown; also where help or the version is asked for, and where
-/// memory was refused.
+/// Clap's, with the text to show; also if help or the version is asked for, or memory was refused.
 pub fn read_args(alloc: Global, args: &[String]) -> Result<Settings, clap::Error> {
     let matches = command(alloc)?.try_get_matches_from(args)?;
     let address = matches.get_str("connect").unwrap_or("");
@@ -58,7 +59,7 @@ pub fn read_args(alloc: Global, args: &[String]) -> Result<Settings, clap::Error
     })
 }
 
-/// The number of an option, which its parser has looked at.
+/// Gives the number of an option, which its parser has checked.
 fn number_of(matches: &ArgMatches<'_>, name: &str) -> u16 {
     matches.get_one::<u16>(name).unwrap_or(0)
 }
@@ -70,7 +71,7 @@ fn command<'a>(alloc: Global) -> Result<Command<'a>, AllocError> {
     add_switches(alloc, add_sizes(alloc, add_places(alloc, command)?)?)
 }
 
-/// The command with the options that say whose words are changed.
+/// Adds the options that say whose words are changed.
 fn add_places<'a>(alloc: Global, command: Command<'a>) -> Result<Command<'a>, AllocError> {
     let connect = text(alloc, "connect", "ADDR")
         .required(true)
@@ -81,7 +82,7 @@ fn add_places<'a>(alloc: Global, command: Command<'a>) -> Result<Command<'a>, Al
     command.arg(connect)?.arg(tenant)
 }
 
-/// The command with the options that say how much is done.
+/// Adds the options that say how much is done.
 fn add_sizes<'a>(alloc: Global, command: Command<'a>) -> Result<Command<'a>, AllocError> {
     let clients = number(alloc, "clients", "N", 1, MAX_CLIENTS)
         .required(true)
@@ -95,7 +96,7 @@ fn add_sizes<'a>(alloc: Global, command: Command<'a>) -> Result<Command<'a>, All
     command.arg(clients)?.arg(words)?.arg(seconds)
 }
 
-/// The command with the options that say what each client asks for.
+/// Adds the options that say what each client asks for.
 fn add_switches<'a>(alloc: Global, command: Command<'a>) -> Result<Command<'a>, AllocError> {
     let shared = Arg::new(alloc, "shared")
         .long("shared")
@@ -110,7 +111,7 @@ fn add_switches<'a>(alloc: Global, command: Command<'a>) -> Result<Command<'a>, 
     command.arg(shared)?.arg(reads)?.arg(pipeline)
 }
 
-/// An option with a text.
+/// Makes an option with a text.
 fn text<'a>(alloc: Global, name: &'a str, value: &'a str) -> Arg<'a> {
     Arg::new(alloc, name)
         .long(name)
@@ -118,7 +119,7 @@ fn text<'a>(alloc: Global, name: &'a str, value: &'a str) -> Arg<'a> {
         .action(ArgAction::Set)
 }
 
-/// An option with a number from `least` to `most`.
+/// Makes an option with a number from `least` to `most`.
 fn number<'a>(alloc: Global, name: &'a str, value: &'a str, least: u64, most: u64) -> Arg<'a> {
     text(alloc, name, value).value_parser(ValueParser::unsigned(least, most))
 }

@@ -1,4 +1,6 @@
-//! How long replies took.
+//! Counts how long replies took.
+//!
+//! Used by: `client`, `crowd`, `run`.
 use std::alloc::{AllocError, Global};
 
 /// How many counts there are.
@@ -10,7 +12,7 @@ const STEPS: u64 = 16;
 /// The most octaves that are looked through.
 const OCTAVES: u64 = 60;
 
-/// How often replies took how long, in nanoseconds, each to within a sixteenth of itself.
+/// How many replies took how long, in nanoseconds, each to within a sixteenth of its time.
 #[derive(Drop)]
 pub struct Latencies {
     counts: Vec<u64>,
@@ -19,11 +21,11 @@ pub struct Latencies {
 }
 
 impl Latencies {
-    /// No reply yet.
+    /// Makes the counts before any reply.
     ///
     /// # Errors
     ///
-    /// There is no memory for the counts.
+    /// Memory was refused.
     pub fn new(alloc: Global) -> Result<Latencies, AllocError> {
         let mut counts = Vec::with_capacity(alloc, BUCKETS)?;
         counts.resize(BUCKETS, 0)?;
@@ -43,7 +45,7 @@ impl Latencies {
         self.slowest = self.slowest.max(nanos);
     }
 
-    /// Counts all that the other has counted.
+    /// Adds all that the other has counted.
     pub fn add(&mut self, other: &Latencies) {
         for (count, more) in self.counts.iter_mut().zip(other.counts.iter()) {
             *count = count.saturating_add(*more);
@@ -52,12 +54,12 @@ impl Latencies {
         self.slowest = self.slowest.max(other.slowest);
     }
 
-    /// How many nanoseconds the slowest reply took.
+    /// Gives how many nanoseconds the slowest reply took.
     pub fn slowest(&self) -> u64 {
         self.slowest
     }
 
-    /// How many nanoseconds so many of a thousand replies took at most; 0 where there was none.
+    /// Gives within how many nanoseconds so many of a thousand replies came; 0 if there was no reply.
     pub fn within(&self, of_a_thousand: u64) -> u64 {
         let rank = u128::from(self.total) * u128::from(of_a_thousand);
         let mut seen: u64 = 0;
@@ -71,7 +73,7 @@ impl Latencies {
     }
 }
 
-/// Which count is that of so many nanoseconds.
+/// Gives which count is that of so many nanoseconds.
 fn bucket(nanos: u64) -> usize {
     let mut steps = nanos;
     for octave in 0..OCTAVES {
@@ -83,7 +85,7 @@ fn bucket(nanos: u64) -> usize {
     BUCKETS - 1
 }
 
-/// The most nanoseconds that are counted in this place.
+/// Gives the most nanoseconds that are counted in this place.
 fn edge(place: u64) -> u64 {
     if place < 2 * STEPS {
         return place;

@@ -1,15 +1,15 @@
-//! A load for a server: clients that change and read words all the time, how long they wait, and whether
-//! the words are right afterwards. The program `mwbench` is this library on a command line.
+//! Loads a server: clients change and read words all the time. It measures how long they wait, and checks
+//! whether the words are right afterwards. The program `mwbench` is this library on a command line.
 //!
-//! Each client adds 1 to each of its words by one change, again and again. So afterwards each word has to
-//! be what it was and as many more as there were replies `YES` to changes of it.
+//! Each client adds 1 to each of its words by one change, again and again. So afterwards each word must be
+//! its old value plus the number of replies `YES` to changes of it.
 #![tactic(auto)]
 
-mod asking;
+mod client;
 mod command_line;
+mod crowd;
 mod latencies;
-mod loading;
-mod running;
+mod run;
 mod sums;
 
-pub use running::load;
+pub use run::load;

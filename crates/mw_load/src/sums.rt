@@ -1,11 +1,14 @@
-//! Whether the words are right afterwards.
+//! Checks whether the words are right afterwards.
+//!
+//! Used by: `run`.
 ghost use Rattle.std.specs.Prelude.{◌≡◌, true};
 ghost use Rattle.mw_load.specs.Sums as spec;
 ghost use Rattle.mw_load.specs.Sums.{AreSums};
 
-use crate::loading::Done;
+use crate::crowd::Done;
 
-/// Whether each word is what it was and as many more as changes of it were made.
+/// Gives true only if each word is its old value plus the number of changes of it that were made. Sums stop
+/// at `u64::MAX`.
 pub fn are_sums(before: &[u64], after: &[u64], done: &[Done]) -> bool
     ensures { result ≡ true → AreSums before.now after.now done.now }
 {
@@ -21,7 +24,7 @@ pub fn are_sums(before: &[u64], after: &[u64], done: &[Done]) -> bool
     true
 }
 
-/// How many changes of the word at an address were made.
+/// Gives how many changes of the word at an address were made, at most `u64::MAX`.
 fn changes_of(address: usize, done: &[Done]) -> u64
     ensures { result ≡ spec.made_beside 0 address done.now }
 {
@@ -32,7 +35,7 @@ fn changes_of(address: usize, done: &[Done]) -> u64
     sum
 }
 
-/// How many changes of the word at an address a client made.
+/// Gives how many changes of the word at an address a client made.
 fn made_at(address: usize, done: &Done) -> u64
     ensures { result ≡ spec.made_at address done.now }
 {

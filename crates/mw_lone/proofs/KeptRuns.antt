@@ -1,4 +1,6 @@
--- What every run of the store alone keeps, mark by mark.
+-- Every mark keeps the words words, their number, the store sound, and the slots within the quota. Used by: the proofs of
+-- words_stay_words and used_stays_within, mw_law_store, among others. Its statements may change with those crates; its proofs may
+-- change freely.
 use Rattle.std.specs.Prelude.{ℕ, ◌≡◌, ◌≤◌, ◌+◌, ◌-◌, ◌&&◌, not, Bool, true, false, List, [], ◌∷◌, ◌++◌, length, Option, Some, None, IsTrue, nat_lt, if◌then◌else◌}
 use Rattle.std.specs.Option.{option_and_then, option_map, option_map_or, option_to_list, unwrap_or}
 use Rattle.std.proofs.Common.{refl, sym, ap, subst, ◌∙◌, arith, append_assoc, append-nil}
@@ -49,7 +51,7 @@ replies-extend s t (m ∷ marks) mark h =
     let said = option_to_list (outgoing s m) in
     ap (λ xs. said ++ xs) (replies_on (step s m) t marks mark h (λ u e. replies-extend u t marks mark e)) ∙ sym (append_assoc said _ _)
 
--- what every store keeps that came from such words
+-- what every store keeps that came from these words
 pub record IsKept (first : List ℕ) (s : Store) : Type 0 where
   pub are_words : AreWords first → AreWords s.words
   pub as_many : length s.words ≡ length first
@@ -71,7 +73,7 @@ kept_if : (first : List ℕ) (b : Bool) (s t : Store) → (if b then Some s else
 kept_if first true s t e h = subst (IsKept first) (same_Some s t e) (h refl)
 kept_if first false s t e h = absurd (none-some t e)
 
--- a request changes, and not its job
+-- a request changes, but not its job
 kept_request : (first : List ℕ) (s : Store) (n : ℕ) (r after : RequestState) → request s n ≡ Some r → after.job ≡ r.job → IsKept first s → IsKept first (with_request s n after)
 kept_request first s n r after at job k =
     let fine = subst (λ j. IsTrue (is_well_formed (length s.words) j)) (sym job) (k.sound.jobs n r at) in
@@ -90,7 +92,7 @@ kept_put first s es h k = record {
   within = k.within;
 }
 
--- a request that is asked has a change whose entries are of words that are there
+-- the entries of a request that was asked are of words that are there
 kept_fits : (first : List ℕ) (s : Store) (n : ℕ) (r : RequestState) → request s n ≡ Some r → IsKept first s → IsTrue (list_all (is_in_range (length s.words)) (entries_of r.job))
 kept_fits first s n r at k = entries-fit (length s.words) r.job (k.sound.jobs n r at)
 

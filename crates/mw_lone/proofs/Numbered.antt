@@ -1,4 +1,5 @@
--- A list of requests as the map from their numbers: what it answers, and what a change of the list does to it.
+-- A change of the list of requests is the same change of the map from their numbers. Used by: the proofs of the calls
+-- of Requests. It may change freely as long as this crate checks.
 use Rattle.std.proofs.Common.{◌≡◌, ◌≢◌, ℕ, zero, suc, ◌+◌, ◌-◌, ◌<◌, ◌≤◌, Bool, true, false, cond, ◌&&◌, List, [], ◌∷◌, ◌++◌, length, refl, sym, ap, ◌∙◌, arith, Option, Some, None, inl, inr, length-append, get_or, IsSome, IsSomeAnd, IfSome, subst}
 use Rattle.std.proofs.lemmas.Option.{none-some, same_Some, slice_get_within, slice_get_past, slice_get_read, get_or_from_slice_get}
 use Rattle.std.proofs.lemmas.Bool.{cases_lt, cases_eq}
@@ -24,7 +25,7 @@ pub numbered-below : (first : ℕ) (rs : List Kept) (n : ℕ) → n < first → 
 numbered-below first [] n h = map.get-empty nat_cmp n
 numbered-below first (r ∷ rs) n h = get-insert_other (numbered (first + 1) rs) first n (seen r) (omega arith) ∙ numbered-below (first + 1) rs n (omega arith)
 
--- the numbers from the first on have the list's requests in order
+-- the numbers from the first on have the list's requests, in order
 pub numbered-at : (first : ℕ) (rs : List Kept) (i : ℕ) → map.get (numbered first rs) (first + i) ≡ option_map seen (slice_get rs i)
 numbered-at first [] i = map.get-empty nat_cmp (first + i)
 numbered-at first (r ∷ rs) zero = get-insert_same (numbered (first + 1) rs) first (first + 0) (seen r) (omega arith)
@@ -35,7 +36,7 @@ numbered-at first (r ∷ rs) (suc i) =
 pub numbered-get : (first : ℕ) (rs : List Kept) (n : ℕ) → first ≤ n → map.get (numbered first rs) n ≡ option_map seen (slice_get rs (n - first))
 numbered-get first rs n h = let e : n ≡ first + (n - first) = omega arith in ap (map.get (numbered first rs)) e ∙ numbered-at first rs (n - first)
 
--- a map that answers so is the list's
+-- a map with these answers is the list's map
 same_answers : (first : ℕ) (rs : List Kept) (m : Requests) → ((n : ℕ) → n < first → map.get m n ≡ None) → ((i : ℕ) → map.get m (first + i) ≡ option_map seen (slice_get rs i)) → (q : ℕ) → map.get (numbered first rs) q ≡ map.get m q
 same_answers first rs m below at q =
     elim (cases_lt q first) [
@@ -68,7 +69,7 @@ slice_get-push_other [] (suc j) r h = refl
 slice_get-push_other (x ∷ rs) zero r h = refl
 slice_get-push_other (x ∷ rs) (suc j) r h = slice_get-push_other rs j r (λ e. h (omega arith))
 
--- to write into the list is to write under the number
+-- a write into the list is a write under the number
 pub numbered-set : (first : ℕ) (rs : List Kept) (i : ℕ) (r : Kept) → i < length rs → numbered first (set rs i r) ≡ map.insert (numbered first rs) (first + i) (seen r)
 numbered-set first rs i r h =
     numbered-is first (set rs i r) (map.insert (numbered first rs) (first + i) (seen r))
@@ -78,7 +79,7 @@ numbered-set first rs i r h =
       | inr n ↦ get-insert_other (numbered first rs) (first + i) (first + j) (seen r) (λ e. n (omega arith)) ∙ numbered-at first rs j ∙ sym (ap (option_map seen) (slice_get-set_other rs i j r n))
     ])
 
--- to push a request is to give it the next number
+-- a push of a request gives it the next number
 pub numbered-push : (first : ℕ) (rs : List Kept) (r : Kept) → numbered first (rs ++ r ∷ []) ≡ map.insert (numbered first rs) (first + length rs) (seen r)
 numbered-push first rs r =
     numbered-is first (rs ++ r ∷ []) (map.insert (numbered first rs) (first + length rs) (seen r))
@@ -88,7 +89,7 @@ numbered-push first rs r =
       | inr n ↦ get-insert_other (numbered first rs) (first + length rs) (first + j) (seen r) (λ e. n (omega arith)) ∙ numbered-at first rs j ∙ sym (ap (option_map seen) (slice_get-push_other rs j r n))
     ])
 
--- where a request of the list stands
+-- the place of a request in the list
 pub record Found (first : ℕ) (rs : List Kept) (n : ℕ) (r : RequestState) : Type 0 where
   pub low : first ≤ n
   pub within : n - first < length rs
@@ -109,7 +110,7 @@ found first rs n r h =
       | inr l ↦ found_at first rs n r l (slice_get rs (n - first)) refl (sym (numbered-get first rs n l) ∙ h)
     ]
 
--- what holds of the request that stands there
+-- a fact of the request at that place
 of_found : (first : ℕ) (rs : List Kept) (n : ℕ) (o : Option RequestState) → map.get (numbered first rs) n ≡ o → (P : RequestState → Type 0) → IsSomeAnd o P → (r : RequestState) × Found first rs n r × P r
 of_found first rs n None e P h = absurd h
 of_found first rs n (Some r) e P h = (r, found first rs n r e, h)
@@ -130,11 +131,11 @@ if_found_at : (first : ℕ) (rs : List Kept) (n : ℕ) (x : Kept) (P : RequestSt
 if_found_at first rs n x P at h None e = tt
 if_found_at first rs n x P at h (Some r) e = subst P (ap seen at ∙ sym ((found first rs n r e).is x)) h
 
--- a fact of the request that stands in the list is one of the request of that number
+-- a fact of the request in the list is a fact of the request of that number
 pub if_found : (first : ℕ) (rs : List Kept) (n : ℕ) (x : Kept) (P : RequestState → Type 0) → x ≡ get_or rs (n - first) x → P (seen x) → IfSome (map.get (numbered first rs) n) P
 if_found first rs n x P at h = if_found_at first rs n x P at h (map.get (numbered first rs) n) refl
 
--- to write into the list is to write under the number, and no number comes of it
+-- a write into the list is a write under the number, and the next number stays
 pub written : (first n used : ℕ) (rs : List Kept) (y : Kept) → first ≤ n → n - first < length rs → ◌≡◌ {A = Asked} (record { next = first + length (set rs (n - first) y); used = used; requests = numbered first (set rs (n - first) y) }) (record { next = first + length rs; used = used; requests = map.insert (numbered first rs) n (seen y) })
 written first n used rs y low h =
     let e : first + (n - first) ≡ n = omega arith in
@@ -146,11 +147,11 @@ one_at_most : (b : Bool) → cond b 1 0 ≤ 1
 one_at_most true = omega arith
 one_at_most false = omega arith
 
--- a request that is written gets one slot at most
+-- a written request has at most one slot more
 pub slots-taken : (rs : List Kept) (i : ℕ) (y : Kept) → i < length rs → count_by holds_slot (set rs i y) ≤ count_by holds_slot rs + 1
 slots-taken rs i y h = omega (arith, sum_by-set (λ (r : Kept). cond (holds_slot r) 1 0) rs i y y h, one_at_most (holds_slot y))
 
--- a slot less where a request gives one back
+-- one slot less if a request gives one back
 pub slots-given : (rs : List Kept) (i : ℕ) (x y : Kept) → i < length rs → x ≡ get_or rs i x → holds_slot x ≡ true → holds_slot y ≡ false → count_by holds_slot (set rs i y) + 1 ≡ count_by holds_slot rs
 slots-given rs i x y h at with without =
     let f = λ (r : Kept). cond (holds_slot r) 1 0 in
@@ -164,7 +165,7 @@ pub read-is : (rs : List Kept) (i : ℕ) (r : Option (Bor Kept)) → IsItemAt rs
 read-is rs i None h = let past : length rs ≤ i = grind (arith, nat_tests, h.0) in sym (ap (option_map seen) (slice_get_past rs i past))
 read-is rs i (Some x) h = let within : i < length rs = grind (arith, nat_tests, h.0) in sym (ap (option_map seen) (slice_get_read rs (length rs) i x.now refl within h.1))
 
--- to push a request is to give it the next number, and one number comes of it
+-- a push of a request gives it the next number, and the next number rises by one
 pub pushed : (first used : ℕ) (rs : List Kept) (y : Kept) → ◌≡◌ {A = Asked} (record { next = first + length (rs ++ y ∷ []); used = used; requests = numbered first (rs ++ y ∷ []) }) (record { next = first + length rs + 1; used = used; requests = map.insert (numbered first rs) (first + length rs) (seen y) })
 pushed first used rs y =
     let len : first + length (rs ++ y ∷ []) ≡ first + length rs + 1 = simp length-append (omega arith) in

@@ -1,4 +1,5 @@
--- The quota of a store: a start tells it, and no other mark touches it.
+-- A start gives a store its quota, and no other mark changes it. Used by: the proof of quotas_are_of_starts. It may change freely
+-- as long as this crate checks.
 use Rattle.std.specs.Prelude.{ℕ, ◌≡◌, ◌&&◌, Bool, true, false, List, [], ◌∷◌, Option, Some, None, if◌then◌else◌}
 use Rattle.std.specs.Option.{option_and_then}
 use Rattle.std.specs.List.{slice_get}

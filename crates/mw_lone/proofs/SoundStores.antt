@@ -1,4 +1,5 @@
--- A store stays sound: what its requests and its entries in doubt are, after each change of its parts.
+-- A store stays sound when one of its parts changes. Used by: KeptRuns, the proofs of Lone's calls, mw_law_store, among others.
+-- Its statements may change with those crates; its proofs may change freely.
 use Rattle.std.specs.Prelude.{ℕ, zero, suc, ◌≡◌, ◌≢◌, ◌<◌, ◌≤◌, ◌&&◌, Bool, true, false, cond, List, [], ◌∷◌, length, nat_le, Some, IsTrue}
 use Rattle.std.proofs.Common.{refl, sym, ap, subst, ◌∙◌, arith, inl, inr, eqb}
 use Rattle.std.proofs.Math.ListN.{set, length-set}
@@ -41,7 +42,7 @@ sound-new_store words in_doubt e = record {
   doubts = subst (λ es. IsTrue (list_all (is_in_range (length words)) es)) (sym e) refl;
 }
 
--- a request is written whose job is well formed
+-- a request whose job is well formed is written
 pub sound-insert : (words : List ℕ) (m : Requests) (in_doubt : List Entry) (n : ℕ) (r : RequestState) → IsTrue (is_well_formed (length words) r.job) → IsSound words m in_doubt → IsSound words (map.insert m n r) in_doubt
 sound-insert words m in_doubt n r fine s = record {
   jobs = λ q x h. elim (cases_eq q n) [
@@ -51,7 +52,7 @@ sound-insert words m in_doubt n r fine s = record {
   doubts = s.doubts;
 }
 
--- the words change, and not how many they are
+-- the words change, but not how many they are
 pub sound-words : (words after : List ℕ) (m : Requests) (in_doubt : List Entry) → length after ≡ length words → IsSound words m in_doubt → IsSound after m in_doubt
 sound-words words after m in_doubt e s = record {
   jobs = λ n r h. subst (λ k. IsTrue (is_well_formed k r.job)) (sym e) (s.jobs n r h);
@@ -78,7 +79,7 @@ pub entries-fit : (n : ℕ) (job : Job) → IsTrue (is_well_formed n job) → Is
 entries-fit n (Get addr) h = refl
 entries-fit n (Cas entries) h = and_third (nat_le 1 (length entries.items)) (nat_le (length entries.items) MAX_ENTRIES) (list_all (is_in_range n) entries.items) (rises entries.items) h
 
--- a value that is to be written is one of a word
+-- the new value of an entry in range is a value of a word
 pub new_fits : (n : ℕ) (e : Entry) → is_in_range n e ≡ true → e.new ≤ MAX_VALUE
 new_fits n e h = grind (arith, nat_tests)
 

@@ -1,4 +1,5 @@
 -- The requests asked since the last start, as a list and as a map from their numbers.
+-- Used by: the contracts of asked.rt. It ties the list in code to the map of Store: it may change with src/asked.rt.
 use Rattle.std.specs.Prelude.{ℕ, ◌+◌, ◌≤◌, ◌&&◌, ◌^◌, ◌<◌, not, Bool, List, [], ◌∷◌, length}
 use Rattle.std.specs.List.{count_by}
 use Rattle.std.specs.Ordering.{nat_cmp}
@@ -21,16 +22,16 @@ seen r = record { job = r.job; admitted = r.admitted; placed = r.placed; retired
 abbrev pub holds_slot : Kept → Bool
 holds_slot r = r.admitted && not r.retired
 
--- the requests of a list under the numbers from a first one on
+-- the requests of a list as a map; the first has the number `first`, and each further one the next
 abbrev pub numbered : ℕ → List Kept → map.FinMap nat_cmp RequestState
 numbered first [] = map.empty
 numbered first (r ∷ rs) = map.insert (numbered (first + 1) rs) first (seen r)
 
--- what stands in the list
+-- what the list and its counts represent
 abbrev pub asked_of : Inside → Asked
 asked_of a = record { next = a.first + length a.list.items; used = a.used; requests = numbered a.first a.list.items }
 
--- every number is below the last of all, and no fewer slots are counted than requests have one
+-- The next number is at most the last of all. At least as many slots are counted as requests have one.
 pub record IsCounted (first : ℕ) (list : List Kept) (used : ℕ) : Type 0 where
   pub numbers : first + length list < 2 ^ 64
   pub slots : count_by holds_slot list ≤ used

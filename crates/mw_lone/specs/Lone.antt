@@ -1,4 +1,5 @@
--- The store alone as a value, and how it answers a mark.
+-- The store alone as a value in code, and how it answers a mark.
+-- Used by: the contracts of store.rt. It may change with src/store.rt. What is legal is said by Store.
 use Rattle.std.specs.Prelude.{◌-◌, ◌^◌, ◌≡◌, ◌==◌, ◌||◌, Bool, true, false, Option, Some, None, Result, Ok, Err, is_none}
 use Rattle.std.specs.Option.{option_map}
 use Rattle.mw_words.specs.declared.replies.Reply.{Reply}
@@ -9,7 +10,7 @@ use Rattle.mw_lone.specs.declared.store.Lone.TheInside.{Inside}
 use Rattle.mw_lone.specs.declared.store.LoneFault.{LoneFault}
 use Rattle.mw_lone.specs.declared.store.LoneFault.TheVariants.{Illegal}
 
--- what its parts make of it
+-- the store that its parts make
 abbrev pub store_of : Inside → Store
 store_of a = record {
   words = a.words.items;
@@ -30,20 +31,22 @@ abbrev pub is_ask : Mark → Bool
 is_ask (Ask n job) = true
 is_ask mark = false
 
--- the mark is that a request comes under the last of all numbers, after which there is none
+-- the mark is that a request comes under the last number, after which there is none
 abbrev pub asks_last : Mark → Bool
 asks_last (Ask n job) = n == 2 ^ 64 - 1
 asks_last mark = false
 
--- the mark is refused: it is illegal, or there is no number after it
+-- the mark is refused: it is illegal, or asks under the last number
 abbrev pub is_refused : Store → Mark → Bool
 is_refused s mark = is_none (step s mark) || asks_last mark
 
--- what becomes of a store and a mark, where this is the store after it and this the reply that it hands out
+-- what the call must do: with the store after a legal mark and the reply that it hands out, answer this reply and
+-- become that store; with none, refuse and stay
 abbrev pub Does : Option Store → Option Reply → Store → Result (Option Reply) LoneFault → Store → Type 0
 Does (Some t) reply s answer now = (answer ≡ Ok reply) × (now ≡ t)
 Does None reply s answer now = (answer ≡ Err Illegal) × (now ≡ s)
 
--- A legal mark is taken: it is answered with the reply that it hands out, and the store is the one after it. An illegal one is refused, and the store stays what it was.
+-- A legal mark is taken: the answer is the reply that it hands out, and the store is the one after it. An illegal mark
+-- is refused, and the store stays as it was.
 abbrev pub Takes : Store → Mark → Result (Option Reply) LoneFault → Store → Type 0
 Takes s mark answer now = Does (step s mark) (reply_of s mark) s answer now

@@ -1,4 +1,5 @@
--- What every store keeps: each job that was asked for is well formed, and each entry in doubt is of a word that is there.
+-- What every store keeps: its jobs are well formed, and its change in doubt is of words that are there.
+-- Used by: the contracts of store.rt. It is what store.rt keeps from call to call; a clause may be added if each call keeps it.
 use Rattle.std.specs.Prelude.{ℕ, ◌≡◌, List, length, Some, IsTrue}
 use Rattle.std.specs.List.{list_all}
 use Rattle.std.specs.Ordering.{nat_cmp}

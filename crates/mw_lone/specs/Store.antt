@@ -1,4 +1,7 @@
--- The store alone: one tenant's words and requests, which mark is legal when, and what it does.
+-- The store alone, the sequential specification of one tenant: its words and requests, which mark is legal when, and
+-- what it does.
+-- Used by: Asked, Laws, Lone, Sound, 7 crates from mw_plain on, the contracts of asked.rt and store.rt. Every part of the server
+-- is measured by it: a change here changes what every reply means. CONTRIBUTING lists what a new mark needs.
 use Rattle.std.specs.Prelude.{ℕ, ◌+◌, ◌-◌, ◌==◌, ◌&&◌, ◌||◌, not, Bool, true, false, List, [], ◌∷◌, ◌++◌, length, nat_le, nat_lt, is_some, is_none, Option, Some, None, IsSome, slice_get, if◌then◌else◌}
 use Rattle.std.specs.Option.{option_and_then, option_map, option_map_or, option_to_list, unwrap_or}
 use Rattle.std.specs.Ordering.{nat_cmp}
@@ -45,7 +48,7 @@ pub record Store : Type 0 where
 abbrev pub new_store : List ℕ → ℕ → Store
 new_store words quota = record { words = words; quota = quota; used = 0; next = 0; requests = map.empty; faulted = false; in_doubt = [] }
 
--- the same, and its file has failed or didn't open, or neither
+-- the same, and its file has failed or hasn't
 abbrev pub first_store : List ℕ → ℕ → Bool → Store
 first_store words quota faulted = record (new_store words quota) { faulted = faulted }
 
@@ -57,11 +60,11 @@ request s n = map.get s.requests n
 abbrev pub with_request : Store → ℕ → RequestState → Store
 with_request s n r = record s { requests = map.insert s.requests n r }
 
--- the store in which that request has this reply
+-- the store in which this request has this reply
 abbrev pub with_reply : Store → ℕ → RequestState → Reply → Store
 with_reply s n r reply = with_request s n (record r { placed = Some reply })
 
--- a job's entries; one that reads a word has none
+-- a job's entries; a read has none
 abbrev pub entries_of : Job → List Entry
 entries_of (Get addr) = []
 entries_of (Cas entries) = entries.items
@@ -84,7 +87,7 @@ is_waiting r = is_cas r.job && not r.admitted && is_none r.placed
 abbrev pub is_under_way : RequestState → Bool
 is_under_way r = r.admitted && is_none r.placed
 
--- What each mark does to the store and its request, where that was asked. None: the mark is illegal.
+-- What each mark does to the store and its request, if it was asked. None: the mark is illegal.
 
 -- a slot is counted for a change that has neither a slot nor a reply
 abbrev pub admit : Store → ℕ → RequestState → Option Store
@@ -100,12 +103,12 @@ refuse_busy s n r =
     then Some (with_reply s n r SaysBusy)
     else None
 
--- a request for a word that has no reply is answered with the word's value
+-- a read that has no reply is answered with the word's value
 abbrev pub look_at : Store → ℕ → RequestState → Job → Option Store
 look_at s n r (Get addr) = if is_none r.placed then Some (with_reply s n r (Val (word_at s.words addr))) else None
 look_at s n r (Cas entries) = None
 
--- a change under way is refused at an entry whose word holds another value than the one expected
+-- a change under way is refused at an entry whose word doesn't have the expected value
 abbrev pub miss_at : Store → ℕ → RequestState → Option Entry → Option Store
 miss_at s n r None = None
 miss_at s n r (Some e) =
@@ -113,10 +116,11 @@ miss_at s n r (Some e) =
     then Some (with_reply s n r (No e.addr (word_at s.words e.addr)))
     else None
 
--- a change under way could be written now: each word holds what is expected, and the file has not failed
+-- a change under way could be written now: each word has the expected value, and the file has not failed
 abbrev pub may_be_written : List ℕ → Bool → RequestState → Bool
 may_be_written words faulted r = is_under_way r && not faulted && fits words (entries_of r.job)
 
+-- a request of this store could be written now
 abbrev pub may_seal : Store → RequestState → Bool
 may_seal s r = may_be_written s.words s.faulted r
 
@@ -152,7 +156,7 @@ hand_out s n r =
     then Some (with_request s n (record r { handed = true }))
     else None
 
--- this change may have been interrupted while it was written; where none was, nothing is required
+-- this change may have been interrupted while it was written; if none was interrupted, nothing is required
 abbrev pub may_be_interrupted : Store → Option ℕ → Bool
 may_be_interrupted s None = true
 may_be_interrupted s (Some n) = option_map_or (may_seal s) (request s n) false
@@ -162,7 +166,7 @@ abbrev pub has_in_doubt : Store → Option ℕ → Bool
 has_in_doubt s None = not (is_empty s.in_doubt)
 has_in_doubt s (Some n) = true
 
--- that change
+-- the change in doubt
 abbrev pub entries_in_doubt : Store → Option ℕ → List Entry
 entries_in_doubt s None = s.in_doubt
 entries_in_doubt s (Some n) = option_map_or (λ r. entries_of r.job) (request s n) []
@@ -171,7 +175,7 @@ entries_in_doubt s (Some n) = option_map_or (λ r. entries_of r.job) (request s 
 abbrev pub is_quota : ℕ → Bool
 is_quota quota = nat_le 1 quota && nat_le quota MAX_QUOTA
 
--- The store after a start, with these words and this quota. Of the requests nothing is left but that their numbers go on.
+-- The store after a start, with these words and this quota. No request is left, but the numbers go on.
 abbrev pub store_after_start : Store → List ℕ → Bool → ℕ → Store
 store_after_start s words opened quota = record s {
   words = words;
@@ -182,7 +186,7 @@ store_after_start s words opened quota = record s {
   in_doubt = [];
 }
 
--- All stops and starts again, with a quota: the change in doubt is found, all of it, or nothing of it is.
+-- All stops and starts again, with a quota. The start finds all of the change in doubt, or nothing of it.
 abbrev pub restart : Store → Option ℕ → Bool → Bool → ℕ → Option Store
 restart s interrupted take opened quota =
     if may_be_interrupted s interrupted && (not take || has_in_doubt s interrupted) && is_quota quota
@@ -234,12 +238,13 @@ outgoing s (GiveUp n) = None
 outgoing s (Retire n) = None
 outgoing s (Restart interrupted take opened quota) = None
 
--- the store after a list of marks; None: one of them is illegal where it stands
+-- the store after a list of marks; None: one of them is illegal in the store after those before it
 abbrev pub run : Store → List Mark → Option Store
 run s [] = Some s
 run s (mark ∷ marks) = option_and_then (λ t. run t marks) (step s mark)
 
--- these marks, in this order, can happen to a store with these words and this quota, whose file has failed at first or hasn't
+-- these marks, in this order, can happen to a store with these words and this quota, whose file has failed from the
+-- start or hasn't
 abbrev pub IsLegalRun : List ℕ → ℕ → Bool → List Mark → Type 0
 IsLegalRun words quota faulted marks = IsSome (run (first_store words quota faulted) marks)
 
@@ -249,5 +254,6 @@ replies_from s [] = []
 replies_from s (mark ∷ marks) =
     option_to_list (outgoing s mark) ++ unwrap_or (option_map (λ t. replies_from t marks) (step s mark)) []
 
+-- the same for a store with these words and this quota, whose file has failed from the start or hasn't
 abbrev pub replies : List ℕ → ℕ → Bool → List Mark → List (ℕ × Reply)
 replies words quota faulted marks = replies_from (first_store words quota faulted) marks

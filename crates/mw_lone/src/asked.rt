@@ -1,4 +1,6 @@
 //! The requests that were asked since the last start.
+//!
+//! Only `store.rt` uses it. It may change with `specs/Asked`, as long as `Lone` keeps its contracts.
 ghost use Rattle.std.specs.Prelude.{◌≡◌, ◌+◌, ◌-◌, ◌<◌, ◌&&◌, OnOk, OnErr, IsSome, IsSomeAnd, IfSome, IsTrue, true, not, length, slice_get};
 ghost use Rattle.std.specs.Option.{option_map};
 ghost use Rattle.std.specs.FinMap as map;
@@ -19,7 +21,7 @@ pub struct Request {
     pub job: Job,
     /// It was admitted: a slot was counted for it.
     pub admitted: bool,
-    /// Its reply, once it has its place.
+    /// Its reply, once it is decided.
     pub placed: Option<Reply>,
     /// Its slot was given back.
     pub retired: bool,
@@ -28,7 +30,7 @@ pub struct Request {
 }
 
 impl Request {
-    /// The entries of its change; none where it reads a word.
+    /// The entries of its change; none if it is a read.
     pub fn entries(&self) -> Entries
         ensures { result.items ≡ spec.entries_of self.now.job }
     {
@@ -38,7 +40,7 @@ impl Request {
         }
     }
 
-    /// Its entry `i`, if there is one.
+    /// Its entry `i`, counted from 0, if there is one.
     pub fn entry(&self, i: u8) -> Option<Entry>
         ensures { result ≡ slice_get (spec.entries_of self.now.job) i }
     {
@@ -59,8 +61,8 @@ impl Request {
         self.admitted && self.placed.is_none()
     }
 
-    /// Whether it could be written now: it is under way, each word holds what is expected, and the
-    /// file has not failed.
+    /// Whether it could be written now: it is under way, each word has the expected value, and the file has not
+    /// failed.
     pub fn may_be_written(&self, words: &[u64], faulted: bool) -> bool
         requires { IsTrue (is_well_formed (length words.now) self.now.job) }
         ensures { result ≡ spec.may_be_written words.now faulted (seen self.now) }
@@ -71,7 +73,7 @@ impl Request {
 
 /// The requests asked since the last start, each under its number, and how many slots they use.
 ///
-/// Request `n` stands at the place `n - first` of the list.
+/// Request `n` is element `n - first` of the list.
 #[derive(Drop)]
 pub struct Requests {
     first: u64,
@@ -119,7 +121,7 @@ impl Requests {
         self.used
     }
 
-    /// Request `n`, if it was asked.
+    /// Request `n`, if it was asked since the last start.
     pub fn get(&self, n: u64) -> Option<&Request>
         ensures { option_map (λ r. seen r.now) result ≡ map.get self.now.requests n }
     {
@@ -129,7 +131,11 @@ impl Requests {
         self.list.get((n - self.first) as usize)
     }
 
-    /// A request comes under the next number. `AllocError`: want of memory; then nothing changes.
+    /// Adds a request under the next number.
+    ///
+    /// # Errors
+    ///
+    /// [`AllocError`] if memory is out. Then nothing changes.
     pub fn ask(&mut self, job: Job) -> Result<(), AllocError>
         requires { self.old.next < u64.MAX }
         ensures ok { OnOk result (self.new ≡ record self.old { next = self.old.next + 1; requests = map.insert self.old.requests self.old.next (asked job) }) }
@@ -145,7 +151,7 @@ impl Requests {
         Ok(())
     }
 
-    /// A slot is counted for request `n`.
+    /// Counts a slot for request `n`.
     pub fn admit(&mut self, n: u64)
         requires asked { IsSomeAnd (map.get self.old.requests n) (λ r. IsTrue (not r.admitted)) }
         requires room { self.old.used < u8.MAX }
@@ -156,7 +162,7 @@ impl Requests {
         self.used += 1;
     }
 
-    /// Request `n` has its reply.
+    /// Gives request `n` its reply.
     pub fn place(&mut self, n: u64, reply: Reply)
         requires { IsSome (map.get self.old.requests n) }
         ensures { IfSome (map.get self.old.requests n) (λ r. self.new ≡ record self.old { requests = map.insert self.old.requests n (record r { placed = Some reply }) }) }
@@ -165,7 +171,7 @@ impl Requests {
         self.list[i].placed = Some(reply);
     }
 
-    /// Request `n` gives its slot back.
+    /// Gives back the slot of request `n`.
     pub fn retire(&mut self, n: u64)
         requires { IsSomeAnd (map.get self.old.requests n) (λ r. IsTrue (r.admitted && not r.retired)) }
         ensures { IfSome (map.get self.old.requests n) (λ r. self.new ≡ record self.old { used = self.old.used - 1; requests = map.insert self.old.requests n (record r { retired = true }) }) }
@@ -175,7 +181,7 @@ impl Requests {
         self.used -= 1;
     }
 
-    /// The reply of request `n` is handed out.
+    /// Hands out the reply of request `n`.
     pub fn hand_out(&mut self, n: u64)
         requires { IsSome (map.get self.old.requests n) }
         ensures { IfSome (map.get self.old.requests n) (λ r. self.new ≡ record self.old { requests = map.insert self.old.requests n (record r { handed = true }) }) }
@@ -184,7 +190,7 @@ impl Requests {
         self.list[i].handed = true;
     }
 
-    /// All stops: no request is left, and no slot is used. The numbers go on.
+    /// Stops all: no request is left, and no slot is used. The numbers go on.
     pub fn restart(&mut self)
         ensures { self.new ≡ record self.old { used = 0; requests = map.empty } }
     {

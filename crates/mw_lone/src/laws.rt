@@ -1,25 +1,28 @@
-//! What holds of every run of the store alone: facts for proofs to cite. The functions do nothing.
+//! What holds after every run of the store alone: facts for proofs to cite. The functions do nothing.
+//!
+//! Proofs of mw_world, mw_law_late, mw_law_store and mw_plain, among others, cite the lemmas behind them. No code
+//! calls them.
 ghost use Rattle.mw_lone.specs.Laws.{RunExtends, RepliesExtend, WordsStayWords, UsedStaysWithin, QuotasAreOfStarts};
 
-/// One more mark at the end of a list: the store is the one after it, and the replies are those of
-/// the list and then what it hands out.
+/// One more mark at the end of a list: the store is the one after that mark, and the replies are those of the list
+/// and then what the mark hands out.
 pub fn runs_extend()
     ensures store { RunExtends }
     ensures replies { RepliesExtend }
 {}
 
-/// However a store came to be, its words are words, and as many as at first.
+/// In every store that a run leads to, the words are words, and as many as at first.
 pub fn words_stay_words()
     ensures { WordsStayWords }
 {}
 
-/// However a store came to be, it uses no more slots than its quota.
+/// Every store that a run leads to uses at most as many slots as its quota.
 pub fn used_stays_within()
     ensures { UsedStaysWithin }
 {}
 
-/// However a store came to be, its quota is the one that its last start told, else the first one: no other
-/// mark touches it. It is one that a tenant may have, if the first is.
+/// In every store that a run leads to, the quota is the one that the last start gave, else the first one: no other
+/// mark changes it. It is one that a tenant may have, if the first is.
 pub fn quotas_are_of_starts()
     ensures { QuotasAreOfStarts }
 {}

@@ -1,13 +1,15 @@
 //! What may happen to a store.
+//!
+//! mw_world's labels enter these marks into a tenant's history, and mw_plain's cases name them. CONTRIBUTING lists
+//! under *A mark* what a new one needs.
 
 use mw_words::Job;
 
-/// What happens to a store, with nothing of its neighbours: which request has come how far, what the
-/// tenant's own file did, and which quota a start gave. A mark holds no value that a word holds, no slot
-/// and no worker.
+/// An event of one tenant's history: how far a request has come, what the tenant's own file did, or which quota a
+/// start gave. It says nothing of other tenants. No mark tells a word's present value, a slot or a worker.
 ///
-/// `n` is a request's number within its tenant. Numbers are given in the order of the asking, from 0,
-/// and go on when all stops and starts again.
+/// `n` is a request's number within its tenant. Requests are numbered in the order of the asking, from 0. The
+/// numbers go on when all stops and starts again.
 #[derive(Debug, Drop)]
 pub enum Mark {
     /// Request `n` comes, with its job.
@@ -18,12 +20,11 @@ pub enum Mark {
     Busy(u64),
     /// A read of a word takes place.
     Look(u64),
-    /// A change is refused at the entry with this index, counted from 0, whose word doesn't hold the
-    /// expected value.
+    /// A change is refused at the entry with this index, counted from 0: its word doesn't have the expected value.
     Miss(u64, u8),
     /// A change takes place, durably.
     Seal(u64),
-    /// The file failed while a change was made durable. The change may be found after the next start.
+    /// The file failed while a change was made durable. The next start may find the change.
     SealFail(u64),
     /// The file failed in another call, which leaves no change in doubt.
     FileFail,
@@ -37,13 +38,12 @@ pub enum Mark {
     Restart {
         /// The change that was being made durable when all stopped.
         interrupted: Option<u64>,
-        /// Whether the change in doubt is found: the interrupted one, else the one that a failed
-        /// file left in doubt.
+        /// Whether the start finds the change in doubt: the interrupted one, else the one that a failed file left
+        /// in doubt.
         take: bool,
         /// Whether the file opened.
         opened: bool,
-        /// How many slots the tenant may use at a time from then on, 1 to `MAX_QUOTA`. No other mark
-        /// touches that.
+        /// How many slots the tenant may use at a time from then on, 1 to `MAX_QUOTA`. No other mark changes that.
         quota: u8,
     },
 }

@@ -1,4 +1,7 @@
 //! The store alone.
+//!
+//! Only tests run it (mw_store_tests, mw_world_trials). It may change as long as each call does what `specs/Store`
+//! says.
 ghost use Rattle.std.specs.Prelude.{◌≡◌, ◌↔◌, length, IsTrue, IfOk, OnOk, OnErr, IfSome, IsErrOf, Some, None, if◌then◌else◌};
 ghost use Rattle.std.specs.Option.{option_map};
 ghost use Rattle.std.specs.List.{list_all};
@@ -13,12 +16,12 @@ use mw_words::{Entries, Job, MAX_QUOTA, Reply, copy_of};
 use std::alloc::{AllocError, Global};
 use std::marker::Model;
 
-/// Why a mark was not taken. The store is then what it was.
+/// Why a mark was not taken. The store is then as it was.
 #[derive(Clone, Copy, Debug, PartialEq, Eq)]
 pub enum LoneFault {
-    /// The mark is illegal where the store is.
+    /// The mark is illegal in this state of the store, or it asks under the last number, `2^64 - 1`.
     Illegal,
-    /// Want of memory.
+    /// Memory is out.
     Memory,
 }
 
@@ -50,12 +53,12 @@ impl Model for Lone {
 }
 
 impl Lone {
-    /// A store with these words, of which nothing was asked. Its file has failed from the start where that is
-    /// told: it didn't open.
+    /// Makes a store with these words, of which nothing was asked. `faulted`: its file has failed from the start,
+    /// because it didn't open.
     ///
     /// # Errors
     ///
-    /// [`AllocError`] for want of memory.
+    /// [`AllocError`] if memory is out.
     pub fn new(alloc: Global, words: &[u64], quota: u8, faulted: bool) -> Result<Lone, AllocError>
         ensures { IfOk result (λ lone. lone ≡ spec.first_store words.now quota faulted) }
     {
@@ -68,12 +71,14 @@ impl Lone {
         })
     }
 
-    /// Takes a mark, and answers with the reply that it hands out: there is one exactly at
-    /// [`Mark::Reply`].
+    /// Takes a mark, and gives the reply that it hands out: there is one for [`Mark::Reply`], and for no other
+    /// mark.
     ///
-    /// [`LoneFault::Illegal`]: the mark is illegal where the store is, or asks under number
-    /// `2^64 - 1`, after which there is none. [`LoneFault::Memory`]: there was no memory for one more
-    /// request, which only [`Mark::Ask`] needs. After a fault the store is what it was.
+    /// # Errors
+    ///
+    /// [`LoneFault::Illegal`] if the mark is illegal in this state of the store, or asks under number `2^64 - 1`,
+    /// which has no next one. [`LoneFault::Memory`] if there is no memory for one more request; only [`Mark::Ask`]
+    /// needs it. After an error the store is as it was.
     pub fn mark(&mut self, mark: Mark) -> Result<Option<Reply>, LoneFault>
         ensures taken { OnOk result (spec.step self.old mark ≡ Some self.new) }
         ensures reply { IfOk result (λ reply. reply ≡ reply_of self.old mark) }
@@ -164,7 +169,7 @@ impl Lone {
         Ok(None)
     }
 
-    /// A change under way fails at its entry `i`.
+    /// A change under way is refused at its entry `i`.
     fn miss(&mut self, n: u64, i: u8) -> Result<Option<Reply>, LoneFault>
         ensures { Takes self.old (Mark.Miss n i) result self.new }
     {
@@ -214,7 +219,7 @@ impl Lone {
         Ok(None)
     }
 
-    /// The file fails while it writes no change.
+    /// The file fails, and leaves no change in doubt.
     fn fail_file(&mut self) -> Result<Option<Reply>, LoneFault>
         ensures { Takes self.old Mark.FileFail result self.new }
     {
@@ -309,8 +314,8 @@ impl Lone {
         }
     }
 
-    /// The change in doubt, without entries where there is none. `None`: the interrupted request
-    /// could not have been interrupted while it was written.
+    /// The change in doubt; without entries if none is in doubt. `None`: the interrupted request could not have
+    /// been interrupted while it was written.
     fn entries_in_doubt(&self, interrupted: Option<u64>) -> Option<Entries>
         ensures change { option_map (λ doubt. doubt.items) result ≡ (if spec.may_be_interrupted self.now interrupted then Some (spec.entries_in_doubt self.now interrupted) else None) }
         ensures fits { IfSome result (λ doubt. IsTrue (list_all (change.is_in_range (length self.now.words)) doubt.items)) }

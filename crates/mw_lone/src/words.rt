@@ -1,11 +1,13 @@
 //! A tenant's words, read and written one at a time.
+//!
+//! Used by `asked.rt` and `store.rt` alone: it may change freely as long as both check.
 ghost use Rattle.std.specs.Prelude.{◌≡◌, ◌<◌, length, IsTrue};
 ghost use Rattle.std.specs.List.{list_all};
 ghost use Rattle.mw_words.specs.Change as change;
 
 use mw_words::Entry;
 
-/// The word at an address.
+/// Gives the word at an address.
 pub fn word_at(words: &[u64], addr: u16) -> u64
     requires { addr < length words.now }
     ensures { result ≡ change.word_at words.now addr }

@@ -1,18 +1,19 @@
--- Why what stands at a place and its bits are one to one, and a machine is told what stands there. A read whose numbers
--- are in range asks for steps in range.
+-- The values at a place and their bits are one to one, and a machine that loads the bits observes the value. A read whose numbers
+-- are in range asks for steps in range. Used by: the law places_have_patterns, mw_rule, mw_law_runs, among others. Its statements
+-- may change with those crates; its proofs may change freely.
 use Rattle.std.specs.Prelude.{ℕ, ◌≡◌}
 use Rattle.std.specs.Option.{option_map_or}
 use Rattle.std.proofs.Common.{refl, ap, arith}
 use Rattle.mw_words.specs.declared.places.At.TheVariants.{Door as AtDoor, Gate as AtGate, Row as AtRow, Data, Status as AtStatus, Count, Addr, Expected, New}
 use Rattle.mw_words.proofs.PatternLaws.{packed_door_bound, packed_gate_bound, packed_row_bound, packed_word_bound, packed_status_bound, door_round, gate_round, row_round, word_round, status_round, packed_door_injective, packed_gate_injective, packed_row_injective, packed_word_injective, packed_status_injective}
-use Rattle.mw_look.specs.declared.news.News.TheVariants.{SawDoor, SawGate, SawRow, SawWord, SawStatus, Junk}
+use Rattle.mw_look.specs.declared.observations.Observation.TheVariants.{SawDoor, SawGate, SawRow, SawWord, SawStatus, Junk}
 use Rattle.mw_look.specs.PlacePatterns.{PacksFit, PacksAreUnpacked, PacksAreApart, PacksAreSeen, NilIsZero}
 use Rattle.mw_look.specs.Steps.{Step, Load, Change, File, StepFits, op_of, place, place_of}
 use Rattle.mw_look.specs.Program.{asks_at, IsPointInRange}
 use Rattle.mw_look.specs.declared.points.Point.{Point}
 use Rattle.mw_look.specs.declared.points.Point.TheVariants.{Pin, Unpin, FreeSlot, LowerDoor}
 
--- what stands at a place in range has 64 bits
+-- a value in range has 64 bits
 pub packs_fit : PacksFit
 packs_fit (AtDoor tenant) door fits = packed_door_bound door fits
 packs_fit (AtGate slot) gate fits = packed_gate_bound gate fits
@@ -24,7 +25,7 @@ packs_fit (Addr slot entry) number fits = fits
 packs_fit (Expected slot entry) number fits = fits
 packs_fit (New slot entry) number fits = fits
 
--- what stands at a place in range is unpacked from its bits
+-- a value in range is unpacked from its bits
 pub packs_are_unpacked : PacksAreUnpacked
 packs_are_unpacked (AtDoor tenant) door fits = door_round door fits
 packs_are_unpacked (AtGate slot) gate fits = gate_round gate fits
@@ -36,7 +37,7 @@ packs_are_unpacked (Addr slot entry) number fits = refl
 packs_are_unpacked (Expected slot entry) number fits = refl
 packs_are_unpacked (New slot entry) number fits = refl
 
--- what stands at a place in range is told by its bits
+-- two values in range with the same bits at a place are the same
 pub packs_are_apart : PacksAreApart
 packs_are_apart (AtDoor tenant) x y fits_x fits_y same = packed_door_injective x y fits_x fits_y same
 packs_are_apart (AtGate slot) x y fits_x fits_y same = packed_gate_injective x y fits_x fits_y same
@@ -48,7 +49,7 @@ packs_are_apart (Addr slot entry) x y fits_x fits_y same = same
 packs_are_apart (Expected slot entry) x y fits_x fits_y same = same
 packs_are_apart (New slot entry) x y fits_x fits_y same = same
 
--- a machine that loads the bits of what stands at a place in range is told that it saw that
+-- a machine that loads the bits of a value in range observes that value
 pub packs_are_seen : PacksAreSeen
 packs_are_seen (AtDoor tenant) door fits = ap (λ o. option_map_or SawDoor o Junk) (door_round door fits)
 packs_are_seen (AtGate slot) gate fits = ap (λ o. option_map_or SawGate o Junk) (gate_round gate fits)
@@ -60,7 +61,7 @@ packs_are_seen (Addr slot entry) number fits = refl
 packs_are_seen (Expected slot entry) number fits = refl
 packs_are_seen (New slot entry) number fits = refl
 
--- what has bits that are all 0 is in range and has those
+-- the value nil of a place is in range, and its bits are 0
 pub nil_is_zero : NilIsZero
 nil_is_zero (AtDoor tenant) = (omega arith, refl)
 nil_is_zero (AtGate slot) = ((omega arith, omega arith, λ e. refl), refl)

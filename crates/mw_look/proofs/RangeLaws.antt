@@ -1,4 +1,5 @@
--- A read's numbers stay in range from each point to the next.
+-- A read's numbers stay in range from each point to the next. Used by: the proof of Look::tell_observation, RunLaws, mw_actor,
+-- among others. Its statements may change with those crates; its proofs may change freely.
 use Rattle.std.specs.Prelude.{◌≡◌, ℕ, ◌<◌, ◌-◌, ◌==◌, Bool, true, false, cond, nat_lt, Some, None, IfSome}
 use Rattle.std.specs.declared.option.Option.{Option}
 use Rattle.std.proofs.Common.{refl, sym, subst, arith}
@@ -11,18 +12,18 @@ use Rattle.mw_words.specs.declared.statuses.Status.{Status}
 use Rattle.mw_words.specs.Patterns.{IsGateInRange}
 use Rattle.mw_pool.specs.Moves.{Pins, after_pin}
 use Rattle.mw_pool.proofs.MoveLaws.{pin_is}
-use Rattle.mw_look.specs.declared.news.News.{News}
-use Rattle.mw_look.specs.declared.news.News.TheVariants.{SawDoor, SawGate, SawWord, SawStatus, SawRow, SawNumber, Won, Lost}
+use Rattle.mw_look.specs.declared.observations.Observation.{Observation}
+use Rattle.mw_look.specs.declared.observations.Observation.TheVariants.{SawDoor, SawGate, SawWord, SawStatus, SawRow, SawNumber, Won, Lost}
 use Rattle.mw_look.specs.declared.points.Trail.{Trail}
 use Rattle.mw_look.specs.declared.points.Trail.TheVariants.{Held as ByHeld, Planted as ByPlanted}
 use Rattle.mw_look.specs.declared.points.After.{After}
 use Rattle.mw_look.specs.declared.points.After.TheVariants.{Again, Answer}
 use Rattle.mw_look.specs.declared.points.Point.{Point}
 use Rattle.mw_look.specs.declared.points.Point.TheVariants.{ReadDoor, ReadWord, ReadRow, ConfirmWord, ReadGate, Pin, ReadStatus, FindEntry, ReadExpected, ReadNew, RecheckWord, Unpin, FreeSlot, LowerDoor}
-use Rattle.mw_look.specs.News.{IsNewsInRange}
+use Rattle.mw_look.specs.Observations.{IsObservationInRange}
 use Rattle.mw_look.specs.Program.{Reading, word_of, seq_of, same_word, word_seen, pinned, pinning, first_entry, next_entry, resumed, goes, IsPointInRange}
 
--- a fact of what a test chooses
+-- a property of both results of a test holds of the result that the test chooses
 pub either_way : {A : Type 0} (P : A → Type 0) (test : Bool) (x y : A) → (test ≡ true → P x) → (test ≡ false → P y) → P (cond test x y)
 either_way P true x y one other = one refl
 either_way P false x y one other = other refl
@@ -54,8 +55,8 @@ first_entry_fits (ByPlanted worker attempt row) status low = low
 next_entry_fits : (trail : Trail) (status : Status) (entry : ℕ) → seq_of trail < WORN_NUMBER → IsPointInRange (next_entry trail status entry)
 next_entry_fits trail status entry low = either_way IsPointInRange (nat_lt entry (MAX_ENTRIES - 1)) _ _ (λ more. low) (λ last. low)
 
--- a read's numbers are in range wherever it goes from a point where they are, by news in range
-pub goes_in_range : (address : ℕ) (point : Point) (news : News) → IsPointInRange point → IsNewsInRange news → IsPointInRange (goes address point news)
+-- a read's numbers stay in range at the next point, if the observation is in range
+pub goes_in_range : (address : ℕ) (point : Point) (observation : Observation) → IsPointInRange point → IsObservationInRange observation → IsPointInRange (goes address point observation)
 goes_in_range address ReadDoor (SawDoor door) fits saw = either_way IsPointInRange door.fault _ _ (λ e. tt) (λ e. tt)
 goes_in_range address ReadWord (SawWord word) fits saw = word_seen_fits word
 goes_in_range address (ReadRow worker attempt) (SawRow row) fits saw = tt
@@ -72,9 +73,9 @@ goes_in_range address (RecheckWord trail status expected new) (SawWord word) fit
 goes_in_range address (Unpin slot seq after) (SawGate gate) fits saw = either_way IsPointInRange (gate.pins == 1) _ _ (λ e. fits) (λ e. resumed_fits after)
 goes_in_range address (FreeSlot slot seq after) Won fits saw = tt
 goes_in_range address (LowerDoor after) (SawDoor door) fits saw = resumed_fits after
-goes_in_range address point news fits saw = fits
+goes_in_range address point observation fits saw = fits
 
--- the same, of a point that is known by equations
-pub next_in_range : (read : Reading) (point next : Point) (news : News) → point ≡ read.point → next ≡ goes read.address read.point news → IsPointInRange point → IsNewsInRange news → IsPointInRange next
-next_in_range read point next news is goes_on fits saw =
-    subst IsPointInRange (sym goes_on) (goes_in_range read.address read.point news (subst IsPointInRange is fits) saw)
+-- the same of points that are given by equations
+pub next_in_range : (read : Reading) (point next : Point) (observation : Observation) → point ≡ read.point → next ≡ goes read.address read.point observation → IsPointInRange point → IsObservationInRange observation → IsPointInRange next
+next_in_range read point next observation is goes_on fits saw =
+    subst IsPointInRange (sym goes_on) (goes_in_range read.address read.point observation (subst IsPointInRange is fits) saw)

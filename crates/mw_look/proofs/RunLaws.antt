@@ -1,4 +1,6 @@
--- Proofs of what holds of every run of a read, save for where its values come from.
+-- Every run of a read changes only pins, stays at its word, reads under its pin, and gives all back before it
+-- replies. Used by: the laws about reads, ValueLaws, mw_core. Its statements may change with mw_core; its proofs may change
+-- freely.
 use Rattle.std.specs.Prelude.{◌≡◌, ℕ, ◌+◌, ◌-◌, ◌==◌, ◌&&◌, ◌⊎◌, Bool, true, false, cond, nat_lt, nat_le, List, [], ◌∷◌, Some, None, IfSome}
 use Rattle.std.specs.declared.option.Option.{Option}
 use Rattle.std.proofs.Common.{refl, sym, ap, subst, inl, inr, arith}
@@ -11,8 +13,8 @@ use Rattle.mw_words.specs.declared.words.Word.TheVariants.{Plain, Planted, Held,
 use Rattle.mw_words.specs.declared.statuses.Status.{Status}
 use Rattle.mw_words.specs.declared.replies.Reply.{Reply}
 use Rattle.mw_pool.specs.Moves.{Pins, after_pin}
-use Rattle.mw_look.specs.declared.news.News.{News}
-use Rattle.mw_look.specs.declared.news.News.TheVariants.{SawDoor, SawGate, SawWord, SawStatus, SawRow, SawNumber, Won, Lost}
+use Rattle.mw_look.specs.declared.observations.Observation.{Observation}
+use Rattle.mw_look.specs.declared.observations.Observation.TheVariants.{SawDoor, SawGate, SawWord, SawStatus, SawRow, SawNumber, Won, Lost}
 use Rattle.mw_look.specs.declared.points.Trail.{Trail}
 use Rattle.mw_look.specs.declared.points.Trail.TheVariants.{Held as ByHeld, Planted as ByPlanted}
 use Rattle.mw_look.specs.declared.points.After.{After}
@@ -27,15 +29,15 @@ use Rattle.mw_look.specs.Runs.{after, past, ChangesOnlyPins, ReadsChangeOnlyPins
 use Rattle.mw_look.proofs.RangeLaws.{either_way}
 
 -- a read keeps its tenant and its address
-pub keeps_tenant : (tenant address : ℕ) (news : List News) → (after (first tenant address) news).tenant ≡ tenant
+pub keeps_tenant : (tenant address : ℕ) (observation : List Observation) → (after (first tenant address) observation).tenant ≡ tenant
 keeps_tenant tenant address [] = refl
 keeps_tenant tenant address (latest ∷ earlier) = keeps_tenant tenant address earlier
 
-pub keeps_address : (tenant address : ℕ) (news : List News) → (after (first tenant address) news).address ≡ address
+pub keeps_address : (tenant address : ℕ) (observation : List Observation) → (after (first tenant address) observation).address ≡ address
 keeps_address tenant address [] = refl
 keeps_address tenant address (latest ∷ earlier) = keeps_address tenant address earlier
 
--- the gate that is to be exchanged for a gate has the trail's number, and the other has one pin more
+-- the exchange at a Pin has the trail's number and one pin more
 abbrev pub PinsOne : Point → Type 0
 PinsOne (Pin trail from to) = Pins (seq_of trail) from to
 PinsOne point = Unit {0}
@@ -68,7 +70,7 @@ first_entry_one (ByPlanted worker attempt row) status = tt
 next_entry_one : (trail : Trail) (status : Status) (entry : ℕ) → PinsOne (next_entry trail status entry)
 next_entry_one trail status entry = either_way PinsOne (nat_lt entry (MAX_ENTRIES - 1)) _ _ (λ more. tt) (λ last. tt)
 
-goes_one : (address : ℕ) (point : Point) (news : News) → PinsOne point → PinsOne (goes address point news)
+goes_one : (address : ℕ) (point : Point) (observation : Observation) → PinsOne point → PinsOne (goes address point observation)
 goes_one address ReadDoor (SawDoor door) is = either_way PinsOne door.fault _ _ (λ e. tt) (λ e. tt)
 goes_one address ReadWord (SawWord word) is = word_seen_one word
 goes_one address (ReadRow worker attempt) (SawRow row) is = tt
@@ -86,10 +88,10 @@ goes_one address (RecheckWord trail status expected new) (SawWord word) is = tt
 goes_one address (Unpin slot seq next) (SawGate gate) is = either_way PinsOne (gate.pins == 1) _ _ (λ e. tt) (λ e. resumed_one next)
 goes_one address (FreeSlot slot seq next) Won is = tt
 goes_one address (LowerDoor next) (SawDoor door) is = resumed_one next
-goes_one address point news is = is
+goes_one address point observation is = is
 
--- a read asks for exchanges of a gate for one with a pin more alone
-pub pins_one : (tenant address : ℕ) (news : List News) → PinsOne (after (first tenant address) news).point
+-- the exchanges for which a read asks at a Pin add one pin
+pub pins_one : (tenant address : ℕ) (observation : List Observation) → PinsOne (after (first tenant address) observation).point
 pins_one tenant address [] = tt
 pins_one tenant address (latest ∷ earlier) =
     let read = after (first tenant address) earlier in
@@ -104,9 +106,9 @@ changes_at tenant address (FreeSlot slot seq next) is = (refl, refl, omega arith
 changes_at tenant address point is = tt
 
 pub reads-change-only-pins : ReadsChangeOnlyPins
-reads-change-only-pins tenant address news =
-    let read = after (first tenant address) news in
-    changes_at read.tenant read.address read.point (pins_one tenant address news)
+reads-change-only-pins tenant address observation =
+    let read = after (first tenant address) observation in
+    changes_at read.tenant read.address read.point (pins_one tenant address observation)
 
 place_at : (tenant address : ℕ) (point : Point) → IsPlaceFor tenant address (place (asks_at tenant address point))
 place_at tenant address ReadDoor = refl
@@ -118,12 +120,12 @@ place_at tenant address (Replied reply) = refl
 place_at tenant address point = tt
 
 pub reads-stay-at-their-word : ReadsStayAtTheirWord
-reads-stay-at-their-word tenant address news =
-    let read = after (first tenant address) news in
+reads-stay-at-their-word tenant address observation =
+    let read = after (first tenant address) observation in
     let own : IsPlaceFor read.tenant read.address (place (asks read)) = place_at read.tenant read.address read.point in
     let P : ℕ → Type 0 = λ t. IsPlaceFor t read.address (place (asks read)) in
     let Q : ℕ → Type 0 = λ a. IsPlaceFor tenant a (place (asks read)) in
-    subst Q (keeps_address tenant address news) (subst P (keeps_tenant tenant address news) own)
+    subst Q (keeps_address tenant address observation) (subst P (keeps_tenant tenant address observation) own)
 
 under_pin_at : (tenant address : ℕ) (point : Point) → IsUnderPin (asks_at tenant address point) (holds_at point)
 under_pin_at tenant address (ReadStatus trail) = refl
@@ -134,12 +136,12 @@ under_pin_at tenant address (Unpin slot seq next) = refl
 under_pin_at tenant address point = tt
 
 pub reads-are-under-pin : ReadsAreUnderPin
-reads-are-under-pin tenant address news =
-    let read = after (first tenant address) news in
+reads-are-under-pin tenant address observation =
+    let read = after (first tenant address) observation in
     under_pin_at read.tenant read.address read.point
 
--- how the pin that is held goes on from a step
-abbrev HoldsOn : Option Hold → Step → News → Option Hold → Step → Type 0
+-- how the pin that a read holds goes on after a step
+abbrev HoldsOn : Option Hold → Step → Observation → Option Hold → Step → Type 0
 HoldsOn before step told later next = (later ≡ before) ⊎ (WinsPin before step told later ⊎ TakesPinBack before step told later next)
 
 resumed_holds : (next : After) → holds_at (resumed next) ≡ None
@@ -160,7 +162,7 @@ first_entry_holds : (trail : Trail) (status : Status) → holds_at (first_entry 
 first_entry_holds (ByHeld slot seq) status = refl
 first_entry_holds (ByPlanted worker attempt row) status = refl
 
--- the pin that is held wherever a test leads
+-- both results of a test hold this pin, so the chosen one does
 held_either_way : (held : Option Hold) (test : Bool) (x y : Point) → holds_at x ≡ held → holds_at y ≡ held → holds_at (cond test x y) ≡ held
 held_either_way held test x y one other = either_way (λ p. holds_at p ≡ held) test x y (λ e. one) (λ e. other)
 
@@ -174,7 +176,7 @@ unpinned_frees tenant address gate slot seq next last =
     (λ is. refl)
     (λ is_not. absurd (grind (arith, nat_tests, is_not, last)))
 
-holds_on : (tenant address : ℕ) (point : Point) (news : News) → PinsOne point → HoldsOn (holds_at point) (asks_at tenant address point) news (holds_at (goes address point news)) (asks_at tenant address (goes address point news))
+holds_on : (tenant address : ℕ) (point : Point) (observation : Observation) → PinsOne point → HoldsOn (holds_at point) (asks_at tenant address point) observation (holds_at (goes address point observation)) (asks_at tenant address (goes address point observation))
 holds_on tenant address ReadDoor (SawDoor door) is = inl (held_either_way None door.fault _ _ refl refl)
 holds_on tenant address ReadWord (SawWord word) is = inl (word_seen_holds word)
 holds_on tenant address (ReadRow worker attempt) (SawRow row) is = inl refl
@@ -195,37 +197,37 @@ holds_on tenant address (Unpin slot seq next) (SawGate gate) is =
     inr (inr (record { held = record { slot = slot; seq = seq }; found = gate; held_it = refl; asked = refl; saw = refl; holds_none = unpinned_holds gate slot seq next; frees_last = unpinned_frees tenant address gate slot seq next }))
 holds_on tenant address (FreeSlot slot seq next) Won is = inl refl
 holds_on tenant address (LowerDoor next) (SawDoor door) is = inl (resumed_holds next)
-holds_on tenant address point news is = inl refl
+holds_on tenant address point observation is = inl refl
 
 pub pins-are-held-until-taken-back : PinsAreHeldUntilTakenBack
-pins-are-held-until-taken-back tenant address news told =
-    let read = after (first tenant address) news in
-    holds_on read.tenant read.address read.point told (pins_one tenant address news)
+pins-are-held-until-taken-back tenant address observation told =
+    let read = after (first tenant address) observation in
+    holds_on read.tenant read.address read.point told (pins_one tenant address observation)
 
--- 1 where the pin that is held is of the slot
+-- 1 if the pin is one of this slot, else 0
 abbrev held_of : ℕ → Option Hold → ℕ
 held_of slot (Some held) = if_same held.slot slot
 held_of slot None = 0
 
--- 1 where the slot is to be freed
+-- 1 if the read must free this slot, else 0
 abbrev to_free : ℕ → Point → ℕ
 to_free slot (FreeSlot other seq next) = if_same other slot
 to_free slot point = 0
 
--- 1 where the door is to be lowered
+-- 1 if the read must lower the door, else 0
 abbrev to_lower : Point → ℕ
 to_lower (LowerDoor next) = 1
 to_lower point = 0
 
--- At a step, what is won and was there comes to what is taken back and is there.
+-- At a step, what is won and what was held are as many as what is taken back and what is held then.
 abbrev Balances : ℕ → ℕ → ℕ → ℕ → Type 0
 Balances won was back is = won + was ≡ back + is
 
 balance_same : (n m : ℕ) → n ≡ m → Balances 0 n 0 m
 balance_same n m e = ap (λ k. 0 + k) e
 
-pins_balance : (slot tenant address : ℕ) (point : Point) (news : News) →
-    Balances (wins_pin slot (asks_at tenant address point) news) (held_of slot (holds_at point)) (takes_back slot (asks_at tenant address point) news) (held_of slot (holds_at (goes address point news)))
+pins_balance : (slot tenant address : ℕ) (point : Point) (observation : Observation) →
+    Balances (wins_pin slot (asks_at tenant address point) observation) (held_of slot (holds_at point)) (takes_back slot (asks_at tenant address point) observation) (held_of slot (holds_at (goes address point observation)))
 pins_balance slot tenant address ReadDoor (SawDoor door) = balance_same _ _ (sym (ap (held_of slot) (held_either_way None door.fault _ _ refl refl)))
 pins_balance slot tenant address ReadWord (SawWord word) = balance_same _ _ (sym (ap (held_of slot) (word_seen_holds word)))
 pins_balance slot tenant address (ReadRow worker attempt) (SawRow row) = refl
@@ -246,9 +248,9 @@ pins_balance slot tenant address (Unpin other seq next) (SawGate gate) =
     omega (arith, e)
 pins_balance slot tenant address (FreeSlot other seq next) Won = refl
 pins_balance slot tenant address (LowerDoor next) (SawDoor door) = balance_same _ _ (sym (ap (held_of slot) (resumed_holds next)))
-pins_balance slot tenant address point news = refl
+pins_balance slot tenant address point observation = refl
 
--- nothing is to be freed where a read goes on with
+-- a read has nothing to free where it goes on
 none_to_free_resumed : (slot : ℕ) (next : After) → to_free slot (resumed next) ≡ 0
 none_to_free_resumed slot Again = refl
 none_to_free_resumed slot (Answer value) = refl
@@ -274,8 +276,8 @@ last_pin_to_free : (slot other seq : ℕ) (next : After) (last : Bool) → Balan
 last_pin_to_free slot other seq next true = omega arith
 last_pin_to_free slot other seq next false = balance_same _ _ (sym (none_to_free_resumed slot next))
 
-slots_balance : (slot tenant address : ℕ) (point : Point) (news : News) →
-    Balances (takes_last slot (asks_at tenant address point) news) (to_free slot point) (frees slot (asks_at tenant address point) news) (to_free slot (goes address point news))
+slots_balance : (slot tenant address : ℕ) (point : Point) (observation : Observation) →
+    Balances (takes_last slot (asks_at tenant address point) observation) (to_free slot point) (frees slot (asks_at tenant address point) observation) (to_free slot (goes address point observation))
 slots_balance slot tenant address ReadDoor (SawDoor door) = balance_same _ _ (sym (none_to_free slot door.fault _ _ refl refl))
 slots_balance slot tenant address ReadWord (SawWord word) = balance_same _ _ (sym (none_to_free_seen slot word))
 slots_balance slot tenant address (ReadRow worker attempt) (SawRow row) = refl
@@ -294,7 +296,7 @@ slots_balance slot tenant address (RecheckWord trail status expected new) (SawWo
 slots_balance slot tenant address (Unpin other seq next) (SawGate gate) = last_pin_to_free slot other seq next (gate.pins == 1)
 slots_balance slot tenant address (FreeSlot other seq next) Won = omega arith
 slots_balance slot tenant address (LowerDoor next) (SawDoor door) = balance_same _ _ (sym (none_to_free_resumed slot next))
-slots_balance slot tenant address point news = refl
+slots_balance slot tenant address point observation = refl
 
 none_to_lower_resumed : (next : After) → to_lower (resumed next) ≡ 0
 none_to_lower_resumed Again = refl
@@ -317,8 +319,8 @@ none_to_lower_entry (ByPlanted worker attempt row) status = refl
 none_to_lower : (test : Bool) (x y : Point) → to_lower x ≡ 0 → to_lower y ≡ 0 → to_lower (cond test x y) ≡ 0
 none_to_lower test x y one other = either_way (λ p. to_lower p ≡ 0) test x y (λ e. one) (λ e. other)
 
-door_balance : (tenant address : ℕ) (point : Point) (news : News) →
-    Balances (frees_any (asks_at tenant address point) news) (to_lower point) (lowers (asks_at tenant address point) news) (to_lower (goes address point news))
+door_balance : (tenant address : ℕ) (point : Point) (observation : Observation) →
+    Balances (frees_any (asks_at tenant address point) observation) (to_lower point) (lowers (asks_at tenant address point) observation) (to_lower (goes address point observation))
 door_balance tenant address ReadDoor (SawDoor door) = balance_same _ _ (sym (none_to_lower door.fault _ _ refl refl))
 door_balance tenant address ReadWord (SawWord word) = balance_same _ _ (sym (none_to_lower_seen word))
 door_balance tenant address (ReadRow worker attempt) (SawRow row) = refl
@@ -337,19 +339,19 @@ door_balance tenant address (RecheckWord trail status expected new) (SawWord wor
 door_balance tenant address (Unpin other seq next) (SawGate gate) = balance_same _ _ (sym (none_to_lower (gate.pins == 1) (FreeSlot other seq next) (resumed next) refl (none_to_lower_resumed next)))
 door_balance tenant address (FreeSlot other seq next) Won = refl
 door_balance tenant address (LowerDoor next) (SawDoor door) = ap (λ n. 1 + n) (sym (none_to_lower_resumed next))
-door_balance tenant address point news = refl
+door_balance tenant address point observation = refl
 
--- Over a whole run as much was won as was taken back and is there, if it is so at every step.
-sums : (gains losses : Step → News → ℕ) (open_at : Point → ℕ) →
-    ((tenant address : ℕ) (point : Point) (news : News) → Balances (gains (asks_at tenant address point) news) (open_at point) (losses (asks_at tenant address point) news) (open_at (goes address point news))) →
-    (tenant address : ℕ) (news : List News) → open_at ReadDoor ≡ 0 →
-    times gains (past (first tenant address) news) ≡ times losses (past (first tenant address) news) + open_at (after (first tenant address) news).point
+-- Over a whole run as much was won as was taken back and is held, if this is so at every step.
+sums : (gains losses : Step → Observation → ℕ) (open_at : Point → ℕ) →
+    ((tenant address : ℕ) (point : Point) (observation : Observation) → Balances (gains (asks_at tenant address point) observation) (open_at point) (losses (asks_at tenant address point) observation) (open_at (goes address point observation))) →
+    (tenant address : ℕ) (observation : List Observation) → open_at ReadDoor ≡ 0 →
+    times gains (past (first tenant address) observation) ≡ times losses (past (first tenant address) observation) + open_at (after (first tenant address) observation).point
 sums gains losses open_at balance tenant address [] none = omega (arith, none)
 sums gains losses open_at balance tenant address (latest ∷ earlier) none =
     let read = after (first tenant address) earlier in
     omega (arith, sums gains losses open_at balance tenant address earlier none, balance read.tenant read.address read.point latest)
 
--- where a reply stands, no pin is held and nothing is to be given back
+-- a read that has its reply holds no pin, and has nothing to give back
 pin_of_reply : (slot : ℕ) (point : Point) (reply : Reply) → reply_at point ≡ Some reply → held_of slot (holds_at point) ≡ 0
 pin_of_reply slot (Replied said) reply is = refl
 pin_of_reply slot point reply is = cc
@@ -363,15 +365,15 @@ door_of_reply (LowerDoor next) reply is = cc
 door_of_reply point reply is = refl
 
 pub replies-give-back : RepliesGiveBack
-replies-give-back tenant address news reply is =
-    let point = (after (first tenant address) news).point in
+replies-give-back tenant address observation reply is =
+    let point = (after (first tenant address) observation).point in
     record {
-      pins = λ slot. omega (arith, sums (wins_pin slot) (takes_back slot) (λ p. held_of slot (holds_at p)) (pins_balance slot) tenant address news refl, pin_of_reply slot point reply is);
-      slots = λ slot. omega (arith, sums (takes_last slot) (frees slot) (to_free slot) (slots_balance slot) tenant address news refl, slot_of_reply slot point reply is);
-      door = omega (arith, sums frees_any lowers to_lower door_balance tenant address news refl, door_of_reply point reply is);
+      pins = λ slot. omega (arith, sums (wins_pin slot) (takes_back slot) (λ p. held_of slot (holds_at p)) (pins_balance slot) tenant address observation refl, pin_of_reply slot point reply is);
+      slots = λ slot. omega (arith, sums (takes_last slot) (frees slot) (to_free slot) (slots_balance slot) tenant address observation refl, slot_of_reply slot point reply is);
+      door = omega (arith, sums frees_any lowers to_lower door_balance tenant address observation refl, door_of_reply point reply is);
     }
 
-reply_stays : (address : ℕ) (point : Point) (told : News) (reply : Reply) → reply_at point ≡ Some reply → reply_at (goes address point told) ≡ Some reply
+reply_stays : (address : ℕ) (point : Point) (told : Observation) (reply : Reply) → reply_at point ≡ Some reply → reply_at (goes address point told) ≡ Some reply
 reply_stays address (Replied said) told reply is = is
 reply_stays address point told reply is = absurd (none-some reply is)
 

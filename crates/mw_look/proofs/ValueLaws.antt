@@ -1,4 +1,5 @@
--- A proof of where the value of a read comes from.
+-- A read replies with a value only if it just loaded the word with that value, or saw the word again after all that
+-- tells the value. Used by: the law replies_are_of_the_word. It may change freely as long as this crate checks.
 use Rattle.std.specs.Prelude.{◌≡◌, ◌≢◌, ℕ, ◌+◌, ◌-◌, ◌==◌, ◌&&◌, ◌⊎◌, not, Bool, true, false, cond, nat_lt, List, [], ◌∷◌, Some, None}
 use Rattle.std.specs.declared.option.Option.{Option}
 use Rattle.std.proofs.Common.{refl, sym, ap, ◌∙◌, subst, inl, inr, arith}
@@ -12,8 +13,8 @@ use Rattle.mw_words.specs.declared.statuses.Status.{Status}
 use Rattle.mw_pool.specs.Moves.{after_pin}
 use Rattle.mw_words.specs.declared.places.At.TheVariants.{Row as AtRow, Data, Status as AtStatus, Addr, Expected, New}
 use Rattle.mw_words.specs.declared.replies.Reply.TheVariants.{Val as ValueIs}
-use Rattle.mw_look.specs.declared.news.News.{News}
-use Rattle.mw_look.specs.declared.news.News.TheVariants.{SawDoor, SawGate, SawWord, SawStatus, SawRow, SawNumber, Won, Lost}
+use Rattle.mw_look.specs.declared.observations.Observation.{Observation}
+use Rattle.mw_look.specs.declared.observations.Observation.TheVariants.{SawDoor, SawGate, SawWord, SawStatus, SawRow, SawNumber, Won, Lost}
 use Rattle.mw_look.specs.declared.points.Trail.{Trail}
 use Rattle.mw_look.specs.declared.points.Trail.TheVariants.{Held as ByHeld, Planted as ByPlanted}
 use Rattle.mw_look.specs.declared.points.After.{After}
@@ -26,46 +27,46 @@ use Rattle.mw_look.specs.Runs.{Event, after, past, this_try, Happened, loaded, J
 use Rattle.mw_look.proofs.RangeLaws.{either_way}
 use Rattle.mw_look.proofs.RunLaws.{keeps_tenant, keeps_address}
 
--- the row of an attempt was loaded
+-- the row of the attempt was loaded
 abbrev IsRowSeen : Trail → List Event → Type 0
 IsRowSeen (ByHeld slot seq) events = Unit {0}
 IsRowSeen (ByPlanted worker attempt row) events = Happened (loaded (AtRow worker) (SawRow row) ∷ []) events
 
--- the word was loaded
+-- the load of the word
 abbrev word_seen_by : ℕ → ℕ → Trail → List Event
 word_seen_by tenant address trail = loaded (Data tenant address) (SawWord (word_of trail)) ∷ []
 
--- the word was loaded, and then the status
+-- the load of the word, and then the load of the status
 abbrev status_seen_by : ℕ → ℕ → Trail → Status → List Event
 status_seen_by tenant address trail status = loaded (AtStatus (slot_of trail)) (SawStatus status) ∷ word_seen_by tenant address trail
 
--- the word, its row, if it has one
+-- the word was loaded, and its row if it has one
 record Begun (tenant address : ℕ) (trail : Trail) (events : List Event) : Type 0 where
   word : Happened (word_seen_by tenant address trail) events
   row : IsRowSeen trail events
 
--- the word and the status, and the entry that is the word's
+-- the word and the status were loaded, and the entry is the word's
 record Found (tenant address : ℕ) (trail : Trail) (status : Status) (entry : ℕ) (events : List Event) : Type 0 where
   order : Happened (status_seen_by tenant address trail status) events
   entry_found : IsEntryFound address trail entry events
 
--- and the entry's expected value
+-- the entry's expected value was loaded too
 record Half (tenant address : ℕ) (trail : Trail) (status : Status) (entry expected : ℕ) (events : List Event) : Type 0 where
   order : Happened (loaded (Expected (slot_of trail) entry) (SawNumber expected) ∷ status_seen_by tenant address trail status) events
   entry_found : IsEntryFound address trail entry events
 
--- and the entry's new value
+-- the entry's new value was loaded too
 record Whole (tenant address : ℕ) (trail : Trail) (status : Status) (expected new : ℕ) (events : List Event) : Type 0 where
   entry : ℕ
   order : Happened (loaded (New (slot_of trail) entry) (SawNumber new) ∷ loaded (Expected (slot_of trail) entry) (SawNumber expected) ∷ status_seen_by tenant address trail status) events
   entry_found : IsEntryFound address trail entry events
 
--- what will be answered was seen again
+-- a value that will be the answer was seen again
 abbrev Answers : ℕ → ℕ → After → List Event → Type 0
 Answers tenant address Again events = Unit {0}
 Answers tenant address (Answer value) events = SeenAgain tenant address value events
 
--- what happened since the door was loaded, by the point of the program
+-- what happened since the load of the door, by the read's point
 abbrev Known : ℕ → ℕ → Point → List Event → Type 0
 Known tenant address (ReadRow worker attempt) events = Happened (loaded (Data tenant address) (SawWord (Planted worker attempt)) ∷ []) events
 Known tenant address (ConfirmWord trail) events = Begun tenant address trail events
@@ -115,7 +116,7 @@ known_more tenant address (FreeSlot slot seq next) events latest h = answers_mor
 known_more tenant address (LowerDoor next) events latest h = answers_more tenant address next events latest h
 known_more tenant address point events latest h = tt
 
--- words that are found to be the same are
+-- words that compare as the same are equal
 same_word_is : (word other : Word) → same_word word other ≡ true → word ≡ other
 same_word_is (Plain value) (Plain other) is = grind (arith, nat_tests, is)
 same_word_is (Planted worker attempt) (Planted other number) is = grind (arith, nat_tests, is)
@@ -173,11 +174,11 @@ answer_known tenant address trail word status expected new events h =
     by_tests true true same over = tt
     by_tests false over same is = tt
 
--- what is known at a point leads to what is known at the next
-goes_known : (tenant address : ℕ) (point : Point) (news : News) (earlier : List Event) → Known tenant address point (this_try earlier) →
-    Known tenant address (goes address point news) (this_try (record { asked = asks_at tenant address point; told = news } ∷ earlier))
+-- what is known at a point gives what is known at the next
+goes_known : (tenant address : ℕ) (point : Point) (observation : Observation) (earlier : List Event) → Known tenant address point (this_try earlier) →
+    Known tenant address (goes address point observation) (this_try (record { asked = asks_at tenant address point; told = observation } ∷ earlier))
 goes_known tenant address ReadDoor (SawDoor door) earlier h = either_way (λ p. Known tenant address p []) door.fault _ _ (λ e. tt) (λ e. tt)
-goes_known tenant address ReadDoor news earlier h = tt
+goes_known tenant address ReadDoor observation earlier h = tt
 goes_known tenant address ReadWord (SawWord word) earlier h = word_seen_known tenant address word (this_try earlier)
 goes_known tenant address (ReadRow worker attempt) (SawRow row) earlier h = record { word = inr h; row = inl (refl, tt) }
 goes_known tenant address (ConfirmWord trail) (SawWord word) earlier h =
@@ -193,7 +194,7 @@ goes_known tenant address (FindEntry (ByHeld slot seq) status entry) (SawNumber 
     either_way (λ p. Known tenant address p (loaded (Addr slot entry) (SawNumber number) ∷ this_try earlier)) (number == address) (ReadExpected (ByHeld slot seq) status entry) (next_entry (ByHeld slot seq) status entry)
     (λ e. found_known tenant address slot seq status entry number (this_try earlier) (grind (arith, nat_tests, e)) h)
     (λ e. next_entry_known tenant address slot seq status entry _ (inr h))
-goes_known tenant address (FindEntry (ByPlanted worker attempt row) status entry) news earlier h = absurd h
+goes_known tenant address (FindEntry (ByPlanted worker attempt row) status entry) observation earlier h = absurd h
 goes_known tenant address (ReadExpected trail status entry) (SawNumber expected) earlier h =
     record { order = inl (refl, h.order); entry_found = entry_more address trail entry (this_try earlier) _ h.entry_found }
 goes_known tenant address (ReadNew trail status entry expected) (SawNumber new) earlier h =
@@ -204,19 +205,19 @@ goes_known tenant address (Unpin slot seq next) (SawGate gate) earlier h =
     (λ e. answers_more tenant address next (this_try earlier) _ h) (λ e. resumed_known tenant address next _)
 goes_known tenant address (FreeSlot slot seq next) Won earlier h = answers_more tenant address next (this_try earlier) _ h
 goes_known tenant address (LowerDoor next) (SawDoor door) earlier h = resumed_known tenant address next _
-goes_known tenant address (Replied reply) news earlier h = tt
-goes_known tenant address point news earlier h = known_more tenant address point (this_try earlier) (record { asked = asks_at tenant address point; told = news }) h
+goes_known tenant address (Replied reply) observation earlier h = tt
+goes_known tenant address point observation earlier h = known_more tenant address point (this_try earlier) (record { asked = asks_at tenant address point; told = observation }) h
 
-known : (tenant address : ℕ) (news : List News) → let read = after (first tenant address) news in Known read.tenant read.address read.point (this_try (past (first tenant address) news))
+known : (tenant address : ℕ) (observation : List Observation) → let read = after (first tenant address) observation in Known read.tenant read.address read.point (this_try (past (first tenant address) observation))
 known tenant address [] = tt
 known tenant address (latest ∷ earlier) =
     let read = after (first tenant address) earlier in
     goes_known read.tenant read.address read.point latest (past (first tenant address) earlier) (known tenant address earlier)
 
 -- where a value comes from
-abbrev ComesFrom : ℕ → ℕ → ℕ → Point → News → List Event → Type 0
-ComesFrom tenant address value point news events =
-    JustLoaded tenant address value (record { asked = asks_at tenant address point; told = news }) ⊎ SeenAgain tenant address value events
+abbrev ComesFrom : ℕ → ℕ → ℕ → Point → Observation → List Event → Type 0
+ComesFrom tenant address value point observation events =
+    JustLoaded tenant address value (record { asked = asks_at tenant address point; told = observation }) ⊎ SeenAgain tenant address value events
 
 same_value : (value other : ℕ) → Some (ValueIs other) ≡ Some (ValueIs value) → other ≡ value
 same_value value other is = grind (arith, is)
@@ -232,7 +233,7 @@ answers tenant address value Again events h is = cc
 answers tenant address value (Answer other) events h is =
     let P : ℕ → Type 0 = λ n. SeenAgain tenant address n events in subst P (same_value value other is) h
 
--- nothing is answered
+-- neither result of a test has this value, so the chosen one doesn't
 none_either_way : (test : Bool) (x y : Point) (value : ℕ) → reply_at x ≢ Some (ValueIs value) → reply_at y ≢ Some (ValueIs value) → reply_at (cond test x y) ≢ Some (ValueIs value)
 none_either_way true x y value one other = one
 none_either_way false x y value one other = other
@@ -249,8 +250,8 @@ unpinned_says : (tenant address value slot seq : ℕ) (next : After) (last : Boo
 unpinned_says tenant address value slot seq next true events h is = cc
 unpinned_says tenant address value slot seq next false events h is = answers tenant address value next events h is
 
-comes_from : (tenant address value : ℕ) (point : Point) (news : News) (events : List Event) → Known tenant address point events → reply_at point ≡ None → reply_at (goes address point news) ≡ Some (ValueIs value) →
-    ComesFrom tenant address value point news events
+comes_from : (tenant address value : ℕ) (point : Point) (observation : Observation) (events : List Event) → Known tenant address point events → reply_at point ≡ None → reply_at (goes address point observation) ≡ Some (ValueIs value) →
+    ComesFrom tenant address value point observation events
 comes_from tenant address value ReadDoor (SawDoor door) events h none is = absurd (none_either_way door.fault _ _ value (λ e. cc) (λ e. cc) is)
 comes_from tenant address value ReadWord (SawWord word) events h none is = word_says tenant address value word events is
 comes_from tenant address value (ConfirmWord trail) (SawWord word) events h none is = absurd (none_either_way (same_word word (word_of trail)) _ _ value (λ e. cc) (λ e. cc) is)
@@ -269,14 +270,14 @@ comes_from tenant address value (ReadExpected trail status entry) (SawNumber exp
 comes_from tenant address value (ReadNew trail status entry expected) (SawNumber new) events h none is = absurd (none-some (ValueIs value) is)
 comes_from tenant address value (RecheckWord trail status expected new) (SawWord word) events h none is = absurd (none-some (ValueIs value) is)
 comes_from tenant address value (FreeSlot slot seq next) Won events h none is = absurd (none-some (ValueIs value) is)
-comes_from tenant address value point news events h none is = absurd (none-some (ValueIs value) (sym none ∙ is))
+comes_from tenant address value point observation events h none is = absurd (none-some (ValueIs value) (sym none ∙ is))
 
 pub replies-are-of-the-word : RepliesAreOfTheWord
-replies-are-of-the-word tenant address value news told none is =
-    let read = after (first tenant address) news in
-    let events = this_try (past (first tenant address) news) in
+replies-are-of-the-word tenant address value observation told none is =
+    let read = after (first tenant address) observation in
+    let events = this_try (past (first tenant address) observation) in
     let latest : Event = record { asked = asks read; told = told } in
     let P : ℕ → Type 0 = λ t. JustLoaded t read.address value latest ⊎ SeenAgain t read.address value events in
     let Q : ℕ → Type 0 = λ a. JustLoaded tenant a value latest ⊎ SeenAgain tenant a value events in
-    let own : P read.tenant = comes_from read.tenant read.address value read.point told events (known tenant address news) none is in
-    subst Q (keeps_address tenant address news) (subst P (keeps_tenant tenant address news) own)
+    let own : P read.tenant = comes_from read.tenant read.address value read.point told events (known tenant address observation) none is in
+    subst Q (keeps_address tenant address observation) (subst P (keeps_tenant tenant address observation) own)

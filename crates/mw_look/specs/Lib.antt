@@ -1,4 +1,4 @@
-pub mod News
+pub mod Observations
 pub mod PlacePatterns
 pub mod Places
 pub mod Program

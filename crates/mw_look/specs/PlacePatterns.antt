@@ -1,25 +1,27 @@
--- What stands at each place and its bits are one to one, and what a machine is told of the bits is what stands there.
+-- Claims that the values at a place and their bits are one to one, and that a machine which loads the bits is told
+-- the value.
+-- Used by: the contracts of laws.rt. A change here changes this law alone. The patterns are in mw_words.
 use Rattle.std.specs.Prelude.{◌≡◌, ◌^◌, ◌<◌, Some}
 use Rattle.mw_words.specs.declared.places.At.{At}
 use Rattle.mw_look.specs.Places.{Val, Fits, pack, unpack, nil}
-use Rattle.mw_look.specs.News.{news_of_bits, seen}
+use Rattle.mw_look.specs.Observations.{observation_of_bits, seen}
 
--- what stands at a place in range has 64 bits
+-- a value in range has 64 bits
 abbrev pub PacksFit : Type 0
 PacksFit = (at : At) (x : Val at) → Fits at x → pack at x < 2 ^ 64
 
--- what stands at a place in range is unpacked from its bits
+-- a value in range is unpacked from its bits
 abbrev pub PacksAreUnpacked : Type 0
 PacksAreUnpacked = (at : At) (x : Val at) → Fits at x → unpack at (pack at x) ≡ Some x
 
--- what stands at a place in range is told by its bits
+-- two values in range with the same bits at a place are the same
 abbrev pub PacksAreApart : Type 0
 PacksAreApart = (at : At) (x y : Val at) → Fits at x → Fits at y → pack at x ≡ pack at y → x ≡ y
 
--- a machine that loads the bits of what stands at a place in range is told that it saw that
+-- a machine that loads the bits of a value in range observes that value
 abbrev pub PacksAreSeen : Type 0
-PacksAreSeen = (at : At) (x : Val at) → Fits at x → news_of_bits at (pack at x) ≡ seen at x
+PacksAreSeen = (at : At) (x : Val at) → Fits at x → observation_of_bits at (pack at x) ≡ seen at x
 
--- what has bits that are all 0 is in range and has those
+-- the value nil of a place is in range, and its bits are 0
 abbrev pub NilIsZero : Type 0
 NilIsZero = (at : At) → Fits at (nil at) × (pack at (nil at) ≡ 0)

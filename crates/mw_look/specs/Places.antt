@@ -1,4 +1,5 @@
--- What stands at each place of the shared words, and its bits.
+-- Defines the values at each place of the shared words, and their bits. Used by: Observations, PlacePatterns, Steps, 11 crates
+-- from mw_world on. A new place of a shared word needs a case here, its bits in mw_words, and an index in mw_rule (index_of).
 use Rattle.std.specs.Prelude.{ℕ, ◌^◌, ◌<◌, false, Some}
 use Rattle.std.specs.declared.option.Option.{Option}
 use Rattle.mw_words.specs.declared.places.At.{At}
@@ -12,7 +13,7 @@ use Rattle.mw_words.specs.declared.statuses.Status.{Status}
 use Rattle.mw_words.specs.declared.statuses.Status.TheVariants.{Draft}
 use Rattle.mw_words.specs.Patterns.{IsDoorInRange, IsGateInRange, IsRowInRange, IsWordInRange, IsStatusInRange, packed_door, packed_gate, packed_row, packed_word, packed_status, unpacked_door, unpacked_gate, unpacked_row, unpacked_word, unpacked_status}
 
--- what stands at a place
+-- the type of the values at a place
 abbrev pub Val : At → Type 0
 Val (AtDoor tenant) = Door
 Val (AtGate slot) = Gate
@@ -24,7 +25,7 @@ Val (Addr slot entry) = ℕ
 Val (Expected slot entry) = ℕ
 Val (New slot entry) = ℕ
 
--- it is in range, so that it has bits
+-- the value is in range, so it has bits
 abbrev pub Fits : (at : At) → Val at → Type 0
 Fits (AtDoor tenant) door = IsDoorInRange door
 Fits (AtGate slot) gate = IsGateInRange gate
@@ -36,7 +37,7 @@ Fits (Addr slot entry) number = number < 2 ^ 64
 Fits (Expected slot entry) number = number < 2 ^ 64
 Fits (New slot entry) number = number < 2 ^ 64
 
--- its bits
+-- the bits of a value
 abbrev pub pack : (at : At) → Val at → ℕ
 pack (AtDoor tenant) door = packed_door door
 pack (AtGate slot) gate = packed_gate gate
@@ -48,7 +49,7 @@ pack (Addr slot entry) number = number
 pack (Expected slot entry) number = number
 pack (New slot entry) number = number
 
--- what stands there by these bits; there is none where they are no pattern of the place's kind of word
+-- the value with these bits; None: no value of the place's kind of word has them
 abbrev pub unpack : (at : At) → ℕ → Option (Val at)
 unpack (AtDoor tenant) bits = unpacked_door bits
 unpack (AtGate slot) bits = unpacked_gate bits
@@ -60,7 +61,7 @@ unpack (Addr slot entry) bits = Some bits
 unpack (Expected slot entry) bits = Some bits
 unpack (New slot entry) bits = Some bits
 
--- what has bits that are all 0
+-- the value whose bits are 0
 abbrev pub nil : (at : At) → Val at
 nil (AtDoor tenant) = record { fault = false; used = 0 }
 nil (AtGate slot) = record { taken = false; pins = 0; seq = 0 }

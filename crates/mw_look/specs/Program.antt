@@ -1,4 +1,6 @@
--- The program of a read: what it asks for at each of its points, and where it goes from there.
+-- Defines the program of a read: its step at each of its points, and where it goes from there.
+-- Used by: Runs, 11 crates from mw_actor on, the contracts of look.rt and points.rt. It is the algorithm of a read: src/look.rt
+-- is proved to follow it, and laws in the crates above are about it.
 use Rattle.std.specs.Prelude.{ℕ, ◌+◌, ◌-◌, ◌<◌, ◌==◌, ◌&&◌, not, Bool, true, false, cond, nat_lt, Some, None}
 use Rattle.std.specs.declared.option.Option.{Option}
 use Rattle.mw_words.specs.declared.limits.TheConstants.{MAX_ENTRIES, WORN_NUMBER}
@@ -13,8 +15,8 @@ use Rattle.mw_words.specs.declared.replies.Reply.TheVariants.{Val as ValueIs, Fa
 use Rattle.mw_words.specs.Patterns.{IsGateInRange}
 use Rattle.mw_pool.specs.Moves.{after_pin}
 use Rattle.mw_look.specs.declared.steps.Kind.TheVariants.{Pin as PinKind, Unpin as UnpinKind, Free as FreeKind, Drop as DropKind}
-use Rattle.mw_look.specs.declared.news.News.{News}
-use Rattle.mw_look.specs.declared.news.News.TheVariants.{SawDoor, SawGate, SawWord, SawStatus, SawRow, SawNumber, Won, Lost}
+use Rattle.mw_look.specs.declared.observations.Observation.{Observation}
+use Rattle.mw_look.specs.declared.observations.Observation.TheVariants.{SawDoor, SawGate, SawWord, SawStatus, SawRow, SawNumber, Won, Lost}
 use Rattle.mw_look.specs.declared.points.Trail.{Trail}
 use Rattle.mw_look.specs.declared.points.Trail.TheVariants.{Held as ByHeld, Planted as ByPlanted}
 use Rattle.mw_look.specs.declared.points.After.{After}
@@ -23,36 +25,36 @@ use Rattle.mw_look.specs.declared.points.Point.{Point}
 use Rattle.mw_look.specs.declared.points.Point.TheVariants.{ReadDoor, ReadWord, ReadRow, ConfirmWord, ReadGate, Pin, ReadStatus, FindEntry, ReadExpected, ReadNew, RecheckWord, Unpin, FreeSlot, LowerDoor, Replied}
 use Rattle.mw_look.specs.Steps.{Step, Load, Change, fetch, store}
 
--- A read: of which word of which tenant, and where it is in its program.
+-- The state of a read: the tenant and address of its word, and its point.
 pub record Reading : Type 0 where
   pub tenant : ℕ
   pub address : ℕ
   pub point : Point
 
--- a read that begins
+-- a read at its first point
 abbrev pub first : ℕ → ℕ → Reading
 first tenant address = record { tenant = tenant; address = address; point = ReadDoor }
 
--- the word that a trail began with
+-- the word with which a trail began
 abbrev pub word_of : Trail → Word
 word_of (ByHeld slot seq) = Held slot seq
 word_of (ByPlanted worker attempt row) = Planted worker attempt
 
--- the slot that a trail leads to
+-- the slot to which a trail leads
 abbrev pub slot_of : Trail → ℕ
 slot_of (ByHeld slot seq) = slot
 slot_of (ByPlanted worker attempt row) = row.slot
 
--- the sequence number under which the slot is meant
+-- the sequence number that a trail tells for the slot
 abbrev pub seq_of : Trail → ℕ
 seq_of (ByHeld slot seq) = seq
 seq_of (ByPlanted worker attempt row) = row.seq
 
--- the gate of a slot that nobody has taken since it was used under this number
+-- the free gate of a slot after it was used with this number
 abbrev pub freed : ℕ → Gate
 freed seq = record { taken = false; pins = 0; seq = seq + 1 }
 
--- What a read asks for at each point.
+-- The step for which a read asks at each point.
 abbrev pub asks_at : ℕ → ℕ → Point → Step
 asks_at tenant address ReadDoor = Load (AtDoor tenant)
 asks_at tenant address ReadWord = Load (Data tenant address)
@@ -70,7 +72,7 @@ asks_at tenant address (FreeSlot slot seq after) = store FreeKind (AtGate slot) 
 asks_at tenant address (LowerDoor after) = fetch DropKind (AtDoor tenant)
 asks_at tenant address (Replied reply) = Load (AtDoor tenant)
 
--- what a read asks for
+-- the step for which a read asks
 abbrev pub asks : Reading → Step
 asks read = asks_at read.tenant read.address read.point
 
@@ -82,61 +84,61 @@ same_word (Held slot seq) (Held other number) = (slot == other) && (seq == numbe
 same_word (Dirty slot value) (Dirty other number) = (slot == other) && (value == number)
 same_word word other = false
 
--- Where a read goes from a word that it loaded first. A plain or dirty word says its value.
+-- Where a read goes from its first load of the word. A plain or a dirty word has its value.
 abbrev pub word_seen : Word → Point
 word_seen (Plain value) = Replied (ValueIs value)
 word_seen (Dirty slot value) = Replied (ValueIs value)
 word_seen (Held slot seq) = ReadGate (ByHeld slot seq)
 word_seen (Planted worker attempt) = ReadRow worker attempt
 
--- where a read goes from its slot's gate, by the gate with one pin more, if there is one
+-- where a read goes from its slot's gate, given the gate with one pin more, if there is one
 abbrev pub pinned : Trail → Gate → Option Gate → Point
 pinned trail from (Some to) = Pin trail from to
 pinned trail from None = ReadDoor
 
--- Where a read goes from its slot's gate. It takes a pin where the gate is taken, has a pin and the trail's number. It
--- begins again where it doesn't, where the gate has as many pins as there can be, or where the number is worn, which no
--- gate of a slot in use is.
+-- Where a read goes from its slot's gate. It takes a pin if the gate is taken, has a pin, and has the trail's number.
+-- Else it begins again. It also does so if the gate has as many pins as it can have, or if the number is worn; the
+-- gate of a slot in use has no worn number.
 abbrev pub pinning : Trail → Gate → Point
 pinning trail gate = cond (nat_lt (seq_of trail) WORN_NUMBER) (pinned trail gate (after_pin gate (seq_of trail))) ReadDoor
 
--- Where a read looks for its word's entry: the row of an attempt names it, and of a held word it is looked for from
--- the first entry on.
+-- Where a read looks for its word's entry: the row of an attempt names the entry; for a held word it looks from the
+-- first entry on.
 abbrev pub first_entry : Trail → Status → Point
 first_entry (ByHeld slot seq) status = FindEntry (ByHeld slot seq) status 0
 first_entry (ByPlanted worker attempt row) status = ReadExpected (ByPlanted worker attempt row) status row.entry
 
--- Where a read goes from an entry that is not of its word: to the next one. If the last entry that there can be was not
--- of its word, which no change that holds the word comes to, it begins again.
+-- Where a read goes from an entry that isn't its word's: to the next entry. After the last entry that a change may
+-- have it begins again. It doesn't come there if the slot has a change that holds the word.
 abbrev pub next_entry : Trail → Status → ℕ → Point
 next_entry trail status entry = cond (nat_lt entry (MAX_ENTRIES - 1)) (FindEntry trail status (entry + 1)) (Unpin (slot_of trail) (seq_of trail) Again)
 
--- Where a read goes from an entry's address: to the entry's values, where it is the word's.
+-- Where a read goes from an entry's address: if it is the word's, to the entry's values.
 abbrev pub address_seen : Trail → Status → ℕ → Bool → Point
 address_seen trail status entry is_the_words = cond is_the_words (ReadExpected trail status entry) (next_entry trail status entry)
 
--- the word is held by a change that was made and is done with
+-- the word is held by a change that is made and done
 abbrev pub is_over : Trail → Status → Bool
 is_over (ByHeld slot seq) DoneYes = true
 is_over trail status = false
 
--- the word's value: the entry's new one where the word is held by a change that is made, else the expected one
+-- the word's value: the entry's new value if the word is held by a change with status Yes, else the expected value
 abbrev pub value_of : Trail → Status → ℕ → ℕ → ℕ
 value_of (ByHeld slot seq) Yes expected new = new
 value_of trail status expected new = expected
 
--- What a read comes to when it loads the word for the last time: the value, if the word is the one seen before and is
--- not held by a change that was made and is done with.
+-- What a read does after its last load of the word. It answers the value if the word is the one that it saw before,
+-- and isn't held by a change that is made and done. Else it begins again.
 abbrev pub answer : Trail → Word → Status → ℕ → ℕ → After
 answer trail word status expected new = cond (same_word word (word_of trail) && not (is_over trail status)) (Answer (value_of trail status expected new)) Again
 
--- where a read goes once it holds no pin
+-- where a read goes when it holds no pin any more
 abbrev pub resumed : After → Point
 resumed Again = ReadDoor
 resumed (Answer value) = Replied (ValueIs value)
 
--- Where a read of an address goes from each point by what it is told there. At all else that it is told it stays.
-abbrev pub goes : ℕ → Point → News → Point
+-- Where a read of an address goes from each point, by its observation there. At any other observation it stays.
+abbrev pub goes : ℕ → Point → Observation → Point
 goes address ReadDoor (SawDoor door) = cond door.fault (Replied HasFailed) ReadWord
 goes address ReadWord (SawWord word) = word_seen word
 goes address (ReadRow worker attempt) (SawRow row) = ConfirmWord (ByPlanted worker attempt row)
@@ -152,22 +154,22 @@ goes address (RecheckWord trail status expected new) (SawWord word) = Unpin (slo
 goes address (Unpin slot seq after) (SawGate gate) = cond (gate.pins == 1) (FreeSlot slot seq after) (resumed after)
 goes address (FreeSlot slot seq after) Won = LowerDoor after
 goes address (LowerDoor after) (SawDoor door) = resumed after
-goes address point news = point
+goes address point observation = point
 
--- a read that was told what its step found
-abbrev pub tells : Reading → News → Reading
-tells read news = record read { point = goes read.address read.point news }
+-- a read after it was told its observation
+abbrev pub tells : Reading → Observation → Reading
+tells read observation = record read { point = goes read.address read.point observation }
 
--- the reply that stands at a point
+-- the reply at a point, if it is decided there
 abbrev pub reply_at : Point → Option Reply
 reply_at (Replied reply) = Some reply
 reply_at point = None
 
--- the reply to a read, once it stands
+-- the reply to a read, if it has one
 abbrev pub replied : Reading → Option Reply
 replied read = reply_at read.point
 
--- At each point the numbers that a read is to store are in range.
+-- The numbers that a read stores at each point are in range.
 abbrev pub IsPointInRange : Point → Type 0
 IsPointInRange (ReadStatus trail) = seq_of trail < WORN_NUMBER
 IsPointInRange (FindEntry trail status entry) = seq_of trail < WORN_NUMBER

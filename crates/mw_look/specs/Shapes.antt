@@ -1,11 +1,12 @@
--- In which way each kind of step changes its word.
+-- Defines how each kind of step changes its word.
+-- Used by: 9 crates from mw_world on, the contracts of steps.rt. A new Kind is an exchange if no case here says otherwise.
 use Rattle.mw_look.specs.declared.steps.Kind.{Kind}
 use Rattle.mw_look.specs.declared.steps.Kind.TheVariants.{Fill as FillKind, Unpin as UnpinKind, Free as FreeKind, Drop as DropKind, Row as RowKind, Fault as FaultKind}
 use Rattle.mw_look.specs.declared.steps.Shape.{Shape}
 use Rattle.mw_look.specs.declared.steps.Shape.TheVariants.{Exchange, Store, Fetch}
 
--- A change is an exchange, which wins where it finds what it expects and else does nothing; a store, which leaves one thing
--- whatever it finds; or a fetch, which makes something of what it finds.
+-- An exchange wins if it finds what it expects, and else changes nothing. A store leaves one value, whatever it
+-- finds. A fetch computes what it leaves from what it finds.
 abbrev pub shape_of : Kind → Shape
 shape_of FillKind = Store
 shape_of FreeKind = Store

@@ -1,10 +1,14 @@
-//! What holds of places and of every run of a read, whatever it is told: facts for proofs to cite. The
-//! functions do nothing.
+//! Facts about places, and about every run of a read, whatever it is told; for proofs to cite. The functions do
+//! nothing.
+//!
+//! No code calls them. Proofs of mw_actor and of the laws (mw_law_requests, mw_law_counts and others) cite the lemmas
+//! behind them.
 ghost use Rattle.mw_look.specs.PlacePatterns.{PacksFit, PacksAreUnpacked, PacksAreApart, PacksAreSeen, NilIsZero};
 ghost use Rattle.mw_look.specs.Runs.{ReadsChangeOnlyPins, ReadsStayAtTheirWord, ReadsAreUnderPin, PinsAreHeldUntilTakenBack, RepliesGiveBack, RepliesStay, RepliesAreOfTheWord};
 
-/// What stands at a place, in range, has 64 bits that nothing else there has, and is unpacked from them.
-/// A machine that loads them is told that it saw just that.
+/// A value in range has 64 bits at its place. No other value in range has the same bits there, and they are
+/// unpacked to the value. A machine that loads the bits is told that it saw the value. At each place, the value
+/// whose bits are 0 is in range.
 pub fn places_have_patterns()
     ensures fit { PacksFit }
     ensures unpacked { PacksAreUnpacked }
@@ -13,36 +17,37 @@ pub fn places_have_patterns()
     ensures nil { NilIsZero }
 {}
 
-/// A read changes nothing but gates, by a pin more, a pin less or a freeing, and doors, by a slot less.
-/// It makes no call on the file. (That the door is its tenant's, and that it frees just the slots whose
-/// last pin it took back, is said below.)
+/// A read changes only gates and doors: it adds a pin, takes one back, frees a gate, or counts one slot off a
+/// door. It makes no call on the file. The laws below say that the door is its tenant's, and that it frees the
+/// slots whose last pin it took back.
 pub fn reads_change_only_pins()
     ensures { ReadsChangeOnlyPins }
 {}
 
-/// A read names no door and no word of another tenant, and no word at another address.
+/// The steps of a read are at no door of another tenant, at no word of another tenant, and at no word with
+/// another address.
 pub fn reads_stay_at_their_word()
     ensures { ReadsStayAtTheirWord }
 {}
 
-/// A read reads a slot's status and entries, and takes a pin back, only while it holds a pin of that
-/// slot. What it holds changes at two kinds of step alone: the exchange that wins a pin, under the
-/// gate's number, and the step that takes it back, which is followed by the freeing of the slot, under
-/// the next number, where that was its last pin.
+/// A read loads a slot's status and entries, and takes a pin back, only while it holds a pin of that slot. Two
+/// kinds of step change what it holds: an exchange that wins a pin, under the gate's number, and the step that
+/// takes the pin back. If that was the slot's last pin, the next step frees the slot, with the next number.
 pub fn reads_are_under_pin()
     ensures under_pin { ReadsAreUnderPin }
     ensures held { PinsAreHeldUntilTakenBack }
 {}
 
-/// Where a reply stands, every pin that was won was taken back, every slot whose last pin that was is
-/// freed, and the door is lowered once for each. A reply stays, whatever is told from then on.
+/// When a read has its reply, it has taken back each pin that it won and freed each slot whose last pin that
+/// was. It has lowered the door once for each freed slot. It keeps its reply, whatever it is told afterwards.
 pub fn replies_give_back()
     ensures give_back { RepliesGiveBack }
     ensures stay { RepliesStay }
 {}
 
-/// A value is the reply only where the word was just loaded and says it by itself, or where the word
-/// was loaded, then its slot's status and its entry's values, and then the same word again.
+/// If the reply is a value, one of two things happened. The read just loaded the word, and the word itself has
+/// the value. Or it loaded the word, then the slot's status and the entry's values, and then the same word
+/// again.
 pub fn replies_are_of_the_word()
     ensures { RepliesAreOfTheWord }
 {}

@@ -1,17 +1,19 @@
-//! The words in which the machines of requests speak of the words that workers share, and the
-//! machine of a read.
+//! The machine of a read, and the types in which all machines of requests speak of shared words.
 //!
-//! Many requests work at once on shared words. A request is a machine: it asks for its next step, a
-//! worker makes that step on the shared words, and tells the machine what the step found.
+//! Many requests work on the shared words at once. A request is a machine: it asks for its next step, a worker
+//! makes that step on the shared words, and tells the machine what the step found.
 //!
-//! The definitions, in the order of reading: `specs/Places` and `specs/News` (what stands at a place, its
+//! The definitions, in the order of reading: `specs/Places` and `specs/Observations` (the value at a place, its
 //! bits, and what a machine is told of them), `specs/Steps` (what a machine asks for), `specs/Program` (a
-//! read), and then what is claimed: `specs/PlacePatterns` of places, `specs/Runs` of the runs of a read.
+//! read). The claims: `specs/PlacePatterns` about places, `specs/Runs` about the runs of a read.
+//!
+//! mw_actor has a read in each request, and all crates of the core speak of steps in these types. A change of
+//! `specs/Program` changes the algorithm of a read, and the laws of the world about it.
 #![tactic(auto)]
 
 mod laws;
 mod look;
-mod news;
+mod observations;
 mod points;
 mod steps;
 
@@ -20,6 +22,6 @@ pub use laws::{
     replies_are_of_the_word, replies_give_back,
 };
 pub use look::Look;
-pub use news::{Got, News, Told};
+pub use observations::{Got, Observation, Told};
 pub use points::{After, Point, Trail};
 pub use steps::{Call, Kind, Op, Shape};

@@ -1,22 +1,25 @@
-//! The machine of a read: the value of one word of a tenant, whatever others do to it meanwhile.
+//! The machine of a read: it finds the value of one word of a tenant, whatever others do to the word meanwhile.
+//!
+//! An `Actor` (mw_actor) has one while its job is a read. It may change as long as it asks and goes on as
+//! `specs/Program` says.
 ghost use Rattle.std.specs.Prelude.{◌≡◌, ◌<◌};
 ghost use Rattle.mw_look.specs.Steps.{StepFits, op_of, place};
-ghost use Rattle.mw_look.specs.News.{IsNewsInRange, news_of};
+ghost use Rattle.mw_look.specs.Observations.{IsObservationInRange, observation_of};
 ghost use Rattle.mw_look.specs.Program.{first, asks, freed, goes, tells, replied, word_seen};
 ghost use Rattle.mw_words.specs.Patterns.{IsGateInRange};
 ghost use Rattle.mw_words.specs.declared.places.At.TheVariants.{Data};
 ghost use Rattle.mw_words.specs.declared.limits.TheConstants.{WORN_NUMBER};
 ghost use Rattle.mw_look.specs.declared.steps.Op.TheVariants.{Change as Fetch};
-ghost use Rattle.mw_look.specs.declared.news.News.TheVariants.{SawDoor, SawGate, SawWord, SawStatus, SawRow, SawNumber, Won, Lost};
+ghost use Rattle.mw_look.specs.declared.observations.Observation.TheVariants.{SawDoor, SawGate, SawWord, SawStatus, SawRow, SawNumber, Won, Lost};
 
-use crate::news::{News, Told};
+use crate::observations::{Observation, Told};
 use crate::points::{Point, Trail};
 use crate::steps::{Kind, Op};
 use mw_words::{At, Door, Gate, Reply, Row, Status, WORN_NUMBER, Word};
 use std::marker::Model;
 
-/// A read of one word of a tenant. It is asked for its next step and told what that step found, until
-/// its reply stands. A thing told that doesn't fit the step leaves the read where it is.
+/// A read of one word of a tenant. A worker asks it for its next step and tells it what the step found, until
+/// it has its reply. If what it is told doesn't fit the step, it stays where it is.
 #[derive(Clone, Copy)]
 pub struct Look {
     tenant: u8,
@@ -37,7 +40,7 @@ impl Model for Look {
 }
 
 impl Look {
-    /// A read of the word at this address of this tenant, at its first step.
+    /// Makes a read of the word at this address of this tenant, at its first step.
     pub fn new(tenant: u8, address: u16) -> Look
         ensures { result ≡ first tenant address }
     {
@@ -48,7 +51,7 @@ impl Look {
         }
     }
 
-    /// The next step. What it expects at its place, and what it leaves there, is in range.
+    /// Returns the next step. What it expects at its place and what it leaves there is in range.
     pub fn ask(&self) -> Op
         ensures is { result ≡ op_of (asks self.now) }
         ensures fits { StepFits (asks self.now) }
@@ -72,24 +75,24 @@ impl Look {
         }
     }
 
-    /// Takes in what the step that was asked for found. The worker's next attempt number isn't looked
-    /// at, since a read makes no attempt.
+    /// Takes in what the step found, where the step is the one for which [`Look::ask`] asks. It ignores the
+    /// worker's next attempt number, because a read makes no attempt.
     pub fn tell(&mut self, told: Told)
-        ensures { self.new ≡ tells self.old (news_of (place (asks self.old)) told.got) }
+        ensures { self.new ≡ tells self.old (observation_of (place (asks self.old)) told.got) }
     {
-        self.tell_news(News::of(self.place(), told.got));
+        self.tell_observation(Observation::of(self.place(), told.got));
     }
 
-    /// Takes in what the step that was asked for found, read as the kind of word that stands at its place.
-    pub fn tell_news(&mut self, news: News)
-        requires { IsNewsInRange news }
-        ensures { self.new ≡ tells self.old news }
+    /// Does the same, given the observation: what the step found, as a value of its place. It must be in range.
+    pub fn tell_observation(&mut self, observation: Observation)
+        requires { IsObservationInRange observation }
+        ensures { self.new ≡ tells self.old observation }
     {
-        self.point = self.next(news);
+        self.point = self.next(observation);
     }
 
-    /// The reply, once it stands: the word's value, or [`Reply::Fault`] where the tenant's file has
-    /// failed. From then on it stays.
+    /// Returns the reply, if the read has one: the word's value, or [`Reply::Fault`] if the tenant's file has
+    /// failed. Once it has a reply, it keeps it.
     pub fn reply(&self) -> Option<Reply>
         ensures { result ≡ replied self.now }
     {
@@ -99,7 +102,7 @@ impl Look {
         }
     }
 
-    /// Where the read is in its program.
+    /// Returns where the read is in its program.
     pub fn point(&self) -> Point
         ensures { result ≡ self.now.point }
     {
@@ -148,22 +151,22 @@ impl Look {
         }
     }
 
-    // The point after these news.
-    fn next(&self, news: News) -> Point
-        requires { IsNewsInRange news }
-        ensures is { result ≡ goes self.now.address self.now.point news }
+    // The point after this observation.
+    fn next(&self, observation: Observation) -> Point
+        requires { IsObservationInRange observation }
+        ensures is { result ≡ goes self.now.address self.now.point observation }
     {
-        match news {
-            News::SawDoor(door) => self.saw_door(door),
-            News::SawGate(gate) => self.saw_gate(gate),
-            News::SawWord(word) => self.saw_word(word),
-            News::SawStatus(status) => self.saw_status(status),
-            News::SawRow(row) => self.saw_row(row),
-            News::SawNumber(number) => self.saw_number(number),
-            News::Won => self.won(),
-            News::Lost => self.lost(),
-            News::Filed(_) => self.point,
-            News::Junk => self.point,
+        match observation {
+            Observation::SawDoor(door) => self.saw_door(door),
+            Observation::SawGate(gate) => self.saw_gate(gate),
+            Observation::SawWord(word) => self.saw_word(word),
+            Observation::SawStatus(status) => self.saw_status(status),
+            Observation::SawRow(row) => self.saw_row(row),
+            Observation::SawNumber(number) => self.saw_number(number),
+            Observation::Won => self.won(),
+            Observation::Lost => self.lost(),
+            Observation::Filed(_) => self.point,
+            Observation::Junk => self.point,
         }
     }
 
@@ -289,7 +292,7 @@ impl Look {
     }
 }
 
-// A change that takes no value from its machine.
+// A change to which the machine gives no value.
 fn fetch(kind: Kind, at: At) -> Op
     ensures { result ≡ Fetch kind at 0 0 }
 {
@@ -301,7 +304,7 @@ fn fetch(kind: Kind, at: At) -> Op
     }
 }
 
-// The gate of a slot that nobody has taken since it was used under this number.
+// The free gate of a slot after it was used with this number.
 fn free_gate(seq: u64) -> Gate
     requires { seq < WORN_NUMBER }
     ensures { result ≡ freed seq }

@@ -1,4 +1,7 @@
-//! The points of a read's program.
+//! The points of a read's program: its program counter.
+//!
+//! `look.rt` goes from point to point, and the world's definitions see the point of each request. A new point needs a
+//! case in `specs/Program`, and in each law about reads.
 ghost use Rattle.std.specs.Prelude.{◌≡◌};
 ghost use Rattle.mw_words.specs.Patterns.{IsGateInRange};
 ghost use Rattle.mw_look.specs.Program.{word_of, slot_of, seq_of, resumed, first_entry, next_entry, address_seen, pinning, answer, is_over, value_of};
@@ -6,18 +9,18 @@ ghost use Rattle.mw_look.specs.Program.{word_of, slot_of, seq_of, resumed, first
 use mw_pool::pin;
 use mw_words::{Gate, MAX_ENTRIES, Reply, Row, Status, WORN_NUMBER, Word};
 
-/// What a read follows: the word that it saw, which doesn't say its value, and the slot whose change
-/// has put it there.
+/// What leads a read from its word to a slot: the word that it saw, which doesn't have its value, and the slot
+/// whose change put it there.
 #[derive(Clone, Copy, Debug)]
 pub enum Trail {
-    /// The word was held for the slot under this sequence number.
+    /// The word was held for the slot with this sequence number.
     Held {
         /// The slot.
         slot: u8,
         /// The slot's sequence number.
         seq: u64,
     },
-    /// The word was a worker's attempt, and the worker's row told which change the attempt is for.
+    /// The word had a worker's attempt. The worker's row told which change the attempt is for.
     Planted {
         /// The worker.
         worker: u8,
@@ -28,85 +31,85 @@ pub enum Trail {
     },
 }
 
-/// What follows once no pin is held.
+/// What a read does when it holds no pin any more.
 #[derive(Clone, Copy, Debug)]
 pub enum After {
-    /// The read begins again.
+    /// It begins again.
     Again,
-    /// The value is the reply.
+    /// It replies with this value.
     Answer(u64),
 }
 
-/// Where a read is in its program: the next step, and what is known by then.
+/// Where a read is in its program: its next step, and what it knows.
 #[derive(Clone, Copy)]
 pub enum Point {
-    /// Load the tenant's door.
+    /// Loads the tenant's door.
     ReadDoor,
-    /// Load the word.
+    /// Loads the word.
     ReadWord,
-    /// Load the row of the worker whose attempt the word is.
+    /// The word has an attempt: loads the row of the attempt's worker.
     ReadRow {
         /// The worker.
         worker: u8,
         /// The attempt's number.
         attempt: u64,
     },
-    /// Load the word again, to see that the row was of its attempt.
+    /// Loads the word again, to confirm that the row belonged to the attempt.
     ConfirmWord(Trail),
-    /// Load the slot's gate.
+    /// Loads the slot's gate.
     ReadGate(Trail),
-    /// Exchange the gate for one with a pin more.
+    /// Exchanges the gate for one with one pin more.
     Pin {
-        /// What the read follows.
+        /// What led the read to the slot.
         trail: Trail,
-        /// The gate as it was read.
+        /// The gate as it was loaded.
         from: Gate,
         /// The gate with one pin more.
         to: Gate,
     },
-    /// Load the slot's status. From here on to Unpin the read holds a pin of the slot.
+    /// Loads the slot's status. From this point to Unpin the read holds a pin of the slot.
     ReadStatus(Trail),
-    /// Load an entry's address, to find the entry of the word.
+    /// Loads an entry's address, to find the entry of the word.
     FindEntry {
-        /// What the read follows.
+        /// What led the read to the slot.
         trail: Trail,
-        /// The slot's status.
+        /// The slot's status as it was loaded.
         status: Status,
         /// The entry's index.
         entry: u8,
     },
-    /// Load the entry's expected value.
+    /// Loads the entry's expected value.
     ReadExpected {
-        /// What the read follows.
+        /// What led the read to the slot.
         trail: Trail,
-        /// The slot's status.
+        /// The slot's status as it was loaded.
         status: Status,
         /// The entry's index.
         entry: u8,
     },
-    /// Load the entry's new value.
+    /// Loads the entry's new value.
     ReadNew {
-        /// What the read follows.
+        /// What led the read to the slot.
         trail: Trail,
-        /// The slot's status.
+        /// The slot's status as it was loaded.
         status: Status,
         /// The entry's index.
         entry: u8,
         /// The entry's expected value.
         expected: u64,
     },
-    /// Load the word again, to see that it still is what the status and the entry were read for.
+    /// Loads the word again, to confirm that it is still the word that led to the status and the entry.
     RecheckWord {
-        /// What the read follows.
+        /// What led the read to the slot.
         trail: Trail,
-        /// The slot's status.
+        /// The slot's status as it was loaded.
         status: Status,
         /// The entry's expected value.
         expected: u64,
         /// The entry's new value.
         new: u64,
     },
-    /// Take the pin back from the gate.
+    /// Takes the pin back from the gate.
     Unpin {
         /// The slot.
         slot: u8,
@@ -115,7 +118,7 @@ pub enum Point {
         /// What follows.
         after: After,
     },
-    /// It was the last pin: store the gate as a free one, with the next number.
+    /// The pin was the last one: stores a free gate with the next number.
     FreeSlot {
         /// The slot.
         slot: u8,
@@ -124,14 +127,14 @@ pub enum Point {
         /// What follows.
         after: After,
     },
-    /// The slot is free: count it off the tenant's door.
+    /// The slot is free: counts it off the tenant's door.
     LowerDoor(After),
-    /// The reply stands. The machine asks for loads of the door, and stays as it is.
+    /// The read has its reply. It asks for loads of the door, and changes no more.
     Replied(Reply),
 }
 
 impl Trail {
-    /// The word that was seen.
+    /// Returns the word that the read saw.
     pub(crate) fn word(self) -> Word
         ensures { result ≡ word_of self }
     {
@@ -145,7 +148,7 @@ impl Trail {
         }
     }
 
-    /// The slot.
+    /// Returns the slot.
     pub(crate) fn slot(self) -> u8
         ensures { result ≡ slot_of self }
     {
@@ -155,7 +158,7 @@ impl Trail {
         }
     }
 
-    /// The slot's sequence number.
+    /// Returns the slot's sequence number.
     pub(crate) fn seq(self) -> u64
         ensures { result ≡ seq_of self }
     {
@@ -165,8 +168,8 @@ impl Trail {
         }
     }
 
-    /// Where the word's entry is looked for, once the status was read: at the index that the row
-    /// names, else from the first entry on.
+    /// Returns where the read looks for the word's entry after it has loaded the status: at the index that the
+    /// row names, else from the first entry on.
     pub(crate) fn first_entry(self, status: Status) -> Point
         ensures { result ≡ first_entry self status }
     {
@@ -184,7 +187,8 @@ impl Trail {
         }
     }
 
-    /// What follows an entry's address: the entry's values, where it is the word's.
+    /// Returns the point after an entry's address: if the address is the word's, the read goes to the entry's
+    /// values.
     pub(crate) fn after_address(self, status: Status, entry: u8, is_the_words: bool) -> Point
         ensures { result ≡ address_seen self status entry is_the_words }
     {
@@ -199,8 +203,8 @@ impl Trail {
         }
     }
 
-    // What follows an entry of another address: the next entry, or after the last of `MAX_ENTRIES` the
-    // read begins again.
+    // The point after an entry with another address: the next entry. After the last of `MAX_ENTRIES` the read
+    // begins again.
     fn next_entry(self, status: Status, entry: u8) -> Point
         ensures { result ≡ next_entry self status entry }
     {
@@ -219,9 +223,9 @@ impl Trail {
         }
     }
 
-    /// What follows the slot's gate: a pin, where it is taken under the trail's number and has one
-    /// already. Else the read begins again, as it does where the gate has [`MAX_PINS`] of them or the
-    /// number is [`WORN_NUMBER`], which no number follows. The gate's fields are in range.
+    /// Returns the point after the slot's gate. If the gate is taken under the trail's number and has a pin,
+    /// the read goes to a pin. Else it begins again. It also does so if the gate has [`MAX_PINS`] pins, or if
+    /// the number is [`WORN_NUMBER`], which has no successor. The gate's fields must be in range.
     ///
     /// [`MAX_PINS`]: mw_words::MAX_PINS
     pub(crate) fn pinning(self, gate: Gate) -> Point
@@ -238,9 +242,9 @@ impl Trail {
         }
     }
 
-    /// What follows once the word was loaded after the status and the entry. They tell its value if it
-    /// is the word that was seen, and isn't held by a change that was made and is done with. Else
-    /// the read begins again.
+    /// Returns what follows the load of the word after the status and the entry. They tell its value if the
+    /// word is the one that the read saw before, and isn't held by a change that is made and done. Else the
+    /// read begins again.
     pub(crate) fn answer(self, word: Word, status: Status, expected: u64, new: u64) -> After
         ensures { result ≡ answer self word status expected new }
     {
@@ -251,7 +255,7 @@ impl Trail {
         }
     }
 
-    // Whether the word is held by a change that was made and is done with.
+    // Tells whether the word is held by a change that is made and done.
     fn is_over(self, status: Status) -> bool
         ensures { result ≡ is_over self status }
     {
@@ -261,8 +265,8 @@ impl Trail {
         }
     }
 
-    // The word's value: the entry's new one where the word is held by a change that is made, else the
-    // expected one.
+    // The word's value: the entry's new value if the word is held by a change with the status Yes, else the
+    // expected value.
     fn value(self, status: Status, expected: u64, new: u64) -> u64
         ensures { result ≡ value_of self status expected new }
     {
@@ -274,7 +278,7 @@ impl Trail {
 }
 
 impl After {
-    /// The point that follows.
+    /// Returns the point that follows.
     pub(crate) fn resumed(self) -> Point
         ensures { result ≡ resumed self }
     {

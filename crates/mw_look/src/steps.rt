@@ -1,68 +1,71 @@
-//! The steps that a machine asks for, as the shared words take them.
+//! The steps for which a machine asks, in bits.
+//!
+//! A machine asks for an [`Op`]; mw_table makes it on the shared words, and mw_simulator in memory. A new [`Kind`]
+//! needs a way in mw_rule (`ways.rt`), and a case wherever the world says what a step means (mw_world).
 ghost use Rattle.std.specs.Prelude.{◌≡◌};
 ghost use Rattle.mw_look.specs.Shapes.{shape_of};
 ghost use Rattle.mw_look.specs.Steps.{place_of};
 
 use mw_words::At;
 
-/// A kind of step that changes a shared word. Unpin, Drop and Fault change whatever stands there, and
-/// Fill, Row and Free store in its place, and so can't lose. All others exchange what is expected there
-/// for something else, and win or lose.
+/// A kind of step that changes a shared word. Unpin, Drop and Fault change whatever the word is; Fill, Row and
+/// Free replace it. So these can't lose. All other kinds exchange what they expect for something else, and win
+/// or lose.
 #[derive(Clone, Copy, Debug, PartialEq, Eq)]
 pub enum Kind {
-    /// One slot more is in use, by the door.
+    /// The door counts one slot more.
     Admit,
-    /// A free slot is taken, by its gate.
+    /// The gate of a free slot is claimed.
     Claim,
-    /// A word of a slot of one's own is written.
+    /// A word of the worker's own slot is written.
     Fill,
-    /// One pin more, on the gate.
+    /// The gate counts one pin more.
     Pin,
-    /// One pin less, on the gate.
+    /// The gate counts one pin less.
     Unpin,
-    /// A slot that nobody holds on to is free, with its next number.
+    /// The gate of a slot without pins is freed, with the next number.
     Free,
-    /// One slot less is in use, by the door.
+    /// The door counts one slot less.
     Drop,
-    /// One's own row names an entry of a change.
+    /// The worker's own row names an entry of a change.
     Row,
-    /// A tenant's word stands as an attempt to hold it.
+    /// An attempt to hold a word is planted in it.
     Plant,
-    /// The attempt holds the word, or puts its value back.
+    /// The attempt becomes the held word, or the word gets its value back.
     Resolve,
-    /// The change is to be made.
+    /// The status becomes YesDirty: it is decided that the change is made.
     DecideYes,
-    /// The change is not to be made.
+    /// The status becomes No: it is decided that the change is not made.
     DecideNo,
     /// A held word gets the value that the decision gives it.
     Release,
-    /// The slot's change is written down whole.
+    /// The status becomes Open after a prepare: all of the slot's change is written.
     Ready,
-    /// The change is sealed in its file.
+    /// The status becomes Yes after a seal: the change is sealed in its file.
     Seal,
-    /// A change that was made is done with.
+    /// The status becomes DoneYes after a settle: the change is made and done.
     Settle,
-    /// A change that was not made is done with.
+    /// The status becomes DoneNo after a cancel: the change is not made, and is done.
     Cancel,
-    /// A new value no longer names its slot.
+    /// A word with a new value stops naming the change's slot.
     Clean,
-    /// The tenant's file has failed.
+    /// The door gets the fault: the tenant's file has failed.
     Fault,
 }
 
-/// In which way a kind of step changes its word.
+/// How a kind of step changes its word.
 #[derive(Clone, Copy, Debug, PartialEq, Eq)]
 pub enum Shape {
-    /// It wins where it finds what it expects, and else changes nothing.
+    /// An exchange wins if it finds what it expects, and else changes nothing.
     Exchange,
-    /// It leaves one thing, whatever it finds.
+    /// A store leaves one value, whatever it finds.
     Store,
-    /// It makes something of what it finds.
+    /// A fetch computes what it leaves from what it finds.
     Fetch,
 }
 
 impl Kind {
-    /// In which way a step of this kind changes its word.
+    /// Returns how a step of this kind changes its word.
     pub fn shape(self) -> Shape
         ensures { result ≡ shape_of self }
     {
@@ -89,33 +92,33 @@ impl Kind {
 /// A call on a tenant's file.
 #[derive(Clone, Copy, Debug, PartialEq, Eq)]
 pub enum Call {
-    /// A change is written into a free place of the file.
+    /// Writes a change into a free place of the file.
     Prepare,
-    /// The change is sealed: from now on a crash leaves it.
+    /// Seals the change: from now on a crash leaves it.
     Seal,
-    /// The change is put into its words, and its place is free.
+    /// Writes the change into its words, and frees its place.
     Settle,
-    /// The change's place is free, and its words stay.
+    /// Frees the change's place, and leaves its words.
     Cancel,
 }
 
 /// A step on the shared words, of 64 bits each.
 #[derive(Clone, Copy, Debug, PartialEq, Eq)]
 pub enum Op {
-    /// The word at a place is read.
+    /// Loads the word at a place.
     Load(At),
-    /// The word at a place is changed.
+    /// Changes the word at a place.
     Change {
-        /// How.
+        /// How it changes the word.
         kind: Kind,
         /// The place.
         at: At,
-        /// What an exchange expects there. Else 0.
+        /// What an exchange expects there; 0 for other shapes.
         from: u64,
-        /// What an exchange or a store leaves there. Else 0.
+        /// What an exchange or a store leaves there; 0 for a fetch.
         to: u64,
     },
-    /// A call on the tenant's file, for the change of a slot.
+    /// Calls the tenant's file, for the change of a slot.
     File {
         /// The call.
         call: Call,
@@ -125,7 +128,8 @@ pub enum Op {
 }
 
 impl Op {
-    /// The word that the step reads or changes. Of a call on the file it is the slot's status.
+    /// Returns the place of the word that the step loads or changes. For a call on the file it is the slot's
+    /// status.
     pub fn place(self) -> At
         ensures { result ≡ place_of self }
     {

@@ -1,5 +1,7 @@
-//! What every program begins with: the version that all tell, the standard streams held open, the command line as
-//! texts, and the exit status.
+//! Begins every program: holds the standard streams open, reads the command line as texts, and gives the
+//! exit status. The version that all programs tell is here too.
+//!
+//! Used by: the five programs; mw_config, mw_file_command, mw_load and mw_programs, for the version.
 #![tactic(auto)]
 
 mod program;

@@ -1,4 +1,6 @@
-//! A program from its start to its exit status.
+//! Runs a program from its start to its exit status.
+//!
+//! Each program's `main` calls `run`.
 ghost use Rattle.std.specs.Prelude.{◌≡◌};
 ghost use Rattle.std.specs.Process.{exit_status};
 
@@ -9,22 +11,22 @@ use std::io::{self, ErrorKind};
 use std::process::ExitCode;
 use std::rt::{Env, Files};
 
-/// What a program says where it can't begin. Each text comes after its name, as `mwserve: memory`.
+/// What a program says if it can't begin. Each text comes after its name, as `mwserve: memory`.
 #[derive(Clone, Copy)]
 pub struct Program {
     /// The program's name.
     pub name: &'static str,
-    /// What it says where an argument is no text.
+    /// The text if an argument is no text.
     pub no_text: &'static str,
-    /// What it says where memory is refused.
+    /// The text if memory is refused.
     pub no_memory: &'static str,
 }
 
-/// Runs a program: holds its standard streams by [`hold_streams`], and gives `work` the command line, the program's
-/// own name first. The exit status is the one that `work` gives.
+/// Runs a program: holds its standard streams by [`hold_streams`], and calls `work` with the command line,
+/// the program's own name first. Gives the exit status that `work` gives.
 ///
-/// It is 1, and `work` isn't called, where `/dev/null` can't be opened or memory is refused; and 2 where an argument
-/// is no text. What went wrong is then written to the standard error.
+/// It doesn't call `work` if `/dev/null` can't be opened or memory is refused, and gives 1; or if an
+/// argument is no text, and gives 2. Then it writes what went wrong to the standard error.
 pub fn run<R, F: FnOnce(&[String]) -> u8>(rt: &R, program: &Program, work: F) -> ExitCode
 where
     R: Files<File = File> + Env + Eprint + AllocGlobal,
@@ -44,7 +46,7 @@ where
 }
 
 impl Program {
-    /// Says what went wrong behind the program's name, and gives this exit status.
+    /// Writes what went wrong after the program's name. Gives this exit status.
     fn refuse<R: Eprint>(&self, rt: &R, text: &str, status: u8) -> ExitCode
         ensures { exit_status result ≡ status }
     {

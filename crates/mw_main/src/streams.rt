@@ -1,4 +1,6 @@
-//! Holding the descriptors of standard streams that are closed.
+//! Holds the descriptors of standard streams that are closed.
+//!
+//! Used by: `program`, before anything else of a program.
 
 use std::fs::{File, OpenOptions};
 use std::io;
@@ -8,9 +10,9 @@ use std::rt::Files;
 /// The highest descriptor of a standard stream: that of standard error.
 const LAST_STREAM: i32 = 2;
 
-/// Opens `/dev/null` on each descriptor of a standard stream that is free, since the first file that is
-/// opened next would take its number, and what is meant for the stream would be written over that file.
-/// To be called before anything else is opened, and what it gives is to be kept until the program ends.
+/// Opens `/dev/null` on each free descriptor of a standard stream. Otherwise the next file that is opened
+/// would take that number, and what is meant for the stream would be written over the file. It must be
+/// called before anything else is opened, and its result must be kept until the program ends.
 ///
 /// # Errors
 ///
@@ -21,7 +23,7 @@ pub fn hold_streams<R: Files<File = File>>(rt: &R) -> io::Result<[Option<File>; 
     let mut held = [None, None, None];
     for place in &mut held {
         let file = options.open(rt, "/dev/null")?;
-        // The system gives the lowest number that is free.
+        // The system gives the lowest free number.
         if file.as_raw_fd() > LAST_STREAM {
             break;
         }

@@ -1,4 +1,5 @@
--- A start and a finish together.
+-- An ask answers as a start and a finish of the store alone, one after the other. Used by: the proof of Plain::ask. It may change
+-- freely as long as this crate checks.
 use Rattle.std.proofs.Common.{◌≡◌, ℕ, false, List, [], length, Option, Some, None, IsTrue, refl, sym, subst, ◌∙◌, inl, inr}
 use Rattle.mw_disk.specs.Facts.{Facts}
 use Rattle.mw_disk.specs.Runs.{LeavesOnly}
@@ -9,23 +10,23 @@ use Rattle.mw_words.specs.declared.jobs.Job.TheVariants.{Cas}
 use Rattle.mw_words.specs.declared.replies.Reply.{Reply}
 use Rattle.mw_words.specs.Change.{is_well_formed}
 use Rattle.mw_file.specs.File.{disk_of, states_of}
-use Rattle.mw_file.specs.Keeps.{IsFile, IsEither}
+use Rattle.mw_file.specs.RecoveryInvariant.{IsFile, IsBeforeOrAfter}
 use Rattle.mw_record.specs.Layout.{pairs_of}
 use Rattle.mw_record.specs.Records.{Pairs, put_pairs}
 use Rattle.mw_lone.specs.Store.{Store}
-use Rattle.mw_plain.specs.declared.book.Book.{Book}
+use Rattle.mw_plain.specs.declared.book.LoadedFile.{LoadedFile}
 use Rattle.mw_plain.specs.declared.plain.Plain.{Plain}
 use Rattle.mw_plain.specs.declared.tickets.Ticket.{Ticket}
 use Rattle.mw_plain.specs.declared.tickets.Start.TheVariants.{Done, Open}
 use Rattle.mw_plain.specs.Books.{faulted_in, places_in}
 use Rattle.mw_plain.specs.Parts.{words_at, book_at}
 use Rattle.mw_plain.specs.Cases.{StartCase, FinishCase, Faulted, Looked, Full, Unprepared, Prepared, AtStart, AtFinish, AskFits, is_end, after_start}
-use Rattle.mw_plain.specs.Stands.{IsKept, CrashLeaves}
-use Rattle.mw_plain.specs.Serving.{at_stake}
+use Rattle.mw_plain.specs.Refinement.{IsKept, CrashLeaves}
+use Rattle.mw_plain.specs.CallEnds.{at_stake}
 use Rattle.mw_plain.specs.Answers.{StartsAs, FinishesAs, AsksAs}
 use Rattle.mw_plain.proofs.Runs.{answered}
 
--- a start whose change is still to be finished has prepared it
+-- if the start is not the end, it prepared the change
 was_prepared : (case : StartCase) → is_end case ≡ false → case ≡ Prepared
 was_prepared Faulted ended = absurd (cc)
 was_prepared Looked ended = absurd (cc)
@@ -33,13 +34,13 @@ was_prepared Full ended = absurd (cc)
 was_prepared Unprepared ended = absurd (cc)
 was_prepared Prepared ended = refl
 
--- where no change is in doubt
-certain_words : (places : ℕ) (words : List ℕ) (doubt change : Pairs) (image : List ℕ) → doubt ≡ [] → IsEither places words doubt image → IsEither places words change image
+-- no change was in doubt
+certain_words : (places : ℕ) (words : List ℕ) (doubt change : Pairs) (image : List ℕ) → doubt ≡ [] → IsBeforeOrAfter places words doubt image → IsBeforeOrAfter places words change image
 certain_words places words doubt change image none (inl is) = inl is
 certain_words places words doubt change image none (inr is) = inl (subst (λ (doubt : Pairs). IsFile places (put_pairs doubt words) image) none is)
 
 module _ {D : Type 0} (facts : D → Facts) where
-  join_moments : (old between new : Option (Book D)) (s : Store) (change : List Entry) → faulted_in old ≡ false → IsKept facts old s
+  join_moments : (old between new : Option (LoadedFile D)) (s : Store) (change : List Entry) → faulted_in old ≡ false → IsKept facts old s
       → ((so_many : ℕ) → places_in so_many between ≡ places_in so_many old)
       → CrashLeaves facts old between s.words s.in_doubt → CrashLeaves facts between new s.words change → CrashLeaves facts old new s.words change
   join_moments None between new s change up keeps places first last = absurd (cc)
@@ -50,7 +51,7 @@ module _ {D : Type 0} (facts : D → Facts) where
       let none = (keeps honest).certain (old.sound up) in
       leaves_more _ (facts (disk_of between.file)) _
       (leaves_wider _ _ (λ image either. certain_words (length (states_of old.file)) s.words (pairs_of s.in_doubt) (pairs_of change) image none either) begun)
-      (subst (λ n. LeavesOnly (facts (disk_of between.file)) (facts (disk_of new.file)) (IsEither n s.words (pairs_of change))) (places 0) (last (still_honest _ _ begun.later honest)))
+      (subst (λ n. LeavesOnly (facts (disk_of between.file)) (facts (disk_of new.file)) (IsBeforeOrAfter n s.words (pairs_of change))) (places 0) (last (still_honest _ _ begun.later honest)))
 
   pub asks_done : (case : StartCase) (old new : Plain D) (tenant : ℕ) (job : Job) (reply : Reply) → IsTrue (is_well_formed (words_at old tenant) job)
       → StartsAs facts case old new tenant job (Done reply) → AsksAs facts (AtStart case) old new tenant job reply

@@ -1,4 +1,5 @@
--- Lists of marks, one after another.
+-- Two lists of marks, one after the other, do what the joined list does. Used by: Runs, the proof of marks_of_a_call. It may
+-- change freely as long as this crate checks.
 use Rattle.std.specs.Prelude.{ℕ, ◌≡◌, List, [], ◌∷◌, ◌++◌, Option, Some, None}
 use Rattle.std.specs.Option.{option_and_then, option_map, option_to_list, unwrap_or}
 use Rattle.std.proofs.Common.{refl, sym, ap, ◌∙◌, append_assoc}
@@ -27,7 +28,7 @@ replies-join s t (mark ∷ first) second e =
     let said = option_to_list (outgoing s mark) in
     ap (λ rest. said ++ rest) (replies_on (step s mark) t first second e (λ u at. replies-join u t first second at)) ∙ sym (append_assoc said _ _)
 
--- where nothing happens, nothing changes
+-- no marks change nothing
 pub goes-nowhere : (s : Store) → Goes s [] [] s
 goes-nowhere s = record { ran = refl; said = refl }
 

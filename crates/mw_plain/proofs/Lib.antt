@@ -1,13 +1,13 @@
-mod Asking
+mod TaskLaws
 mod Asks
-mod Comparing
-mod Counting
-mod Finishing
-mod Making
+mod EntryComparison
+mod UsedSlots
+mod FinishEnds
+mod NewStores
 mod Opens
 mod Ready
-mod Restarting
+mod RestartedStores
 mod Serves
-mod Starting
+mod StartEnds
 pub mod Joined
 pub mod Runs

@@ -1,4 +1,5 @@
--- Tickets over a call for one tenant.
+-- A call for one tenant leaves open each ticket whose change is still prepared. Used by: Serves, TaskLaws. It may change freely
+-- as long as this crate checks.
 use Rattle.std.proofs.Common.{◌≡◌, ℕ, ◌<◌, Option, IsTrue, sym, ap, subst, ◌∙◌, inl, inr}
 use Rattle.std.proofs.lemmas.Bool.{cases_eq}
 use Rattle.std.specs.Option.{option_and_then, option_map_or}
@@ -10,14 +11,14 @@ use Rattle.mw_plain.specs.Books.{IsPrepared}
 use Rattle.mw_plain.specs.Parts.{words_at, book_at, ServesOne}
 use Rattle.mw_plain.specs.Tickets.{IsOpen}
 
--- every tenant has as many words
+-- every tenant has as many words as before
 pub words_stay : {D : Type 0} (old new : Plain D) (tenant other : ℕ) → ServesOne old new tenant → words_at new other ≡ words_at old other
 words_stay old new tenant other one = elim (cases_eq other tenant) [
   | inl same ↦ ap (words_at new) same ∙ one.words ∙ ap (words_at old) (sym same)
   | inr apart ↦ ap (λ (o : Option (Part _)). option_map_or (λ p. p.words) o 0) (one.others other apart)
 ]
 
--- a ticket stays open whose change, if it is this tenant's, is prepared still
+-- a ticket stays open if its change, in case it is this tenant's, is still prepared
 pub still_open : {D : Type 0} (old new : Plain D) (tenant : ℕ) (other : Ticket) → ServesOne old new tenant
     → (other.tenant ≡ tenant → IsPrepared (book_at old tenant) other.place.0 other.entries.items → IsPrepared (book_at new tenant) other.place.0 other.entries.items)
     → IsOpen old other → IsOpen new other

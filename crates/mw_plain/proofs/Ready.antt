@@ -1,4 +1,6 @@
--- The places of a file of which no call has failed, none of which is sealed.
+-- The places of a file that has not failed have room for a change within the quota, and none is sealed between calls.
+-- Used by: the proofs of Part::new, LoadedFile::admit, LoadedFile::change and LoadedFile::refuse.
+-- No other crate uses it: change it freely as long as this crate checks.
 use Rattle.std.proofs.Common.{◌≡◌, ◌≢◌, ℕ, ◌+◌, ◌<◌, ◌≤◌, List, [], ◌∷◌, length, true, Some, IsSome, refl, sym, ap, ◌∙◌, inl, inr, arith}
 use Rattle.std.proofs.lemmas.Bool.{cases_eq, cases_lt, lt-ltb, and_parts}
 use Rattle.std.proofs.lemmas.Option.{slice_get_past}
@@ -8,7 +10,7 @@ use Rattle.mw_file.specs.declared.place_states.Stage.TheVariants.{Free, Prepared
 use Rattle.mw_file.specs.PlaceStates.{is_free, all_free, stage_of, stage_at, free_place, IsStaged, MaySeal}
 use Rattle.mw_file.proofs.Free.{free_stage_at, stage_of-all_free}
 use Rattle.mw_file.specs.Taken.{taken, if_taken}
-use Rattle.mw_file.proofs.Taken.{has_free, taken_staged}
+use Rattle.mw_file.proofs.TakenCounts.{has_free, taken_staged}
 
 -- no place is sealed
 abbrev pub NoneSealed : List PlaceState → Type 0
@@ -21,7 +23,7 @@ is_there states place change = elim (cases_lt place (length states)) [
   | inr past ↦ absurd (change (ap stage_at (slice_get_past states place past)))
 ]
 
--- fewer slots in use than places: there is room
+-- if fewer slots are in use than the quota, there is room
 pub has_room : (states : List PlaceState) (used quota : ℕ) → taken states ≡ used → used < quota → quota ≤ length states → IsSome (free_place states)
 has_room states used quota counted below room = has_free states ∙ lt-ltb (taken states) (length states) (omega (arith, counted, below, room))
 
@@ -52,14 +54,14 @@ none_sealed old new place stage writes other none staged there sealed = elim (ca
   | inr apart ↦ none there (sym (staged.stage_there there apart) ∙ sealed)
 ]
 
--- where none is sealed any change that is prepared may be sealed
+-- if none is sealed, any prepared change may be sealed
 pub may_seal : (states : List PlaceState) (place : ℕ) → stage_of states place ≡ Prepared → NoneSealed states → MaySeal states place
 may_seal states place prepared none = record {
   prepared = prepared;
   apart = λ other addr sealed here. absurd (none other sealed);
 }
 
--- where all places are free none has a change
+-- if all places are free, none has a change
 pub taken_none : (states : List PlaceState) → all_free states ≡ true → taken states ≡ 0
 taken_none [] all = refl
 taken_none (s ∷ states) all =
@@ -67,6 +69,6 @@ taken_none (s ∷ states) all =
     let here : if_taken s.stage ≡ 0 = ap if_taken (stage_of-all_free (s ∷ states) 0 all) in
     omega (arith, rest, here)
 
--- nor is any sealed
+-- and none is sealed
 pub none_taken : (states : List PlaceState) → all_free states ≡ true → NoneSealed states
 none_taken states all place sealed = let no : Free ≡ Sealed = sym (stage_of-all_free states place all) ∙ sealed in cc

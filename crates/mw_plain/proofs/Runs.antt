@@ -1,4 +1,5 @@
--- The store alone goes through the marks of a call.
+-- The marks of each case are legal for the store alone, hand out the reply, and leave the store of the case. Used by: Serves,
+-- Asks, TaskLaws, RestartedStores, the law marks_of_a_call. It may change freely as long as this crate checks.
 use Rattle.std.proofs.Common.{◌≡◌, ◌≢◌, ℕ, ◌+◌, ◌-◌, ◌<◌, Bool, true, false, ◌&&◌, ◌==◌, not, List, [], ◌∷◌, ◌++◌, length, refl, sym, ap, subst, ◌∙◌, arith, Option, Some, None, inl, inr, IsSomeAnd, IsTrue, is_some, is_none}
 use Rattle.std.specs.Prelude.{if◌then◌else◌, nat_lt}
 use Rattle.std.proofs.lemmas.Bool.{cases_eq}
@@ -47,7 +48,7 @@ again s n a b = let base = s in ap (λ (m : Requests). record base { requests = 
 present : (s : Store) (n : ℕ) (r : RequestState) → request s n ≡ Some r → with_request s n r ≡ s
 present s n r at = let base = s in ap (λ (m : Requests). record base { requests = m }) (insert-present s.requests n r at)
 
--- a mark meets the request that is there
+-- a mark finds the request that is there
 meets : {A : Type 0} (s : Store) (n : ℕ) (r : RequestState) (f : RequestState → Option A) → option_and_then f (request (with_request s n r) n) ≡ f r
 meets s n r f = ap (option_and_then f) (get-insert_same s.requests n n r refl)
 
@@ -67,7 +68,7 @@ pub when : (b : Bool) (o : Option Store) → b ≡ true → (if b then o else No
 when true o e = refl
 when false o e = absurd (cc)
 
--- Each mark, at a store that has the request.
+-- Each mark, for a store that has the request.
 
 step-ask : (s : Store) (job : Job) → IsTrue (is_well_formed (length s.words) job) → step s (Ask s.next job) ≡ Some (with_request (record s { next = s.next + 1 }) s.next (asked job))
 step-ask s job h = when ((s.next == s.next) && is_well_formed (length s.words) job) _ (grind (arith, nat_tests))
@@ -98,7 +99,7 @@ step-give-up s n r faulted waits =
 step-fail-file : (s : Store) → s.faulted ≡ false → step s FileFail ≡ Some (record s { faulted = true })
 step-fail-file s running = unless s.faulted _ running
 
--- the entry that a change is refused at
+-- the entry at which a change is refused
 step-miss-at : (s : Store) (n : ℕ) (job : Job) (entry : Option Entry) (reply : Reply) → IsSomeAnd entry (λ e. word_at s.words e.addr ≢ e.expected) → refusal s.words entry ≡ Some reply → miss_at (with_request s n (under_way job)) n (under_way job) entry ≡ Some (with_request s n (placed (under_way job) reply))
 step-miss-at s n job None reply differs said = absurd differs
 step-miss-at s n job (Some e) reply differs said =
@@ -209,7 +210,7 @@ started s job case fine premise = record {
 
 -- The cases of a finish.
 
--- there is a refusal at an entry that is there
+-- an entry that is there gives a refusal
 refuses : (words : List ℕ) (entry : Option Entry) → IsSomeAnd entry (λ e. word_at words e.addr ≢ e.expected) → (reply : Reply) × (refusal words entry ≡ Some reply)
 refuses words None differs = absurd differs
 refuses words (Some e) differs = (No e.addr (word_at words e.addr), refl)

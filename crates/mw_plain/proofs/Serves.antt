@@ -1,4 +1,5 @@
--- From a tenant's own calls to those of the store of all tenants.
+-- What a call does to one tenant is what the call of the store does, and all other tenants stay. Used by: the proofs of
+-- Plain::start and Plain::finish. It may change freely as long as this crate checks.
 use Rattle.std.proofs.Common.{◌≡◌, ◌≢◌, ℕ, ◌<◌, ◌≤◌, get_or, slice_get, List, length, Option, Some, is_some, IsTrue, refl, sym, ap, subst, ◌∙◌, inl, inr}
 use Rattle.std.proofs.Math.ListN.{set, length-set}
 use Rattle.std.proofs.lemmas.Bool.{cases_lt}
@@ -22,7 +23,7 @@ use Rattle.mw_plain.specs.declared.tickets.Start.TheVariants.{Done as IsDone, Op
 use Rattle.mw_plain.specs.Books.{IsPrepared}
 use Rattle.mw_plain.specs.Parts.{tenants, part_at, words_at, quota_at, book_at, ServesOne, SameLine}
 use Rattle.mw_plain.specs.Cases.{StartCase, FinishCase, GaveUp, Missed, Unsealed, Unsettled, Changed, words_after_finish}
-use Rattle.mw_plain.specs.Serving.{StartEnds, FinishEnds, Opens, begun_reply}
+use Rattle.mw_plain.specs.CallEnds.{StartEnds, FinishEnds, Opens, begun_reply}
 use Rattle.mw_plain.specs.Answers.{StartsAs, FinishesAs, OpensIn, reply_in}
 use Rattle.mw_plain.proofs.Runs.{started, finished}
 use Rattle.mw_plain.proofs.Opens.{still_open}
@@ -44,7 +45,7 @@ same_length words job Unsealed = refl
 same_length words job Unsettled = length-put words (entries_of job)
 same_length words job Changed = length-put words (entries_of job)
 
--- what is got of a list in which one element was set
+-- the elements of a list in which one was set
 got_same : {X : Type 0} (xs : List X) (i : ℕ) (x : X) → i < length xs → slice_get (set xs i x) i ≡ Some x
 got_same xs i x lt = slice_get-get_or (set xs i x) i x (subst (λ n. i < n) (sym (length-set xs i x)) lt) ∙ ap Some (get_or-set_same xs i x x lt)
 
@@ -54,7 +55,7 @@ got_other xs i j x apart = elim (cases_lt j (length xs)) [
   | inr past ↦ slice_get_past (set xs i x) j (subst (λ n. n ≤ j) (sym (length-set xs i x)) past) ∙ sym (slice_get_past xs j past)
 ]
 
--- a call for one tenant that writes its part alone
+-- a call for one tenant that writes only that tenant's part
 pub serves_one : {D : Type 0} (old new : Plain D) (tenant : ℕ) (p q : Part D) → tenant < tenants old → part_at old tenant ≡ Some p → new.parts.items ≡ set old.parts.items tenant q
     → new.pool ≡ old.pool → SameLine p q → ServesOne old new tenant × (part_at new tenant ≡ Some q)
 serves_one {D} old new tenant p q there was written pool line = (

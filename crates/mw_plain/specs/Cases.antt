@@ -1,6 +1,7 @@
--- What the calls of a plain store come to, by cases: the marks that a call makes, the reply that they hand out, and
--- what the store alone is after them. One call starts a job. Another finishes it, where it is a change that the start
--- admitted and prepared.
+-- What the calls of a plain store come to, by cases: the marks of a call, the reply that they hand out, and the store
+-- alone after them. One call starts a job. If the start prepared a change, another call finishes it.
+-- Used by: Answers, CallEnds, Marks, Tasks, the contracts of calls.rt, restarts.rt, serving.rt and tenants.rt. A new mark or
+-- reply needs a case here first; Answers and CallEnds follow it.
 use Rattle.std.specs.Prelude.{ℕ, ◌≡◌, ◌≢◌, ◌<◌, ◌+◌, ◌-◌, Bool, true, false, List, [], ◌∷◌, ◌++◌, length, Option, Some, None, IsTrue, IsSomeAnd, slice_get, take}
 use Rattle.std.specs.Option.{option_map}
 use Rattle.std.specs.FinMap as map
@@ -27,38 +28,38 @@ pub data StartCase : Type 0 where
   -- a change was admitted and prepared, and is still to be finished
   Prepared : StartCase
 
--- What the finish of a change comes to that was prepared.
+-- What the finish of a prepared change comes to.
 pub data FinishCase : Type 0 where
   -- the tenant's file has failed since the change was prepared
   GaveUp : FinishCase
-  -- the word of the entry with this index is the first that does not hold the expected value
+  -- the word of the entry with this index is the first that doesn't have the expected value
   Missed : (index : ℕ) → FinishCase
-  -- the file failed while the change was sealed, which is what makes it durable
+  -- the file failed while the change was sealed; sealing makes a change durable
   Unsealed : FinishCase
-  -- the change was sealed, and the file failed while its words were brought to their places
+  -- the change was sealed, and the file failed while it was settled
   Unsettled : FinishCase
-  -- the change was sealed and its words brought to their places
+  -- the change was sealed and settled
   Changed : FinishCase
 
--- What a job comes to that is started, and finished if it was prepared.
+-- What an ask for a job comes to: the start ended it, or the finish after the start.
 pub data AskCase : Type 0 where
   AtStart : StartCase → AskCase
   AtFinish : FinishCase → AskCase
 
--- Where a case can be met.
+-- When a case can be met.
 
--- a change that can be admitted: the file has not failed, and a slot of the quota is free
+-- A change can be admitted: the file has not failed, and a slot of the quota is free.
 pub record HasRoom (s : Store) (job : Job) : Type 0 where
   pub running : s.faulted ≡ false
   pub change : is_cas job ≡ true
   pub below : s.used < s.quota
 
--- a change whose every word holds the expected value, over a file that has not failed
+-- A change can be made: the file has not failed, and every word has the expected value.
 pub record CanChange (s : Store) (job : Job) : Type 0 where
   pub running : s.faulted ≡ false
   pub as_expected : IsTrue (fits s.words (entries_of job))
 
--- the start of a job can come to this over this store
+-- the start of a job can come to this case over this store
 abbrev pub StartFits : Store → Job → StartCase → Type 0
 StartFits s job Faulted = s.faulted ≡ true
 StartFits s job Looked = (s.faulted ≡ false) × (is_cas job ≡ false)
@@ -66,13 +67,13 @@ StartFits s job Full = (s.faulted ≡ false) × (is_cas job ≡ true) × (s.used
 StartFits s job Unprepared = HasRoom s job
 StartFits s job Prepared = HasRoom s job
 
--- the first entry whose word does not hold the expected value, over a file that has not failed
+-- the file has not failed, and this is the first entry whose word doesn't have the expected value
 pub record MissesFirst (s : Store) (job : Job) (index : ℕ) : Type 0 where
   pub running : s.faulted ≡ false
   pub as_expected : IsTrue (fits s.words (take index (entries_of job)))
   pub differs : IsSomeAnd (slice_get (entries_of job) index) (λ e. word_at s.words e.addr ≢ e.expected)
 
--- the finish of a change can come to this over this store
+-- the finish of a change can come to this case over this store
 abbrev pub FinishFits : Store → Job → FinishCase → Type 0
 FinishFits s job GaveUp = s.faulted ≡ true
 FinishFits s job (Missed index) = MissesFirst s job index
@@ -80,7 +81,7 @@ FinishFits s job Unsealed = CanChange s job
 FinishFits s job Unsettled = CanChange s job
 FinishFits s job Changed = CanChange s job
 
--- The marks, where the request has the number n.
+-- The marks of a call whose request has the number n.
 
 -- of a start
 abbrev pub start_marks : ℕ → Job → StartCase → List Mark
@@ -110,11 +111,11 @@ abbrev pub looked_up : List ℕ → Job → Option Reply
 looked_up words (Get addr) = Some (Val (word_at words addr))
 looked_up words (Cas entries) = None
 
--- the refusal at an entry: its address and what the word there holds
+-- the refusal at an entry: its address and the value of its word
 abbrev pub refusal : List ℕ → Option Entry → Option Reply
 refusal words entry = option_map (λ e. No e.addr (word_at words e.addr)) entry
 
--- the reply that a start hands out; none where the change is prepared, whose reply is still to come
+-- the reply that a start hands out; none if the change is prepared, because its reply is still to come
 abbrev pub start_reply : List ℕ → Job → StartCase → Option Reply
 start_reply words job Faulted = Some Fault
 start_reply words job Looked = looked_up words job
@@ -130,22 +131,22 @@ finish_reply words job Unsealed = Some Fault
 finish_reply words job Unsettled = Some Yes
 finish_reply words job Changed = Some Yes
 
--- the reply to the job, which the start or the finish hands out
+-- the reply to the job, from the start or the finish
 abbrev pub ask_reply : List ℕ → Job → AskCase → Option Reply
 ask_reply words job (AtStart case) = start_reply words job case
 ask_reply words job (AtFinish case) = finish_reply words job case
 
--- The store after it: each part of it that a call may change.
+-- The store after a call: each part of it that the call may change.
 
 -- a change that was admitted and has no reply yet
 abbrev pub under_way : Job → RequestState
 under_way job = record { job = job; admitted = true; placed = None; retired = false; handed = false }
 
--- a request that was not admitted, with the reply that was handed out
+-- a request that was not admitted, and whose reply was handed out
 abbrev pub turned_away : Job → Option Reply → RequestState
 turned_away job reply = record { job = job; admitted = false; placed = reply; retired = false; handed = true }
 
--- a change that was admitted, with the reply that was handed out, and whether its slot was given back
+-- a change that was admitted, and whose reply was handed out; its slot was given back or not
 abbrev pub ended : Job → Option Reply → Bool → RequestState
 ended job reply back = record { job = job; admitted = true; placed = reply; retired = back; handed = true }
 
@@ -161,7 +162,7 @@ used_after_start used Unprepared = used + 1
 used_after_start used Prepared = used + 1
 used_after_start used case = used
 
--- the file has failed that failed while a change was prepared
+-- the file has failed if it failed while a change was prepared
 abbrev pub faulted_after_start : Bool → StartCase → Bool
 faulted_after_start faulted Unprepared = true
 faulted_after_start faulted case = faulted
@@ -175,13 +176,13 @@ after_start s job case = record s {
   faulted = faulted_after_start s.faulted case;
 }
 
--- the slot is given back where no failed file holds it
+-- the slot is given back, unless a failed file keeps it
 abbrev pub gives_back : FinishCase → Bool
 gives_back (Missed index) = true
 gives_back Changed = true
 gives_back case = false
 
--- one slot fewer is in use where it was given back
+-- one slot fewer is in use if it was given back
 abbrev pub used_after_finish : ℕ → FinishCase → ℕ
 used_after_finish used (Missed index) = used - 1
 used_after_finish used Changed = used - 1
@@ -193,13 +194,13 @@ words_after_finish words job Unsettled = put words (entries_of job)
 words_after_finish words job Changed = put words (entries_of job)
 words_after_finish words job case = words
 
--- the file has failed that failed while a change was sealed or brought to its places
+-- the file has failed if it failed while a change was sealed or settled
 abbrev pub faulted_after_finish : Bool → FinishCase → Bool
 faulted_after_finish faulted Unsealed = true
 faulted_after_finish faulted Unsettled = true
 faulted_after_finish faulted case = faulted
 
--- a change is in doubt whose seal failed
+-- a change whose seal failed is in doubt
 abbrev pub in_doubt_after_finish : List Entry → Job → FinishCase → List Entry
 in_doubt_after_finish in_doubt job Unsealed = entries_of job
 in_doubt_after_finish in_doubt job case = in_doubt
@@ -214,7 +215,7 @@ after_finish s n job case = record s {
   in_doubt = in_doubt_after_finish s.in_doubt job case;
 }
 
--- the store after a start of this job, and after the finish where one came
+-- the store after a start of this job, and after the finish if there was one
 abbrev pub after_ask : Store → Job → AskCase → Store
 after_ask s job (AtStart case) = after_start s job case
 after_ask s job (AtFinish case) = after_finish (after_start s job Prepared) s.next job case
@@ -231,7 +232,7 @@ AskFits s job (AtFinish case) = StartFits s job Prepared × FinishFits (after_st
 
 -- Jobs that are asked one after another.
 
--- a job that was asked, what it came to, and the reply to it
+-- a job that was asked, its case, and its reply
 pub record Served : Type 0 where
   pub job : Job
   pub case : AskCase
@@ -257,12 +258,12 @@ abbrev pub AllFit : Store → List Served → Type 0
 AllFit s [] = Unit {0}
 AllFit s (served ∷ more) = ServedFits s served × AllFit (after_served s served) more
 
--- their marks, where the first request has the number n and each other one the next
+-- the marks of all, if the first request has the number n and each further one the next number
 abbrev pub marks_of_all : ℕ → List Served → List Mark
 marks_of_all n [] = []
 marks_of_all n (served ∷ more) = ask_marks n served.job served.case ++ marks_of_all (n + 1) more
 
--- their replies, each with its request's number
+-- the replies of all, each with its request's number
 abbrev pub replies_to_all : ℕ → List Served → List (ℕ × Reply)
 replies_to_all n [] = []
 replies_to_all n (served ∷ more) = (n, served.reply) ∷ replies_to_all (n + 1) more

@@ -9,7 +9,7 @@ pub mod Parts
 pub mod Quotas
 pub mod Report
 pub mod Restarts
-pub mod Running
-pub mod Serving
-pub mod Stands
+pub mod Tasks
+pub mod CallEnds
+pub mod Refinement
 pub mod Tickets

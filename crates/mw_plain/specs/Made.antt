@@ -1,4 +1,5 @@
--- What a store of several tenants stands for when it was made.
+-- What a new store of several tenants represents.
+-- Used by: the contracts of opening.rt. A change here changes what Plain::new promises.
 use Rattle.std.specs.Prelude.{◌≡◌, ℕ, List, slice_get, Some, Option, Vec}
 use Rattle.std.specs.declared.alloc.Global.{Global}
 use Rattle.mw_disk.specs.Facts.{Facts}
@@ -9,8 +10,8 @@ use Rattle.mw_plain.specs.declared.plain.Plain.{Plain}
 use Rattle.mw_plain.specs.Lines.{StartsWith, KeepsRead}
 use Rattle.mw_plain.specs.Answers.{Stands, FileKeeps}
 
--- Each tenant's store alone, as a start leaves it, stands for the tenant; and where the file stands for the words that were read
--- it stands for the store's.
+-- Each tenant's store alone, as a start leaves it, represents the tenant. If the tenant's file represents the words
+-- that were read, it represents the store's words.
 abbrev pub EachStands : {D : Type 0} → (D → Facts) → List TenantLine → List (Option (TenantFile D × Vec ℕ Global)) → Plain D → Type 0
 EachStands {D} facts lines files plain =
     (tenant : ℕ) (line : TenantLine) (opened : Option (TenantFile D × Vec ℕ Global)) (s : Store) → slice_get lines tenant ≡ Some line → slice_get files tenant ≡ Some opened

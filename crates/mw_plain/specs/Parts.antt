@@ -1,11 +1,13 @@
 -- The tenants of a store, by their numbers.
+-- Used by: Answers, Tasks, Tickets, mw_store_tests, the contracts of restarts.rt, serving.rt and tenants.rt. They are names for
+-- the fields of a tenant, for shorter contracts: a change here changes the contracts that cite them.
 use Rattle.std.specs.Prelude.{List, ◌≡◌, ◌≢◌, ℕ, length, slice_get, Option}
 use Rattle.std.specs.Option.{option_and_then, option_map, option_map_or}
-use Rattle.mw_plain.specs.declared.book.Book.{Book}
+use Rattle.mw_plain.specs.declared.book.LoadedFile.{LoadedFile}
 use Rattle.mw_plain.specs.declared.part.Part.{Part}
 use Rattle.mw_plain.specs.declared.plain.Plain.{Plain}
 
--- a tenant's name, number of words and quota, as its line tells them, stay
+-- a tenant's name, number of words and quota, as its line tells them, stay the same
 pub record SameLine {D : Type 0} (old new : Part D) : Type 0 where
   pub name : new.name ≡ old.name
   pub words : new.words ≡ old.words
@@ -24,19 +26,19 @@ module _ {D : Type 0} where
   abbrev pub name_at : Plain D → ℕ → Option (List ℕ)
   name_at plain tenant = option_map (λ p. p.name.items) (part_at plain tenant)
 
-  -- how many words it has; of no tenant none
+  -- how many words it has; 0 if there is no such tenant
   abbrev pub words_at : Plain D → ℕ → ℕ
   words_at plain tenant = option_map_or (λ p. p.words) (part_at plain tenant) 0
 
-  -- its quota; of no tenant none
+  -- its quota; 0 if there is no such tenant
   abbrev pub quota_at : Plain D → ℕ → ℕ
   quota_at plain tenant = option_map_or (λ p. p.quota) (part_at plain tenant) 0
 
-  -- what it is served from, if its file opened
-  abbrev pub book_at : Plain D → ℕ → Option (Book D)
+  -- the loaded file that serves it, if its file opened
+  abbrev pub book_at : Plain D → ℕ → Option (LoadedFile D)
   book_at plain tenant = option_and_then (λ p. p.book) (part_at plain tenant)
 
-  -- A call for one tenant: the tenants, their lines and the pool stay, and every other tenant is what it was.
+  -- A call for one tenant: the tenants, their lines and the pool stay the same, and so does every other tenant.
   pub record ServesOne (old new : Plain D) (tenant : ℕ) : Type 0 where
     pub count : tenants new ≡ tenants old
     pub name : name_at new tenant ≡ name_at old tenant

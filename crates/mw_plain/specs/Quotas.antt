@@ -1,4 +1,5 @@
--- What is told of tenants: the slots that they share, and the disks that their files are on.
+-- The slots that tenants share and use, and the disks of their files.
+-- Used by: the contracts of opening.rt, plain.rt and tenants.rt. A change here changes what the store says of slots in use.
 use Rattle.std.specs.Prelude.{ℕ, List, sum_by, Option}
 use Rattle.std.specs.Option.{option_map}
 use Rattle.mw_file.specs.File.{disk_of}
@@ -6,7 +7,7 @@ use Rattle.mw_plain.specs.declared.part.Part.{Part}
 use Rattle.mw_plain.specs.Books.{used_in}
 
 module _ {D : Type 0} where
-  -- the quotas of these tenants together
+  -- the sum of the quotas of these tenants
   abbrev pub quotas_of : List (Part D) → ℕ
   quotas_of parts = sum_by (λ p. p.quota) parts
 
@@ -14,6 +15,6 @@ module _ {D : Type 0} where
   abbrev pub used_by : List (Part D) → ℕ
   used_by parts = sum_by (λ p. used_in p.book) parts
 
-  -- the disk that a tenant's file is on, if it opened
+  -- the disk of a tenant's file, if the file opened
   abbrev pub disk_in : Part D → Option D
   disk_in part = option_map (λ b. disk_of b.file) part.book

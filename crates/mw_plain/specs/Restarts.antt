@@ -1,35 +1,36 @@
--- What a start goes on from.
+-- What a start goes on from after a crash.
+-- Used by: the contracts of restarts.rt. A change here changes the law a_restart_goes_on.
 use Rattle.std.specs.Prelude.{◌≡◌, ◌≤◌, ℕ, Bool, List, [], length, Option, Some, Vec, Result, Ok, Err, IsTrue}
 use Rattle.std.specs.declared.alloc.Global.{Global}
 use Rattle.mw_disk.specs.Facts.{Facts, MayLeave}
 use Rattle.mw_file.specs.declared.tenant_file.TenantFile.{TenantFile}
 use Rattle.mw_file.specs.declared.opening.OpenFault.{OpenFault}
 use Rattle.mw_file.specs.File.{states_of}
-use Rattle.mw_file.specs.Again.{NotDamaged}
-use Rattle.mw_file.specs.Keeps.{Keeps, IsFile}
+use Rattle.mw_file.specs.Reopenings.{NotDamaged}
+use Rattle.mw_file.specs.RecoveryInvariant.{RecoversTo, IsFile}
 use Rattle.mw_config.specs.declared.lines.TenantLine.{TenantLine}
 use Rattle.mw_lone.specs.Store.{Store, step, store_after_start, is_quota}
 use Rattle.mw_lone.specs.declared.marks.Mark.TheVariants.{Restart}
 use Rattle.mw_plain.specs.Lines.{FitsLine}
 
--- The store alone may start with these words, and with every quota that a tenant may have: with the change that was interrupted or is
--- in doubt, all of it, or without. They are as many as before.
+-- The store alone may start with these words, and with every quota that a tenant may have. The start takes all or
+-- nothing of the change that was interrupted or is in doubt. There are as many words as before.
 pub record MayStartWith (s : Store) (interrupted : Option ℕ) (words : List ℕ) : Type 0 where
   pub take : Bool
   pub legal : (opened : Bool) (quota : ℕ) → IsTrue (is_quota quota) → step s (Restart interrupted take opened quota) ≡ Some (store_after_start s words opened quota)
   pub count : length words ≡ length s.words
 
 module _ {D : Type 0} (facts : D → Facts) where
-  -- The store may start with the words that were read. The file stands for them, no change is in doubt, and it has so many places. A
-  -- line with as many words fits it, whatever quota it tells that is no more than these places.
+  -- The store may start with the words that were read. The file represents them, no change is in doubt, and it has so
+  -- many places. A line with as many words and a quota up to these places fits it.
   pub record GoesOn (s : Store) (interrupted : Option ℕ) (places : ℕ) (opened : TenantFile D × Vec ℕ Global) : Type 0 where
     pub start : MayStartWith s interrupted opened.1.items
-    pub keeps : Keeps facts opened.0 opened.1.items []
+    pub keeps : RecoversTo facts opened.0 opened.1.items []
     pub places_are : length (states_of opened.0) ≡ places
     pub fits : (line : TenantLine) → line.words ≡ length s.words → line.quota ≤ places → FitsLine line (Some opened)
 
-  -- The file was not found damaged; and there are words that the store may start with, though faulted, such that a crash leaves a
-  -- file of these words and so many places. So openings that fail lose nothing.
+  -- An opening that fails loses nothing. The file was not found damaged. There are words that the store may start with,
+  -- such that a crash leaves a file of these words and so many places.
   pub record StaysBehind (s : Store) (interrupted : Option ℕ) (places : ℕ) (fault : OpenFault) (disk : D) : Type 0 where
     pub sound : NotDamaged facts s.words [] fault
     pub words : List ℕ

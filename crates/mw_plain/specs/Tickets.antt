@@ -1,4 +1,6 @@
--- Changes that were started and are to be finished.
+-- Changes that were started and are not finished.
+-- A ticket is what `start` gives for such a change, and what `finish` uses up. Used by the contracts of tenants.rt, and by
+-- Answers. A change here changes what `finish` may be called with, and what `start` promises.
 use Rattle.std.specs.Prelude.{◌<◌, IsTrue}
 use Rattle.mw_words.specs.Change.{is_change}
 use Rattle.mw_plain.specs.declared.plain.Plain.{Plain}
@@ -6,7 +8,7 @@ use Rattle.mw_plain.specs.declared.tickets.Ticket.{Ticket}
 use Rattle.mw_plain.specs.Books.{IsPrepared}
 use Rattle.mw_plain.specs.Parts.{tenants, words_at, book_at}
 
--- The ticket is of a change of a tenant that is there, well formed for its words; and unless the tenant has faulted the
+-- The ticket is for a change of a tenant that is there, well formed for its words. Unless the tenant has faulted, the
 -- change is prepared in the ticket's place of its file.
 pub record IsOpen {D : Type 0} (plain : Plain D) (ticket : Ticket) : Type 0 where
   pub there : ticket.tenant < tenants plain

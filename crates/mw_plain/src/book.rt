@@ -1,4 +1,7 @@
 //! The words of a tenant whose file has opened, over that file.
+//!
+//! `calls.rt` changes it, and `opening.rt` makes it. A new field needs a value there, and a clause in
+//! `specs/Refinement` if the store alone knows of it.
 ghost use Rattle.std.specs.Prelude.{◌≡◌, ℕ, false, vec_len};
 ghost use Rattle.mw_file.specs.declared.place_states.Stage.TheVariants.{Sealed};
 ghost use Rattle.mw_file.specs.File.{words_of, states_of, has_failed};
@@ -7,11 +10,11 @@ ghost use Rattle.mw_file.specs.Taken.{taken};
 
 use mw_file::TenantFile;
 
-/// The words of a tenant, its file, how many slots it uses, and whether it has faulted: a call on its
-/// file has failed since the file was opened. Until then every change that uses a slot is prepared in a
-/// place of the file.
+/// A tenant's open file with its words, how many slots the tenant uses, and whether it has faulted. It has faulted
+/// if a call on its file has failed since the file was opened. Until then each change that uses a slot is prepared
+/// in a place of the file.
 #[derive(Drop)]
-pub struct Book<D> {
+pub struct LoadedFile<D> {
     pub(crate) file: TenantFile<D>,
     pub(crate) words: Vec<u64>,
     pub(crate) used: u8,

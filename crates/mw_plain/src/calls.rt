@@ -1,30 +1,33 @@
 //! The calls of one tenant whose file has opened.
+//!
+//! `serving.rt` makes these calls, and `tenants.rt` reads what a start leaves to do. How the calls end is in
+//! `specs/CallEnds`: change both together.
 ghost use Rattle.std.specs.Prelude.{◌≡◌, ◌≤◌, false, Some, length, IsTrue};
 ghost use Rattle.mw_words.specs.Change.{is_change, is_well_formed, fits};
 ghost use Rattle.mw_plain.specs.Misses.{IsFirstMiss};
 ghost use Rattle.mw_file.specs.File.{words_of, states_of};
 
-use crate::book::Book;
+use crate::book::LoadedFile;
 use crate::changes::{first_miss, put};
 use mw_disk::Disk;
 use mw_file::Place;
 use mw_words::{Entries, Entry, Job, Reply, copy_of};
 
-/// What a tenant's file has of a job that was started.
+/// What a start of a job leaves to do.
 #[derive(Drop)]
 pub(crate) enum Begun {
     /// Nothing: the job is done, and this is its reply.
     Done(Reply),
-    /// A change of these entries, prepared in this place.
+    /// A change of these entries, which is prepared in this place of the file.
     Prepared(Place, Entries),
 }
 
-impl<D: Disk> Book<D> {
+impl<D: Disk> LoadedFile<D> {
     ghost use Rattle.mw_plain.specs.Books.{IsPrepared};
     ghost use Rattle.mw_plain.specs.Cases.{StartCase, FinishCase};
-    ghost use Rattle.mw_plain.specs.Serving.{KeepsShape, StartEnds, FinishEnds};
+    ghost use Rattle.mw_plain.specs.CallEnds.{KeepsShape, StartEnds, FinishEnds};
 
-    /// Starts a job: a change is counted and prepared, any other is answered.
+    /// Starts a job: counts and prepares a change, answers any other job.
     pub(crate) fn start(&mut self, job: &Job, quota: u8) -> Begun
         requires formed { IsTrue (is_well_formed (words_of self.old.file) job.now) }
         requires within { self.old.used ≤ quota }
@@ -41,7 +44,7 @@ impl<D: Disk> Book<D> {
         }
     }
 
-    /// A change is given a slot and prepared, unless the quota is used up.
+    /// Gives a change a slot and prepares it, unless the quota is used up.
     fn admit(&mut self, entries: &Entries, quota: u8) -> Begun
         requires up { self.old.faulted ≡ false }
         requires formed { IsTrue (is_change (words_of self.old.file) entries.now.items) }
@@ -54,7 +57,7 @@ impl<D: Disk> Book<D> {
             return Begun::Done(Reply::Busy);
         }
         let Ok(place) = self.file.prepare(entries) else {
-            // What the file has of the change is known at the next start only, so its slot stays counted.
+            // Only the next start knows what the file has of the change. So its slot stays counted.
             self.used += 1;
             self.faulted = true;
             return Begun::Done(Reply::Fault);
@@ -79,7 +82,7 @@ impl<D: Disk> Book<D> {
         }
     }
 
-    /// A change is given up at an entry whose word isn't the expected one.
+    /// Gives up a change at an entry whose word doesn't have the expected value.
     fn refuse(&mut self, place: Place, entries: &Entries, entry: Entry) -> Reply
         requires up { self.old.faulted ≡ false }
         requires first { IsFirstMiss self.old.words.items entries.now.items entry }
@@ -93,7 +96,7 @@ impl<D: Disk> Book<D> {
         Reply::No(entry.addr, value)
     }
 
-    /// A change whose every word is the expected one is made.
+    /// Makes a change whose every word has the expected value.
     fn change(&mut self, place: Place, entries: &Entries) -> Reply
         requires up { self.old.faulted ≡ false }
         requires formed { IsTrue (is_change (words_of self.old.file) entries.now.items) }

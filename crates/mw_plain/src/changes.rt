@@ -1,4 +1,6 @@
 //! The comparison and the writing of a change.
+//!
+//! Called by `calls.rt` alone: it may change freely as long as that checks.
 ghost use Rattle.std.specs.Prelude.{◌≡◌, length, IsTrue, MatchOption};
 ghost use Rattle.std.specs.List.{list_all};
 ghost use Rattle.mw_words.specs.Change as spec;
@@ -7,7 +9,7 @@ ghost use Rattle.mw_plain.specs.Misses.{IsFirstMiss};
 
 use mw_words::Entry;
 
-/// The first entry whose word isn't the expected one.
+/// Finds the first entry whose word doesn't have the expected value.
 pub(crate) fn first_miss(words: &[u64], entries: &[Entry]) -> Option<Entry>
     requires { IsTrue (list_all (is_in_range (length words.now)) entries.now) }
     ensures { MatchOption result (IsTrue (fits words.now entries.now)) (IsFirstMiss words.now entries.now) }

@@ -1,9 +1,10 @@
-//! What the calls of a plain store are to the store alone: facts for proofs to cite. The functions do
-//! nothing.
+//! What the calls of a plain store are to the store alone: facts for proofs to cite. The functions do nothing.
+//!
+//! No code calls it. It ties the cases of `specs/Cases` to the store alone of mw_lone.
 ghost use Rattle.mw_plain.specs.Marks.{StartGoes, FinishGoes, AskGoes, AllGo, OneMoreFits, MayStop, RunsJoin, RepliesJoin};
 
-/// What each call of a plain store is to a tenant's store alone, by what the call comes to: its marks
-/// are legal, hand out its reply, and leave the store that the case says.
+/// What each call of a plain store is to a tenant's store alone, by the case that the call comes to: the case's
+/// marks are legal, hand out the call's reply, and leave the store that the case says.
 pub fn marks_of_a_call()
     ensures start { StartGoes }
     ensures finish { FinishGoes }

@@ -1,8 +1,12 @@
-//! The store as its tenants' files opened.
+//! Makes a plain store of its tenants' opened files, and takes it apart again.
+//!
+//! Only tests call `Plain::new` and `Plain::into_disks` (mw_store_tests, mw_engine_tests): the server serves by
+//! mw_engine. A new field of `Plain`, `Part` or `LoadedFile` needs a value here, and a clause in `specs/Lines` that
+//! says which.
 ghost use Rattle.std.specs.Prelude.{◌≡◌, ◌≤◌, length, map, IfOk};
 ghost use Rattle.mw_words.specs.declared.limits.TheConstants.{MAX_POOL, MAX_TENANTS};
 
-use crate::book::Book;
+use crate::book::LoadedFile;
 use crate::part::Part;
 use crate::plain::Plain;
 use mw_config::TenantLine;
@@ -16,13 +20,13 @@ impl<D: Disk + Drop> Plain<D> {
     ghost use Rattle.mw_plain.specs.Made.{EachStands};
     ghost use Rattle.mw_plain.specs.Quotas.{disk_in};
 
-    /// The store of the tenants with these lines, each over its file and the words that it was opened
-    /// with; a tenant whose file didn't open, or doesn't fit its line, has faulted from the start. The
-    /// tenants share a pool of so many slots.
+    /// Makes the store of the tenants with these lines. For each line in order `files` has the opened file with the
+    /// words that were read; `None` if the file didn't open, or doesn't fit its line. A tenant without a file has
+    /// faulted from the start. All tenants share a pool of `pool` slots.
     ///
     /// # Errors
     ///
-    /// [`AllocError`] for want of memory. The files are dropped.
+    /// [`AllocError`] if memory is out. The files are dropped.
     pub fn new(
         alloc: Global,
         lines: &[TenantLine],
@@ -45,11 +49,11 @@ impl<D: Disk + Drop> Plain<D> {
         Ok(Plain { parts, pool })
     }
 
-    /// The disks that the tenants' files are on, by number; none where a file didn't open.
+    /// Gives the disks of the tenants' files, by the tenant's number; `None` for a file that didn't open.
     ///
     /// # Errors
     ///
-    /// [`AllocError`] for want of memory. The disks are dropped.
+    /// [`AllocError`] if memory is out. The disks are dropped.
     pub fn into_disks(self, alloc: Global) -> Result<Vec<Option<D>>, AllocError>
         ensures { IfOk result (λ disks. disks.items ≡ map disk_in self.parts.items) }
     {
@@ -71,7 +75,7 @@ impl<D: Disk> Part<D> {
         ensures { IsMadeOf line.now opened result }
     {
         let book = match opened {
-            Some((file, words)) => Some(Book {
+            Some((file, words)) => Some(LoadedFile {
                 file,
                 words,
                 used: 0,
@@ -103,13 +107,13 @@ impl<D: Disk> Part<D> {
     }
 }
 
-impl<D: Disk> Book<D> {
+impl<D: Disk> LoadedFile<D> {
     ghost use Rattle.mw_file.specs.File.{disk_of};
 
     fn into_disk(self) -> D
         ensures { result ≡ disk_of self.file }
     {
-        let Book {
+        let LoadedFile {
             file,
             words: _,
             used: _,

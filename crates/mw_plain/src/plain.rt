@@ -1,12 +1,15 @@
 //! The store of all tenants.
+//!
+//! `opening.rt` makes it, and `tenants.rt` has its calls. mw_store_tests and mw_engine_tests use it; the server
+//! serves by mw_engine.
 ghost use Rattle.std.specs.Prelude.{◌≡◌, ◌≤◌, length};
 ghost use Rattle.mw_words.specs.declared.limits.TheConstants.{MAX_POOL, MAX_TENANTS};
 ghost use Rattle.mw_plain.specs.Quotas.{quotas_of};
 
 use crate::part::Part;
 
-/// Every tenant's part of the store, by the tenant's number, and how many slots they share. The quotas
-/// together are no more than those.
+/// Every tenant's part of the store, by the tenant's number, and how many slots they share: at least the sum of the
+/// quotas.
 #[derive(Drop)]
 pub struct Plain<D> {
     pub(crate) parts: Vec<Part<D>>,

@@ -1,9 +1,12 @@
 //! The calls of one tenant.
+//!
+//! Called by `tenants.rt` alone, which finds the tenant. How the calls end is in `specs/CallEnds`: change both
+//! together.
 ghost use Rattle.std.specs.Prelude.{◌≡◌, not, IsTrue};
 ghost use Rattle.mw_words.specs.Change.{is_change, is_well_formed};
 ghost use Rattle.mw_plain.specs.Books.{used_in, faulted_in, places_in, IsPrepared};
 ghost use Rattle.mw_plain.specs.Cases.{StartCase, FinishCase};
-ghost use Rattle.mw_plain.specs.Serving.{StartEnds, FinishEnds};
+ghost use Rattle.mw_plain.specs.CallEnds.{StartEnds, FinishEnds};
 
 use crate::calls::Begun;
 use crate::part::Part;
@@ -26,7 +29,7 @@ impl<D: Disk> Part<D> {
         }
     }
 
-    /// How many places its file has; 0 where there is none that opened and fits the line.
+    /// How many places its file has; 0 if no file opened that fits the line.
     pub(crate) fn places(&self) -> u8
         ensures { result ≡ places_in 0 self.now.book }
     {
@@ -36,7 +39,7 @@ impl<D: Disk> Part<D> {
         }
     }
 
-    /// Whether its file takes changes.
+    /// Whether its file takes changes: it has opened, and hasn't failed.
     pub(crate) fn is_up(&self) -> bool
         ensures { result ≡ not (faulted_in self.now.book) }
     {

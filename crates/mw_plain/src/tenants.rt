@@ -1,4 +1,6 @@
 //! The calls on the store of all tenants.
+//!
+//! mw_store_tests and mw_engine_tests make these calls. What they promise is in `specs/Answers` and `specs/Tasks`.
 ghost use Rattle.std.specs.Prelude.{◌≡◌, ◌<◌, ◌≤◌, ◌-◌, map, IsTrue, IfOk, OnErr};
 ghost use Rattle.mw_report.specs.Table.{AreWithinLimits};
 ghost use Rattle.mw_words.specs.Change.{is_well_formed};
@@ -16,7 +18,7 @@ impl<D: Disk> Plain<D> {
     ghost use Rattle.mw_plain.specs.Parts.{tenants, words_at, ServesOne};
     ghost use Rattle.mw_plain.specs.Quotas.{used_by};
     ghost use Rattle.mw_plain.specs.Report.{figures_of};
-    ghost use Rattle.mw_plain.specs.Running.{AreTasks, AskedAll, ServesAll};
+    ghost use Rattle.mw_plain.specs.Tasks.{AreTasks, AskedAll, ServesAll};
     ghost use Rattle.mw_plain.specs.Tickets.{IsOpen};
     ghost use Rattle.mw_plain.specs.Cases.{StartCase, FinishCase, AskCase};
     ghost use Rattle.mw_plain.specs.Answers.{StartsAs, FinishesAs, AsksAs};
@@ -36,10 +38,10 @@ impl<D: Disk> Plain<D> {
         self.parts[tenant as usize].words
     }
 
-    /// Starts a job of a tenant. A word that was asked for is told. A change is counted as one of the
-    /// tenant's slots in use and prepared in the tenant's file, and the ticket finishes it; it is BUSY
-    /// where the quota is used up. A tenant that has faulted answers FAULT; so does one whose file fails
-    /// here, which has faulted from then on, with the slot in use.
+    /// Starts a job of a tenant. A read is answered with the word's value. A change is counted as one of the
+    /// tenant's slots in use and prepared in the tenant's file, and the ticket finishes it. If the quota is used
+    /// up, the change is answered BUSY. A tenant that has faulted answers FAULT. If the file fails in this call,
+    /// the answer is FAULT too: the tenant has faulted from then on, and the slot stays in use.
     pub fn start(&mut self, tenant: u8, job: &Job) -> Start
         requires tenant { tenant < tenants self.old }
         requires formed { IsTrue (is_well_formed (words_at self.old tenant) job.now) }
@@ -56,11 +58,11 @@ impl<D: Disk> Plain<D> {
         }
     }
 
-    /// Finishes a change that was started. Where a word isn't the expected one it is given up with its
-    /// slot, and the answer is NO with the first such address and the word there. Else it is written, and
-    /// the answer YES, and its slot is given back. Where the tenant has faulted since, or the file fails
-    /// before the change is in it, the answer is FAULT; where the file fails later it is YES. In these three
-    /// cases the tenant has faulted from then on, with the slot in use.
+    /// Finishes a change that was started. If a word doesn't have the expected value, the change and its slot are
+    /// given up. The answer is then NO with the first such address and the word there. Else the change is written,
+    /// its slot is given back, and the answer is YES. If the tenant has faulted since the start, or the file fails
+    /// before the change is in it, the answer is FAULT. If the file fails later, the answer is YES. In these last
+    /// three cases the tenant has faulted from then on, and the slot stays in use.
     pub fn finish(&mut self, ticket: Ticket) -> Reply
         requires { IsOpen self.old ticket }
         ensures one { ServesOne self.old self.new ticket.tenant }
@@ -69,7 +71,7 @@ impl<D: Disk> Plain<D> {
         self.parts[ticket.tenant as usize].finish(ticket.place, &ticket.entries)
     }
 
-    /// The reply to a job of a tenant: starts it, and finishes it where that is to be done.
+    /// Serves a job of a tenant: starts it, and finishes it if the start left it open.
     pub fn ask(&mut self, tenant: u8, job: &Job) -> Reply
         requires tenant { tenant < tenants self.old }
         requires formed { IsTrue (is_well_formed (words_at self.old tenant) job.now) }
@@ -82,11 +84,11 @@ impl<D: Disk> Plain<D> {
         }
     }
 
-    /// The replies to these tasks, asked one after the other.
+    /// Asks these tasks one after the other and gives their replies.
     ///
     /// # Errors
     ///
-    /// [`AllocError`] for want of memory. Nothing was done.
+    /// [`AllocError`] if memory is out. Nothing was done.
     pub fn run(&mut self, alloc: Global, tasks: &[Task]) -> Result<Vec<Reply>, AllocError>
         requires { AreTasks self.old tasks.now }
         ensures done { IfOk result (λ replies. AskedAll D.facts self.old tasks.now replies.items self.new) }

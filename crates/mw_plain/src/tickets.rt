@@ -1,9 +1,12 @@
-//! What goes into the plain store's calls, and what comes out of them.
+//! What the plain store's calls take and give.
+//!
+//! `tenants.rt` gives and takes them. Only it makes a [`Ticket`], so that each ticket is of a change that was
+//! started.
 
 use mw_file::Place;
 use mw_words::{Entries, Job, Reply};
 
-/// A change of a tenant that was started and is to be finished. Whoever finishes it spends it.
+/// A change of a tenant that was started and isn't finished. Finishing it uses up the ticket.
 #[derive(Debug, Drop)]
 pub struct Ticket {
     pub(crate) tenant: u8,
@@ -14,9 +17,9 @@ pub struct Ticket {
 /// How a job started.
 #[derive(Debug, Drop)]
 pub enum Start {
-    /// It is done, and this is its reply.
+    /// The job is done, and this is its reply.
     Done(Reply),
-    /// It is a change, and this ticket finishes it.
+    /// The job is a change, and this ticket finishes it.
     Open(Ticket),
 }
 
@@ -25,6 +28,6 @@ pub enum Start {
 pub struct Task {
     /// The tenant's number.
     pub tenant: u8,
-    /// What is asked of it.
+    /// The job.
     pub job: Job,
 }

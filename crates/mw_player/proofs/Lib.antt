@@ -1,5 +1,5 @@
-pub mod GoingOn
+pub mod PlayerStepLaws
 pub mod Served
-pub mod Telling
+pub mod PrintedRuns
 pub mod ToldLines
-pub mod Writing
+pub mod WrittenText

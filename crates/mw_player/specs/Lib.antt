@@ -1,3 +1,3 @@
 pub mod Printed
-pub mod Playing
+pub mod PlayerSteps
 pub mod Replayed

@@ -1,10 +1,12 @@
-//! The player of schedules, which `mwreplay` runs: it plays each line on a world in memory, and prints the
+//! The player of schedules. `mwreplay` runs it: it plays each line on a world in memory, and prints the
 //! replies.
+//!
+//! Used by: mwreplay, mw_player_tests.
 #![tactic(auto)]
 
 mod lines;
 mod player;
-mod replaying;
+mod replay;
 
-pub use player::{Halt, Player};
-pub use replaying::{replay, replay_args, replay_file, replay_schedule};
+pub use player::{PlayFault, Player};
+pub use replay::{replay, replay_args, replay_file, replay_schedule};

@@ -1,16 +1,18 @@
-//! The lines that are printed.
+//! The lines that a player prints.
+//!
+//! Used by: `player`. `specs/Printed` says which line each reply and claim has: change both together.
 ghost use Rattle.std.specs.Prelude.{◌≡◌, ℕ, IfOk};
 ghost use Rattle.mw_player.specs.Printed.{Claimed, Replied, line_of, name_of};
-ghost use Rattle.mw_player.specs.Playing.{Writes};
+ghost use Rattle.mw_player.specs.PlayerSteps.{Writes};
 
-use crate::player::Halt;
+use crate::player::PlayFault;
 use mw_line::Say;
 use mw_words::Reply;
 use mw_world::Config;
 use std::alloc::{AllocError, Global};
 use std::io::Write;
 
-/// The line that tells a claim that was won. The only error is want of memory.
+/// Makes the line of a claim that was won. The only error is that memory is out.
 pub fn claim_line(
     alloc: Global,
     config: &Config,
@@ -26,7 +28,7 @@ pub fn claim_line(
     Ok(line)
 }
 
-/// The line that tells a reply that was handed out. The only error is want of memory.
+/// Makes the line of a reply that was handed out. The only error is that memory is out.
 pub fn reply_line(
     alloc: Global,
     config: &Config,
@@ -43,7 +45,7 @@ pub fn reply_line(
     Ok(line)
 }
 
-/// A tenant's name. A tenant that isn't there has none.
+/// Returns a tenant's name. It is empty for a tenant that doesn't exist.
 fn name_in(config: &Config, tenant: u8) -> &[u8]
     ensures { result.now ≡ name_of config.now tenant }
 {
@@ -57,9 +59,9 @@ fn name_in(config: &Config, tenant: u8) -> &[u8]
 ///
 /// # Errors
 ///
-/// [`Halt::Output`], where the writer fails or takes nothing of what is left. A first part of the text was
-/// taken.
-pub fn write_whole<W: Write>(out: &mut W, text: &[u8]) -> Result<(), Halt>
+/// [`PlayFault::Output`]: the writer failed, or took nothing of what was left. It took a beginning of the text,
+/// which may be empty.
+pub fn write_whole<W: Write>(out: &mut W, text: &[u8]) -> Result<(), PlayFault>
     ensures { Writes (W.contents out.old) (W.contents out.new) text.now result }
 {
     let mut rest = text;
@@ -67,7 +69,7 @@ pub fn write_whole<W: Write>(out: &mut W, text: &[u8]) -> Result<(), Halt>
         // A write that failed took nothing.
         let taken = out.write(rest).unwrap_or(0);
         if taken == 0 {
-            return Err(Halt::Output);
+            return Err(PlayFault::Output);
         }
         rest = &rest[taken..];
     }

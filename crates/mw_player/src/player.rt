@@ -1,10 +1,13 @@
 //! Plays the lines of a schedule on a world.
+//!
+//! Used by: `replay`. A new command of mw_schedule needs a case in `Player::obey`, and a new [`PlayFault`]
+//! one in `replay`.
 ghost use Rattle.std.specs.Prelude.{◌≡◌, ◌∷◌, [], IfOk, OnErr, Some, None};
 ghost use Rattle.mw_world.specs.Definition.State.{IsConfig, State};
 ghost use Rattle.mw_world.specs.declared.events.Event.{Event as EventModel};
-ghost use Rattle.mw_simulator.specs.Running.{Stands};
-ghost use Rattle.mw_simulator.specs.Shows.{Shows};
-ghost use Rattle.mw_player.specs.Playing.{AreTurns, IsSame, IsTextOf, Obeys, Plays};
+ghost use Rattle.mw_simulator.specs.Events.{IsAfterRun};
+ghost use Rattle.mw_simulator.specs.Representation.{Represents};
+ghost use Rattle.mw_player.specs.PlayerSteps.{AreTurns, IsSame, IsTextOf, Obeys, Plays};
 ghost use Rattle.mw_player.specs.Printed as spec;
 ghost use Rattle.mw_player.specs.Printed.{text_of, claims_of};
 
@@ -23,31 +26,32 @@ const MOST_STEPS: u32 = 10_000;
 
 /// Why a line was not played to its end.
 #[derive(Clone, Copy, Debug, PartialEq, Eq)]
-pub enum Halt {
-    /// What it tells can't happen where the world is.
+pub enum PlayFault {
+    /// What the line says can't happen in this state of the world.
     NotEnabled,
-    /// It tells of a request under a number of which a world in memory gives none.
+    /// The line's request would have a number that a world in memory doesn't give.
     LastNumber,
-    /// Its worker replies before it comes to what the line tells, or makes [`MOST_STEPS`] steps.
+    /// The line's worker has a reply before it comes to what the line says, or makes [`MOST_STEPS`] steps
+    /// first.
     DidNotArrive,
-    /// Memory was refused.
+    /// Memory is out.
     Memory,
     /// The output takes no more.
     Output,
 }
 
-impl From<WorldFault> for Halt {
+impl From<WorldFault> for PlayFault {
     fn from(fault: WorldFault) -> Self {
         match fault {
-            WorldFault::NotEnabled => Halt::NotEnabled,
-            WorldFault::LastNumber => Halt::LastNumber,
-            WorldFault::Memory => Halt::Memory,
+            WorldFault::NotEnabled => PlayFault::NotEnabled,
+            WorldFault::LastNumber => PlayFault::LastNumber,
+            WorldFault::Memory => PlayFault::Memory,
         }
     }
 }
 
-/// A world that schedules are played on. It writes each reply that is handed out, and each
-/// claim that is won if it is to tell them.
+/// A world that schedules are played on. The player writes a line for each reply that is handed out, and, if
+/// `tells_claims`, for each claim that is won.
 #[derive(Drop)]
 pub struct Player {
     world: World,
@@ -56,16 +60,12 @@ pub struct Player {
 }
 
 impl Player {
-    /// A player on a new world.
-    ///
-    /// # Errors
-    ///
-    /// Memory was refused.
+    /// Makes a player on a new world. The only error is that memory is out.
     pub fn new(alloc: Global, config: Config, tells_claims: bool) -> Result<Self, AllocError>
         requires { IsConfig config }
         ensures config { IfOk result (λ player. player.world.config ≡ config) }
         ensures claims { IfOk result (λ player. player.tells_claims ≡ tells_claims) }
-        ensures stands { IfOk result (λ player. Stands player.world []) }
+        ensures stands { IfOk result (λ player. IsAfterRun player.world []) }
     {
         let world = World::new(alloc, config)?;
         Ok(Player {
@@ -75,12 +75,12 @@ impl Player {
         })
     }
 
-    /// Plays a line, and writes to `out` what is told of it.
+    /// Plays a line, and writes the lines of its replies and claims to `out`.
     ///
     /// # Errors
     ///
-    /// [`Halt`] says why the schedule ends here. The steps before stay made.
-    pub fn obey<W: Write>(&mut self, command: Command, out: &mut W) -> Result<(), Halt>
+    /// [`PlayFault`] says why the line wasn't played to its end. Its steps before that stay made.
+    pub fn obey<W: Write>(&mut self, command: Command, out: &mut W) -> Result<(), PlayFault>
         ensures same { IsSame self.old self.new }
         ensures plays { Plays self.old self.new (W.contents out.old) (W.contents out.new) (Obeys command) result }
     {
@@ -97,15 +97,15 @@ impl Player {
         }
     }
 
-    /// The worker makes steps, at most so many, until its next one is of this kind. Where it halts, the
-    /// steps before stay made.
+    /// Makes steps of the worker, at most `most`, until its next step is of this kind. After an error the steps
+    /// before stay made.
     pub fn go_before<W: Write>(
         &mut self,
         worker: u8,
         kind: StepKind,
         most: u32,
         out: &mut W,
-    ) -> Result<(), Halt>
+    ) -> Result<(), PlayFault>
         ensures same { IsSame self.old self.new }
         ensures plays { Plays self.old self.new (W.contents out.old) (W.contents out.new) (AreTurns worker) result }
     {
@@ -121,12 +121,12 @@ impl Player {
         if self.next_kind(worker)? == kind {
             Ok(())
         } else {
-            Err(Halt::DidNotArrive)
+            Err(PlayFault::DidNotArrive)
         }
     }
 
-    // The worker makes steps until it has made one of this kind.
-    fn go_to<W: Write>(&mut self, worker: u8, kind: StepKind, out: &mut W) -> Result<(), Halt>
+    // Makes steps of the worker until it has made one of this kind.
+    fn go_to<W: Write>(&mut self, worker: u8, kind: StepKind, out: &mut W) -> Result<(), PlayFault>
         ensures same { IsSame self.old self.new }
         ensures plays { Plays self.old self.new (W.contents out.old) (W.contents out.new) (AreTurns worker) result }
     {
@@ -136,8 +136,8 @@ impl Player {
         }
     }
 
-    // The worker makes steps until its reply stands, and hands it out.
-    fn go_to_end<W: Write>(&mut self, worker: u8, out: &mut W) -> Result<(), Halt>
+    // Makes steps of the worker until it has a reply, and hands the reply out.
+    fn go_to_end<W: Write>(&mut self, worker: u8, out: &mut W) -> Result<(), PlayFault>
         ensures same { IsSame self.old self.new }
         ensures plays { Plays self.old self.new (W.contents out.old) (W.contents out.new) (Obeys (Command.End worker)) result }
     {
@@ -147,8 +147,8 @@ impl Player {
         }
     }
 
-    // The worker makes steps, at most so many as it makes for one line, until its reply stands.
-    fn go_to_reply<W: Write>(&mut self, worker: u8, out: &mut W) -> Result<(), Halt>
+    // Makes steps of the worker until it has a reply, at most [`MOST_STEPS`].
+    fn go_to_reply<W: Write>(&mut self, worker: u8, out: &mut W) -> Result<(), PlayFault>
         ensures same { IsSame self.old self.new }
         ensures plays { Plays self.old self.new (W.contents out.old) (W.contents out.new) (AreTurns worker) result }
     {
@@ -164,8 +164,8 @@ impl Player {
         Ok(())
     }
 
-    // The worker makes its next step. If that is a call on its file, no device call fails.
-    fn go<W: Write>(&mut self, worker: u8, out: &mut W) -> Result<(), Halt>
+    // Makes the worker's next step. If it is a call on its file, no device call fails.
+    fn go<W: Write>(&mut self, worker: u8, out: &mut W) -> Result<(), PlayFault>
         ensures same { IsSame self.old self.new }
         ensures plays { Plays self.old self.new (W.contents out.old) (W.contents out.new) (AreTurns worker) result }
     {
@@ -176,27 +176,28 @@ impl Player {
         }
     }
 
-    // The kind of the worker's next step. It has none once its reply stands.
-    fn next_kind(&self, worker: u8) -> Result<StepKind, Halt> {
+    // Returns the kind of the worker's next step. A worker that has a reply has none.
+    fn next_kind(&self, worker: u8) -> Result<StepKind, PlayFault> {
         let actor = self.actor(worker)?;
         match actor.reply() {
-            Some(_) => Err(Halt::DidNotArrive),
+            Some(_) => Err(PlayFault::DidNotArrive),
             None => Ok(StepKind::of(actor.ask())),
         }
     }
 
-    // The worker makes its next step, which is no call on a file.
-    fn step<W: Write>(&mut self, worker: u8, out: &mut W) -> Result<(), Halt>
+    // Makes the worker's next step, which is no call on a file.
+    fn step<W: Write>(&mut self, worker: u8, out: &mut W) -> Result<(), PlayFault>
         ensures same { IsSame self.old self.new }
         ensures plays { Plays self.old self.new (W.contents out.old) (W.contents out.new) (λ events. events ≡ EventModel.Step worker ∷ []) result }
     {
         match self.line_of_step(worker) {
             Ok(line) => self.happen(Event::Step(worker), &line, out),
-            Err(AllocError) => Err(Halt::Memory),
+            Err(AllocError) => Err(PlayFault::Memory),
         }
     }
 
-    // What is told of the worker's next step: the claim that it wins, if it is one and claims are told.
+    // Returns the text of the worker's next step: the line of the claim that it wins, if it wins one and
+    // `tells_claims`.
     fn line_of_step(&self, worker: u8) -> Result<Vec<u8>, AllocError>
         ensures { IfOk result (λ line. IsTextOf self.now.tells_claims self.now.world (EventModel.Step worker) line.items) }
     {
@@ -209,9 +210,9 @@ impl Player {
         }
     }
 
-    // The line of the claim that a request's next step wins, if it is one.
+    // Returns the line of the claim that a request's next step wins, or an empty text.
     fn line_of_claim(&self, actor: &Actor) -> Result<Vec<u8>, AllocError>
-        ensures { IfOk result (λ line. (state : State) → Shows self.now.world state → line.items ≡ text_of self.now.world.config (claims_of self.now.world.config state (Some actor.now))) }
+        ensures { IfOk result (λ line. (state : State) → Represents self.now.world state → line.items ≡ text_of self.now.world.config (claims_of self.now.world.config state (Some actor.now))) }
     {
         match claimed_by(actor.ask()) {
             Some((slot, expected)) => self.line_of_gate(actor.tenant(), slot, expected),
@@ -219,9 +220,10 @@ impl Player {
         }
     }
 
-    // The line of the claim of a slot, if it is won: the gate is as it is expected to be.
+    // Returns the line of the claim of a slot, if it is won because the gate has the expected bits. Else the
+    // text is empty.
     fn line_of_gate(&self, tenant: u8, slot: u8, expected: u64) -> Result<Vec<u8>, AllocError>
-        ensures { IfOk result (λ line. (state : State) → Shows self.now.world state → line.items ≡ text_of self.now.world.config (spec.won_by self.now.world.config state.cells tenant (Some (slot, expected)))) }
+        ensures { IfOk result (λ line. (state : State) → Represents self.now.world state → line.items ≡ text_of self.now.world.config (spec.won_by self.now.world.config state.cells tenant (Some (slot, expected)))) }
     {
         let config = self.world.config();
         if u16::from(slot) >= config.pool || self.world.word(At::Gate(slot)) != expected {
@@ -233,8 +235,8 @@ impl Player {
         }
     }
 
-    // The worker hands out its reply, which stands.
-    fn hand_out<W: Write>(&mut self, worker: u8, out: &mut W) -> Result<(), Halt>
+    // Hands out the worker's reply, if it has one.
+    fn hand_out<W: Write>(&mut self, worker: u8, out: &mut W) -> Result<(), PlayFault>
         ensures same { IsSame self.old self.new }
         ensures plays { Plays self.old self.new (W.contents out.old) (W.contents out.new) (λ events. events ≡ EventModel.Hand worker ∷ []) result }
     {
@@ -244,13 +246,13 @@ impl Player {
         }
     }
 
-    // The line of a worker's reply, which stands.
-    fn line_of_reply(&self, worker: u8) -> Result<Vec<u8>, Halt>
+    // Returns the line of a worker's reply, if it has one.
+    fn line_of_reply(&self, worker: u8) -> Result<Vec<u8>, PlayFault>
         ensures { IfOk result (λ line. IsTextOf self.now.tells_claims self.now.world (EventModel.Hand worker) line.items) }
     {
         let actor = self.actor(worker)?;
         let Some(reply) = actor.reply() else {
-            return Err(Halt::DidNotArrive);
+            return Err(PlayFault::DidNotArrive);
         };
         match reply_line(
             self.alloc,
@@ -260,39 +262,39 @@ impl Player {
             reply,
         ) {
             Ok(line) => Ok(line),
-            Err(AllocError) => Err(Halt::Memory),
+            Err(AllocError) => Err(PlayFault::Memory),
         }
     }
 
-    // An event happens, of which this text is told.
-    fn happen<W: Write>(&mut self, event: Event, text: &[u8], out: &mut W) -> Result<(), Halt>
+    // Makes an event happen, and writes its text.
+    fn happen<W: Write>(&mut self, event: Event, text: &[u8], out: &mut W) -> Result<(), PlayFault>
         requires { IsTextOf self.old.tells_claims self.old.world event text.now }
         ensures same { IsSame self.old self.new }
         ensures plays { Plays self.old self.new (W.contents out.old) (W.contents out.new) (λ events. events ≡ event ∷ []) result }
     {
         match self.world.step(event) {
             Ok(()) => write_whole(out, text),
-            Err(fault) => Err(Halt::from(fault)),
+            Err(fault) => Err(PlayFault::from(fault)),
         }
     }
 
-    // The request of a worker. None of a worker that isn't there, or has no request, can go on.
-    fn actor(&self, worker: u8) -> Result<&Actor, Halt>
-        ensures request { IfOk result (λ actor. (state : State) → Shows self.now.world state → (state.seats worker).actor ≡ Some actor.now) }
-        ensures none { OnErr result ((state : State) → Shows self.now.world state → (state.seats worker).actor ≡ None) }
+    // Returns the request of a worker. A worker that doesn't exist, or has no request, is refused.
+    fn actor(&self, worker: u8) -> Result<&Actor, PlayFault>
+        ensures request { IfOk result (λ actor. (state : State) → Represents self.now.world state → (state.worker_states worker).actor ≡ Some actor.now) }
+        ensures none { OnErr result ((state : State) → Represents self.now.world state → (state.worker_states worker).actor ≡ None) }
     {
         if worker < self.world.config().workers {
             match self.world.actor(worker) {
                 Some(actor) => Ok(actor),
-                None => Err(Halt::NotEnabled),
+                None => Err(PlayFault::NotEnabled),
             }
         } else {
-            Err(Halt::NotEnabled)
+            Err(PlayFault::NotEnabled)
         }
     }
 }
 
-// The slot that a step is to claim, with the bits that it expects in the gate.
+// The slot that a step claims, if it is a claim, with the bits that it expects in the gate.
 fn claimed_by(op: Op) -> Option<(u8, u64)>
     ensures { result ≡ spec.claimed_by op }
 {

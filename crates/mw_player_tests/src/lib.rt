@@ -1,4 +1,4 @@
-//! Tests of the player of schedules. They stand apart from it, so that it is proved once.
+//! Tests the player of schedules. The tests are apart from it, so that it is proved once.
 #![tactic(auto)]
 
 #[cfg(test)]

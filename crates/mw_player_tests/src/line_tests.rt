@@ -1,9 +1,11 @@
-//! Lines that are not played to their end in tests, and what is said of them.
+//! Lines that the tests don't play to their end, and what is said about them.
+//!
+//! Used by: `replay_tests`.
 
-/// The first four lines of the schedules that the lines below are played in.
+/// The first four lines of the schedules in which the lines below are played.
 pub const HEAD: &str = "pool 3\nworkers 2\ntenant t 2 2\ntenant u 1 1\n";
 
-/// Lines behind [`HEAD`], and what is said of them.
+/// Lines after [`HEAD`], and what is said about them.
 pub type Lines = (&'static str, &'static str);
 
 /// Lines that are wrong, or leave the schedule wrong.
@@ -21,7 +23,7 @@ pub fn wrong_lines() -> [Lines; 9] {
     ]
 }
 
-/// Lines of old files that are wrong, or stand where they may not.
+/// Lines of old files that are wrong, or come at a wrong place.
 pub fn wrong_old_lines() -> [Lines; 9] {
     [
         ("old v 0:1\n", "line 5 wrong\n"),
@@ -51,7 +53,7 @@ pub fn workers_not_enabled() -> [Lines; 9] {
     ]
 }
 
-/// Lines that tell another step, or another end of a call, than the worker's next one.
+/// Lines that say another step, or another end of a call, than the worker's next one.
 pub fn steps_not_enabled() -> [Lines; 5] {
     [
         ("come 0 t GET 0\nfile 0 good\n", "line 6 not enabled\n"),
@@ -95,7 +97,7 @@ pub fn stops_not_enabled() -> [Lines; 6] {
     ]
 }
 
-/// Lines whose worker replies before it comes to what they tell.
+/// Lines whose worker replies before it comes to what they say.
 pub fn lines_without_arrival() -> [Lines; 3] {
     [
         (

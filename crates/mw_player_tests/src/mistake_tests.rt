@@ -1,4 +1,6 @@
-//! Schedules that print something else where the program of a request has a certain mistake.
+//! Schedules that print something else if the program of a request has a certain mistake.
+//!
+//! Used by: `replay_tests`.
 
 use crate::schedule_tests::Schedule;
 
@@ -43,7 +45,7 @@ come 0 t CAS 0:5:6 1:0:1
 end 0
 ";
 
-/// These schedules, each with its name and what is printed.
+/// Gives these schedules, each with its name and what is printed.
 pub fn of_mistakes() -> [Schedule; 3] {
     [
         (

@@ -1,5 +1,7 @@
-//! What playing schedules gives.
-ghost use Rattle.mw_schedule.specs.Playing.{IsSchedule};
+//! Tests what playing schedules gives.
+//!
+//! Used by: `restart_tests`.
+ghost use Rattle.mw_schedule.specs.Playable.{IsSchedule};
 
 use crate::line_tests::{
     HEAD, lines_without_arrival, steps_not_enabled, stops_not_enabled, workers_not_enabled,
@@ -11,7 +13,7 @@ use crate::schedule_tests::{
     of_stale_references,
 };
 use mw_look::Kind;
-use mw_player::{Halt, Player, replay, replay_args, replay_schedule};
+use mw_player::{PlayFault, Player, replay, replay_args, replay_schedule};
 use mw_schedule::{Command, Schedule, StepKind, read_schedule};
 use std::alloc::{AllocError, Global};
 use std::io::{self, ErrorKind, Read, Write};
@@ -28,7 +30,7 @@ struct Played {
 }
 
 impl Played {
-    /// What a program gave that ended with this status.
+    /// Makes what a program gave that ended with this status.
     fn new(status: u8, out: Vec<u8>, err: Vec<u8>) -> Result<Played, Fail> {
         Ok(Played {
             status,
@@ -37,7 +39,7 @@ impl Played {
         })
     }
 
-    /// What playing the schedule that is read from here gives.
+    /// Plays the schedule that is read from `input`.
     fn of<R: AllocGlobal, I: Read>(rt: &R, input: &mut I, trace: bool) -> Result<Played, Fail> {
         let mut out = Vec::new(rt.alloc());
         let mut err = Vec::new(rt.alloc());
@@ -45,7 +47,7 @@ impl Played {
         Played::new(status, out, err)
     }
 
-    /// What a command line gives.
+    /// Runs a command line.
     fn of_args<R: Files + AllocGlobal>(rt: &R, args: &[&str]) -> Result<Played, Fail> {
         let args = strings(rt.alloc(), args)?;
         let mut out = Vec::new(rt.alloc());
@@ -54,7 +56,7 @@ impl Played {
         Played::new(status, out, err)
     }
 
-    /// The program gave just this; `what` tells what was played.
+    /// The program gave just this. `what` says what was played.
     fn is<R: Abort>(&self, rt: &R, what: &str, status: u8, out: &str, err: &str) {
         let is_so = self.status == status && self.out.as_str() == out && self.err.as_str() == err;
         assert!(rt; is_so, "{what}: {self:?}");
@@ -67,8 +69,8 @@ impl Played {
     }
 }
 
-/// A schedule that is read from here, traced or not, ends with this status, prints this and says that;
-/// `what` tells what is played.
+/// A schedule that is read from `input`, traced or not, ends with this status, prints this and says that.
+/// `what` says what is played.
 pub fn play<R: Abort + AllocGlobal, I: Read>(
     rt: &R,
     what: &str,
@@ -111,7 +113,7 @@ fn a_command_line_that_asks_for_help(rt: HostRuntime) -> Result<(), Fail> {
     Ok(())
 }
 
-/// Plays each of these schedules, which is told with its name and with what is to be printed.
+/// Plays each of these schedules, which comes with its name and with what it must print.
 fn play_each<R: Abort + AllocGlobal>(rt: &R, schedules: &[(&str, &str, &str)]) -> Result<(), Fail> {
     for (name, schedule, out) in schedules {
         play(rt, name, &mut schedule.as_bytes(), false, (0, out, ""))?;
@@ -165,14 +167,14 @@ fn claims_that_are_lost(rt: HostRuntime) -> Result<(), Fail> {
     play(&rt, "lost", &mut input, true, (0, traced, ""))
 }
 
-/// The schedule with these lines behind [`HEAD`].
+/// Gives the schedule with these lines after [`HEAD`].
 fn behind_head(alloc: Global, lines: &str) -> Result<String, AllocError> {
     let mut schedule = String::from_str(alloc, HEAD)?;
     schedule.push_str(lines)?;
     Ok(schedule)
 }
 
-/// A schedule with these lines behind [`HEAD`] ends with this status, prints this and says that.
+/// A schedule with these lines after [`HEAD`] ends with this status, prints this and says that.
 pub fn play_behind_head<R: Abort + AllocGlobal>(
     rt: &R,
     lines: &str,
@@ -182,8 +184,8 @@ pub fn play_behind_head<R: Abort + AllocGlobal>(
     play(rt, lines, &mut schedule.as_bytes(), false, wanted)
 }
 
-/// Plays schedules with each of these lines behind [`HEAD`]. Each is to end with this status, to print
-/// nothing, and to say what stands beside its lines.
+/// Plays schedules with each of these lines after [`HEAD`]. Each must end with this status, print nothing,
+/// and say what is beside its lines.
 fn end_each<R: Abort + AllocGlobal>(
     rt: &R,
     status: u8,
@@ -243,7 +245,7 @@ fn replies_before_a_halt_stay(rt: HostRuntime) -> Result<(), Fail> {
     play_behind_head(&rt, lines, (3, "0 t VAL 0\n", "line 7 not enabled\n"))
 }
 
-/// What playing a schedule that was read already gives.
+/// Plays a schedule that was read already.
 fn played_schedule<R: AllocGlobal>(rt: &R, schedule: Schedule) -> Result<Played, Fail>
     requires { IsSchedule schedule }
 {
@@ -264,7 +266,7 @@ fn a_given_schedule_is_played(rt: HostRuntime) -> Result<(), Fail> {
     Ok(())
 }
 
-/// A player that has played the schedule of this text.
+/// Makes a player that has played the schedule of this text.
 fn player_of<R: Abort + AllocGlobal, W: Write>(
     rt: &R,
     text: &[u8],
@@ -278,9 +280,9 @@ fn player_of<R: Abort + AllocGlobal, W: Write>(
     Ok(player)
 }
 
-/// How a player whose worker 0 is one step before its door is raised goes there with no step left, with
-/// one, with none again, and past it.
-fn go_to_the_door<W: Write>(player: &mut Player, out: &mut W) -> [Result<(), Halt>; 4] {
+/// The worker 0 of a player is one step before its door is raised. Tells how the player goes there with no
+/// step left, with one, with none again, and past it.
+fn go_to_the_door<W: Write>(player: &mut Player, out: &mut W) -> [Result<(), PlayFault>; 4] {
     let admits = StepKind::Change(Kind::Admit);
     let early = player.go_before(0, admits, 0, out);
     let there = player.go_before(0, admits, 1, out);
@@ -299,11 +301,14 @@ fn steps_are_counted(rt: HostRuntime) -> Result<(), Fail> {
     let mut out = Vec::new(rt.alloc());
     let mut player = player_of(&rt, text, &mut out)?;
     let ends = go_to_the_door(&mut player, &mut out);
-    assert_eq!(rt; ends, [Err(Halt::DidNotArrive), Ok(()), Ok(()), Ok(())]);
+    assert_eq!(rt;
+        ends,
+        [Err(PlayFault::DidNotArrive), Ok(()), Ok(()), Ok(())]
+    );
     Ok(())
 }
 
-/// A reader that gives a byte a call, and fails where the text ends.
+/// A reader that gives a byte a call, and fails at the end of the text.
 #[derive(Drop)]
 struct Failing<'a> {
     rest: &'a [u8],

@@ -1,13 +1,13 @@
-//! Restarts that give quotas, and files that no start has opened yet. A schedule stands in a line here; `/`
-//! is where one of its own lines ends.
+//! Tests restarts that give quotas, and files that no start has opened yet. Here a schedule is one line;
+//! `/` ends each of its own lines.
 
 use crate::replay_tests::{play, play_behind_head};
 use std::alloc::{AllocError, Global};
 use std::process::Abort;
 use std::test::Fail;
 
-/// Plays a schedule, behind which stand what is printed and what is said, each behind `|`. It is to end with
-/// this status.
+/// Plays a schedule. After it, each after a `|`, come what must be printed and what must be said. It must
+/// end with this status.
 fn play_case<R: Abort + AllocGlobal>(rt: &R, status: u8, case: &str) -> Result<(), Fail> {
     let lines = case.replace(rt.alloc(), "/", "\n")?;
     let (schedule, told) = lines.split_once('|').expect(rt, "what is printed");
@@ -33,7 +33,7 @@ fn play_cases<R: Abort + AllocGlobal>(rt: &R, status: u8, cases: &str) -> Result
 const QUOTA_AT_RESTART: &str =
     "pool 3/workers 2/tenant t 2 1/come 0 t CAS 0:0:1/to 0 plant/come 1 t CAS 1:0:1/end 1/restart t=-,-,,q2/come 0 t CAS 0:0:1/to 0 plant/come 1 t CAS 1:0:1/end 1/end 0/|1 t BUSY/1 t YES/0 t YES/|";
 
-/// The same with a third one, for which the file has no place.
+/// The same with a third slot, for which the file has no place.
 const NO_PLACE_AT_RESTART: &str =
     "pool 3/workers 2/tenant t 2 1/come 0 t CAS 0:0:1/to 0 plant/come 1 t CAS 1:0:1/end 1/restart t=-,-,,q3/come 0 t CAS 0:0:1/to 0 plant/come 1 t CAS 1:0:1/end 1/end 0/|1 t BUSY/|line 8 not enabled/";
 
@@ -59,7 +59,7 @@ fn quotas_of_restarts(rt: HostRuntime) -> Result<(), Fail> {
     play_cases(&rt, 0, QUOTAS)
 }
 
-/// Quotas below what was under way: a change that wasn't sealed, one that was, in a place above the new
+/// Quotas below what was under way: a change that wasn't sealed; one that was, in a place above the new
 /// quota; a seal that is cut off, and is found or not; a change that another worker had decided.
 const LOWERED: &str = "\
 pool 2/workers 2/tenant t 2 2/come 0 t CAS 0:0:1/to 0 plant/come 1 t CAS 1:0:1/before 1 settle/restart t=-,-,,q1/come 0 t GET 0/end 0/come 0 t GET 1/end 0/come 0 t CAS 0:0:1/to 0 plant/come 1 t CAS 1:1:2/end 1/end 0/|0 t VAL 0/0 t VAL 1/1 t BUSY/0 t YES/|
@@ -73,8 +73,8 @@ fn quotas_below_what_was_under_way(rt: HostRuntime) -> Result<(), Fail> {
     play_cases(&rt, 0, LOWERED)
 }
 
-/// Quotas that no tenant may have, that are above the places of the file or the pool, and openings that make
-/// no such call.
+/// Quotas that no tenant may have or that are above the places of the file or the pool, and openings that
+/// make no such call.
 const NOT_ENABLED: &str = "\
 pool 256/workers 1/tenant t 1 64/restart t=-,-,,q0/||line 4 not enabled/
 pool 256/workers 1/tenant t 1 64/restart t=-,-,,q65/||line 4 not enabled/
@@ -159,15 +159,15 @@ fn first_lines_that_are_wrong(rt: HostRuntime) -> Result<(), Fail> {
     play_cases(&rt, 2, WRONG_FIRST_LINES)
 }
 
-/// What stands before and behind the restarts below, and what is printed: the words that the old file has,
+/// What comes before and after the restarts below, and what is printed: the words that the old file has,
 /// and a change that a further start finds.
 const OLD_FILE: &str = "pool 1/workers 1/tenant t 2 1/old t 0:5 1:6/";
 
 const OLD_WORDS: &str =
     "come 0 t GET 0/end 0/come 0 t GET 1/end 0/come 0 t CAS 0:5:7/end 0/restart/come 0 t GET 0/end 0/|0 t VAL 5/0 t VAL 6/0 t YES/0 t VAL 7/|";
 
-/// Openings of an old file, each of which fails but for the last, and what stands where an opening wrote and
-/// did not sync.
+/// Openings of an old file, each of which fails but for the last, and the bytes that are found where an
+/// opening wrote and did not sync.
 const OPENINGS: &str = "\
 restart/
 restart t=-,-,,1/restart/
@@ -187,7 +187,7 @@ restart t=-,-,,7/restart t=-,-,7f/
 restart t=-,-,,3/restart t=-,-,ffff,4/restart t=-,-,ffffffffffffffffffff,5/restart t=-,-,ff,6/restart t=-,-,01,7/restart t=-,-,00/
 restart t=-,-,,7/restart t=-,-,a5,2/restart/";
 
-/// The schedule with these openings of the old file.
+/// Gives the schedule with these openings of the old file.
 fn with_openings(alloc: Global, openings: &str) -> Result<String, AllocError> {
     let mut schedule = String::from_str(alloc, OLD_FILE)?;
     schedule.push_str(openings)?;

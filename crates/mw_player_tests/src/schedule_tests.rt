@@ -1,4 +1,6 @@
-//! Schedules that are played in tests, and what playing them prints.
+//! Schedules that tests play, and what playing them prints.
+//!
+//! Used by: `mistake_tests`, `replay_tests`.
 
 const OWN_QUOTA_BUSY: &str = "\
 pool 2
@@ -403,7 +405,7 @@ end 0
 end 1
 ";
 
-/// A file that no start has opened yet, an opening of it that fails, and one that goes well.
+/// A file that no start has opened yet, an opening of it that fails, and one that succeeds.
 pub const OLD_FILE: &str = "\
 pool 1
 workers 1
@@ -451,7 +453,7 @@ end 1
 /// A schedule: its name, its text and what playing it prints.
 pub type Schedule = (&'static str, &'static str, &'static str);
 
-/// Schedules of requests that come between each other, each with its name and what is printed.
+/// Gives schedules of requests that come between each other, each with its name and what is printed.
 pub fn of_requests() -> [Schedule; 6] {
     [
         (
@@ -483,7 +485,7 @@ pub fn of_requests() -> [Schedule; 6] {
     ]
 }
 
-/// Schedules of files that stop, or fail in a seal, each with its name and what is printed.
+/// Gives schedules of files that stop, or fail in a seal, each with its name and what is printed.
 pub fn of_files() -> [Schedule; 7] {
     [
         ("torn-gate", TORN_GATE, "0 t VAL 1\n0 t VAL 2\n"),
@@ -520,7 +522,7 @@ pub fn of_files() -> [Schedule; 7] {
     ]
 }
 
-/// Schedules of files that fail in a settle, each with its name and what is printed.
+/// Gives schedules of files that fail in a settle, each with its name and what is printed.
 pub fn of_settles() -> [Schedule; 2] {
     [
         (
@@ -536,7 +538,7 @@ pub fn of_settles() -> [Schedule; 2] {
     ]
 }
 
-/// Schedules of workers that go on late, each with its name and what is printed.
+/// Gives schedules of workers that go on late, each with its name and what is printed.
 pub fn of_late_workers() -> [Schedule; 4] {
     [
         (
@@ -562,7 +564,8 @@ pub fn of_late_workers() -> [Schedule; 4] {
     ]
 }
 
-/// Schedules of workers that meet late what named a slot before, each with its name and what is printed.
+/// Gives schedules of workers that meet late what named a slot before, each with its name and what is
+/// printed.
 pub fn of_stale_references() -> [Schedule; 4] {
     [
         (

@@ -1,5 +1,5 @@
--- The two ways to say a move are one: what the function gives is what the relation allows, and stays in range. A gate's
--- bits with one pin less are 2^48 less.
+-- Each move's function gives just what its relation allows, and stays in range. Unpin subtracts 2^48 from the bits.
+-- Used by: mw_look, mw_actor, mw_law_moves. Its statements may change with those crates; its proofs may change freely.
 use Rattle.std.specs.Prelude.{◌≡◌, ℕ, ◌+◌, ◌^◌, ◌<◌, ◌≤◌, ◌==◌, ◌&&◌, Bool, true, false, not, cond, nat_lt, nat_le, Some, None, IfSome}
 use Rattle.std.proofs.Common.{refl, arith}
 use Rattle.std.proofs.lemmas.Bool.Decides.{nat_tests}
@@ -11,12 +11,12 @@ use Rattle.mw_pool.specs.declared.doors.Admission.{Admission}
 use Rattle.mw_pool.specs.declared.doors.Admission.TheVariants.{Fault, Busy, To}
 use Rattle.mw_pool.specs.Moves.{Says, after_admit, Claims, after_claim, Pins, after_pin, Unpins, after_unpin, Frees, after_free}
 
--- a fact of what is chosen where a test holds
+-- a property of what is chosen if a test holds
 by_test : {A : Type 0} (test : Bool) (x : A) (P : A → Type 0) → (test ≡ true → P x) → IfSome (cond test (Some x) None) P
 by_test true x P here = here refl
 by_test false x P here = tt
 
--- a door says to each change what it says by the function, where the quota fits a byte
+-- the function's answer is one that a door may give, if the quota fits a byte
 pub admit_says : (door : Door) (quota : ℕ) → IsDoorInRange door → quota < 2 ^ 8 → Says door quota (after_admit door quota)
 admit_says door quota fits small = by_fault door.fault door.used fits
   where
@@ -28,33 +28,33 @@ admit_says door quota fits small = by_fault door.fault door.used fits
     by_fault true used fits = refl
     by_fault false used fits = by_below used (nat_lt used quota) refl
 
--- and nothing else
+-- and no other answer is
 pub admit_only : (door : Door) (quota : ℕ) (said : Admission) → Says door quota said → after_admit door quota ≡ said
 admit_only door quota Fault says = grind (arith, nat_tests, says)
 admit_only door quota Busy says = grind (arith, nat_tests, says.0, says.1)
 admit_only door quota (To after) says = grind (arith, nat_tests, says.0)
 
--- what a claim gives is claimed, and in range
+-- a gate after a claim is claimed, and in range
 pub claim_is : (gate : Gate) → IsGateInRange gate → IfSome (after_claim gate) (λ next. Claims gate next × IsGateInRange next)
 claim_is gate fits = by_test (not gate.taken && nat_lt gate.seq WORN_NUMBER) _ (λ next. Claims gate next × IsGateInRange next) (λ is. grind (arith, nat_tests, is, fits))
 
--- and nothing else is claimed
+-- and no other gate is claimed
 pub claim_only : (gate next : Gate) → Claims gate next → after_claim gate ≡ Some next
 claim_only gate next claims = grind (arith, nat_tests, claims)
 
--- what a pin gives is pinned, and in range
+-- a gate after a pin is pinned, and in range
 pub pin_is : (gate : Gate) (seq : ℕ) → IsGateInRange gate → IfSome (after_pin gate seq) (λ next. Pins seq gate next × IsGateInRange next)
 pin_is gate seq fits = by_test (gate.taken && nat_le 1 gate.pins && nat_lt gate.pins MAX_PINS && (gate.seq == seq)) _ (λ next. Pins seq gate next × IsGateInRange next) (λ is. grind (arith, nat_tests, is, fits))
 
--- and nothing else in range is pinned
+-- and no other gate in range is pinned
 pub pin_only : (gate next : Gate) (seq : ℕ) → IsGateInRange next → Pins seq gate next → after_pin gate seq ≡ Some next
 pin_only gate next seq fits pins = grind (arith, nat_tests, fits.0, pins)
 
--- a gate with a pin has one less, and is in range
+-- a gate with a pin has one pin less after an unpin, and is in range
 pub unpin_is : (gate : Gate) → IsGateInRange gate → 1 ≤ gate.pins → Unpins gate (after_unpin gate) × IsGateInRange (after_unpin gate)
 unpin_is gate fits pinned = grind (arith, fits, pinned)
 
--- and nothing else has one pin less
+-- and no other gate has one pin less
 pub unpin_only : (gate next : Gate) → Unpins gate next → after_unpin gate ≡ next
 unpin_only gate next unpins = grind (arith, unpins)
 
@@ -62,10 +62,10 @@ unpin_only gate next unpins = grind (arith, unpins)
 pub unpin_subtracts : (gate : Gate) → 1 ≤ gate.pins → packed_gate (after_unpin gate) + 2 ^ 48 ≡ packed_gate gate
 unpin_subtracts gate pinned = omega (arith, pinned)
 
--- what a free gives is freed, and in range
+-- a gate after it is freed is freed, and in range
 pub free_is : (gate : Gate) → IsGateInRange gate → IfSome (after_free gate) (λ next. Frees gate next × IsGateInRange next)
 free_is gate fits = by_test (gate.taken && (gate.pins == 0) && nat_lt gate.seq WORN_NUMBER) _ (λ next. Frees gate next × IsGateInRange next) (λ is. grind (arith, nat_tests, is, fits))
 
--- and nothing else in range is freed
+-- and no other gate in range is freed
 pub free_only : (gate next : Gate) → IsGateInRange next → Frees gate next → after_free gate ≡ Some next
 free_only gate next fits frees = grind (arith, nat_tests, fits, frees)

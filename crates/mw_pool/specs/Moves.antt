@@ -1,6 +1,8 @@
--- The moves of doors and gates. Each move has a relation, which says from what it goes to what, and a function, which
--- gives what it goes to, if there is a move. A relation is read of doors and gates in range; one whose result would be
--- out of range is no move, and there the function gives nothing.
+-- The moves of doors and gates. Each move has a relation between the value before it and the value after it, and a
+-- function that gives the value after it, if there is a move. The relations are about doors and gates in range. If
+-- the result would be out of range there is no move, and the function gives nothing.
+-- Used by: 9 crates from mw_look on, the contracts of doors.rt and gates.rt. A move is what an exchange at a door or a gate may
+-- do: a change here changes the algorithm, and the laws in the crates above must be proved again.
 use Rattle.std.specs.Prelude.{◌≡◌, ℕ, ◌+◌, ◌-◌, ◌<◌, ◌≤◌, ◌==◌, ◌&&◌, true, false, not, cond, nat_lt, nat_le, Some, None}
 use Rattle.std.specs.declared.option.Option.{Option}
 use Rattle.mw_words.specs.declared.limits.TheConstants.{WORN_NUMBER, MAX_PINS}
@@ -10,26 +12,25 @@ use Rattle.mw_words.specs.Patterns.{IsDoorInRange}
 use Rattle.mw_pool.specs.declared.doors.Admission.{Admission}
 use Rattle.mw_pool.specs.declared.doors.Admission.TheVariants.{Fault, Busy, To}
 
--- A change is admitted: its tenant's file hasn't failed and uses fewer slots than its quota, and then uses one more.
+-- A change is admitted: its tenant's file hasn't failed, and fewer slots are in use than the quota. Then one more is in use.
 pub record Admits (quota : ℕ) (before after : Door) : Type 0 where
   pub had_no_fault : before.fault ≡ false
   pub was_below_quota : before.used < quota
   pub has_no_fault : after.fault ≡ false
   pub one_more : after.used ≡ before.used + 1
 
--- What a door says: that the file has failed; that it hasn't, and that no slot of the quota is left; or the door that
--- counts the change which is admitted.
+-- What a door answers. `Fault`: the file has failed. `Busy`: it hasn't, and no slot of the quota is left. `To`: the
+-- door that counts the admitted change.
 abbrev pub Says : Door → ℕ → Admission → Type 0
 Says door quota Fault = door.fault ≡ true
 Says door quota Busy = (door.fault ≡ false) × (quota ≤ door.used)
 Says door quota (To after) = Admits quota door after × IsDoorInRange after
 
--- what a door says
+-- the door's answer
 abbrev pub after_admit : Door → ℕ → Admission
 after_admit door quota = cond door.fault Fault (cond (nat_lt door.used quota) (To (record door { used = door.used + 1 })) Busy)
 
--- A gate is claimed: it isn't taken and its number isn't worn, and then it is taken, with one pin, under the same
--- number.
+-- A gate is claimed: it isn't taken and its number isn't worn. Then it is taken, with one pin and the same number.
 pub record Claims (before after : Gate) : Type 0 where
   pub was_not_taken : before.taken ≡ false
   pub was_not_worn : before.seq < WORN_NUMBER
@@ -37,11 +38,11 @@ pub record Claims (before after : Gate) : Type 0 where
   pub has_one_pin : after.pins ≡ 1
   pub same_number : after.seq ≡ before.seq
 
--- the gate once it is claimed
+-- the gate after a claim, if it can be claimed
 abbrev pub after_claim : Gate → Option Gate
 after_claim gate = cond (not gate.taken && nat_lt gate.seq WORN_NUMBER) (Some (record { taken = true; pins = 1; seq = gate.seq })) None
 
--- A gate is pinned under a number: it is taken, has a pin and that number, and then has one pin more.
+-- A gate is pinned under a number: it is taken and has a pin and that number. Then it has one pin more.
 pub record Pins (seq : ℕ) (before after : Gate) : Type 0 where
   pub was_taken : before.taken ≡ true
   pub was_pinned : 1 ≤ before.pins
@@ -50,11 +51,11 @@ pub record Pins (seq : ℕ) (before after : Gate) : Type 0 where
   pub one_more : after.pins ≡ before.pins + 1
   pub same_number : after.seq ≡ before.seq
 
--- the gate with one pin more; there is none past the most pins
+-- the gate with one pin more, if it can be pinned: a gate with the most pins can't
 abbrev pub after_pin : Gate → ℕ → Option Gate
 after_pin gate seq = cond (gate.taken && nat_le 1 gate.pins && nat_lt gate.pins MAX_PINS && (gate.seq == seq)) (Some (record gate { pins = gate.pins + 1 })) None
 
--- A gate loses a pin, and nothing else.
+-- A gate loses one pin, and nothing else changes.
 pub record Unpins (before after : Gate) : Type 0 where
   pub same_taken : after.taken ≡ before.taken
   pub one_less : after.pins + 1 ≡ before.pins
@@ -64,7 +65,7 @@ pub record Unpins (before after : Gate) : Type 0 where
 abbrev pub after_unpin : Gate → Gate
 after_unpin gate = record gate { pins = gate.pins - 1 }
 
--- A gate is freed: it is taken and has no pins, and then it isn't taken, has no pins, and has the next number.
+-- A gate is freed: it is taken and has no pins. Then it isn't taken, has no pins, and has the next number.
 pub record Frees (before after : Gate) : Type 0 where
   pub was_taken : before.taken ≡ true
   pub had_no_pins : before.pins ≡ 0
@@ -72,6 +73,6 @@ pub record Frees (before after : Gate) : Type 0 where
   pub has_no_pins : after.pins ≡ 0
   pub next_number : after.seq ≡ before.seq + 1
 
--- the gate once it is freed; there is none past the worn number
+-- the gate after it is freed, if it can be: a gate with the worn number can't
 abbrev pub after_free : Gate → Option Gate
 after_free gate = cond (gate.taken && (gate.pins == 0) && nat_lt gate.seq WORN_NUMBER) (Some (record { taken = false; pins = 0; seq = gate.seq + 1 })) None

@@ -1,21 +1,24 @@
-//! What a tenant's door says to another change.
+//! What a tenant's door says to one change more.
+//!
+//! A change calls [`admit`] when it has loaded its tenant's door (mw_actor). What an admission may do is in
+//! `specs/Moves`.
 ghost use Rattle.std.specs.Prelude.{◌≡◌};
 ghost use Rattle.mw_pool.specs.Moves.{Says, after_admit};
 
 use mw_words::Door;
 
-/// What a door says to another change of its tenant.
+/// The answer of a tenant's door to one change more.
 #[derive(Clone, Copy, Debug, PartialEq, Eq)]
 pub enum Admission {
     /// The tenant's file has failed.
     Fault,
-    /// The tenant uses all the slots of its quota.
+    /// The tenant uses all slots of its quota.
     Busy,
-    /// The change may have a slot: the door that counts it.
+    /// The change may have a slot. The door is the one that counts it.
     To(Door),
 }
 
-/// What this door says to another change of a tenant that may use `quota` slots.
+/// Returns what this door says to one change more of a tenant with this quota of slots.
 pub fn admit(door: Door, quota: u8) -> Admission
     ensures is { result ≡ after_admit door quota }
     ensures says { Says door quota result }

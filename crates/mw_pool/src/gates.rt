@@ -1,4 +1,7 @@
-//! The moves of a gate.
+//! The moves of a slot's gate.
+//!
+//! mw_actor calls [`claim`] and [`pin`], and mw_look [`pin`], before they ask for the exchange. Only tests call
+//! [`unpin`] and [`free`], because these steps are made without a load. What a move may do is in `specs/Moves`.
 ghost use Rattle.std.specs.Prelude.{◌≡◌, ◌≤◌, IfSome, None};
 ghost use Rattle.mw_words.specs.declared.gates.Gate.{Gate as GateModel};
 ghost use Rattle.mw_words.specs.Patterns.{IsGateInRange};
@@ -6,8 +9,8 @@ ghost use Rattle.mw_pool.specs.Moves.{Claims, Pins, Unpins, Frees, after_claim, 
 
 use mw_words::{Gate, MAX_PINS, WORN_NUMBER};
 
-/// The gate once it is claimed: taken, with 1 pin, under the same number. `None` for a gate that is
-/// taken or whose number is worn. The gate's fields are in range.
+/// Returns the gate after it is claimed: taken, with 1 pin and the same number. `None`: the gate is taken, or its
+/// number is worn. The gate's fields must be in range.
 pub fn claim(gate: Gate) -> Option<Gate>
     requires { IsGateInRange gate }
     ensures is { result ≡ after_claim gate }
@@ -25,8 +28,8 @@ pub fn claim(gate: Gate) -> Option<Gate>
     }
 }
 
-/// The gate with one pin more. `None` for a gate that isn't taken, that has no pin or [`MAX_PINS`] of
-/// them, or whose number isn't `seq`. The gate's fields are in range.
+/// Returns the gate with one pin more. `None`: the gate isn't taken, has no pin or [`MAX_PINS`] pins, or its number
+/// isn't `seq`. The gate's fields must be in range.
 pub fn pin(gate: Gate, seq: u64) -> Option<Gate>
     requires { IsGateInRange gate }
     ensures is { result ≡ after_pin gate seq }
@@ -43,7 +46,7 @@ pub fn pin(gate: Gate, seq: u64) -> Option<Gate>
     }
 }
 
-/// The gate with one pin less. It has at least 1, and its fields are in range.
+/// Returns the gate with one pin less. The gate must have at least 1 pin, and its fields must be in range.
 pub fn unpin(gate: Gate) -> Gate
     requires in_range { IsGateInRange gate }
     requires pinned { 1 ≤ gate.pins }
@@ -57,9 +60,9 @@ pub fn unpin(gate: Gate) -> Gate
     }
 }
 
-/// The gate once it is free for another change: not taken, without pins, under the next number. `None`
-/// for a gate that isn't taken or has a pin, and at [`WORN_NUMBER`], which no number follows. The
-/// gate's fields are in range.
+/// Returns the gate after it is freed for another change: not taken, without pins, with the next number. `None`: the
+/// gate isn't taken, has a pin, or is at [`WORN_NUMBER`], which has no next number. The gate's fields must be in
+/// range.
 pub fn free(gate: Gate) -> Option<Gate>
     requires { IsGateInRange gate }
     ensures is { result ≡ after_free gate }

@@ -1,18 +1,22 @@
-//! The pool of slots: which moves a door and a gate allow, and what each makes of them.
+//! The pool of slots: which moves a door and a gate allow, and what each move makes of them.
 //!
-//! The moves are pure: each takes the value of a door or a gate and gives the value after the move.
-//! Admit, claim and pin are made by an exchange, which fails where the value that was read has changed
-//! since; unpin subtracts from whatever stands there, and free is a store by the only worker left.
+//! The moves are pure: each takes the value of a door or a gate and returns the value after the move. Whoever makes
+//! admit, claim or pin does so by an exchange, which fails if the value has changed since it was read. Unpin
+//! subtracts from whatever value is there. Free is a store by the only worker that is left at the slot.
 //!
 //! | move | from | to |
 //! |---|---|---|
 //! | admit | a door without a fault, with fewer slots in use than the quota | one slot more in use |
 //! | claim | a gate that isn't taken, whose number isn't worn | taken, 1 pin, the same number |
-//! | pin | a taken gate of this number with a pin | one pin more |
+//! | pin | a taken gate with this number and a pin | one pin more |
 //! | unpin | a gate with a pin | one pin less |
 //! | free | a taken gate without pins | not taken, without pins, the next number |
 //!
-//! A move that would leave what a door's or a gate's bits can say is no move.
+//! A move whose result doesn't fit the bits of a door or a gate is not allowed.
+//!
+//! The machines of requests (mw_look, mw_actor) call admit, claim and pin before they ask for the exchange. Unpin and
+//! free are called by tests alone: their steps are made without a load. The laws of the world cite `specs/Moves`, so
+//! a change there changes the algorithm.
 #![tactic(auto)]
 
 mod doors;

@@ -1,3 +1,3 @@
-pub mod Fitting
+pub mod FilesFitLines
 pub mod Sessions
 pub mod Workers

@@ -1,18 +1,18 @@
--- A session of a worker, said of its pass.
+-- A session of a worker is one of the worker's pass, with the same calls. Used by: the proof of Worker::run.
 use Rattle.std.specs.Prelude.{ℕ, List, [], ◌∷◌, Option}
 use Rattle.std.proofs.Common.{ap}
 use Rattle.mw_session.specs.declared.session.Ended.{Ended}
 use Rattle.mw_session.specs.Talk.{Call}
-use Rattle.mw_session.specs.Through.{GoesThrough}
-use Rattle.mw_session.specs.Whole.{Holds}
+use Rattle.mw_session.specs.Transitions.{GoesThrough}
+use Rattle.mw_session.specs.WholeSessions.{Holds}
 
--- steps of a part
+-- a chain of steps of the whole is a chain of steps of its part
 pub part_goes : {S P X : Type 0} (part : S → P) (steps : P → X → P → Type 0) (old : S) (items : List X) (new : S) → GoesThrough (λ before item after. steps (part before) item (part after)) old items new
     → GoesThrough steps (part old) items (part new)
 part_goes part steps old [] new same = ap part same
 part_goes part steps old (item ∷ later) new goes = (part goes.0, goes.1, part_goes part steps goes.0 later new goes.2)
 
--- what the calls meet may be told otherwise
+-- a session whose calls are as Asked says is one whose calls are as Told says, if Asked implies Told
 pub told_otherwise : (left new_left taken new_taken : Option (List ℕ)) (Asked Told : List Call → Type 0) (ended : Ended) → ((calls : List Call) → Asked calls → Told calls)
     → Holds left new_left taken new_taken Asked ended → Holds left new_left taken new_taken Told ended
 told_otherwise left new_left taken new_taken Asked Told ended tell holds = record {

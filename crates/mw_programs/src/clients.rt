@@ -1,4 +1,6 @@
-//! Serving clients, over TCP or by local sockets.
+//! Serves clients, over TCP or by local sockets.
+//!
+//! Used by: `serving`, if the command line says `--listen`.
 ghost use Rattle.std.specs.Prelude.{◌≡◌, ◌<◌, All, IfOk, vec_len};
 ghost use Rattle.mw_engine.specs.Passes.{IsNew};
 
@@ -13,7 +15,7 @@ use mw_disk::{Disk, FileDisk};
 use mw_engine::{Engine, EngineBrand, NoHold, Pass};
 use mw_session::Service;
 use mw_workers::{
-    Clients, Closer, Desk, Patient, RoomWatch, ServeEnd, listen_at, port_of, serve_all,
+    ClientListener, Closer, Desk, Patient, RoomWatch, ServeEnd, listen_at, port_of, serve_all,
     serve_beside,
 };
 use std::alloc::AllocError;
@@ -27,7 +29,7 @@ use std::sync::Wait;
 use std::thread::Threads;
 use std::time::Clock;
 
-/// Notes that there is no room for connections, and at which address.
+/// Writes a note when there is no room for connections, with the address.
 #[derive(Drop)]
 struct RoomNotes<'n, 'a, L> {
     notes: &'n L,
@@ -46,7 +48,7 @@ fn listen<'r, 'a, R>(
     rt: &'r R,
     address: &'a str,
     listening: &Listening,
-) -> Result<Clients<'r, R>, ServeFault<'a>>
+) -> Result<ClientListener<'r, R>, ServeFault<'a>>
 where
     R: Files<File = File> + Net<Listener = TcpListener, Stream = TcpStream>,
 {
@@ -56,12 +58,12 @@ where
     }
 }
 
-/// Listens at the administrator's address. What ends the wait for a client there comes with it.
+/// Listens at the administrator's address. Gives also what ends the wait for a client there.
 fn listen_for_admin<'r, 'a, R>(
     rt: &'r R,
     address: &'a str,
     listening: &Listening,
-) -> Result<(Clients<'r, R>, Closer), ServeFault<'a>>
+) -> Result<(ClientListener<'r, R>, Closer), ServeFault<'a>>
 where
     R: Files<File = File> + Net<Listener = TcpListener, Stream = TcpStream>,
 {
@@ -72,12 +74,12 @@ where
     }
 }
 
-/// Tells on `out`, behind this word, where these clients find the listener at an address: at which port, or
-/// that address where it is a local socket's.
+/// Writes to `out` this word, and after it where clients find the listener: its port, or the address of a
+/// local socket.
 fn tell_place<'a, K, O: Write>(
     out: &mut O,
     word: &str,
-    clients: &Clients<'_, K>,
+    clients: &ClientListener<'_, K>,
     address: &'a str,
 ) -> Result<(), ServeFault<'a>> {
     let told = match port_of(clients) {
@@ -92,13 +94,13 @@ fn tell_place<'a, K, O: Write>(
     }
 }
 
-/// Tells on `out`, at once, this word and a place behind it.
+/// Writes to `out` this word and a place after it, and flushes.
 fn tell_line<O: Write, P: Display>(out: &mut O, word: &str, place: &P) -> io::Result<()> {
     writeln!(out, "{word} {place}")?;
     out.flush()
 }
 
-/// A worker for each pass.
+/// Makes a worker for each pass.
 fn workers_for<'a, J: EngineBrand, D: Disk, H, R: AllocGlobal, T>(
     rt: &'a R,
     engine: &'a Engine<J, D, H>,
@@ -117,8 +119,8 @@ fn workers_for<'a, J: EngineBrand, D: Disk, H, R: AllocGlobal, T>(
     Ok(workers)
 }
 
-/// Tells on `out` where it listens, and serves clients by a worker for each pass. Where there is
-/// an address for the administrator, the last of these workers serves who comes there, and no other one.
+/// Writes to `out` where it listens, and serves clients by a worker for each pass. If there is an address
+/// for the administrator, the last of these workers serves only the clients of that address.
 pub(crate) fn serve_clients<'e, 'a, J, R, O: Write, L: Log + Sync, T: FaultWatch + Sync>(
     rt: &'e R,
     engine: &'e Engine<J, FileDisk<WatchedFile<'_>>, NoHold>,
@@ -147,7 +149,7 @@ where
     }
 }
 
-/// Listens at the one address, tells on `out` where, and serves who comes there.
+/// Listens at the one address, writes to `out` where, and serves the clients that come.
 fn serve_one<'a, S: Service + Send + Drop, R, O: Write, L: Log + Sync>(
     rt: &R,
     workers: Vec<S>,
@@ -165,7 +167,7 @@ where
         + Sync,
     requires { 0 < vec_len workers }
 {
-    let clients = open_door(rt, listening, out)?;
+    let clients = open_listener(rt, listening, out)?;
     let address = listening.address.as_str();
     let room = RoomNotes { notes, address };
     let clients = Patient::new(clients, rt, &room);
@@ -173,12 +175,12 @@ where
     served(end)
 }
 
-/// Listens at the one address, and tells on `out` where.
-fn open_door<'r, 'a, R, O: Write>(
+/// Listens at the one address, and writes to `out` where.
+fn open_listener<'r, 'a, R, O: Write>(
     rt: &'r R,
     listening: &'a Listening,
     out: &mut O,
-) -> Result<Clients<'r, R>, ServeFault<'a>>
+) -> Result<ClientListener<'r, R>, ServeFault<'a>>
 where
     R: Files<File = File> + Net<Listener = TcpListener, Stream = TcpStream>,
 {
@@ -188,8 +190,8 @@ where
     Ok(clients)
 }
 
-/// Listens at both addresses, tells on `out` where, and serves who comes there: by the last worker those
-/// who come to the administrator's address, and by the others the others.
+/// Listens at both addresses, writes to `out` where, and serves the clients that come. The last worker
+/// serves those of the administrator's address, and the others serve the rest.
 fn serve_both<'a, S: Service + Send + Drop, R, O: Write, L: Log + Sync>(
     rt: &R,
     workers: Vec<S>,
@@ -210,7 +212,7 @@ where
     let Some(staff) = Staff::new(workers) else {
         return Err(ServeFault::Memory);
     };
-    let doors = open_doors(rt, listening, admin, out)?;
+    let doors = open_listeners(rt, listening, admin, out)?;
     let room = RoomNotes {
         notes,
         address: listening.address.as_str(),
@@ -222,7 +224,7 @@ where
     served(serve_doors(rt, doors, staff, listening.connections, &room, &own_room))
 }
 
-/// The workers, and apart from them the one that serves the administrator.
+/// The workers for clients, and the one worker for the administrator.
 #[derive(Drop)]
 struct Staff<S> {
     workers: Vec<S>,
@@ -231,7 +233,7 @@ struct Staff<S> {
 }
 
 impl<S: Drop> Staff<S> {
-    /// The last of these workers serves the administrator. None where no other one is left.
+    /// Takes the last of these workers for the administrator. Gives None if no other worker is left.
     fn new(workers: Vec<S>) -> Option<Self> {
         let mut workers = workers;
         let clerk = workers.pop()?;
@@ -242,29 +244,29 @@ impl<S: Drop> Staff<S> {
     }
 }
 
-/// Where clients come from, and where those of the administrator.
+/// The listener for clients, and the one for the administrator.
 #[derive(Drop)]
-struct Doors<'r, R> {
-    clients: Clients<'r, R>,
-    own: Clients<'r, R>,
-    /// Ends the wait for a client of the administrator's.
+struct Listeners<'r, R> {
+    clients: ClientListener<'r, R>,
+    own: ClientListener<'r, R>,
+    /// Ends the wait for a client of the administrator.
     closer: Closer,
 }
 
-/// Listens at both addresses, and tells on `out` where.
-fn open_doors<'r, 'a, R, O: Write>(
+/// Listens at both addresses, and writes to `out` where.
+fn open_listeners<'r, 'a, R, O: Write>(
     rt: &'r R,
     listening: &'a Listening,
     admin: &'a str,
     out: &mut O,
-) -> Result<Doors<'r, R>, ServeFault<'a>>
+) -> Result<Listeners<'r, R>, ServeFault<'a>>
 where
     R: Files<File = File> + Net<Listener = TcpListener, Stream = TcpStream>,
 {
     let address = listening.address.as_str();
     let clients = listen(rt, address, listening)?;
     let (own, closer) = listen_for_admin(rt, admin, listening)?;
-    let doors = Doors {
+    let doors = Listeners {
         clients,
         own,
         closer,
@@ -273,10 +275,10 @@ where
     Ok(doors)
 }
 
-/// Tells on `out` where these doors are: first the administrator's.
+/// Writes to `out` where both listeners are, the administrator's first.
 fn tell_places<'a, K, O: Write>(
     out: &mut O,
-    doors: &Doors<'_, K>,
+    doors: &Listeners<'_, K>,
     admin: &'a str,
     address: &'a str,
 ) -> Result<(), ServeFault<'a>> {
@@ -284,10 +286,10 @@ fn tell_places<'a, K, O: Write>(
     tell_place(out, "ready", &doors.clients, address)
 }
 
-/// Serves who comes to the two addresses.
+/// Serves the clients that come to the two addresses.
 fn serve_doors<S: Service + Send + Drop, R, L: Log + Sync>(
     rt: &R,
-    doors: Doors<'_, R>,
+    doors: Listeners<'_, R>,
     staff: Staff<S>,
     connections: Option<u32>,
     room: &RoomNotes<'_, '_, L>,

@@ -1,8 +1,11 @@
-//! The programs of the server: `mwinit` makes a tenant's file, and `mwserve` serves tenants' words.
+//! Implements the programs of the server: `mwinit` makes a tenant's file, and `mwserve` serves tenants'
+//! words.
+//!
+//! Used by: mwinit, mwserve, mw_examples.
 #![tactic(auto)]
 
 mod clients;
-mod making;
+mod init;
 mod notes;
 mod opening;
 mod plain_file;
@@ -12,5 +15,5 @@ mod tenants;
 mod watched_file;
 mod worker;
 
-pub use making::init;
+pub use init::init;
 pub use serving::serve;

@@ -1,4 +1,6 @@
-//! Notes for whoever runs the server.
+//! Writes notes for whoever runs the server.
+//!
+//! Used by: `serving`, `opening`, `clients`, `tenants`.
 
 use log::kv::Source;
 use log::span::Spans;
@@ -7,11 +9,9 @@ use std::fmt::Display;
 use std::io::Write;
 use std::sync::{Mutex, Wait};
 
-/// A sink that writes each note on a line of its own, and nothing but the note. Many threads may write
-/// notes to it.
+/// A log that writes each note on a line of its own, and nothing else. Many threads may write to it.
 ///
-/// A warning is written in any case, and what is said more, at [`Level::Info`], only where it is to be
-/// verbose.
+/// It always writes warnings. It writes what is said at [`Level::Info`] only if it is verbose.
 #[derive(Drop)]
 pub struct Notes<'a, W, R> {
     rt: &'a R,
@@ -20,7 +20,7 @@ pub struct Notes<'a, W, R> {
 }
 
 impl<'a, W: Write, R: Wait> Notes<'a, W, R> {
-    /// A sink over a writer.
+    /// Makes a log over a writer.
     pub fn new(rt: &'a R, out: &'a mut W, verbose: bool) -> Self {
         Notes {
             rt,
@@ -49,12 +49,12 @@ impl<W: Write, R: Wait> Log for Notes<'_, W, R> {
     }
 }
 
-/// Says more of a note: which file or address it is about.
+/// Writes, at [`Level::Info`], which file or address a note is about.
 pub fn note_place<L: Log>(notes: &L, place: &str) {
     info!(notes; "{place}");
 }
 
-/// Says more of a note: which file or address it is about, and what is known of it.
+/// Writes, at [`Level::Info`], which file or address a note is about, and the cause.
 pub fn note_cause<L: Log, C: Display>(notes: &L, place: &str, cause: &C) {
     info!(notes; "{place}: {cause}");
 }

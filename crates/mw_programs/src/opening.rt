@@ -1,9 +1,12 @@
-//! What a server opens before it serves: the tenants file and the tenants' own files.
+//! Opens what a server needs before it serves: the tenants file and the tenants' own files.
+//!
+//! Used by: `serving`, which calls these before it serves; `tenants`. docs/OPERATING.md lists the texts of
+//! the notes: change both together. A new kind of [`Cause`] needs a case in `Cause::tell`.
 ghost use Rattle.std.specs.Prelude.{◌≡◌, ◌≤◌, length, is_some, IfOk, Some};
 ghost use Rattle.std.specs.List.{list_all};
 ghost use Rattle.mw_config.specs.Limits.{ArePermitted};
 ghost use Rattle.mw_words.specs.declared.limits.TheConstants.{MAX_TENANTS};
-ghost use Rattle.mw_engine.specs.Opened.{FitsLine, FitLines};
+ghost use Rattle.mw_engine.specs.OpenedFiles.{FitsLine, FitLines};
 
 use crate::notes::{note_cause, note_place};
 use crate::plain_file::{ReadFault, open_plain};
@@ -21,33 +24,36 @@ use std::rt::Files;
 use std::str;
 use thiserror::Error;
 
-/// The most bytes of a tenants file, and one more, by which a longer one is known.
+/// The room for a tenants file, in bytes: the most that it may have, and one more, which shows that it is
+/// longer.
 const TENANTS_ROOM: usize = 8193;
 
 const _: () = prove!(TENANTS_ROOM == MAX_TENANTS_FILE + 1);
 
-/// Why a tenants file is refused.
+/// Tells why a tenants file is refused.
 #[derive(Debug, Drop)]
 pub struct TenantsFault {
+    /// The refusal.
     pub refusal: Refusal,
+    /// What more is known of it.
     pub cause: Cause,
 }
 
-/// What more is known of why a tenants file is refused.
+/// Tells what more is known of why a tenants file is refused.
 #[derive(Debug, Drop)]
 pub enum Cause {
-    /// Why it wasn't opened, or wasn't read to its end.
+    /// The file wasn't opened, or wasn't read to its end, because of this fault.
     Reading(ReadFault),
-    /// It has more than [`MAX_TENANTS_FILE`] bytes.
+    /// The file has more than [`MAX_TENANTS_FILE`] bytes.
     Size,
     /// The line of this number breaks this rule of the form.
     Form(u16, FormRule),
-    /// Nothing.
+    /// Nothing more is known.
     Unknown,
 }
 
 impl Cause {
-    /// Of a text that is refused so.
+    /// Gives the cause why this text is refused.
     fn of_text(refusal: Refusal, text: &[u8]) -> Self {
         let Refusal::Form(number) = refusal else {
             return Cause::Unknown;
@@ -60,7 +66,7 @@ impl Cause {
         }
     }
 
-    /// Tells it of the tenants file at this path.
+    /// Writes the cause to the notes, with the path of the tenants file.
     pub fn tell<L: Log>(&self, notes: &L, path: &str) {
         match self {
             Cause::Reading(fault) => note_cause(notes, path, fault),
@@ -74,11 +80,11 @@ impl Cause {
     }
 }
 
-/// The tenants that the file at a path tells, whose quotas share a pool of so many slots.
+/// Reads the tenants from the tenants file at a path. Their quotas share a pool of `pool` slots.
 ///
 /// # Errors
 ///
-/// [`Refusal::File`] where the file can't be read; else what [`read_tenants`] refuses.
+/// [`Refusal::File`] if the file can't be read or is too long; else what [`read_tenants`] refuses.
 pub fn read_tenants_file<R: Files<File = File>>(
     rt: &R,
     path: &str,
@@ -98,7 +104,7 @@ pub fn read_tenants_file<R: Files<File = File>>(
     Err(TenantsFault { refusal, cause })
 }
 
-/// Reads the plain file at a path until its end, or until the room is full. Gives how many bytes it has read.
+/// Reads the plain file at a path to its end, or until the room is full. Gives how many bytes it has read.
 fn read_front<R: Files<File = File>>(
     rt: &R,
     path: &str,
@@ -108,7 +114,7 @@ fn read_front<R: Files<File = File>>(
     Ok(fill(&mut file, room)?)
 }
 
-/// Reads until the end, or until the room is full. Gives how many bytes it has read.
+/// Reads to the end, or until the room is full. Gives how many bytes it has read.
 fn fill<F: Read>(file: &mut F, room: &mut [u8]) -> io::Result<usize> {
     let mut count = 0;
     for _ in 0..u64::MAX {
@@ -125,20 +131,21 @@ fn fill<F: Read>(file: &mut F, room: &mut [u8]) -> io::Result<usize> {
     Ok(count)
 }
 
-/// Why a tenant's file isn't served, as a note tells it.
+/// Tells why a tenant's file isn't served, as a note says it.
 #[derive(Debug, Drop, Error)]
 enum FileFault {
-    /// The file can't be opened or locked, or a call on it failed, and what the system told of it.
+    /// The file can't be opened or locked, or a call on it failed. The error is what the system told, if it
+    /// told one.
     #[error("disk")]
     Disk(Option<io::Error>),
-    /// Another opening of the file holds its lock: of a second server, of `mwinit`, or of this server
-    /// for an earlier tenant.
+    /// Another opening of the file holds its lock: a second server, `mwinit`, or this server for an earlier
+    /// tenant.
     #[error("in use")]
     InUse,
-    /// The file isn't as the tenants file says it, but has so many words and places.
+    /// The file has so many words and places, and not what the tenants file says.
     #[error("misfit")]
     Misfit(usize, u16),
-    /// The file's bytes are damaged, and this is the damage's number.
+    /// The file's bytes are damaged. This is the number of the damage.
     #[error("damage {0}")]
     Damage(u8),
     /// Memory was refused.
@@ -147,7 +154,7 @@ enum FileFault {
 }
 
 impl FileFault {
-    /// The fault of an opening, before which, or in which, the system told this.
+    /// Gives the fault of a failed opening. `last` has what the system told last, in the opening or before it.
     fn of_opening(fault: OpenFault, last: &LastError) -> Self {
         match fault {
             OpenFault::Memory => FileFault::Memory,
@@ -156,7 +163,7 @@ impl FileFault {
         }
     }
 
-    /// Tells more of it: which file it is, and what the system told, or what the file has.
+    /// Writes more of the fault: which file it is, and what the system told or what the file has.
     fn tell_more<L: Log>(&self, notes: &L, path: &str) {
         match self {
             FileFault::Disk(Some(error)) => note_cause(notes, path, error),
@@ -167,7 +174,7 @@ impl FileFault {
     }
 }
 
-/// The files of the tenants, in the order of their lines, each as [`open_file`] gives it.
+/// Opens the tenants' files, in the order of their lines, each by [`open_file`].
 ///
 /// # Errors
 ///
@@ -189,18 +196,18 @@ pub fn open_files<'a, R: Files<File = File> + AllocGlobal, L: Log>(
     Ok(files)
 }
 
-/// Whether each tenant's file has opened.
+/// Tells whether each tenant's file has opened.
 pub fn are_all_open(files: &[Option<Opened<'_>>]) -> bool
     ensures { result ≡ list_all (λ file. is_some file) files.now }
 {
     files.iter().all(|file| file.is_some())
 }
 
-/// A tenant's file with the words that it was opened with.
+/// A tenant's file, and the words that it had when it was opened.
 pub type Opened<'a> = (TenantFile<FileDisk<WatchedFile<'a>>>, Vec<u64>);
 
-/// The file of a tenant. None, and a note, where it doesn't open, is in use or isn't as the tenants file
-/// says; then every request of the tenant is answered FAULT.
+/// Opens the file of a tenant. Gives None, and writes a note, if the file doesn't open, is in use or isn't
+/// as the tenants file says. Then every request of the tenant is answered FAULT.
 ///
 /// # Errors
 ///
@@ -225,11 +232,11 @@ pub fn open_file<'a, R: Files<File = File> + AllocGlobal, L: Log>(
     }
 }
 
-/// The file of a tenant, locked and as the tenant's line says it.
+/// Opens and locks the file of a tenant, which has the words and the places that its line asks for.
 ///
 /// # Errors
 ///
-/// As [`FileFault`] tells. The file is closed, and its lock with it.
+/// As [`FileFault`] tells. The file is closed, and so its lock is released.
 fn open_fitting<'a, R: Files<File = File> + AllocGlobal>(
     rt: &R,
     line: &TenantLine,
@@ -246,10 +253,10 @@ fn open_fitting<'a, R: Files<File = File> + AllocGlobal>(
     )
 }
 
-/// The file on a disk, as a tenant's line says it.
+/// Opens the file on a disk, which has the words and the places that the tenant's line asks for.
 ///
-/// The disk is synced first: a server that was killed may have left writes that a read gives and a
-/// crash loses, and an opening has to begin on bytes that a crash leaves.
+/// Syncs the disk first. A server that was killed may have left writes that a read gives and a crash loses,
+/// but an opening must begin on bytes that a crash leaves.
 ///
 /// # Errors
 ///
@@ -277,13 +284,12 @@ fn open_synced<D: Disk + Drop>(
     }
 }
 
-/// A file for reading and writing, of which no other opening has the lock. The lock is held until the
-/// file is closed.
+/// Opens a file for reading and writing, and locks it. The lock is held until the file is closed.
 ///
 /// # Errors
 ///
-/// [`FileFault::InUse`] where another opening has it, [`FileFault::Disk`] where the file can't be opened
-/// or its file system has no locks.
+/// [`FileFault::InUse`] if another opening has the lock. [`FileFault::Disk`] if the file can't be opened or
+/// its file system has no locks.
 fn open_locked<R: Files<File = File>>(rt: &R, path: &str) -> Result<File, FileFault> {
     let mut options = OpenOptions::new();
     options.read(true).write(true);

@@ -1,16 +1,18 @@
-//! Files that are opened only if they are plain ones: the tenants file and the script.
+//! Opens a file only if it is a plain one: the tenants file and the script.
+//!
+//! Used by: `opening`, `serving`.
 use std::fs::{self, File};
 use std::io;
 use std::rt::Files;
 use thiserror::Error;
 
-/// Why a file was not opened or not read.
+/// Tells why a file was not opened or not read.
 #[derive(Debug, Drop, Error)]
 pub enum ReadFault {
-    /// A call of the system on it failed, and this is what it told.
+    /// A call of the system failed with this error.
     #[error("{0}")]
     System(io::Error),
-    /// It is a folder, a pipe, a device or a socket.
+    /// The path is a folder, a pipe, a device or a socket.
     #[error("not a plain file")]
     NotPlain,
 }
@@ -21,11 +23,12 @@ impl From<io::Error> for ReadFault {
     }
 }
 
-/// The plain file at a path, to be read. To open a pipe would wait for its writer, so nothing else is opened.
+/// Opens the plain file at a path for reading. It opens nothing else, because opening a pipe would wait for
+/// its writer.
 ///
 /// # Errors
 ///
-/// It isn't there, may not be read, or isn't plain.
+/// There is no file, it may not be read, or it isn't plain.
 pub fn open_plain<R: Files<File = File>>(rt: &R, path: &str) -> Result<File, ReadFault> {
     if !fs::metadata(rt, path)?.is_file() {
         return Err(ReadFault::NotPlain);

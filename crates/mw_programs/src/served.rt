@@ -1,4 +1,7 @@
-//! What a session asks of a worker: the engine answers, with the worker's pass.
+//! Implements a session's service for a worker: the engine answers, with the worker's pass.
+//!
+//! mw_session calls it for the lines of a session, which `worker` runs. A new question of a session needs a
+//! call here and in `Service` of mw_session.
 use crate::tenants::FaultWatch;
 use crate::worker::Worker;
 use mw_disk::Disk;

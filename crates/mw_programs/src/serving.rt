@@ -1,11 +1,13 @@
-//! `mwserve`: serves tenants' words.
+//! Implements `mwserve`: reads the command line, opens the files, and serves the tenants' words.
+//!
+//! `mwserve` calls `serve`.
 ghost use Rattle.std.specs.Prelude.{◌≡◌, ◌<◌, ◌≤◌, All, IfOk, vec_len};
 ghost use Rattle.mw_config.specs.CommandLine.{ArePermittedArgs};
 ghost use Rattle.mw_config.specs.Limits.{ArePermitted};
 ghost use Rattle.mw_words.specs.declared.limits.TheConstants.{MAX_WORKERS};
-ghost use Rattle.mw_engine.specs.Opened.{FitLines};
+ghost use Rattle.mw_engine.specs.OpenedFiles.{FitLines};
 ghost use Rattle.mw_engine.specs.Passes.{IsNew};
-ghost use Rattle.mw_engine.specs.Starting.{identity_of};
+ghost use Rattle.mw_engine.specs.Parts.{identity_of};
 
 use crate::clients::serve_clients;
 use crate::notes::{Notes, note_cause};
@@ -32,22 +34,23 @@ use std::thread::Threads;
 use std::time::Clock;
 use thiserror::Error;
 
-/// Why nothing was served.
+/// Tells why nothing was served.
 #[derive(Debug, Drop, Error)]
 pub(crate) enum ServeFault<'a> {
-    /// The tenants file is refused, and what more is known of it.
+    /// The tenants file is refused. The cause is what more is known of it.
     #[error("{0}")]
     Refused(Refusal, Cause),
-    /// A tenant's file didn't open, and none is served without all. Notes tell which.
+    /// A tenant's file didn't open, and `--strict` asks for all of them. Notes tell which file.
     #[error("")]
     NotAll,
-    /// The script with this path can't be opened, or is no plain file.
+    /// The script at this path can't be opened, or isn't a plain file.
     #[error("mwserve: cannot read")]
     CannotRead(&'a str, ReadFault),
-    /// There is no listening at this address.
+    /// Nobody can listen at this address.
     #[error("mwserve: cannot listen")]
     CannotListen(&'a str, io::Error),
-    /// The session ended by a fault, or it couldn't be told that the server is ready. Nothing is said.
+    /// The session ended by a fault, or the program couldn't write that the server is ready. No note is
+    /// written.
     #[error("")]
     Ended,
     /// Memory was refused before the first session.
@@ -56,7 +59,7 @@ pub(crate) enum ServeFault<'a> {
 }
 
 impl ServeFault<'_> {
-    /// The exit status that tells it.
+    /// Gives the exit status of this fault.
     fn status(&self) -> u8 {
         match self {
             ServeFault::Refused(..) => 2,
@@ -68,7 +71,7 @@ impl ServeFault<'_> {
         }
     }
 
-    /// Tells it, and what more is known of it. The tenants file has this path.
+    /// Writes the fault, and what more is known of it. `tenants` is the path of the tenants file.
     fn tell<L: Log>(&self, notes: &L, tenants: &str) {
         if let ServeFault::NotAll | ServeFault::Ended = self {
             return;
@@ -95,21 +98,25 @@ impl From<TenantsFault> for ServeFault<'_> {
     }
 }
 
-/// Serves as the command line `args`, the program's own name first, asks for:
-/// `mwserve --tenants FILE [--pool P] [--workers N] [--strict] [--verbose]` with either `--script FILE`,
-/// which runs one session from the script to `out`, or
-/// `--listen ADDR [--admin ADDR] [--connections C] [--idle SECONDS] [--mode MODE]`, which writes
-/// `ready PORT`, or `ready unix:PATH`, to `out` and serves clients by N workers, until C connections are
-/// served. With `--admin` there is one worker more, of [`MAX_WORKERS`] at most, for the clients who come
-/// there, and `admin PORT`, or `admin unix:PATH`, is written before.
+/// Serves what the command line `args` asks for. Its first argument is the program's own name.
 ///
-/// Gives the exit status: 0 where the session ended by `QUIT`, with the script or at a line that was
-/// too long, or all connections were served; 1 where it ended otherwise, a tenant's file didn't open and
-/// `--strict` was given, the script could not be opened, nobody can listen there or memory was refused;
-/// 2 for a wrong command line or tenants file.
-/// What went wrong before the first session, a note on each tenant whose file doesn't open, is in use or
-/// fails, and that there is no room for connections, is written to `err`. The files stay locked until it
-/// returns.
+/// The form is `mwserve --tenants FILE [--pool P] [--workers N] [--strict] [--verbose]`, with one of these:
+/// - `--script FILE` runs one session from the script to `out`.
+/// - `--listen ADDR [--admin ADDR] [--connections C] [--idle SECONDS] [--mode MODE]` writes `ready PORT`,
+///   or `ready unix:PATH`, to `out`. Then N workers serve clients, until C connections are served. With
+///   `--admin`, one worker more serves the clients of that address, if N is below [`MAX_WORKERS`]; else one
+///   of the N does. `admin PORT`, or `admin unix:PATH`, is written before `ready`.
+///
+/// Gives the exit status:
+/// - 0 if the session ended by `QUIT`, with the script, or at a line that was too long, or if all
+///   connections were served;
+/// - 1 if the session ended otherwise, if a tenant's file didn't open and `--strict` was given, if the
+///   script couldn't be opened, if nobody can listen at an address, or if memory was refused;
+/// - 2 if the command line or the tenants file is wrong.
+///
+/// Writes to `err` what went wrong before the first session. It also writes a note on each tenant whose
+/// file doesn't open, is in use or fails, and a note when there is no room for connections. The files stay
+/// locked until it returns.
 pub fn serve<R, O: Write, E: Write + Send>(rt: &R, args: &[String], out: &mut O, err: &mut E) -> u8
 where
     R: Files<File = File>
@@ -134,7 +141,7 @@ where
     }
 }
 
-/// Tells why a command line isn't served, or what it asks to be told. Gives the exit status.
+/// Writes why a command line isn't served, or what it asks to be told. Gives the exit status.
 fn refuse<O: Write, E: Write>(fault: &ArgFault, out: &mut O, err: &mut E) -> u8 {
     match fault {
         // The text that clap makes ends with a line feed.
@@ -156,8 +163,8 @@ fn refuse<O: Write, E: Write>(fault: &ArgFault, out: &mut O, err: &mut E) -> u8 
     }
 }
 
-/// Faults are looked for in this order: the tenants file, the tenants' files, of which notes tell, and
-/// the script or the listeners.
+/// Opens what the arguments name, and serves it. It looks for faults in this order: the tenants file, the
+/// tenants' files, the script or the listeners. Notes tell the faults of the tenants' files.
 fn serve_args<'e, 'a, R, O: Write, L: Log + Sync>(
     rt: &'e R,
     args: &'a Args,
@@ -184,7 +191,7 @@ where
     serve_files(rt, args, &lines, files, out, notes, &watch)
 }
 
-/// Serves the tenants with these lines from their files, as many as have opened.
+/// Serves the tenants with these lines from their files. A tenant whose file didn't open answers FAULT.
 fn serve_files<'a, 'f, R, O: Write, L: Log + Sync, T: FaultWatch + Sync>(
     rt: &R,
     args: &'a Args,
@@ -217,7 +224,7 @@ where
     serve_engine::<Brand, _, _, _, _>(rt, parts, passes, &args.mode, out, notes, watch)
 }
 
-/// How many workers there are, at most [`MAX_WORKERS`], with that of the administrator's listener.
+/// Gives the number of workers, at most [`MAX_WORKERS`]. That of the administrator's listener is counted.
 fn workers_of(args: &Args) -> u8
     requires { ArePermittedArgs args.now }
     ensures { (1 ≤ result) × (result ≤ MAX_WORKERS) }

@@ -1,4 +1,6 @@
-//! What is told of tenants while they are served.
+//! Writes notes on tenants that fail while they are served.
+//!
+//! `serving` makes the notes. `served` tells of each FAULT, on behalf of a worker.
 ghost use Rattle.std.specs.Prelude.{◌<◌};
 ghost use Rattle.mw_words.specs.declared.limits.TheConstants.{MAX_TENANTS};
 
@@ -11,25 +13,26 @@ use mw_words::MAX_TENANTS;
 use std::str;
 use std::sync::{Mutex, Wait};
 
-/// Who hears that a request was answered FAULT.
+/// Is told when a request was answered FAULT.
 pub trait FaultWatch {
     /// A request of the tenant of this number was answered FAULT.
     fn fault(&self, tenant: u8);
 }
 
-/// Notes each tenant whose file has failed while it was served, once.
+/// Writes a note on each tenant whose file has failed while it was served, once.
 #[derive(Drop)]
 pub struct TenantNotes<'r, 'n, 'l, 'e, L, R> {
     rt: &'r R,
     notes: &'n L,
     lines: &'l [TenantLine],
     errors: &'e LastErrors,
-    /// Of which tenants it was told that they are down.
+    /// The tenants on which a note was written already.
     told: Mutex<[bool; MAX_TENANTS]>,
 }
 
 impl<'r, 'n, 'l, 'e, L: Log, R: Wait> TenantNotes<'r, 'n, 'l, 'e, L, R> {
-    /// Notes on the tenants with these lines, of whom each whose file didn't open was noted already.
+    /// Makes the notes on the tenants with these lines. A tenant whose file didn't open has its note
+    /// already.
     pub fn new(
         rt: &'r R,
         notes: &'n L,
@@ -52,7 +55,7 @@ impl<'r, 'n, 'l, 'e, L: Log, R: Wait> TenantNotes<'r, 'n, 'l, 'e, L, R> {
 }
 
 impl<L: Log, R: Wait> TenantNotes<'_, '_, '_, '_, L, R> {
-    /// Tells that the tenant of this number is down, and what the system told of its file.
+    /// Writes that the tenant of this number is down, and what the system told of its file.
     fn tell(&self, tenant: usize, line: &TenantLine)
         requires { tenant < MAX_TENANTS }
     {

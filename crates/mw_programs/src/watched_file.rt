@@ -1,4 +1,6 @@
-//! A tenant's file, of whose failed calls it is known what the system told.
+//! A tenant's file that keeps what the system told of its last failed call.
+//!
+//! Used by: `opening`, which makes one of each opened file; `serving`, `clients`, `tenants`.
 ghost use Rattle.std.specs.Prelude.{◌≡◌, ◌<◌};
 ghost use Rattle.mw_words.specs.declared.limits.TheConstants.{MAX_TENANTS};
 
@@ -8,17 +10,17 @@ use std::io::{self, ErrorKind};
 use std::os::unix::fs::FileExt;
 use std::sync::atomic::{AtomicI32, Ordering};
 
-/// What the system told last of a file: the number of an error, or 0 where it told none.
+/// The last error that the system told of a file: its number, or 0 if it told none.
 #[derive(Drop)]
 pub struct LastError(AtomicI32);
 
 impl LastError {
-    /// Of a file of which nothing was told.
+    /// Makes one for a file of which the system told no error.
     pub fn new() -> Self {
         LastError(AtomicI32::new(0))
     }
 
-    /// The last error, if there was one.
+    /// Gives the last error, if there was one.
     pub fn error(&self) -> Option<io::Error> {
         match self.0.load(Ordering::SeqCst) {
             0 => None,
@@ -26,7 +28,7 @@ impl LastError {
         }
     }
 
-    // Keeps what an outcome tells. An interrupted call is made again, and tells nothing.
+    // Keeps the error of an outcome. An interrupted call is made again, so its error isn't kept.
     fn keep<T: Drop>(&self, outcome: io::Result<T>) -> io::Result<T>
         ensures { result ≡ outcome }
     {
@@ -45,12 +47,12 @@ impl LastError {
 pub struct LastErrors([LastError; MAX_TENANTS]);
 
 impl LastErrors {
-    /// Of files of which nothing was told.
+    /// Makes them for files of which the system told no error.
     pub fn new() -> Self {
         LastErrors([(); MAX_TENANTS].map(|_| LastError::new()))
     }
 
-    /// That of the tenant of this number.
+    /// Gives the last error of the file of the tenant of this number.
     pub fn of(&self, tenant: usize) -> &LastError
         requires { tenant < MAX_TENANTS }
     {
@@ -58,7 +60,7 @@ impl LastErrors {
     }
 }
 
-/// A file that keeps what the system told last of it.
+/// A file that keeps the last error that the system told of it.
 #[derive(Drop)]
 pub struct WatchedFile<'a> {
     file: File,
@@ -66,7 +68,7 @@ pub struct WatchedFile<'a> {
 }
 
 impl<'a> WatchedFile<'a> {
-    /// A file whose errors are kept there.
+    /// Makes a file that keeps its errors in `last`.
     pub fn new(file: File, last: &'a LastError) -> Self {
         WatchedFile { file, last }
     }

@@ -1,4 +1,6 @@
-//! A worker of an engine.
+//! A worker of an engine, which serves sessions.
+//!
+//! Used by: `serving`, for a script; `clients`, for each worker of the listener.
 ghost use Rattle.std.specs.Prelude.{◌≡◌, true};
 ghost use Rattle.mw_engine.specs.Passes.{IsPassOf};
 ghost use Rattle.mw_programs.specs.Served.{IsSession};
@@ -11,7 +13,7 @@ use std::alloc::Global;
 use std::io::{Read, Write};
 use std::sync::Wait;
 
-/// A worker of an engine, with its pass, which is idle between two requests.
+/// A worker of an engine. Its pass is idle between two requests.
 #[derive(Drop)]
 pub struct Worker<'a, J: EngineBrand, D: Disk, H, R, T> {
     pub(crate) engine: &'a Engine<J, D, H>,
@@ -23,7 +25,7 @@ pub struct Worker<'a, J: EngineBrand, D: Disk, H, R, T> {
 }
 
 impl<'a, J: EngineBrand, D: Disk, H, R, T> Worker<'a, J, D, H, R, T> {
-    /// A worker with this pass, which tells the watch of each request that is answered FAULT.
+    /// Makes a worker with this pass. It tells the watch of each request that is answered FAULT.
     pub fn new(engine: &'a Engine<J, D, H>, pass: Pass, rt: &'a R, watch: &'a T) -> Self
         requires own { IsPassOf J.identity pass }
         requires idle { pass.idle ≡ true }
@@ -45,9 +47,11 @@ impl<J: EngineBrand, D: Disk + Drop, H: Hold + Drop, R: Wait, T: FaultWatch> Wor
     R,
     T,
 > {
-    /// Serves one session: reads its lines and writes the reply to each, until it ends. Each reply to a
-    /// job is right at a place in its tenant's history no earlier than what the worker had seen when it
-    /// asked, or has its ground. A reader may never end, so this may wait for ever.
+    /// Serves one session: reads its lines and writes the reply to each, until it ends.
+    ///
+    /// Each reply to a job is right at a position in its tenant's history, or has its evidence. The
+    /// position is no earlier than what the worker had seen when it asked. A reader may never end, so this
+    /// may wait for ever.
     pub fn run<I: Read, O: Write>(&mut self, alloc: Global, reader: &mut I, writer: &mut O) -> Ended
         ensures session { IsSession J.identity (I.remaining reader.old) (I.remaining reader.new) (O.contents writer.old) (O.contents writer.new)
             self.old.pass self.new.pass result }

@@ -1,25 +1,26 @@
--- What changes of a file's home words and open records leave of its words. No byte is spoken of here.
+-- Some changes of a layout's home words and open records keep its words, and one more open record is put over them. No byte is mentioned.
+-- Used by: ChangedBytes, mw_file, mw_world_file. Its statements may change with those crates; its proofs may change freely.
 use Rattle.std.proofs.Common.{◌≡◌, ℕ, ◌<◌, ◌≤◌, ◌==◌, ◌⊎◌, if◌then◌else◌, true, false, Option, Some, None, List, [], ◌∷◌, length, get_or, set, refl, sym, ap, ◌∙◌, inl, inr, arith}
 use Rattle.std.proofs.lemmas.Bool.{cases_Bool, cases_eq, both_ways, cond-true, cond-false, eq-eqb, ne_eqb}
 use Rattle.std.proofs.lemmas.List.{length-set, get_or-set_same, get_or-set_other}
 use Rattle.mw_words.specs.declared.limits.TheConstants.{MAX_VALUE}
 use Rattle.mw_record.specs.declared.layout.Layout.{Layout}
-use Rattle.mw_record.specs.Records.{Pairs, Kept, over, all_over, holds, put_pairs, is_covered, has_values, is_record}
-use Rattle.mw_record.specs.Stands.{Apart, Stands}
-use Rattle.mw_record.proofs.Over.{Covers, covers, covered, all_miss, all_hit, over_small, over_hit, over_miss}
+use Rattle.mw_record.specs.Records.{Pairs, RecordsByPlace, over, all_over, holds, put_pairs, is_covered, has_values, is_record}
+use Rattle.mw_record.specs.Contents.{Apart, Represents}
+use Rattle.mw_record.proofs.OverlaidRecords.{Covers, covers, covered, all_miss, all_hit, over_small, over_hit, over_miss}
 
--- A record stays, or is shut while its values stand in the new home words.
+-- The home words have a record's values. A record stays, or it is closed and the new home words have its values.
 abbrev pub Agrees : Pairs → (ℕ → ℕ) → Type 0
 Agrees ps homes = (a : ℕ) → holds ps a ≡ true → homes a ≡ over ps a 0
 
 abbrev pub StaysOrShut : Option Pairs → Option Pairs → (ℕ → ℕ) → Type 0
 StaysOrShut old new homes = (new ≡ old) ⊎ ((new ≡ None) × ((ps : Pairs) → old ≡ Some ps → Agrees ps homes))
 
--- a home word stays, or an open record covers it
-abbrev pub StaysOrCovered : (ℕ → ℕ) → (ℕ → ℕ) → Kept → ℕ → ℕ → Type 0
+-- a home word stays, or an open record covers its address
+abbrev pub StaysOrCovered : (ℕ → ℕ) → (ℕ → ℕ) → RecordsByPlace → ℕ → ℕ → Type 0
 StaysOrCovered homes homes2 kept places a = (homes2 a ≡ homes a) ⊎ Covers kept places a
 
-module _ (places : ℕ) (homes2 : ℕ → ℕ) (kept kept2 : Kept) (records : (j : ℕ) → j < places → StaysOrShut (kept j) (kept2 j) homes2) where
+module _ (places : ℕ) (homes2 : ℕ → ℕ) (kept kept2 : RecordsByPlace) (records : (j : ℕ) → j < places → StaysOrShut (kept j) (kept2 j) homes2) where
   -- a record that is open now was open before
   was_open : (j : ℕ) (ps : Pairs) → j < places → kept2 j ≡ Some ps → kept j ≡ Some ps
   was_open j ps lt is =
@@ -34,7 +35,7 @@ module _ (places : ℕ) (homes2 : ℕ → ℕ) (kept kept2 : Kept) (records : (j
   was_covered : (a : ℕ) → Covers kept2 places a → Covers kept places a
   was_covered a c = record { place = c.place; pairs = c.pairs; within = c.within; is = was_open c.place c.pairs c.within c.is; holds_it = c.holds_it }
 
-  -- once the record that covered an address is shut, none does
+  -- after the record that covered an address is closed, none covers it
   bare : (a : ℕ) (c : Covers kept places a) → Apart kept places → kept2 c.place ≡ None → is_covered kept2 places a ≡ false
   bare a c apart shut =
       elim (cases_Bool (is_covered kept2 places a)) [
@@ -48,7 +49,7 @@ module _ (places : ℕ) (homes2 : ℕ → ℕ) (kept kept2 : Kept) (records : (j
         | inr h ↦ h
       ]
 
-  -- the value at an address is what it was
+  -- the value at an address stays
   value_stays : (homes : ℕ → ℕ) (a : ℕ) → Apart kept places → StaysOrCovered homes homes2 kept places a → all_over kept places a (homes a) ≡ all_over kept2 places a (homes2 a)
   value_stays homes a apart home =
       elim (cases_Bool (is_covered kept places a)) [
@@ -73,11 +74,11 @@ module _ (places : ℕ) (homes2 : ℕ → ℕ) (kept kept2 : Kept) (records : (j
             all_miss kept places a (homes a) none ∙ sym same ∙ sym (all_miss kept2 places a (homes2 a) none2)
       ]
 
--- The words stay where each record stays, or is shut while its values stand in the new home words, and each home word
--- stays or is covered by an open record.
-pub stands_same : (layout : Layout) (words places : ℕ) (homes homes2 : ℕ → ℕ) (kept kept2 : Kept) (contents : List ℕ)
+-- The words stay if each record stays, or is closed and the new home words have its values, and each home word stays or is covered by an
+-- open record.
+pub stands_same : (layout : Layout) (words places : ℕ) (homes homes2 : ℕ → ℕ) (kept kept2 : RecordsByPlace) (contents : List ℕ)
     → ((j : ℕ) → j < places → StaysOrShut (kept j) (kept2 j) homes2) → ((a : ℕ) → a < words → StaysOrCovered homes homes2 kept places a)
-    → Stands layout words places homes kept contents → Stands layout words places homes2 kept2 contents
+    → Represents layout words places homes kept contents → Represents layout words places homes2 kept2 contents
 stands_same layout words places homes homes2 kept kept2 contents records home_words was = record {
   count = was.count;
   each = λ a lt. was.each a lt ∙ value_stays places homes2 kept kept2 records homes a was.apart (home_words a lt);
@@ -86,7 +87,7 @@ stands_same layout words places homes homes2 kept kept2 contents records home_wo
   apart = was_apart places homes2 kept kept2 records was.apart;
 }
 
--- entries put over words
+-- the length and the values of words with entries put over them
 pub length-put_pairs : (ps : Pairs) (words : List ℕ) → length (put_pairs ps words) ≡ length words
 length-put_pairs [] words = refl
 length-put_pairs (p ∷ ps) words = length-put_pairs ps (set words p.0 p.1) ∙ length-set words p.0 p.1
@@ -105,8 +106,8 @@ get_or-put_pairs (p ∷ ps) words a lt =
     ] in
     get_or-put_pairs ps (set words p.0 p.1) a longer ∙ ap (over ps a) here
 
--- One place more is open: a record of the file with small new values, which shares no address with an open one.
-pub record Opens (layout : Layout) (words places place : ℕ) (ps : Pairs) (kept kept2 : Kept) : Type 0 where
+-- One more place is open: its record is well formed, has values of words, and shares no address with an open one.
+pub record Opens (layout : Layout) (words places place : ℕ) (ps : Pairs) (kept kept2 : RecordsByPlace) : Type 0 where
   pub within : place < places
   pub was_shut : kept place ≡ None
   pub is_open : kept2 place ≡ Some ps
@@ -115,8 +116,8 @@ pub record Opens (layout : Layout) (words places place : ℕ) (ps : Pairs) (kept
   pub values : has_values ps ≡ true
   pub alone : (j : ℕ) (qs : Pairs) (a : ℕ) → j < places → kept j ≡ Some qs → holds ps a ≡ true → holds qs a ≡ true → ⊥
 
-module _ (layout : Layout) (words places place : ℕ) (ps : Pairs) (kept kept2 : Kept) (opens : Opens layout words places place ps kept kept2) where
-  -- an open record is the new one, or was open
+module _ (layout : Layout) (words places place : ℕ) (ps : Pairs) (kept kept2 : RecordsByPlace) (opens : Opens layout words places place ps kept kept2) where
+  -- an open record is the new one, or was open before
   old_or_new : (j : ℕ) (qs : Pairs) → j < places → kept2 j ≡ Some qs → ((j ≡ place) × (qs ≡ ps)) ⊎ ((j ≡ place → ⊥) × (kept j ≡ Some qs))
   old_or_new j qs lt is =
       elim (cases_eq j place) [
@@ -176,9 +177,9 @@ small_put ps a v w is small values =
       | inr none ↦ omega (arith, is, over_miss ps a v none, small)
     ]
 
--- Where a place is opened, the words are those before with the record put over them.
-pub stands_more : (layout : Layout) (words places place : ℕ) (ps : Pairs) (homes : ℕ → ℕ) (kept kept2 : Kept) (contents : List ℕ)
-    → Opens layout words places place ps kept kept2 → Stands layout words places homes kept contents → Stands layout words places homes kept2 (put_pairs ps contents)
+-- After a place is opened, the words are those before with its record put over them.
+pub stands_more : (layout : Layout) (words places place : ℕ) (ps : Pairs) (homes : ℕ → ℕ) (kept kept2 : RecordsByPlace) (contents : List ℕ)
+    → Opens layout words places place ps kept kept2 → Represents layout words places homes kept contents → Represents layout words places homes kept2 (put_pairs ps contents)
 stands_more layout words places place ps homes kept kept2 contents opens was =
     let read : (a : ℕ) → a < words → get_or (put_pairs ps contents) a 0 ≡ over ps a (get_or contents a 0) = λ a lt.
     get_or-put_pairs ps contents a (omega (arith, lt, was.count)) in

@@ -1,4 +1,6 @@
--- Layouts whose places are all closed: a new file, and a second layout that was written.
+-- A layout whose places are all closed has its home words as its words: a new file, and a second layout that was written.
+-- Used by: mw_file, mw_world_file, the laws new_files_have_zeros and second_layouts_have_their_words. Its statements may change
+-- with those crates; its proofs may change freely.
 use Rattle.std.proofs.Common.{◌≡◌, ℕ, zero, suc, ◌+◌, ◌-◌, ◌*◌, ◌^◌, ◌<◌, ◌≤◌, ◌||◌, false, Some, None, List, [], ◌∷◌, ◌++◌, length, get_or, replicate, refl, sym, ap, ◌∙◌, subst, arith, append_assoc}
 use Rattle.std.specs.List.{flat_map}
 use Rattle.std.proofs.lemmas.List.{length-append, length-replicate, get_or-append_right, get_or_append_left}
@@ -10,12 +12,12 @@ use Rattle.mw_record.specs.declared.layout.Layout.TheVariants.{First, Second}
 use Rattle.mw_record.specs.Layout.{size, home_at, place_at, number_at, number_bytes, header, new_file, second_part}
 use Rattle.mw_record.specs.Records.{record_at, home, is_covered}
 use Rattle.mw_record.specs.Damages.{is_switched, file_words}
-use Rattle.mw_record.specs.Stands.{MayHave, IsHead, HasWords}
-use Rattle.mw_record.proofs.Below.{has}
-use Rattle.mw_record.proofs.Over.{all_miss}
-use Rattle.mw_record.proofs.Reading.{number_zero, number_written, record_shut, length-number_bytes}
+use Rattle.mw_record.specs.Contents.{MayHave, IsHead, HasWords}
+use Rattle.mw_record.proofs.TestsBelow.{has}
+use Rattle.mw_record.proofs.OverlaidRecords.{all_miss}
+use Rattle.mw_record.proofs.ReadBytes.{number_zero, number_written, record_shut, length-number_bytes}
 use Rattle.mw_record.proofs.ReadAgain.{head_of_header, length-header}
-use Rattle.mw_record.proofs.Writing.{length-words}
+use Rattle.mw_record.proofs.WrittenBytes.{length-words}
 use Rattle.mw_record.proofs.Layouts.{place_within}
 use Rattle.mw_record.proofs.Sound.{first_file}
 
@@ -24,7 +26,7 @@ get_or-zeros zero k = refl
 get_or-zeros (suc n) zero = refl
 get_or-zeros (suc n) (suc k) = get_or-zeros n k
 
--- Where the home words are these words and all bytes behind them are zeros, the words are these.
+-- If the bytes after the home words are all zeros, the layout's words are its home words.
 module _ (layout : Layout) (words places : ℕ) (contents part : List ℕ) (head : IsHead layout words places part) (long : size layout words places ≤ length part)
     (count : length contents ≡ words)
     (homes : (a : ℕ) → a < words → home part a ≡ get_or contents a 0)
@@ -54,7 +56,7 @@ module _ (layout : Layout) (words places : ℕ) (contents part : List ℕ) (head
     };
   }
 
--- A new file has all words 0.
+-- A new file has the word 0 at every address.
 module _ (words places : ℕ) (may : MayHave First words places) where
   zeros_after_head : (k : ℕ) → 32 ≤ k → get_or (new_file words places) k 0 ≡ 0
   zeros_after_head k past =
@@ -73,7 +75,7 @@ module _ (words places : ℕ) (may : MayHave First words places) where
       (λ a lt. omega (arith, zero_at a))
       (λ k past lt. zeros_after_head k (omega (arith, past)))
 
--- and its switch byte isn't set
+-- the switch byte of a new file is clear
 pub new_file_first : (words places : ℕ) → is_switched (new_file words places) ≡ false
 unfolding number_bytes
 new_file_first words places = refl
@@ -81,7 +83,7 @@ new_file_first words places = refl
 pub new_file_words : (words places : ℕ) → MayHave First words places → file_words (new_file words places) ≡ Some (replicate words 0)
 new_file_words words places may = (first_file words places (replicate words 0) (new_file words places) (new_file_first words places) (new_file_has words places may)).0
 
--- words that were written one behind the other are read again
+-- words that were written one after the other are read again
 word_written : (front rest ws : List ℕ) (i a : ℕ) → length front ≡ i → ((k : ℕ) → k < length ws → get_or ws k 0 < 256 ^ 8) → a < length ws
     → number_at (front ++ (flat_map (number_bytes 8) ws ++ rest)) (i + 8 * a) 8 ≡ get_or ws a 0
 word_written front rest [] i a long fits lt = absurd (omega (arith, lt))
@@ -102,7 +104,7 @@ word_written front rest (w ∷ ws) i (suc a) long fits lt =
     ∙ ap (λ n. number_at ((front ++ block) ++ more) n 8) e
     ∙ word_written (front ++ block) rest ws (i + 8) a longer (λ k under. fits (suc k) (omega (arith, under))) (omega (arith, lt))
 
--- how long a second layout is that was written
+-- the number of bytes of a second layout that was written
 pub length-second_part : (contents : List ℕ) (places : ℕ) → length (second_part places contents) ≡ size Second (length contents) places
 length-second_part contents places =
     let n : ℕ = length contents in
@@ -116,7 +118,7 @@ length-second_part contents places =
       length-replicate {A = ℕ} (264 * places) 0,
     )
 
--- A second layout that was written has its words, whatever stands behind it.
+-- A second layout that was written has its words, whatever bytes follow it.
 module _ (contents rest : List ℕ) (places : ℕ) (may : MayHave Second (length contents) places) (are : AreWords contents) where
   abbrev words : ℕ
   words = length contents

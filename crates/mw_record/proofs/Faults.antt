@@ -1,4 +1,5 @@
--- Which damage a file has, from the tests that it passes and the first that fails, and the other way round.
+-- The first test that a file fails gives its damage, and a file has no damage exactly if it passes all tests. Used by:
+-- FirstBytes, Sound, the proof of decode, among others. Other crates cite its statements; its proofs may change freely.
 use Rattle.std.proofs.Common.{◌≡◌, ℕ, Bool, true, false, cond, Option, Some, None, List, length, slice_get, drop, ◌<◌, ◌≤◌, refl, sym, ap, ◌∙◌, subst, inl, inr, arith, zero-add}
 use Rattle.std.proofs.lemmas.Bool.{cases_Bool, cond-true, cond-false, and_parts, and_from, leb-true, le-leb}
 use Rattle.std.proofs.lemmas.List.FromFn.{length-map-range_with_len, get_or-map-range_with_len}
@@ -10,7 +11,7 @@ use Rattle.mw_record.specs.declared.layout.TheConstants.{HEAD_SIZE, MAX_FIRST}
 use Rattle.mw_record.specs.declared.damages.Damage.{Damage}
 use Rattle.mw_record.specs.declared.damages.Damage.TheVariants.{NotThisFormat, Sizes, Value, Record, Overlap, Short, SecondLayout}
 use Rattle.mw_record.specs.Layout.{most_places}
-use Rattle.mw_record.specs.Parts.{has_head, has_mark, has_sizes, has_all_bytes, has_formed_records, has_records_apart, has_small_values, words_told, places_told, part_tests, told_at, told_words}
+use Rattle.mw_record.specs.LayoutBytes.{has_head, has_mark, has_sizes, has_all_bytes, has_formed_records, has_records_apart, has_small_values, words_told, places_told, part_tests, told_at, told_words}
 use Rattle.mw_record.specs.Damages.{is_switched, second_at, may_begin, layout_of, at_of, part_of, second_tests, first_fault, damage_of}
 
 -- a layout's bytes pass every test
@@ -25,7 +26,7 @@ passed : (test : Bool) (rest : Option Damage) (d : Damage) → cond test rest (S
 passed true rest d none = (refl, none)
 passed false rest d none = cc
 
--- the fault of a layout's bytes
+-- the damage of a layout's bytes
 abbrev pub part_fault : Layout → List ℕ → Option Damage
 part_fault layout part = first_fault (part_tests layout part)
 
@@ -68,12 +69,12 @@ module _ (image : List ℕ) where
   unfolding damage_of
   no_mark a b = cond-true _ _ _ a ∙ cond-false _ _ _ b
 
-  -- the damage of a file that isn't switched is that of its first layout
+  -- if the first layout is in use, the file's damage is that of the first layout
   pub first_damage : has_head image ≡ true → has_mark First image ≡ true → is_switched image ≡ false → damage_of image ≡ part_fault First image
   unfolding damage_of
   first_damage a b s = cond-true _ _ _ a ∙ cond-true _ _ _ b ∙ ap first_fault (cond-false (is_switched image) (second_tests image) (part_tests First image) s)
 
-  -- that of one that is switched is that of its second layout
+  -- if the second layout is in use, the file's damage is that of the second layout
   pub second_damage : has_head image ≡ true → has_mark First image ≡ true → is_switched image ≡ true → damage_of image ≡ first_fault (second_tests image)
   unfolding damage_of
   second_damage a b s = cond-true _ _ _ a ∙ cond-true _ _ _ b ∙ ap first_fault (cond-true (is_switched image) (second_tests image) (part_tests First image) s)
@@ -92,7 +93,7 @@ module _ (image : List ℕ) where
       → first_fault (second_tests image) ≡ part_fault Second (drop (second_at image) image)
   second_fault a b c = cond-true _ _ _ a ∙ cond-true _ _ _ b ∙ cond-true _ _ _ c
 
-  -- the layout that says what the file says, where it begins, and its bytes
+  -- the layout in use, its offset and its bytes, by the switch byte
   pub first_layout : is_switched image ≡ false → layout_of image ≡ First
   first_layout s = cond-false (is_switched image) Second First s
 
@@ -111,14 +112,14 @@ module _ (image : List ℕ) where
   pub second_part : is_switched image ≡ true → part_of image ≡ drop (second_at image) image
   second_part s = ap (λ n. drop n image) (second_begins s)
 
-  -- what holds of the first layout, or of the second, holds of that which says what the file says
+  -- what holds of the layout that the switch byte names holds of the layout in use
   pub at_first : (P : Layout → List ℕ → Type 0) → is_switched image ≡ false → P First image → P (layout_of image) (part_of image)
   at_first P s p = subst (λ l. P l (part_of image)) (sym (first_layout s)) (subst (P First) (sym (first_part s)) p)
 
   pub at_second : (P : Layout → List ℕ → Type 0) → is_switched image ≡ true → P Second (drop (second_at image) image) → P (layout_of image) (part_of image)
   at_second P s p = subst (λ l. P l (part_of image)) (sym (second_layout s)) (subst (P Second) (sym (second_part s)) p)
 
-  -- and the other way round
+  -- the same the other way round
   pub from_first : (P : Layout → List ℕ → Type 0) → is_switched image ≡ false → P (layout_of image) (part_of image) → P First image
   from_first P s p = subst (P First) (first_part s) (subst (λ l. P l (part_of image)) (first_layout s) p)
 
@@ -134,7 +135,7 @@ pub record FilePasses (image : List ℕ) : Type 0 where
   pub part_mark : has_mark (layout_of image) (part_of image) ≡ true
   pub part : Passes (layout_of image) (part_of image)
 
--- the head of a layout's bytes is there, begins with its magic bytes, and the rest passes every test
+-- a layout's bytes have a head, begin with its magic bytes, and pass every test
 abbrev pub IsWhole : Layout → List ℕ → Type 0
 IsWhole layout part = (has_head part ≡ true) × (has_mark layout part ≡ true) × Passes layout part
 
@@ -179,7 +180,7 @@ begins_within at ok =
     let a = and_parts _ _ ok in
     (leb-true _ _ a.0, leb-true _ _ a.1)
 
--- the sizes that a layout's head tells: a word, a place and no more of either than there may be
+-- the layout may have the sizes that its head tells
 pub record AreSizes (layout : Layout) (part : List ℕ) : Type 0 where
   pub some_word : 1 ≤ words_told part
   pub words_fit : words_told part ≤ MAX_WORDS
@@ -202,7 +203,7 @@ pub are_sizes : (layout : Layout) (part : List ℕ) → AreSizes layout part →
 are_sizes layout part s =
     and_from _ _ (and_from _ _ (and_from _ _ (le-leb _ _ s.some_word) (le-leb _ _ s.words_fit)) (le-leb _ _ s.some_place)) (le-leb _ _ s.places_fit)
 
--- the word at an address stands there among the words
+-- the word at an address is among the words, at that place
 pub word_in : (layout : Layout) (part : List ℕ) (addr : ℕ) → addr < words_told part → slice_get (told_words layout part) addr ≡ Some (told_at layout part addr)
 word_in layout part addr lt =
     let n : ℕ = words_told part in

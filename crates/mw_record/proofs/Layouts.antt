@@ -1,4 +1,5 @@
--- Sizes of the two layouts, by which of them it is.
+-- The sizes of both layouts are within the limits, and their parts follow each other. Used by: ChangedBytes, ReadAgain, mw_file,
+-- among others. Its statements may change with mw_file; its proofs may change freely.
 use Rattle.std.proofs.Common.{◌≡◌, ℕ, ◌+◌, ◌*◌, ◌^◌, ◌<◌, ◌≤◌, List, length, refl, arith}
 use Rattle.mw_words.specs.declared.limits.TheConstants.{MAX_ENTRIES, MAX_WORDS}
 use Rattle.mw_record.specs.declared.layout.Layout.{Layout}
@@ -44,11 +45,11 @@ pub head_within : (layout : Layout) (words places : ℕ) (part : List ℕ) → s
 head_within First words places part long = omega (arith, long)
 head_within Second words places part long = omega (arith, long)
 
--- a place lies behind the head
+-- a place is after the head
 pub head_before : (layout : Layout) (words place : ℕ) → HEAD_SIZE ≤ place_at layout words place
 head_before layout words place = head_fits layout words place
 
--- no layout is larger than the largest second one
+-- no layout has more bytes than the largest second one
 pub size_fits : (layout : Layout) (words places : ℕ) → words ≤ MAX_WORDS → places ≤ most_places layout → size layout words places ≤ MAX_SECOND
 size_fits First words places w p = omega (arith, w, p)
 size_fits Second words places w p = omega (arith, w, p)

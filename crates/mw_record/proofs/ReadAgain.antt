@@ -1,4 +1,5 @@
--- What is written is read again: the head of a file, a record, and a new file.
+-- A head and a record are read as they were written. Used by: ClosedPlaces, mw_file, mw_book, among others. Its statements may
+-- change with those crates; its proofs may change freely.
 use Rattle.std.proofs.Common.{◌≡◌, ℕ, ◌+◌, ◌-◌, ◌*◌, ◌^◌, ◌<◌, ◌≤◌, ◌&&◌, nat_eq, nat_le, nat_lt, Bool, true, Some, List, [], ◌∷◌, ◌++◌, length, get_or, take, set, replicate, slice_index, refl, sym, ap, ◌∙◌, subst, arith, append_assoc, add-zero}
 use Rattle.std.specs.Cmp.Lexicographic.{pointwise}
 use Rattle.std.specs.List.{flat_map, list_all}
@@ -12,13 +13,13 @@ use Rattle.mw_record.specs.declared.layout.Layout.TheVariants.{First, Second}
 use Rattle.mw_record.specs.declared.layout.TheConstants.{HEAD_SIZE, PLACES_AT, BODY_SIZE, ENTRY_SIZE, COMMITTED}
 use Rattle.mw_record.specs.Layout.{magic, place_at, number_at, number_bytes, header, entry_bytes, body, pairs_of, AreNumbers, SameBytes}
 use Rattle.mw_record.specs.Records.{pairs_at, body_at, record_at, put_pairs, is_record, rises_below, has_values}
-use Rattle.mw_record.specs.Parts.{has_mark, words_told, places_told}
+use Rattle.mw_record.specs.LayoutBytes.{has_mark, words_told, places_told}
 use Rattle.mw_record.proofs.Faults.{sizes_are, are_sizes}
-use Rattle.mw_record.specs.Stands.{MayHave, IsHead}
+use Rattle.mw_record.specs.Contents.{MayHave, IsHead}
 use Rattle.mw_record.proofs.Layouts.{length-magic, most_places_fit}
-use Rattle.mw_record.proofs.Reading.{number_same, number_written, pairs_same, record_open, length-number_bytes}
+use Rattle.mw_record.proofs.ReadBytes.{number_same, number_written, pairs_same, record_open, length-number_bytes}
 
--- the head, with what follows it
+-- a head that was written, with any bytes after it
 mark_of_head : (layout : Layout) (words places : ℕ) (rest : List ℕ) → has_mark layout (header layout words places ++ rest) ≡ true
 mark_of_head First words places rest = refl
 mark_of_head Second words places rest = refl
@@ -57,7 +58,7 @@ head_of_header layout words places rest may =
       places_are = p;
     }
 
--- the first bytes of two lists that have them and agree on them
+-- two lists that agree on their first n bytes have the same first n bytes
 take_same : (n : ℕ) (xs ys : List ℕ) → n ≤ length xs → n ≤ length ys → SameBytes n 0 0 xs ys → take n xs ≡ take n ys
 take_same n xs ys p q same =
     ext_get_or 0 (take n xs) (take n ys) (length-take-le n xs p ∙ sym (length-take-le n ys q)) (λ k lt.
@@ -65,7 +66,7 @@ take_same n xs ys p q same =
     let e : 0 + k ≡ k = omega arith in
     get_or-take n xs k 0 l ∙ ap (λ a. get_or xs a 0) (sym e) ∙ same k l ∙ ap (λ a. get_or ys a 0) e ∙ sym (get_or-take n ys k 0 l))
 
--- a part of the first bytes
+-- some of the first bytes
 pub within : (n m i : ℕ) (xs ys : List ℕ) → SameBytes n 0 0 xs ys → i + m ≤ n → SameBytes m i i xs ys
 within n m i xs ys same fits k lt =
     let e : 0 + (i + k) ≡ i + k = omega arith in
@@ -80,7 +81,7 @@ unfolding starts_with_front
 mark_same First xs ys front = ap (λ f. starts_with_front First f) front
 mark_same Second xs ys front = ap (λ f. starts_with_front Second f) front
 
--- A head stays where the bytes stay with which it begins, up to the last that is looked at.
+-- A head tells the same sizes if its bytes up to the number of places stay.
 pub head_told_same : (layout : Layout) (words places : ℕ) (xs ys : List ℕ) → HEAD_SIZE ≤ length xs → HEAD_SIZE ≤ length ys → SameBytes (PLACES_AT + 2) 0 0 xs ys → IsHead layout words places ys → IsHead layout words places xs
 head_told_same layout words places xs ys p q same h =
     let w : words_told xs ≡ words_told ys = number_same 4 8 8 xs ys (within 14 4 8 xs ys same (omega arith)) in
@@ -99,7 +100,7 @@ head_told_same layout words places xs ys p q same h =
       places_are = m ∙ h.places_are;
     }
 
--- A head stays where its bytes stay.
+-- A head tells the same sizes if its bytes stay.
 pub head_same : (layout : Layout) (words places : ℕ) (xs ys : List ℕ) → HEAD_SIZE ≤ length xs → HEAD_SIZE ≤ length ys → SameBytes HEAD_SIZE 0 0 xs ys → IsHead layout words places ys → IsHead layout words places xs
 head_same layout words places xs ys p q same h = head_told_same layout words places xs ys p q (λ k lt. same k (omega (arith, lt))) h
 
@@ -116,14 +117,14 @@ length-header layout words places =
       length-number_bytes 2 places,
     )
 
--- Where the head of a file is a header, it tells the header's sizes.
+-- If the first bytes of a layout are a written head, it tells the sizes with which it was written.
 pub header_again : (layout : Layout) (image : List ℕ) (words places : ℕ) → MayHave layout words places → HEAD_SIZE ≤ length image → SameBytes HEAD_SIZE 0 0 image (header layout words places) → IsHead layout words places image
 header_again layout image words places may long same =
     let h : IsHead layout words places (header layout words places) = subst (IsHead layout words places) (append-nil (header layout words places)) (head_of_header layout words places [] may) in
     let n : length (header layout words places) ≡ 32 = length-header layout words places in
     head_same layout words places image (header layout words places) long (omega (arith, n)) same h
 
--- The entries that stand one behind the other are read again.
+-- Entries that were written one after the other are read again.
 pairs_written : (front rest : List ℕ) (entries : List Entry) (i : ℕ) → length front ≡ i → AreNumbers entries
     → pairs_at (front ++ (flat_map entry_bytes entries ++ rest)) i (length entries) ≡ pairs_of entries
 pairs_written front rest [] i long fits = refl
@@ -161,7 +162,7 @@ body_again image at entries few fits same =
     ap (λ a. get_or image a 0) e ∙ same (7 + k) (omega (arith, few, lt)) ∙ ap (λ a. get_or (body entries) a 0) f) in
     ap (pairs_at image (at + 8)) count ∙ pairs ∙ pairs_written head zeros entries 7 refl fits
 
--- Where a record's body stands behind a commit byte that is set, its entries are the record of the place.
+-- If a written body follows a set commit byte, its entries are the record of the place.
 pub record_again : (image : List ℕ) (words place : ℕ) (entries : List Entry) → length entries ≤ MAX_ENTRIES → AreNumbers entries
     → slice_index image (place_at Second words place) ≡ COMMITTED → SameBytes BODY_SIZE (place_at Second words place + 1) 0 image (body entries)
     → record_at Second image words place ≡ Some (pairs_of entries)
@@ -169,7 +170,7 @@ record_again image words place entries few fits commit same =
     let at : ℕ = place_at Second words place in
     record_open Second image words place at refl commit ∙ ap Some (body_again image at entries few fits same)
 
--- The entries of a change are a record with small values.
+-- The entries of a change are a well-formed record with values of words.
 change_parts : (words : ℕ) (es : List Entry) → is_change words es ≡ true
     → (nat_le 1 (length es) ≡ true) × (nat_le (length es) MAX_ENTRIES ≡ true) × (list_all (is_in_range words) es ≡ true) × (rises_from 0 es ≡ true)
 change_parts words es ok =
@@ -222,7 +223,7 @@ numbers_of_change words es few ok = entries_numbers words es few (change_parts w
 pub length_of_change : (words : ℕ) (es : List Entry) → is_change words es ≡ true → length es ≤ MAX_ENTRIES
 length_of_change words es ok = leb-true (length es) MAX_ENTRIES (change_parts words es ok).1
 
--- Putting a change and putting its record over the words are one.
+-- To put a change over words is the same as to put its record over them.
 pub put-put_pairs : (es : List Entry) (words : List ℕ) → put words es ≡ put_pairs (pairs_of es) words
 put-put_pairs [] words = refl
 put-put_pairs (e ∷ es) words = put-put_pairs es (set words e.addr e.new)

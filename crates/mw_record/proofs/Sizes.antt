@@ -1,9 +1,10 @@
--- The tests of a layout's bytes at the sizes that were read from its head.
+-- The tests of a layout's bytes may be made with the sizes that were read from its head. Used by: Undamaged. It may change freely
+-- as long as this crate checks.
 use Rattle.std.proofs.Common.{◌≡◌, ℕ, ◌&&◌, nat_le, List, length, ap, ◌∙◌}
 use Rattle.mw_record.specs.declared.layout.Layout.{Layout}
 use Rattle.mw_record.specs.Layout.{size}
 use Rattle.mw_record.specs.Records.{record_at, are_formed, are_apart, records_fit, homes_fit, home, all_over}
-use Rattle.mw_record.specs.Parts.{words_told, places_told, has_all_bytes, has_formed_records, has_records_apart, has_small_values, told_at}
+use Rattle.mw_record.specs.LayoutBytes.{words_told, places_told, has_all_bytes, has_formed_records, has_records_apart, has_small_values, told_at}
 
 module _ (layout : Layout) (part : List ℕ) (words places : ℕ) (is : words ≡ words_told part) (are : places ≡ places_told part) where
   both : {X : Type 0} (F : ℕ → ℕ → X) → F words places ≡ F (words_told part) (places_told part)

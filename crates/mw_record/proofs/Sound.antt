@@ -1,4 +1,6 @@
--- A layout's bytes pass every test exactly where they stand for words, and a file has no damage exactly where its bytes stand for words, which are then those that are read.
+-- A layout's bytes pass every test exactly if they represent words, and a file has no damage exactly if its bytes represent its
+-- words. Used by: ClosedPlaces, FirstBytes, mw_file, among others. Its statements may change with those crates; its proofs may
+-- change freely.
 use Rattle.std.proofs.Common.{◌≡◌, ℕ, suc, ◌*◌, ◌<◌, ◌≤◌, ◌==◌, ◌&&◌, ◌||◌, ◌↔◌, not, nat_le, if◌then◌else◌, is_none, Bool, true, false, Option, Some, None, List, [], ◌∷◌, length, drop, get_or, slice_get, refl, sym, ap, ◌∙◌, subst, inl, inr, arith, zero-add}
 use Rattle.std.proofs.lemmas.Bool.{cases_Bool, cases_order, both_ways, and_parts, and_from, cond-true, cond-false, or_cases, or_left, or_right, leb-true, le-leb, eqb-true, not-true}
 use Rattle.std.proofs.lemmas.List.{ext_get_or, length-drop}
@@ -13,16 +15,16 @@ use Rattle.mw_record.specs.declared.layout.Layout.TheVariants.{First, Second}
 use Rattle.mw_record.specs.declared.layout.TheConstants.{HEAD_SIZE, PLACES_GROW}
 use Rattle.mw_record.specs.declared.damages.Damage.{Damage}
 use Rattle.mw_record.specs.Layout.{most_entries, size}
-use Rattle.mw_record.specs.Records.{Pairs, Kept, all_over, holds, is_covered, has_values, is_record, rises_below, is_formed, is_apart, are_apart, are_formed, records_fit, homes_fit, home}
-use Rattle.mw_record.specs.Parts.{has_mark, words_told, places_told, records_told, told_at, told_words}
+use Rattle.mw_record.specs.Records.{Pairs, RecordsByPlace, all_over, holds, is_covered, has_values, is_record, rises_below, is_formed, is_apart, are_apart, are_formed, records_fit, homes_fit, home}
+use Rattle.mw_record.specs.LayoutBytes.{has_mark, words_told, places_told, records_told, told_at, told_words}
 use Rattle.mw_record.specs.Damages.{is_switched, second_at, may_begin, layout_of, part_of, damage_of, words_of, found_places, places_of, words_in, file_words}
 use Rattle.mw_record.proofs.Layouts.{head_within}
 use Rattle.mw_record.proofs.Faults.{Passes, IsWhole, passes, undamaged, at_first, at_second, from_first, from_second, first_layout, first_part, second_layout, second_part}
-use Rattle.mw_record.proofs.Below.{has, each_at, each_from, covered_at, address_below, formed_at}
-use Rattle.mw_record.proofs.Over.{Covers, covers, all_miss, all_hit, over_small, over_at, holds_at}
-use Rattle.mw_record.specs.Stands.{Apart, Stands, HasWords, HasSecond, StandsAs, IsFileOf}
+use Rattle.mw_record.proofs.TestsBelow.{has, each_at, each_from, covered_at, address_below, formed_at}
+use Rattle.mw_record.proofs.OverlaidRecords.{Covers, covers, all_miss, all_hit, over_small, over_at, holds_at}
+use Rattle.mw_record.specs.Contents.{Apart, Represents, HasWords, HasSecond, RepresentsAs, IsFileOf}
 
--- a test of every item of a list, and of each
+-- if each element passes a test, all do
 all_from : {X : Type 0} (test : X → Bool) (xs : List X) → ((i : ℕ) (x : X) → slice_get xs i ≡ Some x → test x ≡ true) → list_all test xs ≡ true
 all_from test [] each = refl
 all_from test (x ∷ xs) each = and_from (test x) (list_all test xs) (each 0 x refl) (all_from test xs (λ i y read. each (suc i) y read))
@@ -32,12 +34,12 @@ each_open : (test : Pairs → Bool) (r : Option Pairs) → ((ps : Pairs) → r �
 each_open test None each = refl
 each_open test (Some ps) each = each ps refl
 
-open_at : (test : ℕ → Pairs → Bool) (kept : Kept) (places j : ℕ) (ps : Pairs) → ((i : ℕ) → i < places → option_map_or (test i) (kept i) true ≡ true)
+open_at : (test : ℕ → Pairs → Bool) (kept : RecordsByPlace) (places j : ℕ) (ps : Pairs) → ((i : ℕ) → i < places → option_map_or (test i) (kept i) true ≡ true)
     → j < places → kept j ≡ Some ps → test j ps ≡ true
 open_at test kept places j ps all lt is = sym (ap (λ r. option_map_or (test j) r true) is) ∙ all j lt
 
--- no entry of a record that is apart from the first places has an address that one of them covers
-apart_holds : (kept : Kept) (places : ℕ) (qs : Pairs) (a : ℕ) → is_apart kept places qs ≡ true → holds qs a ≡ true → is_covered kept places a ≡ false
+-- if a record is apart from the first places, none of them covers an address of it
+apart_holds : (kept : RecordsByPlace) (places : ℕ) (qs : Pairs) (a : ℕ) → is_apart kept places qs ≡ true → holds qs a ≡ true → is_covered kept places a ≡ false
 apart_holds kept places [] a apart some = cc
 apart_holds kept places (q ∷ qs) a apart some =
     let parts = and_parts (not (is_covered kept places q.0)) (is_apart kept places qs) apart in
@@ -46,8 +48,8 @@ apart_holds kept places (q ∷ qs) a apart some =
       | inr there ↦ apart_holds kept places qs a parts.1 there
     ]
 
--- the two ways to say that open records share no address
-module _ (kept : Kept) (places : ℕ) where
+-- the test that open records share no address is true exactly if no two do
+module _ (kept : RecordsByPlace) (places : ℕ) where
   earlier : are_apart kept places ≡ true → (i j : ℕ) (ps qs : Pairs) (a : ℕ) → i < j → j < places → kept i ≡ Some ps → kept j ≡ Some qs
       → holds ps a ≡ true → holds qs a ≡ true → ⊥
   earlier apart i j ps qs a lt q is js hi hj =
@@ -80,8 +82,8 @@ module _ (kept : Kept) (places : ℕ) where
       each_from (λ j. option_map_or (is_apart kept j) (kept j) true) places (λ j lt. each_open (is_apart kept j) (kept j) (λ qs js.
       all_from (λ q. not (is_covered kept j q.0)) qs (λ i q read. free_entry apart j qs i q lt js read)))
 
--- every word is small where the tests of the values pass
-pub all_small : (kept : Kept) (places a v : ℕ) → Apart kept places → records_fit kept places ≡ true → (is_covered kept places a || nat_le v MAX_VALUE) ≡ true
+-- no word is above the greatest value if the tests of the values pass
+pub all_small : (kept : RecordsByPlace) (places a v : ℕ) → Apart kept places → records_fit kept places ≡ true → (is_covered kept places a || nat_le v MAX_VALUE) ≡ true
     → all_over kept places a v ≤ MAX_VALUE
 all_small kept places a v apart fit ok =
     elim (cases_Bool (is_covered kept places a)) [
@@ -97,7 +99,7 @@ all_small kept places a v apart fit ok =
           omega (arith, all_miss kept places a v none, leb-true v MAX_VALUE small)
     ]
 
-module _ (layout : Layout) (words places : ℕ) (homes : ℕ → ℕ) (kept : Kept) (contents : List ℕ) (s : Stands layout words places homes kept contents) where
+module _ (layout : Layout) (words places : ℕ) (homes : ℕ → ℕ) (kept : RecordsByPlace) (contents : List ℕ) (s : Represents layout words places homes kept contents) where
   -- a new value is the word at its address
   small_entry : (j : ℕ) (ps : Pairs) (i : ℕ) (p : ℕ × ℕ) → j < places → kept j ≡ Some ps → slice_get ps i ≡ Some p → nat_le p.1 MAX_VALUE ≡ true
   small_entry j ps i p lt is read =
@@ -127,13 +129,13 @@ module _ (layout : Layout) (words places : ℕ) (homes : ℕ → ℕ) (kept : Ke
   all_formed =
       each_from (λ j. is_formed layout words (kept j)) places (λ j lt. each_open (is_record layout words) (kept j) (λ ps is. s.formed j ps lt is))
 
--- what a layout's bytes say that pass every test
+-- a layout's bytes that pass every test represent their words
 pub part_has_words : (layout : Layout) (part : List ℕ) → has_mark layout part ≡ true → Passes layout part → HasWords layout (words_told part) (places_told part) (told_words layout part) part
 unfolding told_at
 part_has_words layout part mark p =
     let n : ℕ = words_told part in
     let m : ℕ = places_told part in
-    let kept : Kept = records_told layout part in
+    let kept : RecordsByPlace = records_told layout part in
     let apart : Apart kept m = apart_from_test kept m p.apart in
     let values = and_parts (records_fit kept m) (homes_fit (home part) kept m n) p.small in
     let word : (a : ℕ) → a < n → get_or (told_words layout part) a 0 ≡ all_over kept m a (home part a) = λ a lt.
@@ -161,7 +163,7 @@ whole_at : (layout : Layout) (contents part : List ℕ) → HasWords layout (wor
 whole_at layout contents part h =
     let n : ℕ = words_told part in
     let m : ℕ = places_told part in
-    let kept : Kept = records_told layout part in
+    let kept : RecordsByPlace = records_told layout part in
     let s = h.stands in (
       le-leb HEAD_SIZE (length part) (head_within layout n m part h.long),
       h.head.mark,
@@ -174,11 +176,11 @@ whole_at layout contents part h =
       },
     )
 
--- a layout's bytes that stand for words pass every test
+-- a layout's bytes that represent words pass every test
 pub whole : (layout : Layout) (words places : ℕ) (contents part : List ℕ) → HasWords layout words places contents part → IsWhole layout part
 whole layout words places contents part h = whole_at layout contents part (at_head layout words places contents part h)
 
--- and the words are those that are read
+-- and these words are those that the bytes tell
 pub told_are : (layout : Layout) (words places : ℕ) (contents part : List ℕ) → HasWords layout words places contents part → contents ≡ told_words layout part
 told_are layout words places contents part h0 =
     let h : HasWords layout (words_told part) (places_told part) contents part = at_head layout words places contents part h0 in
@@ -193,17 +195,17 @@ pub are_words : (layout : Layout) (words places : ℕ) (contents part : List ℕ
 are_words layout words places contents part h =
     All-from_get_or (λ v. v ≤ MAX_VALUE) contents 0 (λ a lt. h.stands.small a (omega (arith, lt, h.stands.count)))
 
--- what a file says that has no damage
+-- a file without damage has a layout in use that represents its words
 pub has_words : (image : List ℕ) → damage_of image ≡ None → HasWords (layout_of image) (words_of image) (found_places image) (words_in image) (part_of image)
 has_words image none =
     let p = passes image none in
     part_has_words (layout_of image) (part_of image) p.part_mark p.part
 
--- it has these words, at the layout that says them
+-- these bytes of this layout represent the words of the file
 abbrev Says : List ℕ → Layout → List ℕ → Type 0
 Says image layout part = HasWords layout (words_of image) (found_places image) (words_in image) part
 
-stands_as : (image : List ℕ) (switched : Bool) → damage_of image ≡ None → is_switched image ≡ switched → StandsAs switched (words_in image) image
+stands_as : (image : List ℕ) (switched : Bool) → damage_of image ≡ None → is_switched image ≡ switched → RepresentsAs switched (words_in image) image
 stands_as image true none s =
     let p = passes image none in
     record {
@@ -212,7 +214,7 @@ stands_as image true none s =
     }
 stands_as image false none s = from_first image (Says image) s (has_words image none)
 
--- a file that has no damage is one of its words
+-- a file without damage is one of its words
 pub file_of : (image : List ℕ) → damage_of image ≡ None → IsFileOf (words_in image) image
 file_of image none = stands_as image (is_switched image) none refl
 
@@ -225,7 +227,7 @@ module _ (at words places : ℕ) (contents image : List ℕ) (h : HasSecond at w
       let w : IsWhole Second (drop at image) = whole Second words places contents (drop at image) h.part in
       at_second image IsWhole h.head.switched (subst (λ n. IsWhole Second (drop n image)) (sym h.head.begins) w)
 
-  -- bytes that have a second layout have no damage
+  -- bytes with a second layout have no damage
   pub second_undamaged : damage_of image ≡ None
   second_undamaged =
       let w = second_whole in
@@ -253,7 +255,7 @@ module _ (words places : ℕ) (contents image : List ℕ) (s : is_switched image
   first_whole : IsWhole (layout_of image) (part_of image)
   first_whole = at_first image IsWhole s (whole First words places contents image h)
 
-  -- bytes that are a first layout, with a switch byte that isn't set, have no damage
+  -- bytes that are a first layout, with a clear switch byte, have no damage
   pub first_undamaged : damage_of image ≡ None
   first_undamaged =
       let w = first_whole in
@@ -278,23 +280,23 @@ module _ (words places : ℕ) (contents image : List ℕ) (s : is_switched image
       cond-false (is_switched image) (found_places image) (PLACES_GROW * found_places image) s
       ∙ ap (λ n. PLACES_GROW * n) (ap places_told (first_part image s) ∙ h.head.places_are)
 
--- the words of a file that has no damage
+-- the words of a file without damage
 words_at : (image contents : List ℕ) → damage_of image ≡ None → words_in image ≡ contents → file_words image ≡ Some contents
 words_at image contents none are = ap (λ d. if is_none d then Some (words_in image) else None) none ∙ ap Some are
 
--- Bytes that have a second layout of some words are a file of these words, with the layout's sizes.
+-- Bytes with a second layout of some words are a file of these words, with that layout's sizes.
 pub second_file : (at words places : ℕ) (contents image : List ℕ) → HasSecond at words places contents image
     → (file_words image ≡ Some contents) × (words_of image ≡ words) × (places_of image ≡ places)
 second_file at words places contents image h =
     (words_at image contents (second_undamaged at words places contents image h) (second_words at words places contents image h), second_word_count at words places contents image h, second_places at words places contents image h)
 
--- Bytes that are a first layout of some words, with a switch byte that isn't set, are a file of these words.
+-- Bytes that are a first layout of some words, with a clear switch byte, are a file of these words.
 pub first_file : (words places : ℕ) (contents image : List ℕ) → is_switched image ≡ false → HasWords First words places contents image
     → (file_words image ≡ Some contents) × (words_of image ≡ words) × (places_of image ≡ PLACES_GROW * places)
 first_file words places contents image s h =
     (words_at image contents (first_undamaged words places contents image s h) (first_words words places contents image s h), first_word_count words places contents image s h, first_places words places contents image s h)
 
-words_from : (contents image : List ℕ) (switched : Bool) → is_switched image ≡ switched → StandsAs switched contents image → file_words image ≡ Some contents
+words_from : (contents image : List ℕ) (switched : Bool) → is_switched image ≡ switched → RepresentsAs switched contents image → file_words image ≡ Some contents
 words_from contents image true s h = (second_file (second_at image) (words_of image) (found_places image) contents image h).0
 words_from contents image false s h = (first_file (words_of image) (found_places image) contents image s h).0
 
@@ -303,7 +305,7 @@ words_by : (contents image : List ℕ) (d : Option Damage) → damage_of image �
 words_by contents image None none found = (none, (let e : words_in image ≡ contents = cc in e))
 words_by contents image (Some d) some found = cc
 
--- a file that has words has no damage, and they are those that it says
+-- a file that has words has no damage, and its words are those that its bytes tell
 pub words_found : (contents image : List ℕ) → file_words image ≡ Some contents → (damage_of image ≡ None) × (words_in image ≡ contents)
 words_found contents image found = words_by contents image (damage_of image) refl found
 
@@ -312,11 +314,11 @@ words_to contents image found =
     let w = words_found contents image found in
     subst (λ ws. IsFileOf ws image) w.1 (file_of image w.0)
 
--- A file's words are exactly those that its bytes stand for.
+-- A file's words are exactly those that its bytes represent.
 pub words_iff : (contents image : List ℕ) → (file_words image ≡ Some contents) ↔ IsFileOf contents image
 words_iff contents image = (λ found. words_to contents image found, λ h. words_from contents image (is_switched image) refl h)
 
--- A file has no damage exactly where its bytes stand for words.
+-- A file has no damage exactly if its bytes represent some words.
 pub undamaged_iff : (image : List ℕ) → (damage_of image ≡ None) ↔ ((contents : List ℕ) × IsFileOf contents image)
 undamaged_iff image = (
   λ none. (words_in image, file_of image none),

@@ -1,4 +1,5 @@
--- A loop over the entries of a record by their place: what is left is the next entry and the rest.
+-- In each turn of a loop over a list, what is left is the next element and the rest. Used by: the proofs of FormedFile::is_apart
+-- and of the loops of Record. It may change freely as long as this crate checks.
 use Rattle.std.proofs.Common.{◌≡◌, ℕ, ◌+◌, ◌≤◌, List, [], ◌∷◌, length, Some, drop, ap, ◌∙◌, slice_get}
 use Rattle.std.proofs.lemmas.List.{at_drop_more, at_drop_all}
 use Rattle.std.proofs.lemmas.Option.{slice_get_within, get_or_from_slice_get}

@@ -1,19 +1,20 @@
--- What is read from a file that has no damage.
+-- The sizes, the offset and the words that are read of a file without damage are the file's. Used by: FirstBytes, the proofs of
+-- Image. It may change freely as long as this crate checks.
 use Rattle.std.proofs.Common.{◌≡◌, ℕ, ◌<◌, ◌≤◌, Some, None, List, slice_get, sym, ap, ◌∙◌, inl, inr, arith}
 use Rattle.std.proofs.lemmas.Bool.{cases_Bool}
 use Rattle.mw_record.specs.declared.layout.Layout.{Layout}
 use Rattle.mw_record.specs.declared.layout.TheConstants.{MAX_FIRST}
 use Rattle.mw_record.specs.Records.{record_at, home, all_over}
-use Rattle.mw_record.specs.Parts.{told_at}
+use Rattle.mw_record.specs.LayoutBytes.{told_at}
 use Rattle.mw_record.specs.Damages.{is_switched, second_at, layout_of, at_of, part_of, words_of, found_places, words_in, damage_of}
 use Rattle.mw_record.proofs.Faults.{AreSizes, passes, sizes_are, begins_within, first_at, second_begins, word_in}
 use Rattle.mw_record.proofs.Sizes.{word}
 
--- its sizes are ones that its layout may have
+-- its layout in use may have its sizes
 pub sizes : (image : List ℕ) → damage_of image ≡ None → AreSizes (layout_of image) (part_of image)
 sizes image none = sizes_are (layout_of image) (part_of image) (passes image none).part.sizes
 
--- its layout begins no later than the largest first layout ends
+-- its layout in use begins no later than the largest first layout ends
 pub at_fits : (image : List ℕ) → damage_of image ≡ None → at_of image ≤ MAX_FIRST
 at_fits image none =
     elim (cases_Bool (is_switched image)) [
@@ -23,7 +24,7 @@ at_fits image none =
       | inr s ↦ omega (arith, first_at image s)
     ]
 
--- a word that was read from its layout's bytes is one of its words
+-- a word that was read from the bytes of its layout in use is one of its words
 pub read_word : (image same : List ℕ) (layout : Layout) (part : List ℕ) (words places addr : ℕ) → image ≡ same → layout ≡ layout_of image → part ≡ part_of image
     → words ≡ words_of image → places ≡ found_places image → addr < words_of same
     → slice_get (words_in same) addr ≡ Some (all_over (record_at layout part words) places addr (home part addr))

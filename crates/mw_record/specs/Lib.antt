@@ -1,5 +1,5 @@
 pub mod Damages
 pub mod Layout
-pub mod Parts
+pub mod LayoutBytes
 pub mod Records
-pub mod Stands
+pub mod Contents

@@ -1,31 +1,34 @@
 //! What can be wrong with a file.
+//!
+//! `decode` finds them, mw_file doesn't open a file that has one, and mw_show says what it is. A new damage needs a
+//! number in `specs/Damages`, and a text in mw_show.
 ghost use Rattle.std.specs.Prelude.{◌≡◌};
 ghost use Rattle.mw_record.specs.Damages as spec;
 
-/// Why a file can't be read: the first of its faults, in the order in which they are looked for.
+/// Why a file can't be read: the first damage, in the order in which they are looked for.
 #[derive(Clone, Copy, Debug, PartialEq, Eq)]
 pub enum Damage {
     /// It doesn't begin with the eight bytes of this format.
     NotThisFormat,
     /// It has no word or too many, or no record place or too many.
     Sizes,
-    /// A new value of an open record, or a home word that no open record covers, is above the
-    /// greatest value of a word.
+    /// A value is above the greatest value of a word: a new value of an open record, or a home word that no
+    /// open record covers.
     Value,
     /// An open record has no entry or too many, an address that isn't below the number of words, or
     /// addresses that don't rise strictly.
     Record,
     /// Two open records share an address.
     Overlap,
-    /// It has fewer bytes than its heads, or than its sizes ask for.
+    /// It has fewer bytes than a head has, or than its sizes need.
     Short,
-    /// Its switch byte is set, and the offset that it tells is none at which a second layout may begin, or
-    /// none begins there.
+    /// Its switch byte is set, but the offset that it tells is not one at which a second layout may begin,
+    /// or no second layout begins there.
     SecondLayout,
 }
 
 impl Damage {
-    /// The number by which the fault is told, 1 to 7.
+    /// Returns the number of the damage, 1 to 7.
     pub fn number(self) -> u8
         ensures { result ≡ spec.number_of self }
     {

@@ -1,4 +1,6 @@
-//! A layout whose bytes are all there, and whose open records are records.
+//! The bytes of a layout that has all its bytes, and whose open records are well formed.
+//!
+//! Used by `images.rt` alone: it may change freely as long as `decode` and the calls of `Image` keep their contracts.
 ghost use Rattle.std.specs.Prelude.{◌≡◌, ◌+◌, ◌≤◌, ◌<◌, ◌&&◌, nat_le, true, length};
 ghost use Rattle.mw_record.specs.Layout.{most_entries, place_at, size};
 ghost use Rattle.mw_record.specs.Records as spec;
@@ -7,8 +9,8 @@ use crate::layout::{COMMITTED, COUNT_AT, HEAD_SIZE, Layout, WORD_SIZE, read_numb
 use crate::records::Record;
 use mw_words::MAX_VALUE;
 
-/// The bytes of a layout, from where it begins, with so many words and record places, each open one of
-/// which has a record that is in order by itself.
+/// The bytes of a layout, from where it begins, with so many words and record places. All its bytes are there,
+/// and each open record is well formed.
 #[derive(Drop)]
 pub(crate) struct FormedFile<'a> {
     pub(crate) layout: Layout,
@@ -19,8 +21,8 @@ pub(crate) struct FormedFile<'a> {
     ghost formed: { spec.are_formed layout words (spec.record_at layout bytes.now words) places ≡ true },
 }
 
-/// Whether each open record has entries, no more than a record of the layout may have, at strictly
-/// rising addresses below the number of words.
+/// Tells whether each open record is well formed: it has entries, no more than a record of the layout may have,
+/// at strictly rising addresses below the number of words.
 pub(crate) fn are_formed(bytes: &[u8], layout: Layout, words: u16, places: u16) -> bool
     requires { size layout words places ≤ length bytes.now }
     ensures { result ≡ spec.are_formed layout words (spec.record_at layout bytes.now words) places }
@@ -33,7 +35,7 @@ pub(crate) fn are_formed(bytes: &[u8], layout: Layout, words: u16, places: u16) 
     true
 }
 
-/// Whether a place is closed, or its record is in order by itself.
+/// Tells whether a place is closed or its record is well formed.
 fn is_formed(bytes: &[u8], layout: Layout, words: u16, place: u16) -> bool
     requires { place_at layout words (place + 1) ≤ length bytes.now }
     ensures { result ≡ spec.is_formed layout words (spec.record_at layout bytes.now words place) }
@@ -45,7 +47,7 @@ fn is_formed(bytes: &[u8], layout: Layout, words: u16, place: u16) -> bool
     is_record_len(layout, bytes[at + COUNT_AT]) && Record::new(bytes, layout, at).rises_below(words)
 }
 
-/// Whether a record of the layout may have so many entries.
+/// Tells whether a record of the layout may have so many entries.
 fn is_record_len(layout: Layout, count: u8) -> bool
     ensures { result ≡ (nat_le 1 count && nat_le count (most_entries layout)) }
 {
@@ -53,7 +55,7 @@ fn is_record_len(layout: Layout, count: u8) -> bool
 }
 
 impl FormedFile<'_> {
-    /// The record of a place, where its commit byte is set.
+    /// Returns the record of a place, if the place is open.
     pub(crate) fn record(&self, place: u16) -> Option<Record<'_>>
         requires { place < self.now.places }
         ensures { result ≡ spec.record_at self.now.layout self.now.bytes.now self.now.words place }
@@ -66,7 +68,7 @@ impl FormedFile<'_> {
         }
     }
 
-    /// The home word of an address.
+    /// Returns the home word of an address.
     pub(crate) fn home(&self, addr: u16) -> u64
         requires { addr < self.now.words }
         ensures { result ≡ spec.home self.now.bytes.now addr }
@@ -74,7 +76,7 @@ impl FormedFile<'_> {
         read_number(self.bytes, HEAD_SIZE + WORD_SIZE * addr as usize)
     }
 
-    /// Whether an open record of the first places has the address.
+    /// Tells whether an open record of the first places has the address.
     fn is_covered(&self, places: u16, addr: u64) -> bool
         requires { places ≤ self.now.places }
         ensures { result ≡ spec.is_covered (spec.record_at self.now.layout self.now.bytes.now self.now.words) places addr }
@@ -89,7 +91,7 @@ impl FormedFile<'_> {
         false
     }
 
-    /// Whether no open record of the first places has an address of these entries.
+    /// Tells whether no open record of the first places has an address of this record.
     fn is_apart(&self, places: u16, entries: &Record) -> bool
         requires { places ≤ self.now.places }
         ensures { result ≡ spec.is_apart (spec.record_at self.now.layout self.now.bytes.now self.now.words) places entries.now }
@@ -102,7 +104,7 @@ impl FormedFile<'_> {
         true
     }
 
-    /// Whether no two open records share an address.
+    /// Tells whether no two open records share an address.
     pub(crate) fn are_apart(&self) -> bool
         ensures { result ≡ spec.are_apart (spec.record_at self.now.layout self.now.bytes.now self.now.words) self.now.places }
     {
@@ -116,8 +118,8 @@ impl FormedFile<'_> {
         true
     }
 
-    /// Whether no new value of an open record is above [`MAX_VALUE`], and no home word that no open
-    /// record covers.
+    /// Tells whether no new value of an open record is above [`MAX_VALUE`], and no home word that no open record
+    /// covers.
     pub(crate) fn has_small_values(&self) -> bool
         ensures { result ≡ (spec.records_fit (spec.record_at self.now.layout self.now.bytes.now self.now.words) self.now.places
             && spec.homes_fit (spec.home self.now.bytes.now) (spec.record_at self.now.layout self.now.bytes.now self.now.words) self.now.places self.now.words) }
@@ -125,7 +127,7 @@ impl FormedFile<'_> {
         self.records_fit() && self.homes_fit()
     }
 
-    /// Whether no new value of an open record is above [`MAX_VALUE`].
+    /// Tells whether no new value of an open record is above [`MAX_VALUE`].
     fn records_fit(&self) -> bool
         ensures { result ≡ spec.records_fit (spec.record_at self.now.layout self.now.bytes.now self.now.words) self.now.places }
     {
@@ -139,7 +141,7 @@ impl FormedFile<'_> {
         true
     }
 
-    /// Whether no home word that no open record covers is above [`MAX_VALUE`].
+    /// Tells whether no home word that no open record covers is above [`MAX_VALUE`].
     fn homes_fit(&self) -> bool
         ensures { result ≡ spec.homes_fit (spec.home self.now.bytes.now) (spec.record_at self.now.layout self.now.bytes.now self.now.words) self.now.places self.now.words }
     {
@@ -151,7 +153,7 @@ impl FormedFile<'_> {
         true
     }
 
-    /// The home word of an address with the open records put over it.
+    /// Returns the word at an address: its home word with the open records put over it.
     pub(crate) fn word(&self, addr: u16) -> u64
         requires { addr < self.now.words }
         ensures { result ≡ spec.all_over (spec.record_at self.now.layout self.now.bytes.now self.now.words) self.now.places addr (spec.home self.now.bytes.now addr) }

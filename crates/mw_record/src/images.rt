@@ -1,9 +1,12 @@
 //! What the bytes of a whole file say.
+//!
+//! mw_file calls [`decode`] when it opens a file, and mw_show when it prints one. Another rule for what is damaged
+//! needs a change in `specs/Damages` and in docs/FILES.
 ghost use Rattle.std.specs.Prelude.{◌≡◌, ◌<◌, ◌≤◌, ℕ, true, false, None, Some, length, drop, slice_get, MatchOption, MatchResult};
 ghost use Rattle.mw_words.specs.declared.limits.TheConstants.{MAX_WORDS, MAX_ENTRIES};
 ghost use Rattle.mw_record.specs.declared.layout.Layout.TheVariants.{Second};
 ghost use Rattle.mw_record.specs.Layout.{most_places};
-ghost use Rattle.mw_record.specs.Parts as part;
+ghost use Rattle.mw_record.specs.LayoutBytes as part;
 ghost use Rattle.mw_record.specs.Damages as spec;
 
 use crate::damages::Damage;
@@ -36,18 +39,21 @@ impl<'a> Model for Image<'a> {
         × (image.file.bytes.now ≡ part_of image.bytes.now) };
 }
 
-/// Reads the bytes of a whole file. Of a longer one the first [`crate::MAX_FILE`] bytes are enough: they
-/// have the same damage, words and records
+/// Reads the bytes of a whole file. The first [`crate::MAX_FILE`] bytes of a longer file are enough: they have
+/// the same damage, words and records
 /// ([`bytes_past_the_largest_file_do_not_matter`](crate::bytes_past_the_largest_file_do_not_matter)).
 ///
 /// # Errors
 ///
-/// The first damage, in this order: [`Damage::Short`] where there are fewer bytes than a head,
-/// [`Damage::NotThisFormat`]; where the switch byte is set, [`Damage::SecondLayout`] where no second
-/// layout may begin at the offset that is told, [`Damage::Short`] where fewer bytes than a head stand
-/// there, [`Damage::SecondLayout`] where it doesn't begin with its eight bytes; then, of the layout that
-/// says what the file says, [`Damage::Sizes`], [`Damage::Short`] where there are fewer bytes than the
-/// sizes ask for, [`Damage::Record`], [`Damage::Overlap`] and [`Damage::Value`].
+/// The first damage, in this order:
+///
+/// - [`Damage::Short`] if there are fewer bytes than a head has.
+/// - [`Damage::NotThisFormat`].
+/// - If the switch byte is set: [`Damage::SecondLayout`] if no second layout may begin at the offset that the
+///   head tells, [`Damage::Short`] if there are fewer bytes than a head from there on, and
+///   [`Damage::SecondLayout`] if these don't begin with the magic bytes.
+/// - Of the layout in use: [`Damage::Sizes`], [`Damage::Short`] if there are fewer bytes than the sizes need,
+///   [`Damage::Record`], [`Damage::Overlap`] and [`Damage::Value`].
 pub fn decode(bytes: &[u8]) -> Result<Image<'_>, Damage>
     ensures { MatchResult result
         (λ image. (spec.damage_of bytes.now ≡ None) × (image ≡ bytes.now))
@@ -68,8 +74,8 @@ pub fn decode(bytes: &[u8]) -> Result<Image<'_>, Damage>
     Ok(Image { bytes, at, file })
 }
 
-/// Where the second layout begins, whose head is there with its eight bytes; otherwise what is wrong with
-/// that.
+/// Returns the offset of the second layout, if all bytes of a head are there and begin with its magic bytes.
+/// Otherwise it returns the damage.
 fn second_at(bytes: &[u8]) -> Result<u64, Damage>
     requires { HEAD_SIZE ≤ length bytes.now }
     ensures { MatchResult result
@@ -90,7 +96,7 @@ fn second_at(bytes: &[u8]) -> Result<u64, Damage>
     Ok(at)
 }
 
-/// Reads the bytes of a layout from where it begins, behind its magic bytes.
+/// Reads the bytes of a layout, from where it begins. Its magic bytes were read before.
 fn decode_part(bytes: &[u8], layout: Layout) -> Result<FormedFile<'_>, Damage>
     requires { HEAD_SIZE ≤ length bytes.now }
     ensures { MatchResult result
@@ -122,7 +128,7 @@ fn decode_part(bytes: &[u8], layout: Layout) -> Result<FormedFile<'_>, Damage>
     Ok(file)
 }
 
-/// The number of words and of record places, where the head tells sizes that the layout may have.
+/// Returns the numbers of words and of record places, if the head tells sizes that the layout may have.
 #[tactic(auto, unfolding(crate::specs::Layout::number_at))]
 fn sizes(bytes: &[u8], layout: Layout) -> Option<(u16, u16)>
     requires { HEAD_SIZE ≤ length bytes.now }
@@ -143,14 +149,14 @@ fn sizes(bytes: &[u8], layout: Layout) -> Option<(u16, u16)>
 }
 
 impl Image<'_> {
-    /// The layout that says what the file says.
+    /// Returns the layout in use.
     pub fn layout(&self) -> Layout
         ensures { result ≡ spec.layout_of self.now }
     {
         self.file.layout
     }
 
-    /// The offset at which that layout begins.
+    /// Returns the offset at which that layout begins, at most [`MAX_FIRST`].
     pub fn at(&self) -> u64
         ensures value { result ≡ spec.at_of self.now }
         ensures fits { result ≤ MAX_FIRST }
@@ -158,7 +164,7 @@ impl Image<'_> {
         self.at
     }
 
-    /// How many words the file has.
+    /// Returns how many words the file has, 1 to [`MAX_WORDS`].
     pub fn words(&self) -> u16
         ensures value { result ≡ spec.words_of self.now }
         ensures some { 1 ≤ result }
@@ -167,7 +173,7 @@ impl Image<'_> {
         self.file.words
     }
 
-    /// How many record places that layout has.
+    /// Returns how many record places that layout has: at least 1, and at most [`Layout::most_places`].
     pub fn places(&self) -> u16
         ensures value { result ≡ spec.found_places self.now }
         ensures some { 1 ≤ result }
@@ -176,7 +182,7 @@ impl Image<'_> {
         self.file.places
     }
 
-    /// The word at an address below [`Image::words`]: its home word, with the open records put over it.
+    /// Returns the word at an address below [`Image::words`]: its home word, with the open records put over it.
     pub fn word(&self, addr: u16) -> u64
         requires { addr < spec.words_of self.now }
         ensures { slice_get (spec.words_in self.now) addr ≡ Some result }
@@ -184,8 +190,8 @@ impl Image<'_> {
         self.file.word(addr)
     }
 
-    /// How many entries the record of a place below [`Image::places`] has, 0 where its commit byte is
-    /// clear.
+    /// Returns how many entries the record of a place below [`Image::places`] has. It is 0 exactly if the place
+    /// is closed.
     pub fn count(&self, place: u16) -> u8
         requires { place < spec.found_places self.now }
         ensures value { result ≡ length (spec.pairs_in self.now place) }
@@ -198,8 +204,8 @@ impl Image<'_> {
         }
     }
 
-    /// The address and the new value of an entry, with an index below [`Image::count`], of the record of
-    /// a place.
+    /// Returns the address and the new value of an entry of a place's record. The index must be below
+    /// [`Image::count`].
     pub fn pair(&self, place: u16, i: u8) -> (u16, u64)
         requires place { place < spec.found_places self.now }
         requires entry { i < length (spec.pairs_in self.now place) }

@@ -1,4 +1,7 @@
-//! Where each part of a file lies, and the numbers in it.
+//! Where each part of a layout is, and how its numbers are read and written.
+//!
+//! It is the format of files that are in use: CONTRIBUTING says under *Limits of the file* what may change. mw_file,
+//! mw_show and mw_world_file use these numbers, and docs/FILES tells them.
 ghost use Rattle.std.specs.Prelude.{◌≡◌, ◌+◌, ◌≤◌, ◌<◌, ◌^◌, length};
 ghost use Rattle.mw_record.specs.Layout as spec;
 ghost use Rattle.mw_record.specs.declared.layout.Layout.TheVariants.{First, Second};
@@ -6,30 +9,28 @@ ghost use Rattle.mw_record.specs.declared.layout.Layout.TheVariants.{First, Seco
 use byteorder::{ByteOrder, LittleEndian};
 use mw_words::{MAX_ENTRIES, MAX_PLACES, MAX_WORDS};
 
-/// How the bytes of a file are laid out from some offset on.
+/// One of the two layouts of a file's bytes.
 #[derive(Clone, Copy, Debug, PartialEq, Eq)]
 pub enum Layout {
-    /// The layout of a new file, which begins at its first byte: records of up to [`FIRST_ENTRIES`]
-    /// entries.
+    /// The layout of a new file, from its first byte on. A record has up to [`FIRST_ENTRIES`] entries.
     First,
-    /// The layout that every file has once it was opened, behind the first: records of up to
-    /// [`MAX_ENTRIES`] entries.
+    /// The layout that a file's first opening adds after the first. A record has up to [`MAX_ENTRIES`] entries.
     Second,
 }
 
 /// The most entries of a record of the first layout.
 pub const FIRST_ENTRIES: usize = 8;
 
-/// The most record places of the first layout.
+/// The most record places of a first layout.
 pub const FIRST_PLACES: u16 = 32;
 
-/// How many record places a second layout has for each of the first layout that it follows.
+/// How many record places a second layout has for each place of the first layout before it.
 pub const PLACES_GROW: u16 = 2;
 
-/// The magic bytes of the first layout: the eight that a file begins with.
+/// The eight magic bytes with which a first layout, and so a file, begins.
 pub const FIRST_MAGIC: [u8; 8] = *b"MWCASF1\n";
 
-/// The magic bytes of the second layout: the eight that it begins with.
+/// The eight magic bytes with which a second layout begins.
 pub const SECOND_MAGIC: [u8; 8] = *b"MWCASF2\n";
 
 /// The number of bytes of a layout's head.
@@ -38,36 +39,36 @@ pub const HEAD_SIZE: usize = 32;
 /// The number of bytes of a home word.
 pub const WORD_SIZE: usize = 8;
 
-/// The number of bytes of one entry of a record: an address and a new value.
+/// The number of bytes of an entry of a record: an address and a new value.
 pub const ENTRY_SIZE: usize = 16;
 
-/// The number of bytes of a record place of the second layout after its commit byte.
+/// The number of bytes of a record place of a second layout after its commit byte.
 pub const BODY_SIZE: usize = 263;
 
-/// The commit byte of an open record place: the byte is set. With any other value it is clear, and the
-/// place is closed.
+/// The value of a set byte: of the commit byte of an open record place, and of the switch byte. A byte with
+/// any other value is clear.
 pub const COMMITTED: u8 = 0xa5;
 
-/// The value by which a commit byte is cleared, once the change's values stand in the home words.
+/// The value that clears a commit byte, written after the change's values are in the home words.
 pub const NOT_COMMITTED: u8 = 0;
 
-/// Where a head has the number of words, in four bytes.
+/// The offset of the number of words in a head. It has four bytes.
 pub const WORDS_AT: usize = 8;
 
-/// Where a head has the number of record places, in two bytes.
+/// The offset of the number of record places in a head. It has two bytes.
 pub const PLACES_AT: usize = 12;
 
-/// Where a file has its switch byte: with [`COMMITTED`] what the file says stands in its second layout,
-/// with any other value in its first.
+/// The offset of a file's switch byte. If the byte is [`COMMITTED`] the second layout is in use, else the
+/// first.
 pub const SWITCH_AT: usize = 15;
 
-/// Where a file tells at which offset its second layout begins, in the bytes of a word.
+/// The offset at which a file's head tells where its second layout begins. This has the bytes of a word.
 pub const SECOND_AT: usize = 16;
 
-/// Where a record place has its count byte.
+/// The offset of the count byte in a record place.
 pub const COUNT_AT: usize = 1;
 
-/// Where the entries of a record place begin.
+/// The offset of the entries in a record place.
 pub const ENTRIES_AT: usize = 8;
 
 /// The number of bytes of the largest first layout.
@@ -76,7 +77,7 @@ pub const MAX_FIRST: usize = 37_152;
 /// The number of bytes of the largest second layout.
 pub const MAX_SECOND: usize = 49_696;
 
-/// The most bytes of a file that are looked at.
+/// The most bytes of a file that are looked at: those of the largest file.
 pub const MAX_FILE: usize = 86_848;
 
 const _: () = prove!(1 + BODY_SIZE == ENTRIES_AT + ENTRY_SIZE * MAX_ENTRIES);
@@ -102,7 +103,7 @@ const _: () = prove!(
 const _: () = prove!(MAX_FILE == MAX_FIRST + MAX_SECOND);
 
 impl Layout {
-    /// The most entries of a record.
+    /// Returns the most entries of a record.
     pub fn most_entries(self) -> usize
         ensures { result ≡ spec.most_entries self }
     {
@@ -112,7 +113,7 @@ impl Layout {
         }
     }
 
-    /// The most record places.
+    /// Returns the most record places.
     pub fn most_places(self) -> u16
         ensures { result ≡ spec.most_places self }
     {
@@ -122,7 +123,7 @@ impl Layout {
         }
     }
 
-    /// The eight bytes that it begins with.
+    /// Returns the eight magic bytes with which the layout begins.
     pub fn magic(self) -> [u8; 8]
         ensures { result ≡ spec.magic self }
     {
@@ -132,7 +133,7 @@ impl Layout {
         }
     }
 
-    /// The number of bytes of a record place.
+    /// Returns the number of bytes of a record place.
     pub fn place_size(self) -> usize
         ensures value { result ≡ spec.place_size self }
         ensures fits { result ≤ 1 + BODY_SIZE }
@@ -140,7 +141,7 @@ impl Layout {
         ENTRIES_AT + ENTRY_SIZE * self.most_entries()
     }
 
-    /// Where a record place begins, behind so many words, in bytes from where the layout begins.
+    /// Returns where a record place begins, after so many words, in bytes from where the layout begins.
     pub fn place_at(self, words: u16, place: u16) -> u64
         ensures { result ≡ spec.place_at self words place }
     {
@@ -148,8 +149,8 @@ impl Layout {
     }
 }
 
-/// The offset at which the home word of an address begins, in a file whose second layout begins at the
-/// offset `at`, at most [`MAX_FIRST`].
+/// Returns the offset of the home word of an address. The file's second layout begins at the offset `at`,
+/// which is at most [`MAX_FIRST`].
 pub fn home_at(at: u64, addr: u16) -> u64
     requires { at ≤ MAX_FIRST }
     ensures { result ≡ at + spec.home_at addr }
@@ -157,8 +158,8 @@ pub fn home_at(at: u64, addr: u16) -> u64
     at + (HEAD_SIZE + WORD_SIZE * addr as usize) as u64
 }
 
-/// The offset at which a record place begins, in a file whose second layout begins at the offset `at`,
-/// at most [`MAX_FIRST`], and has so many words. Its first byte is its commit byte.
+/// Returns the offset of a record place, which is that of its commit byte. The file's second layout begins at
+/// the offset `at`, which is at most [`MAX_FIRST`], and has so many words.
 pub fn place_at(at: u64, words: u16, place: u16) -> u64
     requires { at ≤ MAX_FIRST }
     ensures { result ≡ at + spec.place_at Second words place }
@@ -166,21 +167,21 @@ pub fn place_at(at: u64, words: u16, place: u16) -> u64
     at + Layout::Second.place_at(words, place)
 }
 
-/// The least number of bytes of a first layout with so many words and record places.
+/// Returns the number of bytes of a first layout with so many words and record places.
 pub fn size(words: u16, places: u16) -> u64
     ensures { result ≡ spec.size First words places }
 {
     Layout::First.place_at(words, places)
 }
 
-/// The least number of bytes of a second layout with so many words and record places.
+/// Returns the number of bytes of a second layout with so many words and record places.
 pub fn size2(words: u16, places: u16) -> u64
     ensures { result ≡ spec.size Second words places }
 {
     Layout::Second.place_at(words, places)
 }
 
-/// The number in the bytes of a word at an offset.
+/// Reads the number in the bytes of a word at an offset.
 #[tactic(auto, unfolding(crate::specs::Layout::number_at))]
 pub(crate) fn read_number(bytes: &[u8], at: usize) -> u64
     requires { at + WORD_SIZE ≤ length bytes.now }

@@ -1,9 +1,10 @@
-//! The byte layouts of a tenant's file: its heads, its home words and its record places, what is
-//! written to them, and what a whole file says when it is read again.
+//! The bytes of a tenant's file: how its two layouts are laid out, what is written to them, and what the
+//! bytes of a whole file say when they are read.
 //!
-//! Every number is little-endian. A file begins with a first layout. Where its switch byte is
-//! [`COMMITTED`], all that the file says stands in a second layout behind, at the offset that the file
-//! tells; otherwise it stands in the first. Both have the same parts, one behind the other:
+//! Every number is little-endian. A file begins with a first layout. If its switch byte is [`COMMITTED`], a
+//! second layout follows, at the offset that the file's head tells. Then the second layout is in use: the
+//! file's words and records are there. Otherwise the first layout is in use. Both have the same parts, one
+//! after the other:
 //!
 //! | bytes | content of a first layout | of a second one, from its offset |
 //! |---|---|---|
@@ -12,18 +13,22 @@
 //! | 12..14 | number of record places, up to 32 | the same, up to 64 |
 //! | 14 | 0, not looked at | 0, not looked at |
 //! | 15 | the switch byte | 0, not looked at |
-//! | 16..24 | the offset of the second layout, looked at where the switch byte is set | 0, not looked at |
+//! | 16..24 | the offset of the second layout, looked at if the switch byte is set | 0, not looked at |
 //! | 24..32 | 0, not looked at | 0, not looked at |
 //! | from 32 | home words, 8 bytes each | the same |
 //! | then | record places, 136 bytes each | record places, 264 bytes each |
 //!
-//! A second layout begins behind the head of the first, at [`MAX_FIRST`] at the latest. Bytes after a
-//! layout's last place aren't looked at.
+//! A second layout begins after the head of the first, at [`MAX_FIRST`] at the latest. Bytes after a layout's
+//! last place are not looked at.
 //!
-//! A record place has a commit byte, a count byte, six bytes that aren't looked at, and room for eight
-//! entries of 16 bytes in a first layout, for sixteen in a second: an address and its new value. A
-//! place is open exactly where its commit byte is [`COMMITTED`]; then the first `count` entries are its
-//! record, put over the home words. Of a closed place nothing is looked at.
+//! A record place has a commit byte, a count byte, six bytes that are not looked at, and room for entries of
+//! 16 bytes each: an address and its new value. There is room for eight entries in a first layout, and for
+//! sixteen in a second. A place is open exactly if its commit byte is [`COMMITTED`]. Then its first `count`
+//! entries are its record, which is put over the home words. The other bytes of a closed place are not looked
+//! at.
+//!
+//! mw_file reads and writes files by it, mw_programs makes new ones, and mw_show prints them. CONTRIBUTING says under
+//! *Limits of the file* which of it may change without a new layout.
 #![tactic(auto)]
 
 mod damages;
@@ -40,7 +45,7 @@ pub use laws::{
     body_is_read_again, bytes_past_the_largest_file_do_not_matter, change_is_a_record,
     first_layouts_are_files, first_layouts_stay, header_is_read_again, new_files_have_zeros,
     second_layouts_are_files, second_layouts_have_their_words, undamaged_files_have_words,
-    words_are_what_the_bytes_stand_for,
+    words_are_what_the_bytes_represent,
 };
 pub use layout::{
     BODY_SIZE, COMMITTED, ENTRY_SIZE, FIRST_ENTRIES, FIRST_MAGIC, FIRST_PLACES, HEAD_SIZE, Layout,

@@ -1,4 +1,6 @@
-//! One record of a file.
+//! One record of a file, in the file's bytes.
+//!
+//! Used by `formed.rt` and `images.rt` alone: it may change freely as long as `decode` keeps its contract.
 ghost use Rattle.std.specs.Prelude.{◌≡◌, ◌+◌, ◌*◌, ◌≤◌, ◌<◌, length, Some, slice_get, slice_index};
 ghost use Rattle.std.specs.Borrow.{Bor};
 
@@ -6,7 +8,7 @@ use crate::layout::{COUNT_AT, ENTRIES_AT, ENTRY_SIZE, Layout, WORD_SIZE, read_nu
 use mw_words::{MAX_ENTRIES, MAX_VALUE};
 use std::marker::Model;
 
-/// The entries of a record, as they stand in the file: an address and a new value each.
+/// The entries of a record, in the bytes of a file: each is an address and a new value.
 #[derive(Drop)]
 pub(crate) struct Record<'a> {
     bytes: &'a [u8],
@@ -30,7 +32,7 @@ impl Record<'_> {
     ghost use Rattle.mw_record.specs.Records as spec;
     ghost use Rattle.mw_record.specs.Layout.{most_entries, place_size};
 
-    /// The record of the place at an offset, whose count byte is no more than a record may have.
+    /// Returns the record of the place at an offset. Its count byte must be at most the most entries of a record.
     #[tactic(auto, unfolding(crate::specs::Records::body_at))]
     pub(crate) fn new(bytes: &[u8], layout: Layout, at: usize) -> Record<'_>
         requires whole { at + place_size layout ≤ length bytes.now }
@@ -43,16 +45,16 @@ impl Record<'_> {
         }
     }
 
-    /// How many entries it has.
-    #[tactic(auto, using(crate::proofs::Reading::length_pairs))]
+    /// Returns how many entries it has.
+    #[tactic(auto, using(crate::proofs::ReadBytes::length_pairs))]
     pub(crate) fn len(&self) -> usize
         ensures { result ≡ length self.now }
     {
         self.count
     }
 
-    /// The address and the new value of an entry.
-    #[tactic(auto, using(crate::proofs::Reading::length_pairs))]
+    /// Returns the address and the new value of an entry.
+    #[tactic(auto, using(crate::proofs::ReadBytes::length_pairs))]
     pub(crate) fn entry(&self, i: usize) -> (u64, u64)
         requires { i < length self.now }
         ensures { slice_get self.now i ≡ Some result }
@@ -62,7 +64,7 @@ impl Record<'_> {
         (read_number(bytes, at), read_number(bytes, at + WORD_SIZE))
     }
 
-    /// Whether an entry has this address.
+    /// Tells whether an entry has this address.
     pub(crate) fn holds(&self, addr: u64) -> bool
         ensures { result ≡ spec.holds self.now addr }
     {
@@ -74,7 +76,7 @@ impl Record<'_> {
         false
     }
 
-    /// Whether the addresses rise strictly and are below the number of words.
+    /// Tells whether the addresses rise strictly and are below the number of words.
     pub(crate) fn rises_below(&self, words: u16) -> bool
         ensures { result ≡ spec.rises_below words 0 self.now }
     {
@@ -89,7 +91,7 @@ impl Record<'_> {
         true
     }
 
-    /// Whether no new value is above [`MAX_VALUE`].
+    /// Tells whether no new value is above [`MAX_VALUE`].
     pub(crate) fn has_values(&self) -> bool
         ensures { result ≡ spec.has_values self.now }
     {
@@ -101,7 +103,7 @@ impl Record<'_> {
         true
     }
 
-    /// What a word of this value is when the record is put over it.
+    /// Returns the value at an address after the record is put over this value.
     pub(crate) fn over(&self, addr: u64, mut value: u64) -> u64
         ensures { result ≡ spec.over self.now addr value }
     {

@@ -1,4 +1,7 @@
-//! What is written to a file: a head, a whole second layout, and the body of a record.
+//! The bytes that are written to a file: a head, a whole second layout, and the body of a record.
+//!
+//! mw_file writes these bytes when it prepares a change, settles it, or adds a second layout. mw_programs writes the
+//! [`header`] of a new file. A reader of today must understand what is written: docs/FILES.
 ghost use Rattle.std.specs.Prelude.{◌≡◌, ◌≤◌, ◌<◌, ◌^◌, length, replicate};
 ghost use Rattle.mw_record.specs.Layout as spec;
 ghost use Rattle.mw_record.specs.declared.layout.Layout.TheVariants.{First, Second};
@@ -10,7 +13,7 @@ use crate::layout::{
 use byteorder::{ByteOrder, LittleEndian};
 use mw_words::{Entries, MAX_PLACES, MAX_WORDS};
 
-/// The head of a first layout with so many words, 1 to [`MAX_WORDS`], and so many record places, 1 to
+/// Returns the head of a first layout with so many words, 1 to [`MAX_WORDS`], and so many record places, 1 to
 /// [`FIRST_PLACES`].
 pub fn header(words: u16, places: u16) -> [u8; HEAD_SIZE]
     requires some_word { 1 ≤ words }
@@ -22,7 +25,7 @@ pub fn header(words: u16, places: u16) -> [u8; HEAD_SIZE]
     head(Layout::First, words, places)
 }
 
-/// The head of a second layout with so many words, 1 to [`MAX_WORDS`], and so many record places, 1 to
+/// Returns the head of a second layout with so many words, 1 to [`MAX_WORDS`], and so many record places, 1 to
 /// [`MAX_PLACES`].
 pub fn header2(words: u16, places: u16) -> [u8; HEAD_SIZE]
     requires some_word { 1 ≤ words }
@@ -34,7 +37,7 @@ pub fn header2(words: u16, places: u16) -> [u8; HEAD_SIZE]
     head(Layout::Second, words, places)
 }
 
-/// The head of a layout with so many words and record places.
+/// Returns the head of a layout with so many words and record places.
 #[tactic(auto, unfolding(crate::specs::Layout::number_bytes))]
 fn head(layout: Layout, words: u16, places: u16) -> [u8; HEAD_SIZE]
     ensures { result ≡ spec.header layout words places }
@@ -46,8 +49,8 @@ fn head(layout: Layout, words: u16, places: u16) -> [u8; HEAD_SIZE]
     head
 }
 
-/// Writes a whole second layout with these words, 1 to [`MAX_WORDS`] of them, and so many record places,
-/// 1 to [`MAX_PLACES`], all of them closed, to bytes as many as it has.
+/// Writes a whole second layout over these bytes, which must be as many as it has. It has these words, 1 to
+/// [`MAX_WORDS`] of them, and so many record places, 1 to [`MAX_PLACES`], all of them closed.
 pub fn write_second(out: &mut [u8], words: &[u64], places: u16)
     requires some_word { 1 ≤ length words.now }
     requires words_fit { length words.now ≤ MAX_WORDS }
@@ -63,14 +66,14 @@ pub fn write_second(out: &mut [u8], words: &[u64], places: u16)
     }
 }
 
-/// Makes all bytes zeros.
+/// Sets all bytes to 0.
 fn clear(out: &mut [u8])
     ensures { out.new ≡ replicate (length out.old) 0 }
 {
     out.fill(0);
 }
 
-/// Writes the head of a second layout with so many words and record places to the first bytes.
+/// Writes the head of a second layout with so many words and record places over the first bytes.
 fn write_head(out: &mut [u8], words: u16, places: u16)
     requires some_word { 1 ≤ words }
     requires words_fit { words ≤ MAX_WORDS }
@@ -82,8 +85,8 @@ fn write_head(out: &mut [u8], words: u16, places: u16)
     out[..HEAD_SIZE].copy_from_slice(&header2(words, places));
 }
 
-/// The bytes of a record place after its commit byte: how many entries there are, six zeros, the
-/// address and the new value of each entry, and zeros for the entries that aren't there.
+/// Returns the bytes of a record place after its commit byte: the number of entries, six zeros, the address and
+/// the new value of each entry, and zeros up to the place's end.
 pub fn body(entries: &Entries) -> [u8; BODY_SIZE]
     ensures { result ≡ spec.body entries.now.items }
 {
@@ -97,7 +100,7 @@ pub fn body(entries: &Entries) -> [u8; BODY_SIZE]
     body
 }
 
-/// The bytes of a home word of this value.
+/// Returns the bytes of a home word of this value.
 #[tactic(auto, unfolding(crate::specs::Layout::number_bytes))]
 pub fn home_word(value: u64) -> [u8; WORD_SIZE]
     ensures bytes { result ≡ spec.number_bytes WORD_SIZE value }

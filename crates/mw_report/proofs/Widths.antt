@@ -1,4 +1,5 @@
--- How wide the figures are, once printed, and where a loop over the tenants stands.
+-- Figures within the limits are no wider than their columns when printed. Used by: the proofs of report_text and
+-- put_tenant. It may change freely as long as this crate checks.
 use Rattle.std.proofs.Common.{ℕ, ◌≤◌, length, decimal, arith}
 use Rattle.std.proofs.lemmas.Fmt.{length-decimal-le}
 

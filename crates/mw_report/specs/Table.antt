@@ -1,4 +1,6 @@
 -- The text of the administrator's report: a table of the tenants, and how many slots of the pool are free.
+-- Used by: 6 crates from mw_plain on, the contracts of table.rt. A change here is a change of the REPORT, which clients read:
+-- docs/PROTOCOL and mw_client change with it.
 use Rattle.std.specs.Prelude.{ℕ, ◌-◌, ◌≤◌, ◌++◌, All, Bool, List, length, replicate, flat_map, codes, decimal, if◌then◌else◌}
 use Rattle.mw_words.specs.declared.limits.TheConstants.{MAX_NAME, MAX_PLACES, MAX_POOL, MAX_QUOTA, MAX_TENANTS, MAX_WORDS}
 use Rattle.mw_report.specs.declared.figures.TenantFigures.{TenantFigures}
@@ -19,14 +21,14 @@ at_right width number = spaces (width - length (decimal number)) ++ decimal numb
 abbrev pub state : Bool → List ℕ
 state up = if up then codes "up" else codes "down"
 
--- A tenant's line: its name, its words, its quota, the record places of its file, its slots in use and its state, with a space between two
--- columns.
+-- A tenant's line: its name, its words, its quota, the record places of its file, its slots in use and its state, with
+-- a space between two columns.
 abbrev pub tenant_line : TenantFigures → List ℕ
 tenant_line t =
     at_left MAX_NAME t.name.items ++ codes " " ++ at_right 4 t.words ++ codes " " ++ at_right 2 t.quota ++ codes " " ++ at_right 2 t.places
     ++ codes " " ++ at_right 2 t.used ++ codes " " ++ state t.up ++ codes "\n"
 
--- the last line, of the slots of the pool that are free
+-- the last line: how many slots of the pool are free
 abbrev pub free_line : ℕ → List ℕ
 free_line pool_free = codes "free " ++ decimal pool_free ++ codes "\n"
 

@@ -1,4 +1,7 @@
-//! What the report tells.
+//! What a report tells.
+//!
+//! mw_engine gathers them, mw_session has them written, and mw_client gives them to its caller. A new figure needs a
+//! column in `specs/Table` and `table.rt`, its value in mw_engine, and its reader in mw_client.
 
 use arrayvec::ArrayVec;
 use mw_words::{MAX_TENANTS, Name};
@@ -12,19 +15,19 @@ pub struct TenantFigures {
     pub words: u16,
     /// How many slots it may use at a time, at most [`mw_words::MAX_QUOTA`].
     pub quota: u8,
-    /// How many record places its file has, at most [`mw_words::MAX_PLACES`]; 0 where its file didn't
-    /// open or doesn't fit its line.
+    /// How many record places its file has, at most [`mw_words::MAX_PLACES`]; 0 if its file didn't open, or doesn't
+    /// fit its line.
     pub places: u8,
     /// How many slots it uses, at most [`mw_words::MAX_QUOTA`].
     pub used: u8,
-    /// Whether its file takes changes: it has opened and hasn't failed since.
+    /// Whether its file takes changes: it has opened, and hasn't failed since.
     pub up: bool,
 }
 
 /// The figures of all tenants, in their order, and of the pool.
 #[derive(Debug, PartialEq, Eq, Drop)]
 pub struct Figures {
-    /// Of each tenant.
+    /// The figures of each tenant.
     pub tenants: ArrayVec<TenantFigures, MAX_TENANTS>,
     /// How many slots of the pool are free, at most [`mw_words::MAX_POOL`].
     pub pool_free: u16,

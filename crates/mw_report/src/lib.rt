@@ -1,11 +1,13 @@
-//! The administrator's report: a table of the tenants with their figures, and how many slots of the
-//! pool are free.
+//! The administrator's report: a table of the tenants with their figures, and how many slots of the pool are free.
 //!
 //! ```text
 //! t                   2  1  2  0 up
 //! u                4096 32 64  3 down
 //! free 30
 //! ```
+//!
+//! mw_engine gathers the figures, mw_session writes the report for `REPORT`, and mw_client reads it back. A new
+//! figure needs a column in `specs/Table` and `table.rt`, and all three crates change.
 #![tactic(auto)]
 
 mod figures;

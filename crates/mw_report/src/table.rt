@@ -1,4 +1,7 @@
 //! The report's text.
+//!
+//! mw_session calls [`report_text`] to answer `REPORT`. mw_client calls it to check that it has understood a report.
+//! [`MAX_REPORT`] must have room for a line of each tenant and the last one.
 ghost use Rattle.std.specs.Prelude.{◌≡◌, ◌+◌, ◌≤◌, ◌++◌, decimal, length};
 ghost use Rattle.mw_report.specs.Table as spec;
 ghost use Rattle.mw_report.specs.Table.{AreWithinLimits, IsWithinLimits};
@@ -17,17 +20,17 @@ const NAME_WIDTH: usize = MAX_NAME;
 /// The width of a tenant's number of words.
 const WORDS_WIDTH: usize = 4;
 
-/// The width of a number of slots, and of one of record places.
+/// The width of a number of slots, and of a number of record places.
 const SLOTS_WIDTH: usize = 2;
 
-/// The most bytes of a tenant's line: six columns, a space before each but the first, a line feed.
+/// The most bytes of a tenant's line: six columns, a space before each but the first, and a line feed.
 const MAX_TENANT_LINE: usize = 36;
 
 /// A report under way.
 type Text = ArrayVec<u8, MAX_REPORT>;
 
-/// The report: a line for each tenant in the order given, and a last line with the free slots of the
-/// pool. It asks for figures that keep the limits, and takes no memory.
+/// Gives the report: a line for each tenant in the order given, and a last line with the free slots of the pool.
+/// The figures must keep the limits. It takes no memory.
 #[tactic(auto, using(crate::proofs::Widths::widths))]
 pub fn report_text(tenants: &[TenantFigures], pool_free: u16) -> ArrayVec<u8, MAX_REPORT>
     requires { AreWithinLimits tenants.now pool_free }

@@ -1,37 +1,38 @@
--- Which of a call's device calls failed is for the caller to say: the run goes on with any of them as well.
+-- If a run can be extended with one failed device call of a file call, it can be with any other of that call.
+-- Used by: the law moves_are_of_the_run, mw_table.
 use Rattle.std.specs.Prelude.{ℕ, ◌≡◌, ◌<◌, true, false, List, [], ◌∷◌, ◌++◌, Some}
 use Rattle.std.specs.Option.{option_and_then}
 use Rattle.std.proofs.Common.{sym, ap, subst, ◌∙◌, append_assoc, arith}
 use Rattle.std.proofs.lemmas.Bool.Decides.{nat_tests}
 use Rattle.std.proofs.lemmas.Option.{same_Some}
 use Rattle.mw_words.specs.declared.statuses.Status.{Status}
-use Rattle.mw_actor.specs.Acting.{Acting, own_entries}
+use Rattle.mw_actor.specs.ActorState.{ActorState, own_entries}
 use Rattle.mw_world_file.specs.declared.outcomes.Outcome.TheVariants.{Fail}
 use Rattle.mw_world_file.specs.Files.{File, entries_at}
 use Rattle.mw_world.specs.declared.config.Config.{Config}
 use Rattle.mw_world.specs.Definition.Calls.{Called, breaks, called_at, device_calls, is_made, place_for, starts_from}
-use Rattle.mw_world.specs.Definition.Happenings.{Happening, File as FileEvent}
+use Rattle.mw_world.specs.Definition.Events.{WorldEvent, File as FileEvent}
 use Rattle.mw_world.specs.Definition.State.{State, tenants_of, world_at}
 use Rattle.mw_world.specs.Definition.Turns.{moved}
 use Rattle.mw_world.specs.Definition.World.{run, step}
 use Rattle.mw_world.proofs.RunsExtend.{run-extends}
-use Rattle.mw_law_calls.specs.Rights.{TellsCall, TellsFile, file_told}
-use Rattle.mw_law_calls.specs.Starting.{CanStart, HasWords, IsAtCall}
-use Rattle.mw_law_calls.proofs.Ending.{calls_meet_faults}
-use Rattle.mw_law_calls.proofs.Starting.{calls_can_start, calls_have_words}
-use Rattle.mw_law_calls.proofs.Telling.{rights_tell_calls}
-use Rattle.mw_rule.specs.declared.views.Held.{Held}
-use Rattle.mw_rule.specs.declared.views.Reins.{Reins}
+use Rattle.mw_law_calls.specs.FileTokens.{TellsCall, TellsFile, file_told}
+use Rattle.mw_law_calls.specs.CallStarts.{CanStart, HasWords, IsAtCall}
+use Rattle.mw_law_calls.proofs.CallEndLaws.{calls_meet_faults}
+use Rattle.mw_law_calls.proofs.CallStartLaws.{calls_can_start, calls_have_words}
+use Rattle.mw_law_calls.proofs.TokensTellCalls.{file_tokens_tell_calls}
+use Rattle.mw_rule.specs.declared.views.HeldFile.{HeldFile}
+use Rattle.mw_rule.specs.declared.views.WorkerToken.{WorkerToken}
 use Rattle.mw_rule.specs.declared.views.View.{View}
-use Rattle.mw_rule.specs.Courses.{given_to}
-use Rattle.mw_rule.specs.Filing.{Calls, fails, place_held, places_held}
-use Rattle.mw_rule.specs.Moves.{WentOn}
-use Rattle.mw_rule.specs.Rule.{Each, Fits, Holds, HoldsFile, Waits, WaitsIf, made_by}
-use Rattle.mw_rule.proofs.Courses.{plain_fails}
-use Rattle.mw_rule.proofs.Leading.{made_on}
+use Rattle.mw_rule.specs.KnownRuns.{given_to}
+use Rattle.mw_rule.specs.FileCalls.{Calls, fails, place_held, places_held}
+use Rattle.mw_rule.specs.WordActions.{WentOn}
+use Rattle.mw_rule.specs.Rule.{Each, Fits, Holds, HoldsFile, Waits, WaitsIf, events_of_worker}
+use Rattle.mw_rule.proofs.KnownRunLaws.{plain_fails}
+use Rattle.mw_rule.proofs.WorkerStretches.{made_on}
 use Rattle.mw_rule.proofs.Totals.{each_on}
 
-module _ (old new : View) (worker : ℕ) (actor : Acting) (called : Called) (held : Held) (by : Calls old worker actor called held) (status : Status)
+module _ (old new : View) (worker : ℕ) (actor : ActorState) (called : Called) (held : HeldFile) (by : Calls old worker actor called held) (status : Status)
     (found : held.found ≡ Some (record { worker = worker; status = status })) (sound : fails old called held ≡ false) (one : ℕ) (went : WentOn (FileEvent worker (Fail one) ∷ []) old new) where
   abbrev config : Config
   config = old.config
@@ -39,27 +40,27 @@ module _ (old new : View) (worker : ℕ) (actor : Acting) (called : Called) (hel
   abbrev state : State
   state = went.state
 
-  abbrev all : List Happening
+  abbrev all : List WorldEvent
   all = went.before ++ went.events
 
   abbrev slot : ℕ
   slot = called.change.slot
 
   abbrev quota : ℕ
-  quota = (state.accounts actor.tenant).quota
+  quota = (state.tenant_states actor.tenant).quota
 
   abbrev file : File
-  file = (state.accounts actor.tenant).file
+  file = (state.tenant_states actor.tenant).file
 
   abbrev place : ℕ
   place = place_for called.call file quota slot
 
-  -- what the thread knew was so
-  holds : Holds config went.openings state went.events by.reins
-  holds = (subst (Each (Holds config went.openings state went.events)) by.has.only went.knew.reins).0
+  -- what the thread knew was true
+  holds : Holds config went.openings state went.events by.token
+  holds = (subst (Each (Holds config went.openings state went.events)) by.has.only went.knew.token).0
 
   at_call : IsAtCall state worker actor called
-  at_call = record { sits = ap (λ (n : ℕ). (state.seats n).actor) (sym by.has.own) ∙ (holds.actor ∙ by.carries); comes_to = by.comes_to }
+  at_call = record { sits = ap (λ (n : ℕ). (state.worker_states n).actor) (sym by.has.own) ∙ (holds.actor ∙ by.carries); comes_to = by.comes_to }
 
   words : HasWords config actor called
   words = calls_have_words config went.openings all state worker actor called went.played at_call
@@ -68,16 +69,16 @@ module _ (old new : View) (worker : ℕ) (actor : Acting) (called : Called) (hel
   held_file = (subst (Each (HoldsFile config state)) by.only went.knew.files).0
 
   tells : TellsFile quota config.pool held.file file
-  tells = subst (λ (tenant : ℕ). TellsFile (state.accounts tenant).quota config.pool held.file (state.accounts tenant).file) by.its held_file.tells
+  tells = subst (λ (tenant : ℕ). TellsFile (state.tenant_states tenant).quota config.pool held.file (state.tenant_states tenant).file) by.its held_file.tells
 
   same_quota : quota ≡ places_held old called held
-  same_quota = ap (λ (tenant : ℕ). (state.accounts tenant).quota) (sym by.its) ∙ (went.knew.gave held.file.tenant held_file.there).quota
+  same_quota = ap (λ (tenant : ℕ). (state.tenant_states tenant).quota) (sym by.its) ∙ (went.knew.gave held.file.tenant held_file.there).quota
 
   low_slot : slot < config.pool
   low_slot = let is = words.slot in grind (arith, nat_tests, is)
 
   telling : TellsCall quota slot called.call (own_entries actor) (file_told held.file) file
-  telling = rights_tell_calls quota config.pool slot called.call (own_entries actor) held.file file tells low_slot
+  telling = file_tokens_tell_calls quota config.pool slot called.call (own_entries actor) held.file file tells low_slot
 
   same_place : place ≡ place_held old called held
   same_place = telling.place ∙ ap (λ (places : ℕ). place_for called.call (file_told held.file) places slot) same_quota
@@ -89,7 +90,7 @@ module _ (old new : View) (worker : ℕ) (actor : Acting) (called : Called) (hel
   same_actor = same_Some waits.actor actor (sym waits.at_call.sits ∙ at_call.sits)
 
   same_call : waits.called ≡ called
-  same_call = same_Some waits.called called (sym waits.at_call.comes_to ∙ ap (λ (other : Acting). called_at other.point) same_actor ∙ by.comes_to)
+  same_call = same_Some waits.called called (sym waits.at_call.comes_to ∙ ap (λ (other : ActorState). called_at other.point) same_actor ∙ by.comes_to)
 
   starts : starts_from called.call (state.cells.statuses slot) ≡ true
   starts =
@@ -99,7 +100,7 @@ module _ (old new : View) (worker : ℕ) (actor : Acting) (called : Called) (hel
   start : CanStart config actor called file quota
   start = calls_can_start config went.openings all state worker actor called went.played at_call starts (telling.fails ∙ sound)
 
-  -- whichever device call fails, the world after it is one
+  -- whichever device call fails, the world after it is the same
   fails_so : (number : ℕ) → is_made (device_calls called.call (entries_at (file_told held.file) (place_held old called held))) number ≡ true
       → step config state (FileEvent worker (Fail number)) ≡ Some (moved state worker actor (breaks state actor called.change file called.call place))
   fails_so number is =
@@ -117,28 +118,28 @@ module _ (old new : View) (worker : ℕ) (actor : Acting) (called : Called) (hel
       ∙ (run-extends config first all (FileEvent worker (Fail number)) ∙ ap (option_and_then (λ after. step config after (FileEvent worker (Fail number)))) went.played.runs) in
       on other ∙ (same ∙ (sym (on one) ∙ went.goes_on.runs))
 
-  made_so : (other its : ℕ) → made_by its (went.events ++ FileEvent worker (Fail other) ∷ []) ≡ made_by its (went.events ++ FileEvent worker (Fail one) ∷ [])
+  made_so : (other its : ℕ) → events_of_worker its (went.events ++ FileEvent worker (Fail other) ∷ []) ≡ events_of_worker its (went.events ++ FileEvent worker (Fail one) ∷ [])
   made_so other its = made_on its went.events (FileEvent worker (Fail other) ∷ []) ∙ sym (made_on its went.events (FileEvent worker (Fail one) ∷ []))
 
-  holds_so : (other : ℕ) (reins : Reins) → Holds config went.openings went.next (went.events ++ FileEvent worker (Fail one) ∷ []) reins
-      → Holds config went.openings went.next (went.events ++ FileEvent worker (Fail other) ∷ []) reins
-  holds_so other reins so = record {
+  holds_so : (other : ℕ) (token : WorkerToken) → Holds config went.openings went.next (went.events ++ FileEvent worker (Fail one) ∷ []) token
+      → Holds config went.openings went.next (went.events ++ FileEvent worker (Fail other) ∷ []) token
+  holds_so other token so = record {
     there = so.there;
     actor = so.actor;
     attempt = so.attempt;
     request = so.request;
-    made = made_so other reins.worker ∙ so.made;
+    made = made_so other token.worker ∙ so.made;
     begun = so.begun;
-    ground = so.ground;
+    evidence = so.evidence;
   }
 
   knows_so : (other : ℕ) → Fits config went.openings went.next (went.events ++ FileEvent worker (Fail other) ∷ []) new
   knows_so other = record {
     same_config = went.knows.same_config;
     gave = went.knows.gave;
-    reins =
+    token =
         each_on (Holds config went.openings went.next (went.events ++ FileEvent worker (Fail one) ∷ [])) (Holds config went.openings went.next (went.events ++ FileEvent worker (Fail other) ∷ []))
-        (holds_so other) new.reins went.knows.reins;
+        (holds_so other) new.tokens went.knows.token;
     seen = went.knows.seen;
     told = went.knows.told;
     right = went.knows.right;
@@ -158,7 +159,7 @@ module _ (old new : View) (worker : ℕ) (actor : Acting) (called : Called) (hel
     goes_on = record { made = went.goes_on.made; starts = went.goes_on.starts; runs = runs_so other (fails_so other is_other ∙ sym (fails_so one is_one)) };
     no_starts = went.no_starts;
     follows = went.follows;
-    course = went.course ∙ ap (λ (events : List Happening). Some (record { openings = given_to went.openings (tenants_of config); before = went.before; events = events })) (plain_fails went.events worker one other);
+    known_run = went.known_run ∙ ap (λ (events : List WorldEvent). Some (record { openings = given_to went.openings (tenants_of config); before = went.before; events = events })) (plain_fails went.events worker one other);
     knew = went.knew;
     knows = knows_so other;
   }

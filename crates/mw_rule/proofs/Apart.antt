@@ -1,4 +1,6 @@
--- Two requests that were answered by YES have two places.
+-- Two requests of one tenant that were answered YES have two positions.
+-- Used by: the law knowledge_stays_right, and Meetings of mw_table.
+-- Both use `changes_are_own` alone, at the end; the rest may be changed freely.
 use Rattle.std.specs.Prelude.{ℕ, zero, suc, ◌≡◌, ◌≤◌, ◌==◌, ◌&&◌, Bool, true, false, List, [], ◌∷◌, slice_get, Some}
 use Rattle.std.proofs.Common.{refl, sym, ap, subst, ◌∙◌, arith}
 use Rattle.std.proofs.lemmas.Option.{none-some, same_Some}
@@ -10,7 +12,7 @@ use Rattle.mw_rule.specs.declared.views.Finished.{Finished}
 use Rattle.mw_rule.specs.declared.views.View.{View}
 use Rattle.mw_rule.specs.Laws.{ChangesAreOwn}
 use Rattle.mw_rule.specs.Rule.{Each, IsFinished, is_of, times_noted, weight, words_given}
-use Rattle.mw_rule.specs.Seen.{seen_at}
+use Rattle.mw_rule.specs.Prefixes.{seen_at}
 use Rattle.mw_rule.proofs.Totals.{weight_own}
 
 each_at : {A : Type 0} (P : A → Type 0) (all : List A) (index : ℕ) (one : A) → Each P all → slice_get all index ≡ Some one → P one
@@ -18,7 +20,7 @@ each_at P [] index one holds at = absurd (none-some one at)
 each_at P (first ∷ rest) zero one holds at = subst P (same_Some first one at) holds.0
 each_at P (first ∷ rest) (suc index) one holds at = each_at P rest index one holds.1 at
 
--- a request stands once among those that have it
+-- a finished request counts once for its own tenant and number
 weight_is : (one : Finished) (tenant request : ℕ) → one.tenant ≡ tenant → one.request ≡ request → weight (is_of tenant request one) ≡ 1
 weight_is one tenant request its same = both (one.tenant == tenant) (one.request == request) (weight_own one.tenant tenant its) (weight_own one.request request same)
   where
@@ -48,7 +50,7 @@ one_index tenant request (suc index) zero (first ∷ rest) one other few at ther
 one_index tenant request (suc index) (suc another) (first ∷ rest) one other few at there its same theirs too =
     ap suc (one_index tenant request index another rest one other (omega (arith, few)) at there its same theirs too)
 
--- what stands at the place of a request that was answered by YES
+-- what the change is at the position of a request that was answered YES
 its_change : (view : View) (one : Finished) → IsFinished view one → one.reply ≡ SaysYes
     → slice_get (seen_at view.seen one.tenant) one.place ≡ Some (record { request = one.request; entries = entries_of one.job })
 its_change view one right stands =

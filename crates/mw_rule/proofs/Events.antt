@@ -1,4 +1,5 @@
--- A step of a request is one event of the run, its first step comes with the coming before it, and a load that is no step is none.
+-- A step extends a run by its own events, a first step also by the coming before it, a plain load by none.
+-- Used by: the law moves_are_of_the_run, mw_table.
 use Rattle.std.specs.Prelude.{ℕ, ◌≡◌, ◌<◌, true, List, [], ◌∷◌, slice_index}
 use Rattle.std.proofs.Common.{refl, sym, ap, subst, ◌∙◌, inr, arith}
 use Rattle.std.proofs.lemmas.Bool.Decides.{nat_tests}
@@ -8,65 +9,65 @@ use lib.ListN.{get_elem?}
 use Rattle.atomic_table.specs.Table.{State as Table}
 use Rattle.mw_words.specs.declared.places.At.{At}
 use Rattle.mw_words.specs.declared.places.At.TheVariants.{Door as AtDoor}
-use Rattle.mw_look.specs.declared.news.Got.{Got}
-use Rattle.mw_look.specs.declared.news.Got.TheVariants.{Word as Bits}
+use Rattle.mw_look.specs.declared.observations.Got.{Got}
+use Rattle.mw_look.specs.declared.observations.Got.TheVariants.{Word as Bits}
 use Rattle.mw_look.specs.declared.steps.Op.{Op}
 use Rattle.mw_look.specs.Steps.{op_of, place_of}
-use Rattle.mw_actor.specs.Acting.{Acting}
+use Rattle.mw_actor.specs.ActorState.{ActorState}
 use Rattle.mw_actor.specs.Asks.{asks}
 use Rattle.mw_world.specs.declared.config.Config.{Config}
 use Rattle.mw_world.specs.Definition.Extent.{has_place}
-use Rattle.mw_world.specs.Definition.Happenings.{Happening}
-use Rattle.mw_world.specs.Definition.State.{Opening, tenants_of}
-use Rattle.mw_rule.specs.declared.views.Reins.{Reins}
+use Rattle.mw_world.specs.Definition.Events.{WorldEvent}
+use Rattle.mw_world.specs.Definition.State.{TenantStart, tenants_of}
+use Rattle.mw_rule.specs.declared.views.WorkerToken.{WorkerToken}
 use Rattle.mw_rule.specs.declared.views.View.{View}
-use Rattle.mw_rule.specs.Carrying.{Drives, MayCome, Took}
+use Rattle.mw_rule.specs.Steps.{IsNextStep, MayCome, LearnsStep}
 use Rattle.mw_rule.specs.Layout.{index_of}
-use Rattle.mw_rule.specs.Moves.{Comes, FirstStepsAreEvents, IsFirstStep, IsOneStep, Looks, LooksAreNoEvents, Steps, StepsAreEvents}
+use Rattle.mw_rule.specs.WordActions.{Comes, FirstStepsAreEvents, IsFirstStep, IsOneStep, Looks, PlainLoadsAreNoEvents, Steps, StepsAreEvents}
 use Rattle.mw_rule.specs.Rule.{Tied}
 use Rattle.mw_rule.specs.Ways.{finds}
-use Rattle.mw_rule.proofs.Moves.{moves_change_words}
-use Rattle.mw_rule.proofs.Moving.{same_one}
-use Rattle.mw_rule.proofs.Viewing.{live_fits}
+use Rattle.mw_rule.proofs.WordActionLaws.{moves_change_words}
+use Rattle.mw_rule.proofs.StepRule.{same_one}
+use Rattle.mw_rule.proofs.ViewAfterStep.{live_fits}
 
--- The step that a thread may make next is one alone.
-module _ (view : View) (first_worker : ℕ) (first : Op) (of : Drives view first_worker first) (worker : ℕ) (op : Op) (by : Drives view worker op) where
-  same_reins : of.reins ≡ by.reins
-  same_reins = same_one of.reins by.reins (sym of.has.only ∙ by.has.only)
+-- A thread may make only one next step.
+module _ (view : View) (first_worker : ℕ) (first : Op) (of : IsNextStep view first_worker first) (worker : ℕ) (op : Op) (by : IsNextStep view worker op) where
+  same_token : of.token ≡ by.token
+  same_token = same_one of.token by.token (sym of.has.only ∙ by.has.only)
 
   same_worker : first_worker ≡ worker
-  same_worker = sym of.has.own ∙ (ap (λ (reins : Reins). reins.worker) same_reins ∙ by.has.own)
+  same_worker = sym of.has.own ∙ (ap (λ (token : WorkerToken). token.worker) same_token ∙ by.has.own)
 
   same_actor : of.actor ≡ by.actor
-  same_actor = same_Some of.actor by.actor (sym of.carries ∙ (ap (λ (reins : Reins). reins.actor) same_reins ∙ by.carries))
+  same_actor = same_Some of.actor by.actor (sym of.carries ∙ (ap (λ (token : WorkerToken). token.actor) same_token ∙ by.carries))
 
   same_op : first ≡ op
-  same_op = sym of.is ∙ (ap (λ (one : Acting). op_of (asks one)) same_actor ∙ by.is)
+  same_op = sym of.is ∙ (ap (λ (one : ActorState). op_of (asks one)) same_actor ∙ by.is)
 
-  one_step : (P : ℕ → Op → ℕ → Acting → Type 0) → P first_worker first of.reins.attempt of.actor → P worker op by.reins.attempt by.actor
+  one_step : (P : ℕ → Op → ℕ → ActorState → Type 0) → P first_worker first of.token.attempt of.actor → P worker op by.token.attempt by.actor
   one_step P so =
-      subst (λ (one : ℕ). P one op by.reins.attempt by.actor) same_worker
-      (subst (λ (one : Op). P first_worker one by.reins.attempt by.actor) same_op
-      (subst (λ (one : Reins). P first_worker first one.attempt by.actor) same_reins
-      (subst (λ (one : Acting). P first_worker first of.reins.attempt one) same_actor so)))
+      subst (λ (one : ℕ). P one op by.token.attempt by.actor) same_worker
+      (subst (λ (one : Op). P first_worker one by.token.attempt by.actor) same_op
+      (subst (λ (one : WorkerToken). P first_worker first one.attempt by.actor) same_token
+      (subst (λ (one : ActorState). P first_worker first of.token.attempt one) same_actor so)))
 
--- So is the worker to which a request may come.
-module _ (view : View) (actor : Acting) (first_worker : ℕ) (of : MayCome view first_worker actor) (worker : ℕ) (by : MayCome view worker actor) where
-  its_reins : of.reins ≡ by.reins
-  its_reins = same_one of.reins by.reins (sym of.has.only ∙ by.has.only)
+-- A request may come to only one worker of a thread.
+module _ (view : View) (actor : ActorState) (first_worker : ℕ) (of : MayCome view first_worker actor) (worker : ℕ) (by : MayCome view worker actor) where
+  its_token : of.token ≡ by.token
+  its_token = same_one of.token by.token (sym of.has.only ∙ by.has.only)
 
   its_worker : first_worker ≡ worker
-  its_worker = sym of.has.own ∙ (ap (λ (reins : Reins). reins.worker) its_reins ∙ by.has.own)
+  its_worker = sym of.has.own ∙ (ap (λ (token : WorkerToken). token.worker) its_token ∙ by.has.own)
 
-  one_coming : (P : ℕ → ℕ → Type 0) → P first_worker of.reins.attempt → P worker by.reins.attempt
-  one_coming P so = subst (λ (one : ℕ). P one by.reins.attempt) its_worker (subst (λ (one : Reins). P first_worker one.attempt) its_reins so)
+  one_coming : (P : ℕ → ℕ → Type 0) → P first_worker of.token.attempt → P worker by.token.attempt
+  one_coming P so = subst (λ (one : ℕ). P one by.token.attempt) its_worker (subst (λ (one : WorkerToken). P first_worker one.attempt) its_token so)
 
 door_there : (config : Config) (tenant : ℕ) → tenant < tenants_of config → has_place config (AtDoor tenant) ≡ true
 door_there config tenant low = grind (arith, nat_tests, low)
 
-module _ (config : Config) (begun : (ℕ → Opening) → List Happening → Type 0) where
-  -- what a thread knows the world to be made of
-  known : (s : Table Acting View) (tied : Tied config begun s) (id : ℕ) (view : View) (one : Reins) → view.reins ≡ one ∷ [] → get_elem? s.views id ≡ some view → view.config ≡ config
+module _ (config : Config) (begun : (ℕ → TenantStart) → List WorldEvent → Type 0) where
+  -- the thread knows what the world is made of
+  known : (s : Table ActorState View) (tied : Tied config begun s) (id : ℕ) (view : View) (one : WorkerToken) → view.tokens ≡ one ∷ [] → get_elem? s.views id ≡ some view → view.config ≡ config
   known s tied id view one only at =
       (live_fits config tied.past.openings tied.state tied.events view (inr (one, [], only)) (tied.fits id view at)).same_config
 
@@ -76,9 +77,9 @@ module _ (config : Config) (begun : (ℕ → Opening) → List Happening → Typ
   pub steps_are_events : StepsAreEvents config begun
   steps_are_events slots id worker me op make got drives makes tells s tied homes at low =
       let allowed = moves_change_words config begun slots id me (Steps worker op drives) make makes s tied homes at low in
-      let here = same_index me.0 (place_of op) (known s tied id me.0 drives.reins drives.has.only at) in
+      let here = same_index me.0 (place_of op) (known s tied id me.0 drives.token drives.has.only at) in
       let bits = slice_index s.words (index_of config.pool (place_of op)) in
-      let one : IsOneStep worker op (finds op bits) drives.reins.attempt drives.actor me.0 allowed.0 =
+      let one : IsOneStep worker op (finds op bits) drives.token.attempt drives.actor me.0 allowed.0 =
       record {
         bits = bits;
         found = refl;
@@ -86,14 +87,14 @@ module _ (config : Config) (begun : (ℕ → Opening) → List Happening → Typ
         stood = allowed.4.1.stood (place_of op) drives.there here;
         stands = allowed.4.1.stands (place_of op) drives.there here;
       } in
-      let told : IsOneStep worker op (got bits) drives.reins.attempt drives.actor me.0 allowed.0 =
-      subst (λ (g : Got). IsOneStep worker op g drives.reins.attempt drives.actor me.0 allowed.0) (sym (tells bits)) one in (
+      let told : IsOneStep worker op (got bits) drives.token.attempt drives.actor me.0 allowed.0 =
+      subst (λ (g : Got). IsOneStep worker op g drives.token.attempt drives.actor me.0 allowed.0) (sym (tells bits)) one in (
         allowed.0,
         allowed.1,
         allowed.2,
         allowed.3,
         (
-          subst (λ (g : Got). Took g me.0 allowed.0) (sym (tells bits)) allowed.4.0,
+          subst (λ (g : Got). LearnsStep g me.0 allowed.0) (sym (tells bits)) allowed.4.0,
           λ other its by. one_step me.0 worker op drives other its by (λ w o a c. IsOneStep w o (got bits) a c me.0 allowed.0) told,
         ),
       )
@@ -101,10 +102,10 @@ module _ (config : Config) (begun : (ℕ → Opening) → List Happening → Typ
   pub first_steps_are_events : FirstStepsAreEvents config begun
   first_steps_are_events slots id worker me actor make may makes s tied homes at low =
       let allowed = moves_change_words config begun slots id me (Comes worker actor may) make makes s tied homes at low in
-      let here = same_index me.0 (AtDoor actor.tenant) (known s tied id me.0 may.reins may.has.only at) in
+      let here = same_index me.0 (AtDoor actor.tenant) (known s tied id me.0 may.token may.has.only at) in
       let there = door_there me.0.config actor.tenant may.tenant in
       let bits = slice_index s.words (index_of config.pool (AtDoor actor.tenant)) in
-      let first : IsFirstStep worker (Bits bits) may.reins.attempt actor me.0 allowed.0 =
+      let first : IsFirstStep worker (Bits bits) may.token.attempt actor me.0 allowed.0 =
       record {
         bits = bits;
         found = refl;
@@ -119,5 +120,5 @@ module _ (config : Config) (begun : (ℕ → Opening) → List Happening → Typ
         (allowed.4.0, λ other by. one_coming me.0 actor worker may other by (λ w a. IsFirstStep w (Bits bits) a actor me.0 allowed.0) first),
       )
 
-  pub looks_are_no_events : LooksAreNoEvents config begun
+  pub looks_are_no_events : PlainLoadsAreNoEvents config begun
   looks_are_no_events slots id index me make live makes = moves_change_words config begun slots id me (Looks index live) make makes

@@ -1,4 +1,5 @@
--- Places that are there stand in the table, and apart.
+-- Each place of the world has an index in the table, and two places have two indexes.
+-- Used by: the law places_stand_apart, Preservation, WordActionLaws, mw_table.
 use Rattle.std.specs.Prelude.{ℕ, zero, suc, [], ◌∷◌, ◌≡◌, ◌<◌, ◌≤◌, Bool, true, false, All, List, length, nat_lt, slice_index_or}
 use Rattle.std.proofs.Common.{refl, ap, arith}
 use Rattle.std.proofs.lemmas.Bool.Decides.{nat_tests}
@@ -9,7 +10,7 @@ use Rattle.mw_world.specs.Definition.State.{no_tenant, tenant_at, tenants_of}
 use Rattle.mw_law_calls.proofs.FromLaws.{first_holds, second_holds}
 use Rattle.mw_rule.specs.Layout.{PlacesAreInTable, PlacesAreWithin, PlacesStandApart}
 
--- past its end a list has what it is read with
+-- a read past a list's end gives the value for that
 index_past : {A : Type 0} (all : List A) (index : ℕ) (none : A) → length all ≤ index → slice_index_or all index none ≡ none
 index_past [] index none over = refl
 index_past (one ∷ rest) zero none over = absurd (omega (arith, over))
@@ -105,7 +106,7 @@ index_injective pool (Data tenant address) (Data its word) one two same = both_s
 low_of : (n m : ℕ) → nat_lt n m ≡ true → n < m
 low_of n m is = grind (arith, nat_tests, is)
 
--- a tenant that has words is there, and has no more than a tenant may have
+-- a tenant that has words is there, and has no more words than a tenant may have
 has_words : (tenants : List Tenant) (tenant address : ℕ) → All (λ (one : Tenant). (1 ≤ one.words) × (one.words ≤ MAX_WORDS)) tenants → address < (slice_index_or tenants tenant no_tenant).words
     → (tenant < length tenants) × (address < MAX_WORDS)
 has_words tenants tenant address all low = by (nat_lt tenant (length tenants)) refl
@@ -117,7 +118,7 @@ has_words tenants tenant address all low = by (nat_lt tenant (length tenants)) r
     by true is = let known = low_of tenant (length tenants) is in let most = (all tenant no_tenant known).1 in (known, omega (arith, low, most))
     by false is = let none = past (grind (arith, nat_tests, is)) in absurd (omega (arith, low, none))
 
--- places that are there are within
+-- places of the world are within the limits
 pub places_within : PlacesAreWithin
 places_within config (AtDoor tenant) is_config there = let low = low_of tenant (tenants_of config) there in let most = is_config.tenants.1 in omega (arith, low, most)
 places_within config (AtGate slot) is_config there = low_of slot config.pool there
@@ -132,7 +133,7 @@ places_within config (Expected slot entry) is_config there =
 places_within config (New slot entry) is_config there =
     (low_of slot config.pool (first_holds (nat_lt slot config.pool) (nat_lt entry MAX_ENTRIES) there), low_of entry MAX_ENTRIES (second_holds (nat_lt slot config.pool) (nat_lt entry MAX_ENTRIES) there))
 
--- and in the table
+-- and their indexes are in the table
 pub places_in_table : PlacesAreInTable
 places_in_table config (AtDoor tenant) is_config there = let low = low_of tenant (tenants_of config) there in let most = is_config.tenants.1 in omega (arith, low, most)
 places_in_table config (AtGate slot) is_config there = let low = low_of slot config.pool there in omega (arith, low)

@@ -1,4 +1,5 @@
--- Sums over what threads know, and what holds of each reins.
+-- Sums of counts over all views, and properties of each token of a list. Used by: Preservation, SplitLaws,
+-- ViewAfterStep, AnyNumber, Apart, other pages, mw_table.
 use Rattle.std.specs.Prelude.{ℕ, zero, suc, ◌+◌, ◌≡◌, ◌≢◌, ◌≤◌, ◌==◌, ◌&&◌, Bool, true, false, List, [], ◌∷◌, ◌++◌, slice_set}
 use Rattle.std.proofs.Common.{refl, sym, ap, inl, inr, arith}
 use Rattle.std.proofs.lemmas.Bool.Decides.{nat_tests}
@@ -6,9 +7,9 @@ use mathlib.Core.Option.{some, some-injective, some-ne-none}
 use lib.ListN.{get_elem?}
 use Rattle.mw_law_calls.proofs.FromLaws.{same_or_other}
 use Rattle.mw_rule.specs.declared.views.Finished.{Finished}
-use Rattle.mw_rule.specs.declared.views.Reins.{Reins}
+use Rattle.mw_rule.specs.declared.views.WorkerToken.{WorkerToken}
 use Rattle.mw_rule.specs.declared.views.View.{View}
-use Rattle.mw_rule.specs.Dealing.{head_of, rest_of}
+use Rattle.mw_rule.specs.Splits.{head_of, rest_of}
 use Rattle.mw_rule.specs.Rule.{Each, is_of, times, times_noted, weight, total}
 
 pub total_set : (count : View → ℕ) (views : List View) (id : ℕ) (old new : View) → get_elem? views id ≡ some old → total count (slice_set views id new) + count old ≡ total count views + count new
@@ -41,14 +42,14 @@ weight_none one other apart = grind (arith, nat_tests, apart)
 pub weight_own : (one other : ℕ) → one ≡ other → weight (one == other) ≡ 1
 weight_own one other same = grind (arith, nat_tests, same)
 
-pub own_once : (worker : ℕ) (reins : Reins) → reins.worker ≡ worker → times worker (reins ∷ []) ≡ 1
-own_once worker reins own = let one = weight_own reins.worker worker own in omega (arith, one)
+pub own_once : (worker : ℕ) (token : WorkerToken) → token.worker ≡ worker → times worker (token ∷ []) ≡ 1
+own_once worker token own = let one = weight_own token.worker worker own in omega (arith, one)
 
 apart_from : (one other : ℕ) → weight (one == other) ≡ 0 → one ≢ other
 apart_from one other none same = let is = weight_own one other same in absurd (omega (arith, none, is))
 
--- what holds of each of these reins, none of which is of a worker
-pub each_apart : (P Q : Reins → Type 0) (worker : ℕ) (all : List Reins) → times worker all ≡ 0 → ((one : Reins) → one.worker ≢ worker → P one → Q one) → Each P all → Each Q all
+-- a property of each of these tokens, none of which is this worker's
+pub each_apart : (P Q : WorkerToken → Type 0) (worker : ℕ) (all : List WorkerToken) → times worker all ≡ 0 → ((one : WorkerToken) → one.worker ≢ worker → P one → Q one) → Each P all → Each Q all
 each_apart P Q worker [] none keeps holds = tt
 each_apart P Q worker (one ∷ rest) none keeps holds = (
   keeps one (apart_from one.worker worker (omega (arith, none))) holds.0,
@@ -63,26 +64,26 @@ pub each_more : {A : Type 0} (P : A → Type 0) (all more : List A) → Each P a
 each_more P [] more first rest = rest
 each_more P (one ∷ all) more first rest = (first.0, each_more P all more first.1 rest)
 
--- the first reins, and the others
-pub heads_and_rests : (worker : ℕ) (all : List Reins) → times worker (rest_of all) + times worker (head_of all) ≡ times worker all
+-- the first token, and the others
+pub heads_and_rests : (worker : ℕ) (all : List WorkerToken) → times worker (rest_of all) + times worker (head_of all) ≡ times worker all
 heads_and_rests worker [] = refl
 heads_and_rests worker (one ∷ rest) = omega arith
 
-pub times_behind : (worker : ℕ) (all more : List Reins) → times worker (all ++ more) ≡ times worker all + times worker more
+pub times_behind : (worker : ℕ) (all more : List WorkerToken) → times worker (all ++ more) ≡ times worker all + times worker more
 times_behind worker [] more = omega arith
 times_behind worker (one ∷ all) more = let rest = times_behind worker all more in omega (arith, rest)
 
--- Where no view has any there are none.
+-- If no view has any, the total is 0.
 pub total_none : (count : View → ℕ) (views : List View) → ((id : ℕ) (view : View) → get_elem? views id ≡ some view → count view ≡ 0) → total count views ≡ 0
 total_none count [] none = refl
 total_none count (one ∷ views) none = let first = none zero one refl in let rest = total_none count views (λ id view is. none (suc id) view is) in omega (arith, first, rest)
 
--- Requests that are noted behind others.
+-- Requests that are added after others.
 pub times_more : (tenant request : ℕ) (mine more : List Finished) → times_noted tenant request (mine ++ more) ≡ times_noted tenant request mine + times_noted tenant request more
 times_more tenant request [] more = omega arith
 times_more tenant request (one ∷ mine) more = let rest = times_more tenant request mine more in omega (arith, rest)
 
--- A request is of itself, and no other is.
+-- A finished request counts for no other tenant or number.
 pub weight_at : (one : Finished) (tenant request : ℕ) → (one.tenant ≡ tenant → one.request ≢ request) → weight (is_of tenant request one) ≡ 0
 weight_at one tenant request apart = elim (same_or_other one.tenant tenant) [
   | inl same ↦ let not_it = apart same in both (one.tenant == tenant) (one.request == request) (weight_none one.request request not_it)
@@ -101,7 +102,7 @@ pub weight_few : (own : Bool) → weight own ≤ 1
 weight_few true = omega arith
 weight_few false = omega arith
 
--- Where each of these is apart from the request, it isn't among them.
+-- If each of these is another request, it isn't among them.
 pub times_none : (tenant request : ℕ) (mine : List Finished) → Each (λ one. one.tenant ≡ tenant → one.request ≢ request) mine → times_noted tenant request mine ≡ 0
 times_none tenant request [] apart = refl
 times_none tenant request (one ∷ mine) apart = let here = weight_at one tenant request apart.0 in let rest = times_none tenant request mine apart.1 in omega (arith, here, rest)

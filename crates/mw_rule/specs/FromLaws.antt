@@ -1,7 +1,8 @@
 -- Definitions of the laws below that crates above need too, passed on: these then name this crate alone.
-pub use Rattle.mw_law_calls.specs.declared.rights.FileRights.{FileRights}
-pub use Rattle.mw_law_calls.specs.Calling.{End, FindsFault, GoesWell, MayEnd, MeetsFault, Skips, rights_by, went_well}
-pub use Rattle.mw_law_calls.specs.Ending.{kind_of}
-pub use Rattle.mw_law_calls.specs.Starting.{HasWords}
-pub use Rattle.mw_law_calls.specs.Rights.{TellsFile, file_told, rights_broken, rights_filed, rights_opened}
-pub use Rattle.mw_law_calls.specs.FromLaws.{FindsItsWay, IsSound, after_marks, first_moment, is_as_named}
+-- Used by: mw_table, mw_core, mw_engine. Add and take out names as these crates need them.
+pub use Rattle.mw_law_calls.specs.declared.file_token.FileToken.{FileToken}
+pub use Rattle.mw_law_calls.specs.CallsByToken.{End, FindsFault, GoesWell, MayEnd, MeetsFault, Skips, file_token_by, went_well}
+pub use Rattle.mw_law_calls.specs.CallEnds.{kind_of}
+pub use Rattle.mw_law_calls.specs.CallStarts.{HasWords}
+pub use Rattle.mw_law_calls.specs.FileTokens.{TellsFile, file_told, file_token_broken, file_token_filed, file_token_opened}
+pub use Rattle.mw_law_calls.specs.FromLaws.{FindsItsWay, IsSound, after_marks, first_abstract_state, is_as_named}

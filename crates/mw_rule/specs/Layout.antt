@@ -1,4 +1,6 @@
--- Where each shared word stands in the table.
+-- The index of each shared word in the table.
+-- Used by: the contracts of src/indexes.rt and src/laws.rt, many specs of this crate, mw_table, mw_core, mw_engine,
+-- mw_world_table. A change here changes what these contracts say.
 use Rattle.std.specs.Prelude.{ℕ, ◌≡◌, ◌+◌, ◌-◌, ◌*◌, ◌/◌, ◌<◌, true}
 use Rattle.mw_words.specs.declared.limits.TheConstants.{MAX_ENTRIES, MAX_TENANTS, MAX_WORDS, MAX_WORKERS}
 use Rattle.mw_words.specs.declared.places.At.{At}
@@ -8,15 +10,16 @@ use Rattle.mw_world.specs.declared.config.Config.{Config}
 use Rattle.mw_world.specs.Definition.Extent.{has_place}
 use Rattle.mw_world.specs.Definition.State.{IsConfig, tenants_of}
 
--- the slots' words come after the doors and the rows, each of which begins a line
+-- The index of the first slot's first word. The doors and the rows are before it, each with a line of its own.
 abbrev pub slots_from : ℕ
 slots_from = LINE * (MAX_TENANTS + MAX_WORKERS)
 
--- a slot's words lie together, in whole lines: its gate, its status, its count, and three of each entry
+-- How many words a slot takes, in whole lines: its gate, its status, its count, and three words for each entry.
 abbrev pub slot_wide : ℕ
 slot_wide = (3 + 3 * MAX_ENTRIES + (LINE - 1)) / LINE * LINE
 
--- Where a word stands, by the number of slots: first the doors, then the rows, then the slots, then the tenants' words, for each tenant as many as a tenant may have.
+-- The index of a word, in a table of so many slots. The order is doors, rows, slots, then the tenants' words. Each
+-- tenant has room for as many words as a tenant may have.
 abbrev pub index_of : ℕ → At → ℕ
 index_of pool (AtDoor tenant) = LINE * tenant
 index_of pool (AtRow worker) = LINE * (MAX_TENANTS + worker)
@@ -32,7 +35,8 @@ index_of pool (Data tenant address) = slots_from + slot_wide * pool + MAX_WORDS 
 abbrev pub words_of : Config → ℕ
 words_of config = slots_from + slot_wide * config.pool + MAX_WORDS * tenants_of config
 
--- each number of a place is below the most that there can be, and slots are of the pool
+-- The place is within the limits: its slot is one of the pool, and its tenant, worker, entry or address is below the
+-- limit. (For a tenant's word only the address is limited.)
 abbrev pub Within : ℕ → At → Type 0
 Within pool (AtDoor tenant) = tenant < MAX_TENANTS
 Within pool (AtRow worker) = worker < MAX_WORKERS
@@ -44,12 +48,14 @@ Within pool (Expected slot entry) = (slot < pool) × (entry < MAX_ENTRIES)
 Within pool (New slot entry) = (slot < pool) × (entry < MAX_ENTRIES)
 Within pool (Data tenant address) = address < MAX_WORDS
 
--- Places that are there are within, stand in the table, and stand apart.
+-- Each place of the world is within the limits.
 abbrev pub PlacesAreWithin : Type 0
 PlacesAreWithin = (config : Config) (at : At) → IsConfig config → has_place config at ≡ true → Within config.pool at
 
+-- Each place of the world has an index in the table.
 abbrev pub PlacesAreInTable : Type 0
 PlacesAreInTable = (config : Config) (at : At) → IsConfig config → has_place config at ≡ true → index_of config.pool at < words_of config
 
+-- Two places within the limits have two indexes.
 abbrev pub PlacesStandApart : Type 0
 PlacesStandApart = (pool : ℕ) (one other : At) → Within pool one → Within pool other → index_of pool one ≡ index_of pool other → one ≡ other

@@ -1,20 +1,23 @@
-//! Where each shared word stands in the table.
+//! The index of each shared word in the table.
+//!
+//! Used by: mw_table, mw_world_table. The order may be changed, together with `specs/Layout` and with
+//! `place_at` of mw_table. Nothing outside of memory depends on it.
 ghost use Rattle.std.specs.Prelude.{◌≡◌, ◌<◌, ◌+◌, ◌*◌};
 ghost use Rattle.mw_rule.specs.Layout as spec;
 
 use mw_words::{At, MAX_ENTRIES, MAX_TENANTS, MAX_WORDS, MAX_WORKERS};
 
-/// How many words a cache line has. Words that different tenants or workers change often stand so far apart, so that
-/// none waits for the line of another.
+/// How many words a cache line has. Words that different tenants or workers change often are so far apart that none
+/// waits for another's line.
 pub const LINE: usize = 8;
 
-/// Where the slots' words begin: after a line for each door and each row.
+/// The index of the first slot's first word. Before it, each door and each row has a line.
 pub const SLOTS_FROM: usize = LINE * (MAX_TENANTS + MAX_WORKERS as usize);
 
-/// How many words of the table a slot has, in whole lines.
+/// How many words of the table a slot takes: whole lines.
 pub const SLOT_WIDE: usize = (3 + 3 * MAX_ENTRIES + (LINE - 1)) / LINE * LINE;
 
-/// Where a word stands in a table of so many slots.
+/// Returns the index of a word in a table of `pool` slots.
 pub fn index_of(pool: u16, at: At) -> usize
     ensures { result ≡ spec.index_of pool at }
 {

@@ -1,13 +1,19 @@
-//! The rule between the shared words of running threads and the world: between any two steps the words in
-//! the table, and what the threads know, are those of the world after some run.
+//! The rule that ties the shared words of running threads to the world. Between any two steps, some run of the world
+//! leads to the bits in the table, and what each thread knows is true after that run.
 //!
-//! What to read first. `specs/Layout` says where each shared word stands, `specs/Ways` what each kind of step
-//! makes of a word's bits; `specs/Rule` is the rule, with what one thread knows, `specs/Courses` the run behind the
-//! table as a thread knows it, and `specs/Grounds` what BUSY, FAULT and WORN rest on; `specs/Carrying` what a step
-//! asks of the thread that makes it, and what it tells the thread; `specs/Calling` what that comes to over a
-//! whole call; `specs/Dealing` how what threads know is parted and put together. `specs/Laws` and
-//! `specs/Continuing` say what is proved of these, `specs/Moves` of all that a thread may do at once. `mw_table`
-//! has the steps.
+//! Read in this order:
+//!
+//! - `specs/Layout`: the index of each shared word. `specs/Ways`: what each kind of step makes of a word's bits.
+//! - `specs/Rule`: the rule, and what one thread's knowledge means. `specs/KnownRuns`: the table's run as a thread
+//!   knows it. `specs/Evidence`: what the replies BUSY, FAULT and WORN rest on.
+//! - `specs/Steps`: what a step requires of the thread that makes it, and what the thread learns. `specs/FileCalls`:
+//!   the same for a call on a file. `specs/WholeCalls`: the same for a whole request.
+//! - `specs/Splits`: how threads split and merge what they know.
+//! - `specs/Laws`, `specs/RunEvents` and `specs/WordActions`: what is proved of all these.
+//!
+//! `mw_table` makes the steps.
+//!
+//! Used by: mw_table, mw_world_table.
 #![tactic(auto)]
 
 mod indexes;
@@ -22,8 +28,9 @@ pub use laws::{
     moves_are_of_the_run, places_stand_apart, steps_keep_the_rule, tables_start_under_the_rule,
     the_run_goes_on, what_is_known_is_parted,
 };
-pub use rule::{Begins, Borrows, Deals, Entrusts, Gathers, Hears, Meets, Notes, Tie};
+pub use rule::{Begins, Deals, GivesFile, Learns, Meets, Merges, Notes, TakesFiles, Tie};
 pub use views::{
-    Course, Deed, Finding, Finished, FoundStatus, Glance, Held, Opened, Reins, Sealed, View,
+    Finding, Finished, FoundStatus, HeldFile, KnownRun, KnownStart, PlainLoad, Sealed, View,
+    WorkerEvent, WorkerToken,
 };
 pub use ways::{Way, way_of};

@@ -1,9 +1,11 @@
-//! The rule as the table takes it.
+//! The rule as a type that the table takes, and the ways in which threads share what they know.
+//!
+//! mw_table names these types when it makes a table, and when threads split and merge what they know.
 ghost use Rattle.std.specs.Prelude.{List, ℕ};
 ghost use Rattle.mw_world.specs.declared.config.Config.{Config};
-ghost use Rattle.mw_world.specs.Definition.Happenings.{Happening};
-ghost use Rattle.mw_world.specs.Definition.State.{Opening};
-ghost use Rattle.mw_rule.specs.Dealing.{bereft, borrows, dealt, entrusted, gathers, hears, left_over, meets, note, spent};
+ghost use Rattle.mw_world.specs.Definition.Events.{WorldEvent};
+ghost use Rattle.mw_world.specs.Definition.State.{TenantStart};
+ghost use Rattle.mw_rule.specs.Splits.{without_file, takes_files, dealt, with_file_given, merges, learns, left_over, meets, note, spent};
 ghost use Rattle.mw_rule.specs.Rule.{Tied};
 ghost use Rattle.mw_rule.specs.declared.views.View.{View};
 
@@ -16,14 +18,14 @@ pub trait Begins {
     // What the world is made of.
     ghost config: { Self → Config };
 
-    // The start of all gave the tenants this, and these may have happened before the table was made.
-    ghost begun: { Self → (ℕ → Opening) → List Happening → Type 0 };
+    // Whether the table may begin here: the first start gave the tenants this, and these events happened before.
+    ghost begun: { Self → (ℕ → TenantStart) → List WorldEvent → Type 0 };
 
     // What the first thread knows.
     ghost first: { Self → View };
 }
 
-/// The rule: the words and what the threads know are those of the world after some run.
+/// The rule of the table: the words and what the threads know are those of the world after some run.
 pub struct Tie;
 
 impl<B: Begins> TableRule<Actor, View, B> for Tie {
@@ -32,7 +34,7 @@ impl<B: Begins> TableRule<Actor, View, B> for Tie {
     ghost first = { λ key. B.first key };
 }
 
-/// The first reins of a thread are given to a new one, with what their worker finished.
+/// Gives a thread's first token to a new thread, with the requests that its worker finished.
 pub struct Deals;
 
 impl Split<View> for Deals {
@@ -41,7 +43,7 @@ impl Split<View> for Deals {
     ghost right = { dealt };
 }
 
-/// A note is made of what a thread has seen.
+/// Makes a note: a copy of what a thread has seen, without tokens, finished requests or files.
 pub struct Notes;
 
 impl Split<View> for Notes {
@@ -50,16 +52,16 @@ impl Split<View> for Notes {
     ghost right = { note };
 }
 
-/// A thread is told what a note says.
-pub struct Hears;
+/// Tells a thread what a note says. What the thread has seen itself stays the same.
+pub struct Learns;
 
-impl Join<View> for Hears {
-    ghost both = { hears };
+impl Join<View> for Learns {
+    ghost both = { learns };
 
     ghost spent = { spent };
 }
 
-/// A thread takes what a note says for what it saw itself.
+/// Tells a thread what a note says, and the thread takes it as seen by itself.
 pub struct Meets;
 
 impl Join<View> for Meets {
@@ -68,29 +70,29 @@ impl Join<View> for Meets {
     ghost spent = { spent };
 }
 
-/// A thread takes over all that another knew.
-pub struct Gathers;
+/// Merges all that another thread knew into a thread, with its tokens, finished requests and files.
+pub struct Merges;
 
-impl Join<View> for Gathers {
-    ghost both = { gathers };
+impl Join<View> for Merges {
+    ghost both = { merges };
 
     ghost spent = { spent };
 }
 
-/// The first right to call a file is given to a new thread.
-pub struct Entrusts;
+/// Gives a thread's first file to a new thread, with a note.
+pub struct GivesFile;
 
-impl Split<View> for Entrusts {
-    ghost left = { bereft };
+impl Split<View> for GivesFile {
+    ghost left = { without_file };
 
-    ghost right = { entrusted };
+    ghost right = { with_file_given };
 }
 
-/// A thread takes another's rights to call files.
-pub struct Borrows;
+/// Takes another thread's files, and learns the run that it knew. Nothing else of the other thread is kept.
+pub struct TakesFiles;
 
-impl Join<View> for Borrows {
-    ghost both = { borrows };
+impl Join<View> for TakesFiles {
+    ghost both = { takes_files };
 
     ghost spent = { spent };
 }

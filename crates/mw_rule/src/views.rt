@@ -1,78 +1,80 @@
-//! What a thread knows of the world. These are for proofs: no value of them is made.
+//! What a thread knows of the world, as ghost types. Proofs use them; the program makes no value of them.
+//!
+//! Used by: `rule`, mw_table.
 
 use mw_actor::Actor;
-use mw_law_calls::FileRights;
+use mw_law_calls::FileToken;
 use mw_look::{Got, Op};
 use mw_words::{Entry, Job, Reply, Status};
 use mw_world::Config;
 use std::collections::LinkedList;
 use std::marker::Model;
 
-/// An event of one worker.
-pub enum Deed {
-    /// A request came.
+/// One thing that a worker did, as its token keeps it.
+pub enum WorkerEvent {
+    /// A request came to the worker.
     Came,
-    /// It made a step, which was no call on a file.
+    /// Its request made a step, which was no call on a file.
     Stepped,
-    /// It made a call on its file.
+    /// Its request's call on a file was made.
     Called,
-    /// Its reply was handed out.
+    /// Its request's reply was handed out.
     Handed,
 }
 
-/// A step of a request, and what it found.
+/// A step of a request, and what the step found.
 pub struct Finding {
     /// The step.
     pub op: Op,
-    /// What it found.
+    /// What the step found.
     pub got: Got,
 }
 
-/// The right to make the steps of one worker, and what is known of the worker.
-pub struct Reins {
+/// The capability to make one worker's steps, and what its owner knows of that worker. One thread has it at a time.
+pub struct WorkerToken {
     /// The worker.
     pub worker: u8,
-    /// Its request, if it has one.
+    /// The worker's request and how far it has come. `None`: the worker has no request.
     pub actor: Option<Actor>,
-    /// The number of its next attempt.
+    /// The number of the worker's next attempt.
     pub attempt: u64,
-    /// What it did since the table was made, in order.
-    pub made: LinkedList<Deed>,
-    /// The number of its latest request among its tenant's.
+    /// What the worker did since the table was made, in order.
+    pub made: LinkedList<WorkerEvent>,
+    /// The number of the worker's latest request, among the requests of its tenant.
     pub request: u64,
-    /// So many of the tenant's changes, or more, were sealed when the request came. It is 0 of one that had come
-    /// before the table was made.
+    /// At least so many of the tenant's changes were sealed when the request came. It is 0 if the request came before
+    /// the table was made.
     pub begun: u64,
-    /// What the request's steps found, in order: all of them since it came, or, where it had come before the
-    /// table was made, those since then.
+    /// What the request's steps found, in order. If the request came before the table was made, the steps before that
+    /// are missing.
     pub found: LinkedList<Finding>,
-    /// Whether the request came since the table was made, so that no step is missing there.
+    /// Whether the request came after the table was made, so that `found` has all its steps.
     pub is_whole: bool,
 }
 
-/// What the start gave a tenant.
-pub struct Opened {
-    /// How many slots it may use at a time.
+/// What a start gave one tenant.
+pub struct KnownStart {
+    /// The tenant's quota: how many slots it may use at a time.
     pub quota: u8,
     /// How many places for changes its file has.
     pub places: u8,
-    /// Its words.
+    /// Its words at that start.
     pub words: LinkedList<u64>,
     /// Whether its file opened.
     pub is_up: bool,
 }
 
-impl Model for Opened {
-    ghost use Rattle.mw_world.specs.Definition.State.{Opening};
+impl Model for KnownStart {
+    ghost use Rattle.mw_world.specs.Definition.State.{TenantStart};
 
-    ghost Value = { Opening };
+    ghost Value = { TenantStart };
 
     ghost view = { λ o. record { quota = o.quota; places = o.places; words = o.words; is_up = o.is_up } };
 }
 
-/// A change of a tenant that was sealed.
+/// A sealed change of a tenant.
 pub struct Sealed {
-    /// The number of its request.
+    /// The number of the request that made it.
     pub request: u64,
     /// Its entries.
     pub entries: LinkedList<Entry>,
@@ -86,31 +88,31 @@ impl Model for Sealed {
     ghost view = { λ s. record { request = s.request; entries = s.entries } };
 }
 
-/// A request that has its reply.
+/// A request that has its reply, and where in the history of its tenant the reply is right.
 pub struct Finished {
     /// The worker that worked on it.
     pub worker: u8,
     /// The tenant that asked.
     pub tenant: u8,
-    /// The request's number among the tenant's.
+    /// The request's number, among the requests of its tenant.
     pub request: u64,
-    /// What was asked for.
+    /// What the tenant asked for.
     pub job: Job,
     /// The reply.
     pub reply: Reply,
-    /// Its place: after so many of the tenant's changes the reply is right. For YES the change of this number, from
-    /// 0 on, is the request's own. It tells nothing where the reply rests on no word, as that the tenant is busy:
-    /// that rests on what the request's steps found.
+    /// The position of the reply: the reply is right after so many of the tenant's sealed changes. For YES, the
+    /// change with this index, from 0, is the request's own. BUSY, FAULT and WORN rest on no word: for them the
+    /// position says nothing. If no step is missing, their evidence is in `found` or, for WORN, in `attempt`.
     pub place: u64,
-    /// What its steps found, in order, as its worker's reins tell it.
+    /// What its steps found, in order, from its worker's token.
     pub found: LinkedList<Finding>,
-    /// Whether no step is missing there.
+    /// Whether `found` has all its steps.
     pub is_whole: bool,
-    /// The number of its worker's next attempt to hold a word then.
+    /// The number of its worker's next attempt, when the reply was there.
     pub attempt: u64,
 }
 
-/// What was found of the status of a change: a request is at a call on its file that starts from this status.
+/// The status that a request found for its call on a file. The call starts from this status and is under way.
 pub struct FoundStatus {
     /// The worker whose request it is.
     pub worker: u8,
@@ -118,60 +120,62 @@ pub struct FoundStatus {
     pub status: Status,
 }
 
-/// The right to make the calls on a tenant's file, and what is known of it.
-pub struct Held {
-    /// What is known of the file.
-    pub file: FileRights,
-    /// What was found for the call that is under way, if one is.
+/// The capability to make the calls on one tenant's file, and what its owner knows of the file. One thread has it at
+/// a time.
+pub struct HeldFile {
+    /// The file token: what is known of the file.
+    pub file: FileToken,
+    /// The status that was found for the call under way. `None`: no call is under way.
     pub found: Option<FoundStatus>,
 }
 
 /// A load that was no step of a request.
-pub struct Glance {
-    /// Which word was loaded, by its index in the table.
+pub struct PlainLoad {
+    /// The index of the loaded word in the table.
     pub index: usize,
-    /// What stood there, in bits.
+    /// The bits that it found.
     pub bits: u64,
 }
 
-/// The run of the world behind a table, as far as a thread knows it: what its first start gave, what happened before
-/// the table was made, and what has happened since, but for which device calls failed.
-pub struct Course;
+/// The table's run of the world, as far as a thread knows it: what its first start gave, the events before the table
+/// was made, and the events since. It doesn't tell which device call failed in a call on a file.
+pub struct KnownRun;
 
-impl Model for Course {
-    ghost use Rattle.mw_rule.specs.Courses as courses;
+impl Model for KnownRun {
+    ghost use Rattle.mw_rule.specs.KnownRuns as known_runs;
 
-    ghost Value = { courses.Course };
+    ghost Value = { known_runs.KnownRun };
 
-    ghost view = { λ c. courses.no_course };
+    ghost view = { λ c. known_runs.no_known_run };
 }
 
-/// What a thread knows.
+/// All that a thread knows. It stays true, whatever other threads do.
 pub struct View {
     /// What the world is made of.
     pub config: Config,
     /// What the latest start gave each tenant, in the order of the tenants.
-    pub openings: LinkedList<Opened>,
-    /// The workers whose steps the thread may make.
-    pub reins: LinkedList<Reins>,
-    /// By tenant, the changes sealed since that start, as far as they were seen, in order.
+    pub openings: LinkedList<KnownStart>,
+    /// The tokens of the workers whose steps this thread may make.
+    pub tokens: LinkedList<WorkerToken>,
+    /// For each tenant, a prefix of the changes that were sealed since the latest start, in order: those that this
+    /// thread has seen.
     pub seen: LinkedList<LinkedList<Sealed>>,
     /// The same, as another thread told it.
     pub told: LinkedList<LinkedList<Sealed>>,
-    /// The run behind the table, as it was at the thread's latest step or load, or at that of a thread that it met; before
-    /// these, as it was when the table was made at a start. Of a table that is made of a world none is known then.
-    pub course: Option<Course>,
-    /// The same, as another thread told it, or as it was known with a right to a file.
-    pub told_course: Option<Course>,
-    /// The requests that its workers finished, in order, each at its place among what was seen; of a thread that
-    /// took over another's knowledge its own come first.
+    /// The table's run at the latest step or load of this thread, or of a thread that it met. Before any of these, it
+    /// is the run when the table was made at a start. `None` before any of these, if the table was made of a world.
+    pub known_run: Option<KnownRun>,
+    /// The same, as another thread told it, or as it was known with a file that this thread took.
+    pub learned_run: Option<KnownRun>,
+    /// The requests that this thread's workers finished, in order, each with a position among the changes in `seen`.
+    /// If the thread took over another thread's knowledge, its own requests come first.
     pub mine: LinkedList<Finished>,
-    /// The files on which the thread may make calls.
-    pub files: LinkedList<Held>,
-    /// The loads that were no steps of a request, in order: each such load of the thread adds itself, and nothing else
-    /// adds any. A thread that parts from another, or takes over what another knew, knows of those loads too of which
-    /// the one knew that it was before.
-    pub glances: LinkedList<Glance>,
-    /// Whether all this was given to another thread. What is left tells nothing.
+    /// The files on which this thread may make calls.
+    pub files: LinkedList<HeldFile>,
+    /// The loads of this thread that were no steps of a request, in order. Each such load adds itself; nothing else
+    /// adds any. When a thread's knowledge is split, both parts keep the list. A thread that merges another keeps its
+    /// own list.
+    pub plain_loads: LinkedList<PlainLoad>,
+    /// Whether all this was given to another thread. What is left says nothing.
     pub is_spent: bool,
 }

@@ -1,23 +1,26 @@
-//! How each kind of step changes a word's bits.
+//! How each kind of step changes the bits of its word.
+//!
+//! mw_table makes each step in its way (`src/turns.rt`). `specs/Ways` says the same for proofs: change both
+//! together.
 ghost use Rattle.std.specs.Prelude.{◌≡◌};
 ghost use Rattle.mw_rule.specs.Ways as spec;
 
 use mw_look::{Kind, Shape};
 
-/// How a step changes a word.
+/// How a step changes the bits of a word.
 #[derive(Clone, Copy, Debug, PartialEq, Eq)]
 pub enum Way {
-    /// What is expected there is exchanged for something else.
+    /// If the word has the expected bits, exchanges them for other bits.
     Exchange,
-    /// Something is stored.
+    /// Stores bits.
     Store,
-    /// So much is subtracted.
+    /// Subtracts this number.
     Sub(u64),
-    /// These bits are set.
+    /// Sets these bits.
     Or(u64),
 }
 
-/// How a kind of step changes its word.
+/// Returns how a step of this kind changes its word.
 pub fn way_of(kind: Kind) -> Way
     ensures { result ≡ spec.way_of kind }
 {

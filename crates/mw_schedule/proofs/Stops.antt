@@ -1,4 +1,4 @@
--- One stop more.
+-- Stops that a schedule may have stay so with one more, if it is of another tenant. Used by: the proof of read_stops.
 use Rattle.std.proofs.Common.{◌≡◌, ◌≢◌, ℕ, ◌==◌, ◌<◌, false, List, [], ◌∷◌, ◌++◌, arith}
 use Rattle.std.specs.Prelude.{All}
 use Rattle.std.specs.List.{list_any}
@@ -6,13 +6,13 @@ use Rattle.std.proofs.lemmas.List.Elements.{All-nil, All-cons, All-append}
 use Rattle.std.proofs.lemmas.List.Quantifiers.{all_pairs_push}
 use Rattle.std.proofs.lemmas.Bool.Decides.{nat_tests}
 use Rattle.mw_world.specs.declared.events.Stop.{Stop}
-use Rattle.mw_schedule.specs.Playing.{AreStops, IsOfWorker}
+use Rattle.mw_schedule.specs.Playable.{AreStops, IsOfWorker}
 use Rattle.mw_schedule.proofs.Tenants.{neither}
 
 apart : (k n : ℕ) → (k == n) ≡ false → k ≢ n
 apart k n h same = grind (arith, nat_tests, h, same)
 
--- no stop so far is of a tenant that none was found of
+-- if the test finds no stop of a tenant, no stop is of it
 none_of : (tenant : ℕ) (stops : List Stop) → list_any (λ stop. stop.tenant == tenant) stops ≡ false → All (λ (stop : Stop). stop.tenant ≢ tenant) stops
 none_of tenant [] h = All-nil (λ (stop : Stop). stop.tenant ≢ tenant)
 none_of tenant (stop ∷ stops) h =

@@ -1,4 +1,5 @@
--- One tenant more.
+-- Tenants that a schedule may have stay so with one more, or with an old file for one. Used by: Stops, the proofs of
+-- read_tenants and read_olds.
 use Rattle.std.proofs.Common.{◌≡◌, ◌≢◌, ℕ, ◌+◌, ◌<◌, ◌≤◌, Bool, true, false, ◌||◌, Option, Some, List, [], ◌∷◌, ◌++◌, length, get_or, set, refl, sym, ap, subst, ◌∙◌, inl, inr, arith}
 use Rattle.std.specs.Prelude.{All, bytes_eq, IsTrue, sum_by}
 use Rattle.std.specs.List.{list_any}
@@ -15,7 +16,7 @@ use Rattle.mw_words.specs.declared.limits.TheConstants.{MAX_QUOTA, MAX_WORDS}
 use Rattle.mw_words.specs.Name.{is_name}
 use Rattle.mw_world.specs.declared.config.Tenant.{Tenant}
 use Rattle.mw_world.specs.Definition.State.{may_be_old, no_tenant}
-use Rattle.mw_schedule.specs.Playing.{IsFree, IsNext, AreNamed, AreTenants}
+use Rattle.mw_schedule.specs.Playable.{IsFree, IsNext, AreNamed, AreTenants}
 
 pub neither : (a b : Bool) → (a || b) ≡ false → (a ≡ false) × (b ≡ false)
 neither true b h = absurd cc
@@ -27,7 +28,7 @@ true_false b t f = absurd cc
 differs : (xs ys : List ℕ) → bytes_eq xs ys ≡ false → xs ≢ ys
 differs xs ys h same = true_false (bytes_eq xs ys) ((bytes_eq-Decides xs ys).1 same) h
 
--- a name that no tenant was found under is free
+-- if the test finds no tenant with a name, no tenant has it
 pub none_named : (tenants : List Tenant) (name : List ℕ) → list_any (λ tenant. bytes_eq tenant.name.items name) tenants ≡ false → IsFree name tenants
 none_named [] name h = All-nil (λ (tenant : Tenant). tenant.name.items ≢ name)
 none_named (tenant ∷ tenants) name h =
@@ -43,7 +44,7 @@ named_more tenants tenant names is new = record {
   once = all_pairs_push (λ (earlier later : Tenant). earlier.name.items ≢ later.name.items) tenants tenant names.once new;
 }
 
--- the quotas with one more
+-- the sum of the quotas with one more
 pub sum_more : (tenants : List Tenant) (tenant : Tenant) → sum_by (λ (t : Tenant). t.quota) (tenants ++ tenant ∷ []) ≡ sum_by (λ (t : Tenant). t.quota) tenants + tenant.quota
 sum_more tenants tenant =
     let quota : Tenant → ℕ = λ t. t.quota in
@@ -66,12 +67,12 @@ tenants_more pool free tenants tenant are left next = record {
 abbrev pub with_old : Tenant → ArrayVec Entry → Tenant
 with_old tenant change = record tenant { old = Some change }
 
--- A tenant's file is an old one.
+-- A tenant gets an old file.
 module _ (pool : ℕ) (tenants : List Tenant) (index : ℕ) (change : ArrayVec Entry) (are : AreTenants pool tenants) (there : index < length tenants) where
   abbrev tenant : Tenant
   tenant = get_or tenants index no_tenant
 
-  -- its name is what it was
+  -- its name stays
   same_name : (k : ℕ) (d : Tenant) → k < length tenants → (get_or (set tenants index (with_old tenant change)) k d).name ≡ (get_or tenants k d).name
   same_name k d low = elim (cases_eq k index) [
     | inl here ↦
@@ -101,7 +102,7 @@ module _ (pool : ℕ) (tenants : List Tenant) (index : ℕ) (change : ArrayVec E
         omega (arith, slots, changed);
   }
 
--- The list in memory after a tenant of it was written.
+-- The list in memory after one tenant of it was written.
 module _ (tenants : ArrayVec Tenant) (index : ℕ) (now : List Tenant) (read : Tenant) (change : ArrayVec Entry) (is : now ≡ tenants.items) (there : index < length tenants.items) where
   abbrev written : List Tenant
   written = set now index (with_old (get_or now index read) change)

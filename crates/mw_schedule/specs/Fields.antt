@@ -1,8 +1,9 @@
--- What stands in a text.
+-- The number that a text is.
+-- Used by: the contracts of src/fields.rt. A change here changes what these contracts say.
 use Rattle.std.specs.Prelude.{ℕ, ◌==◌, List, length, if◌then◌else◌, Option, Some, None}
-use Rattle.mw_line.specs.Reading.{◌>>=◌, narrow, number_at}
+use Rattle.mw_line.specs.LineReader.{◌>>=◌, narrow, number_at}
 
--- a number that is all of the text, in 64 bits; it stays at the greatest
+-- the number that is the whole text; above 64 bits it is the greatest of 64 bits
 unfoldable pub number : List ℕ → Option ℕ
 number text = do
   read ← number_at narrow.value text

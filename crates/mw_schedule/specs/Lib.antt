@@ -1,4 +1,4 @@
 pub mod Fields
 pub mod Lines
-pub mod Playing
+pub mod Playable
 pub mod Steps

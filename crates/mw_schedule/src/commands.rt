@@ -1,8 +1,11 @@
-//! The lines of a schedule that tell what is to happen.
+//! The lines of a schedule that say what happens.
+//!
+//! Used by: `reader`; `restarts`, for the numbers of tenants and workers. A new command needs a case here, in
+//! `schedule`, in mw_player, and in docs/SCHEDULES.md.
 ghost use Rattle.std.specs.Prelude.{◌≡◌, ◌<◌, IfOk, IfSome};
 ghost use Rattle.mw_words.specs.declared.limits.TheConstants.{MAX_WORKERS as most_workers};
 ghost use Rattle.mw_world.specs.Definition.State.{tenants_of};
-ghost use Rattle.mw_schedule.specs.Playing.{IsPlayable};
+ghost use Rattle.mw_schedule.specs.Playable.{IsPlayable};
 
 use crate::fields::{number, number_within};
 use crate::restarts::read_stops;
@@ -13,11 +16,8 @@ use mw_words::{Job, MAX_WORKERS};
 use mw_world::{Config, Outcome};
 use std::alloc::{AllocError, Global};
 
-/// The command of a line, for a world of this configuration. None where the line is no command.
-///
-/// # Errors
-///
-/// Memory was refused.
+/// Reads the command of a line, for a world of this configuration. `None`: the line is no command. The only
+/// error is that memory is out.
 pub fn read_command(
     alloc: Global,
     line: &[u8],
@@ -31,7 +31,7 @@ pub fn read_command(
     }
 }
 
-// The command of a line that begins with a word and a worker.
+// Reads the command of a line that begins with a word and a worker.
 fn worker_command(line: &[u8], config: &Config) -> Option<Command>
     ensures { IfSome result (IsPlayable config.now) }
 {
@@ -46,7 +46,7 @@ fn worker_command(line: &[u8], config: &Config) -> Option<Command>
     }
 }
 
-// The command of a line that has more behind its worker.
+// Reads the command of a line that has more after its worker.
 fn longer_command(word: &[u8], worker: u8, rest: &[u8], config: &Config) -> Option<Command>
     requires { worker < most_workers }
     ensures { IfSome result (IsPlayable config.now) }
@@ -60,7 +60,7 @@ fn longer_command(word: &[u8], worker: u8, rest: &[u8], config: &Config) -> Opti
     }
 }
 
-// A worker begins a request: its tenant's name and its line.
+// Reads the rest of a `come` line: the tenant's name and the line of the request that the worker begins.
 fn come(worker: u8, rest: &[u8], config: &Config) -> Option<Command>
     requires { worker < most_workers }
     ensures { IfSome result (IsPlayable config.now) }
@@ -83,7 +83,7 @@ fn outcome_of(text: &[u8]) -> Option<Outcome> {
     }
 }
 
-/// The worker whose number is all of the text, below [`MAX_WORKERS`].
+/// Returns the worker whose number is the whole text, below [`MAX_WORKERS`].
 pub fn worker_of(text: &[u8]) -> Option<u8>
     ensures { IfSome result (λ worker. worker < most_workers) }
 {
@@ -91,7 +91,7 @@ pub fn worker_of(text: &[u8]) -> Option<u8>
     Some(worker as u8)
 }
 
-/// The number of the tenant with this name.
+/// Returns the number of the tenant with this name.
 pub fn tenant_of(config: &Config, name: &[u8]) -> Option<u8>
     ensures { IfSome result (λ tenant. tenant < tenants_of config.now) }
 {

@@ -1,9 +1,11 @@
-//! The first lines of a schedule: what the world is made of.
+//! The first lines of a schedule: the configuration of its world.
+//!
+//! Used by: `reader`.
 ghost use Rattle.std.specs.Prelude.{◌≡◌, ◌≤◌, IsTrue, bytes_eq, IfOk, IfSome};
 ghost use Rattle.std.specs.List.{list_any};
 ghost use Rattle.mw_words.specs.Name as name_spec;
 ghost use Rattle.mw_world.specs.Definition.State.{IsConfig};
-ghost use Rattle.mw_schedule.specs.Playing.{AreNamed, AreTenants, IsNext};
+ghost use Rattle.mw_schedule.specs.Playable.{AreNamed, AreTenants, IsNext};
 
 use crate::fields::number_within;
 use crate::olds::read_olds;
@@ -15,13 +17,13 @@ use mw_words::{
 };
 use mw_world::{Config, Tenant};
 
-/// What the world is made of, by the lines `pool P`, `workers N`, `seq S` if it is there, and
-/// `tenant NAME WORDS QUOTA` for each tenant, `old NAME A:V ..` for those that have an old file, and the
-/// lines behind them. No tenant has the name of one before it, and the quotas together are at most P.
+/// Reads the configuration of a world, and returns it with the lines after it. Its lines are `pool P`, `workers
+/// N`, `seq S` if it is there, and `tenant NAME WORDS QUOTA` for each tenant. Then comes `old NAME A:V ..` for
+/// each tenant that has an old file. No two tenants have one name, and the sum of the quotas is at most P.
 ///
 /// # Errors
 ///
-/// The lines that are left where the one in front is none of these, or breaks a limit.
+/// Returns the lines that are left, if the first of them is none of these or breaks a limit.
 pub fn read_config<'a>(lines: Lines<'a>) -> Result<(Config, Lines<'a>), Lines<'a>>
     ensures config { IfOk result (λ read. IsConfig read.0) }
     ensures names { IfOk result (λ read. AreNamed read.0.tenants.items) }
@@ -53,8 +55,8 @@ pub fn read_config<'a>(lines: Lines<'a>) -> Result<(Config, Lines<'a>), Lines<'a
     Ok((config, after))
 }
 
-// The number from `least` to `most` that stands in the line in front, behind this word, and the lines
-// behind it.
+// Reads the first line: this word and then a number from `least` to `most`. Returns the number and the lines
+// after it.
 fn number_line<'a>(word: &[u8], least: u64, most: u64, lines: Lines<'a>) -> Option<(u64, Lines<'a>)>
     ensures { IfSome result (λ read. (least ≤ read.0) × (read.0 ≤ most)) }
 {
@@ -63,7 +65,7 @@ fn number_line<'a>(word: &[u8], least: u64, most: u64, lines: Lines<'a>) -> Opti
     Some((number, after))
 }
 
-// The tenants of the lines in front, and the lines behind them.
+// Reads the tenants of the first lines. Returns them and the lines after them.
 fn read_tenants<'a>(pool: u16, lines: Lines<'a>) -> (ArrayVec<Tenant, MAX_TENANTS>, Lines<'a>)
     ensures { AreTenants pool result.0.items }
 {
@@ -81,8 +83,8 @@ fn read_tenants<'a>(pool: u16, lines: Lines<'a>) -> (ArrayVec<Tenant, MAX_TENANT
     (tenants, left)
 }
 
-// The tenant of the line in front, which has no earlier one's name and at most so many slots, and the
-// lines behind it.
+// Reads the tenant of the first line, which has no earlier tenant's name and a quota of at most `free`. Returns
+// it and the lines after it.
 fn tenant_line<'a>(earlier: &[Tenant], free: u16, lines: Lines<'a>) -> Option<(Tenant, Lines<'a>)>
     ensures { IfSome result (λ read. IsNext earlier.now free read.0) }
 {
@@ -91,7 +93,7 @@ fn tenant_line<'a>(earlier: &[Tenant], free: u16, lines: Lines<'a>) -> Option<(T
     Some((tenant, after))
 }
 
-// The tenant `NAME WORDS QUOTA`, which has no earlier one's name and at most so many slots.
+// Reads the tenant `NAME WORDS QUOTA`, which has no earlier tenant's name and a quota of at most `free`.
 fn read_tenant(earlier: &[Tenant], free: u16, text: &[u8]) -> Option<Tenant>
     ensures { IfSome result (IsNext earlier.now free) }
 {

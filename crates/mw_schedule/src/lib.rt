@@ -1,5 +1,7 @@
-//! Schedules: a text that names tenants, and then says line by line which worker takes which step.
-//! What a schedule tells is the same each time that it is played.
+//! Schedules. A schedule is a text that describes a world, and then says line by line which worker takes which
+//! step. It plays the same each time.
+//!
+//! Used by: mw_world_trials, mw_player, mw_player_tests.
 #![tactic(auto)]
 
 mod commands;
@@ -7,12 +9,12 @@ mod config;
 mod fields;
 mod lines;
 mod olds;
-mod reading;
+mod reader;
 mod rest;
 mod restarts;
 mod schedule;
 mod steps;
 
-pub use reading::read_schedule;
+pub use reader::read_schedule;
 pub use schedule::{Command, Schedule, ScheduleFault, ScheduleLine};
 pub use steps::StepKind;

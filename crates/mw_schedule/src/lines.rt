@@ -1,4 +1,6 @@
 //! The lines of a text, one after the other.
+//!
+//! Used by: `config`, `olds`, `reader`.
 ghost use Rattle.std.specs.Prelude.{◌≡◌, IfSome};
 ghost use Rattle.mw_schedule.specs.Lines.{IsFurther};
 
@@ -6,7 +8,7 @@ use crate::rest::Lines;
 use mw_line::field;
 
 impl<'a> Lines<'a> {
-    /// The lines of a text.
+    /// Makes the lines of a text.
     pub fn new(text: &'a [u8]) -> Self
         ensures { result.rest.now ≡ text.now }
     {
@@ -16,8 +18,8 @@ impl<'a> Lines<'a> {
         }
     }
 
-    /// The line in front, without its LF, and the lines behind it. None where there is no line, or its
-    /// LF is missing.
+    /// Returns the first line, without its LF, and the lines after it. `None`: there is no line, or its LF is
+    /// missing.
     pub fn split(self) -> Option<(&'a [u8], Lines<'a>)>
         ensures { IfSome result (λ x. IsFurther self.entry x.1) }
     {

@@ -1,8 +1,10 @@
-//! The lines of a schedule that tell of old files.
+//! The lines of a schedule that describe old files.
+//!
+//! Used by: `config`.
 ghost use Rattle.std.specs.Prelude.{◌≡◌, ◌<◌, ◌≤◌, get_or, length, IfSome, IsTrue, Some};
 ghost use Rattle.mw_words.specs.declared.limits.TheConstants.{MAX_VALUE, MAX_WORDS};
 ghost use Rattle.mw_world.specs.Definition.State.{is_old, may_be_old, no_tenant};
-ghost use Rattle.mw_schedule.specs.Playing.{AreTenants};
+ghost use Rattle.mw_schedule.specs.Playable.{AreTenants};
 
 use crate::fields::{item_at, number_within};
 use crate::rest::Lines;
@@ -11,8 +13,8 @@ use mw_line::{behind, field};
 use mw_words::{Entries, Entry, MAX_TENANTS, MAX_VALUE, MAX_WORDS, is_change};
 use mw_world::{OLD_ENTRIES, OLD_PLACES, Tenant};
 
-/// These tenants with the changes of the lines `old NAME A:V ..` in front, at most one for each tenant, and
-/// the lines behind them.
+/// Reads the first lines `old NAME A:V ..`, at most one for each tenant. Returns the tenants with the changes
+/// of these lines, and the lines after them.
 pub(crate) fn read_olds<'a>(
     new: ArrayVec<Tenant, MAX_TENANTS>,
     lines: Lines<'a>,
@@ -34,8 +36,8 @@ pub(crate) fn read_olds<'a>(
     (tenants, left)
 }
 
-// The tenant and the change of the line in front, which is the first of that tenant, and the lines behind
-// it. An old file has places for the tenant's quota.
+// Reads the tenant and the change of the first line, if it is the tenant's first such line and the quota fits
+// an old file. Returns its index, the change, and the lines after it.
 fn old_line<'a>(tenants: &[Tenant], lines: Lines<'a>) -> Option<(usize, Entries, Lines<'a>)>
     ensures there { IfSome result (λ read. read.0 < length tenants.now) }
     ensures old { IfSome result (λ read. IsTrue (may_be_old (get_or tenants.now read.0 no_tenant).words (get_or tenants.now read.0 no_tenant).quota (Some read.1))) }
@@ -52,7 +54,7 @@ fn old_line<'a>(tenants: &[Tenant], lines: Lines<'a>) -> Option<(usize, Entries,
     Some((index, change, after))
 }
 
-// The change `A:V ..` of so many words, each pair with a space before it.
+// Reads the change `A:V ..` of a tenant with `words` words. Each pair has a space before it.
 fn read_change(words: u16, text: &[u8]) -> Option<Entries>
     ensures { IfSome result (λ change. IsTrue (is_old words change.items)) }
 {
@@ -72,7 +74,7 @@ fn read_change(words: u16, text: &[u8]) -> Option<Entries>
     Some(change)
 }
 
-// The entry `A:V`: an address and the value that it is to hold.
+// Reads the entry `A:V`: an address and its new value.
 fn old_entry(text: &[u8]) -> Option<Entry> {
     let (addr, value) = field(b':', text)?;
     Some(Entry {

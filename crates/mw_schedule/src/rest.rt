@@ -1,12 +1,14 @@
-//! The lines of a text that are left.
+//! The lines of a text that are left to read.
+//!
+//! Used by: `lines`, `config`, `olds`, `reader`.
 ghost use Rattle.std.specs.Prelude.{◌+◌, ◌<◌, ◌^◌, length};
 
-/// The lines that are left of a text.
+/// The lines of a text that are left to read.
 #[derive(Clone, Copy)]
 pub struct Lines<'a> {
     /// Their bytes.
     pub rest: &'a [u8],
-    /// The number of the line in front, from 1, or of the one that is missing there.
+    /// The number of the first of them, from 1, or the number that it would have if it is missing.
     pub number: u64,
     ghost countable: { number + length rest.now < 2 ^ 64 },
 }

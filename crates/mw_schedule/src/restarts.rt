@@ -1,8 +1,10 @@
-//! How each tenant's file is stopped and opened again, as a schedule tells it.
+//! How a schedule says that each tenant's file is stopped and opened again.
+//!
+//! Used by: `commands`.
 ghost use Rattle.std.specs.Prelude.{◌≡◌, ◌==◌, ◌<◌, length, IfOk, IfSome};
 ghost use Rattle.std.specs.List.{list_any};
 ghost use Rattle.mw_world.specs.Definition.State.{tenants_of};
-ghost use Rattle.mw_schedule.specs.Playing.{AreStops, IsOfWorker};
+ghost use Rattle.mw_schedule.specs.Playable.{AreStops, IsOfWorker};
 
 use crate::commands::{tenant_of, worker_of};
 use crate::fields::{item_at, number};
@@ -10,12 +12,8 @@ use mw_line::{behind, field};
 use mw_world::{Config, Interrupted, Stop};
 use std::alloc::{AllocError, Global};
 
-/// The stops that are all of the text, each with a space before it. None where it isn't that, or one
-/// tenant is named twice.
-///
-/// # Errors
-///
-/// Memory was refused.
+/// Reads the stops that are the whole text, each with a space before it. `None`: the text isn't that, or it
+/// names a tenant twice. The only error is that memory is out.
 pub fn read_stops(
     alloc: Global,
     text: &[u8],
@@ -38,7 +36,7 @@ pub fn read_stops(
     Ok(Some(stops))
 }
 
-// The stop in front, with a space before it, and the text behind it. None where none stands there.
+// Reads the first stop, with a space before it. Returns it and the text after it. `None`: there is no stop.
 fn next_stop<'a>(
     alloc: Global,
     text: &'a [u8],
@@ -64,7 +62,7 @@ fn is_named(stops: &[Stop], tenant: u8) -> bool
     stops.iter().any(|stop| stop.tenant == tenant)
 }
 
-// The stop `NAME=W,K,HEX` or `NAME=W,K,HEX,F`, or one of these with `,qN` behind it. None where the text is
+// Reads the stop `NAME=W,K,HEX` or `NAME=W,K,HEX,F`, or one of these with `,qN` after it. `None`: the text is
 // none of these.
 fn read_stop(alloc: Global, text: &[u8], config: &Config) -> Result<Option<Stop>, AllocError>
     ensures tenant { IfOk result (λ read. IfSome read (λ stop. stop.tenant < tenants_of config.now)) }
@@ -92,7 +90,7 @@ struct Start {
     quota: Option<u8>,
 }
 
-// The parts of a stop, with its torn bytes as they are written.
+// Returns the parts of a stop. Its torn bytes are still digits.
 fn stop_parts<'a>(
     text: &'a [u8],
     config: &Config,
@@ -107,7 +105,7 @@ fn stop_parts<'a>(
     Some((tenant, interrupted, torn, start))
 }
 
-// The call that was cut off, `W,K,`, or `-,-,` where none was, and the text behind it.
+// Reads the call that was under way, `W,K,`, or `-,-,` if none was. Returns it and the text after it.
 fn interrupted_at(text: &[u8]) -> Option<(Option<Interrupted>, &[u8])>
     ensures { IfSome result (λ read. IsOfWorker read.0) }
 {
@@ -123,7 +121,7 @@ fn interrupted_at(text: &[u8]) -> Option<(Option<Interrupted>, &[u8])>
     Some((Some(interrupted), rest))
 }
 
-// The torn bytes as they are written, and what the parts behind them say, if there are any.
+// Returns the digits of the torn bytes, and what the parts after them say, if there are any.
 fn torn_at(text: &[u8]) -> Option<(&[u8], Start)> {
     match field(b',', text) {
         Some((torn, parts)) => Some((torn, start_of(parts)?)),
@@ -137,7 +135,7 @@ fn torn_at(text: &[u8]) -> Option<(&[u8], Start)> {
     }
 }
 
-// What the parts `F`, `qN` or `F,qN` say.
+// Reads the parts `F`, `qN` or `F,qN`.
 fn start_of(text: &[u8]) -> Option<Start> {
     if text.starts_with(b"q") {
         return Some(Start {
@@ -157,13 +155,13 @@ fn start_of(text: &[u8]) -> Option<Start> {
     }
 }
 
-// The quota of the part `qN`. One above 255 is 255, which no tenant may have either.
+// Reads the quota of the part `qN`. A quota above 255 gives 255, which no tenant may have either.
 fn quota_of(text: &[u8]) -> Option<u8> {
     let quota = number(behind(b"q", text)?)?;
     Some(quota.min(u64::from(u8::MAX)) as u8)
 }
 
-// The bytes that are written as pairs of the digits 0 to 9 and a to f. None where the text isn't that.
+// Reads bytes that are written as pairs of the digits 0 to 9 and a to f. `None`: the text isn't that.
 fn bytes_of(alloc: Global, text: &[u8]) -> Result<Option<Vec<u8>>, AllocError> {
     let mut bytes = Vec::with_capacity(alloc, text.len() / 2)?;
     let mut rest = text;

@@ -1,4 +1,7 @@
-//! The kinds of step at which a schedule may stop a worker.
+//! The kinds of step that a schedule can name.
+//!
+//! `commands` reads their names, and mw_player finds the kind of a worker's next step. A new kind needs a
+//! case here, in `specs/Steps`, and in docs/SCHEDULES.md.
 ghost use Rattle.std.specs.Prelude.{◌≡◌};
 ghost use Rattle.mw_schedule.specs.Steps as spec;
 
@@ -7,16 +10,16 @@ use mw_look::{Call, Kind, Op};
 /// A kind of step that a worker makes by itself.
 #[derive(Clone, Copy, Debug, PartialEq, Eq)]
 pub enum StepKind {
-    /// A shared word is read.
+    /// It reads a shared word.
     Load,
-    /// A shared word is changed in this way, or an exchange of this kind loses.
+    /// It changes a shared word in this way, or is an exchange of this kind that loses.
     Change(Kind),
-    /// This call on the file is made.
+    /// It makes this call on the file.
     File(Call),
 }
 
 impl StepKind {
-    /// The kind of a step.
+    /// Returns the kind of a step.
     pub fn of(op: Op) -> StepKind
         ensures { result ≡ spec.kind_of op }
     {
@@ -27,7 +30,7 @@ impl StepKind {
         }
     }
 
-    /// The kind with this name. The changes that a call on the file ends with have none: they are made
+    /// Returns the kind with this name. The changes that end a call on the file have no name: they are made
     /// with the call.
     pub fn named(name: &[u8]) -> Option<StepKind> {
         match name {
@@ -39,14 +42,14 @@ impl StepKind {
     }
 }
 
-// The change with this name.
+// Returns the change with this name.
 fn change_named(name: &[u8]) -> Option<Kind> {
     gate_change(name)
         .or(slot_change(name))
         .or(word_change(name))
 }
 
-// The change of a door or a gate with this name.
+// Returns the change of a door or a gate with this name.
 fn gate_change(name: &[u8]) -> Option<Kind> {
     match name {
         b"admit" => Some(Kind::Admit),
@@ -59,7 +62,7 @@ fn gate_change(name: &[u8]) -> Option<Kind> {
     }
 }
 
-// The change with this name of what is written down of a request's own or another's change.
+// Returns the change of a slot, a row or a status with this name.
 fn slot_change(name: &[u8]) -> Option<Kind> {
     match name {
         b"fill" => Some(Kind::Fill),
@@ -70,7 +73,7 @@ fn slot_change(name: &[u8]) -> Option<Kind> {
     }
 }
 
-// The change of a tenant's word with this name.
+// Returns the change of a tenant's word with this name.
 fn word_change(name: &[u8]) -> Option<Kind> {
     match name {
         b"plant" => Some(Kind::Plant),
@@ -81,7 +84,7 @@ fn word_change(name: &[u8]) -> Option<Kind> {
     }
 }
 
-// The call on the file with this name.
+// Returns the call on the file with this name.
 fn call_named(name: &[u8]) -> Option<Call> {
     match name {
         b"prepare" => Some(Call::Prepare),

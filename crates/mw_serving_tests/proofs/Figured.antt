@@ -1,4 +1,4 @@
--- Figures of one tenant and of none that keep the limits, as the tests make them.
+-- The tests' figures of one tenant or of none keep the limits of a report. Used by: the proofs of mw_serving_tests.
 use Rattle.std.proofs.Common.{◌≡◌, ℕ, ◌≤◌, List, [], ◌∷◌, lit≤, subst, sym}
 use Rattle.std.proofs.lemmas.List.Elements.{All-nil, All-cons}
 use Rattle.mw_report.specs.declared.figures.TenantFigures.{TenantFigures}

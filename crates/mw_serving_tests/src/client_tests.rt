@@ -1,4 +1,4 @@
-//! Clients of a server that is a text, and one who comes by a socket.
+//! Tests clients of a server that is a text, and one that comes by a socket.
 use crate::test_serving::{Shop, serves_right};
 use arrayvec::ArrayVec;
 use mw_client::{Administrator, Client, Failure, Outcome, connect_administrator, read_reply};
@@ -10,20 +10,20 @@ use std::net::{Net, TcpStream};
 use std::test::Fail;
 use std::time::{Clock, Duration};
 
-/// How long the clients ask again where they may, in seconds.
+/// How long the clients ask again if they may, in seconds.
 const PATIENCE: u64 = 5;
 
-/// A client to whom a text is said.
+/// A client that reads its replies from a text.
 type TextClient<'a> = Client<&'a [u8], Vec<u8>>;
 
-/// The name t.
+/// Gives the name t.
 fn name() -> Name {
     let mut name = ArrayVec::new();
     let _ = name.try_push(b't');
     name
 }
 
-/// The change of word 0 from 0 to 1.
+/// Makes the change of word 0 from 0 to 1.
 fn entries() -> Entries {
     let mut entries = ArrayVec::new();
     let _ = entries.try_push(Entry {
@@ -34,7 +34,7 @@ fn entries() -> Entries {
     entries
 }
 
-/// A client to whom the server says this.
+/// Makes a client to which the server says this.
 fn client(alloc: Global, said: &[u8]) -> Option<TextClient<'_>> {
     match Client::begin(said, Vec::new(alloc), &name()) {
         Ok(client) => Some(client),
@@ -42,7 +42,7 @@ fn client(alloc: Global, said: &[u8]) -> Option<TextClient<'_>> {
     }
 }
 
-/// Whether a client is told a value, that its change is made at last, and that another isn't.
+/// Tells whether a client is told a value, that its change is made at last, and that another isn't.
 fn asks<K: Clock>(clock: &K, client: &mut TextClient<'_>) -> bool {
     let found = client.get(1) == Ok(7);
     let made = client.cas(clock, &entries(), Duration::from_secs(PATIENCE)) == Ok(Outcome::Made);
@@ -61,7 +61,7 @@ fn asks_and_is_told(rt: HostRuntime) {
     assert!(rt; client.writer.as_slice() == sent.as_slice());
 }
 
-/// Whether a client whose reply breaks off may not ask any more.
+/// Tells whether a client whose reply breaks off can't ask any more.
 fn is_closed(client: &mut TextClient<'_>) -> bool {
     let range = client.get(2) == Err(Failure::Argument);
     let lost = client.try_cas(&entries()) == Err(Failure::MadeOrNot);
@@ -89,7 +89,7 @@ fn no_replies(rt: HostRuntime) {
     );
 }
 
-/// The values of words 0 and 1 that a client reads at once.
+/// Gives the values of words 0 and 1 that a client reads at once.
 fn values_read<K: Clock>(clock: &K, client: &mut TextClient<'_>) -> Option<(u64, u64)> {
     match client.read(clock, &[0, 1], Duration::from_secs(PATIENCE)) {
         Ok(seen) => Some((value_at(&seen, 0), value_at(&seen, 1))),
@@ -106,7 +106,7 @@ fn several_words_of_one_moment(rt: HostRuntime) {
     assert!(rt; values == Some((5, 7)));
 }
 
-/// The value in the entry at a place, 0 where there is none.
+/// Gives the value of the entry at a place, 0 if there is none.
 fn value_at(seen: &Entries, place: usize) -> u64 {
     match seen.get(place) {
         Some(entry) => entry.new,
@@ -114,12 +114,12 @@ fn value_at(seen: &Entries, place: usize) -> u64 {
     }
 }
 
-/// What the server says to the administrator, and then as a report of two tenants, of which one is named as its last
-/// line begins.
+/// What the server says to the administrator, and then a report of two tenants. One tenant's name is the
+/// word with which the last line begins.
 const REPORTED: &[u8] =
     b"OK ADMIN\nfree                2  1  2  0 up\nu                4096 64 64  3 down\nfree 30\n";
 
-/// Whether these are the figures of that report.
+/// Tells whether these are the figures of that report.
 fn are_reported(figures: &Figures) -> bool {
     match figures.tenants.as_slice() {
         [first, second] => {
@@ -148,7 +148,7 @@ fn asks_for_the_report(rt: HostRuntime) {
     assert!(rt; client.writer.as_slice() == b"ADMIN\nREPORT\n".as_slice());
 }
 
-/// Whether a client to whom this is said has no report, and may not ask any more.
+/// Tells whether a client to which this is said has no report, and can't ask any more.
 fn has_no_report(alloc: Global, said: &[u8]) -> bool {
     match Administrator::begin(said, Vec::new(alloc)) {
         Ok(mut client) => {
@@ -174,8 +174,8 @@ OK ADMIN\nt                   2  1  0 up\nfree 30\n|OK ADMIN\nt                 
     assert!(rt; matches!(refused, Err(Failure::Refused(_))));
 }
 
-/// Whether the administrator who comes to this port by a socket is told of the one tenant there, that its file has two
-/// places and that it is up.
+/// Tells whether an administrator that comes to this port by a socket is told that the one tenant is up and
+/// its file has two places.
 fn is_told_by_a_socket<R: Net<Stream = TcpStream>>(
     rt: &R,
     alloc: Global,
@@ -192,7 +192,7 @@ fn is_told_by_a_socket<R: Net<Stream = TcpStream>>(
     })
 }
 
-/// Whether these are the figures that the server of the tests tells.
+/// Tells whether these are the figures that the tests' server tells.
 fn is_of_the_shelf(figures: &Figures) -> bool {
     match figures.tenants.as_slice() {
         [only] => only.places == 2 && only.up && figures.pool_free == 256,

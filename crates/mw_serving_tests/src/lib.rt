@@ -1,4 +1,4 @@
-//! Tests of sessions, of the serving of clients, and of a client. They stand apart from the crates that they
+//! Tests sessions, the serving of clients, and a client. The tests are apart from the crates that they
 //! test, so that those are proved once.
 #![tactic(auto)]
 

@@ -1,4 +1,4 @@
-//! Clients who come by a local socket.
+//! Tests clients that come by a local socket.
 use crate::test_clients::Caller;
 use crate::test_serving::{Shop, serves_beside};
 use mw_workers::listen_at;
@@ -13,17 +13,17 @@ use std::thread::Threads;
 use std::time::Clock;
 use std::{env, fs, io, process};
 
-/// Who may speak at the socket.
+/// The file mode of the socket: its owner and group may connect.
 const OWNER_AND_GROUP: u32 = 0o660;
 
-/// One worker, who serves who looks whether somebody listens, and then a client.
+/// One worker and two connections: one looks whether somebody listens, and then a client comes.
 const SHOP: Shop = Shop {
     words: 2,
     workers: 1,
     connections: 2,
 };
 
-/// A new folder for the socket.
+/// Makes a new folder for the socket.
 fn new_folder(rt: &HostRuntime) -> Result<String, Fail> {
     let id = process::id(rt.process());
     let above = env::temp_dir(rt)?;
@@ -32,7 +32,8 @@ fn new_folder(rt: &HostRuntime) -> Result<String, Fail> {
     Ok(folder)
 }
 
-/// Whether just its owner and group may speak at the socket with this path, and nobody may listen there.
+/// Tells whether only its owner and group may connect to the socket at this path, and nobody else can
+/// listen there.
 fn is_kept<R>(rt: &R, path: &str, address: &str) -> io::Result<bool>
 where
     R: Files<File = File> + Net<Listener = TcpListener, Stream = TcpStream>,
@@ -45,14 +46,14 @@ where
     Ok(taken && mode % 0o1000 == OWNER_AND_GROUP)
 }
 
-/// Whether a client at the socket with this path is served.
+/// Tells whether a client at the socket with this path is served.
 fn is_served<R: Net>(rt: &R, path: &str) -> io::Result<bool> {
     let mut client = Caller::local(rt, path)?;
     Ok(client.asks_at_last(b"TENANT t\nGET 0\nQUIT\n", b"OK 2\nVAL 0\nBYE\n"))
 }
 
-/// Listens at the socket with this path until a client was served there. Whether nobody else could listen
-/// meanwhile, and the client was served.
+/// Listens at the socket with this path until a client was served there. Tells whether nobody else could
+/// listen meanwhile, and the client was served.
 fn serves_alone<R>(rt: &R, path: &str) -> Result<bool, Fail>
 where
     R: Files<File = File>

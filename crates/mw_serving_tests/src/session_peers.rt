@@ -1,5 +1,5 @@
-//! Ends of a session for the tests: a reader and a writer of one line many times over, and a service that notes what it
-//! is asked for.
+//! Ends of a session for the tests: a reader and a writer of one line many times, and a service that
+//! records what it is asked for.
 use arrayvec::ArrayVec;
 use mw_report::Figures;
 use mw_session::Service;
@@ -8,7 +8,7 @@ use std::alloc::Global;
 use std::io;
 use std::io::{ErrorKind, Read, Write};
 
-/// A reader of one line, so many times over.
+/// A reader of one line, so many times.
 #[derive(Drop)]
 pub struct Chatter<'a> {
     line: &'a [u8],
@@ -39,7 +39,8 @@ impl<'a> Read for Chatter<'a> {
     }
 }
 
-/// A writer that takes one line over and over, and fails where another comes. It keeps how often it took it whole.
+/// A writer that takes one line again and again, and fails if another comes. It counts how many times it
+/// took the whole line.
 #[derive(Drop)]
 pub struct Listener<'a> {
     line: &'a [u8],
@@ -84,11 +85,11 @@ pub struct Note {
     pub reply: Reply,
 }
 
-/// A service that notes the jobs that it is asked for, and answers that it is busy.
+/// A service that records the jobs that it is asked for, and answers that it is busy.
 #[derive(Drop)]
 pub struct Notebook {
     pub notes: Vec<Note>,
-    /// Every call was noted.
+    /// Whether every call was recorded.
     pub complete: bool,
 }
 
@@ -100,7 +101,7 @@ impl Notebook {
         }
     }
 
-    /// Whether it was asked for the words at these addresses, in order, and for no more.
+    /// Tells whether it was asked for the words at these addresses, in order, and for no more.
     pub fn was_asked_for(&self, addresses: &[u16]) -> bool {
         let as_many = self.complete && self.notes.len() == addresses.len();
         let mut pairs = self.notes.iter().zip(addresses);
@@ -111,7 +112,7 @@ impl Notebook {
 impl Service for Notebook {
     ghost use Rattle.std.specs.Prelude.{map};
     ghost use Rattle.mw_session.specs.Talk.{Asks};
-    ghost use Rattle.mw_serving_tests.specs.Noted.{Notes};
+    ghost use Rattle.mw_serving_tests.specs.NotebookCalls.{Notes};
     ghost use Rattle.mw_serving_tests.specs.declared.session_peers.Note.{Note as NoteRead};
 
     ghost answered = { λ old call new. Notes

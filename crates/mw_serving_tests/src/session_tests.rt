@@ -9,7 +9,7 @@ use std::sync::Wait;
 /// More bytes than are read or written.
 const ALL: usize = usize::MAX;
 
-/// Whether a session of this service with this peer tells it just that, and ends so.
+/// Tells whether a session of this service with this peer tells it just that, and ends so.
 fn is_told<S: Service, R: Wait + AllocGlobal>(
     rt: &R,
     service: &mut S,
@@ -23,7 +23,7 @@ fn is_told<S: Service, R: Wait + AllocGlobal>(
     ended == wanted && page.text.as_slice() == told
 }
 
-/// How a session ends that is told this, where its peer doesn't fail.
+/// Gives how a session ends that is told this, if its peer doesn't fail.
 fn end_of(told: &[u8]) -> Ended {
     if told.ends_with(b"BYE\n") {
         Ended::Quit
@@ -34,8 +34,8 @@ fn end_of(told: &[u8]) -> Ended {
     }
 }
 
-/// Whether a peer who says this to a tenant of so many words, whole and a byte at a time, is told just
-/// that.
+/// Tells whether a peer that says this to a tenant of so many words, whole and a byte at a time, is told
+/// just that.
 fn is_told_however_cut(
     rt: &(impl Wait + AllocGlobal),
     words: u16,
@@ -48,8 +48,8 @@ fn is_told_however_cut(
     })
 }
 
-/// Sessions of a tenant of two words, one a line: what the peer says and, behind `|`, what it is told. A
-/// line of a session ends where `/` stands.
+/// Sessions of a tenant of two words, one a line: what the peer says and, after `|`, what it is told. In
+/// both, `/` ends a line.
 const SESSIONS: &str = "\
 |
 /|ERR 2/
@@ -67,17 +67,17 @@ REPORT/QUIT|ERR 3/";
 const SESSION_OF_FOUR: &str =
     "TENANT t/CAS 3:0:1 3:1:2/CAS 3:0:1 2:0:1/CAS 0:9:1 1:9:1/|OK 4/ERR 7/ERR 7/NO 0 0/";
 
-/// A text whose lines end where `/` stands.
+/// Gives a text with a line feed for each `/`.
 fn with_line_ends(text: &str) -> ArrayVec<u8, 256> {
     let mut bytes = ArrayVec::new();
     for byte in text.as_bytes() {
-        // Where there is no room, the test sees that something is missing.
+        // If there is no room, the test finds that something is missing.
         let _ = bytes.try_push(if *byte == b'/' { b'\n' } else { *byte });
     }
     bytes
 }
 
-/// Whether a session of a tenant of so many words goes as this line says.
+/// Tells whether a session of a tenant of so many words goes as this line says.
 fn goes_so(rt: &(impl Wait + AllocGlobal), words: u16, line: &str) -> bool {
     let Some((says, told)) = line.split_once('|') else {
         return false;
@@ -93,7 +93,7 @@ fn sessions_however_cut(rt: HostRuntime) {
     assert!(rt; goes_so(&rt, 4, SESSION_OF_FOUR));
 }
 
-/// Whether a peer who says this to these words is told just that.
+/// Tells whether a peer that says this to these words is told just that.
 fn asks(rt: &(impl Wait + AllocGlobal), shelf: &mut Shelf, says: &[u8], told: &[u8]) -> bool {
     let sender = Sender::new(says, ALL, Failure::Nothing);
     is_told(rt, shelf, sender, told, end_of(told))
@@ -116,18 +116,18 @@ fn two_sessions(rt: HostRuntime) {
 /// More bytes than a line may have.
 const ENDLESS: usize = 700;
 
-/// A line of so many bytes, at most [`ENDLESS`], with these before and behind it.
+/// Makes a line of so many bytes, at most [`ENDLESS`], with these texts before and after it.
 fn with_long_line(front: &[u8], count: usize, behind: &[u8]) -> ArrayVec<u8, 1024> {
     let mut text = ArrayVec::new();
     let line = [b'A'; ENDLESS];
-    // Where there is no room, the test sees that something is missing.
+    // If there is no room, the test finds that something is missing.
     let _ = text.try_extend_from_slice(front);
     let _ = text.try_extend_from_slice(line.get(..count).unwrap_or(b""));
     let _ = text.try_extend_from_slice(behind);
     text
 }
 
-/// Whether a peer who says such a line is told just that.
+/// Tells whether a peer that says such a line is told just that.
 fn long_line_is_told(
     rt: &(impl Wait + AllocGlobal),
     front: &[u8],
@@ -151,8 +151,8 @@ fn endless_line(rt: HostRuntime) {
     assert!(rt; long_line_is_told(&rt, bound, ENDLESS, b"\nGET 0\n", b"OK 2\nERR 1\n"));
 }
 
-/// Whether a session whose peer takes so many bytes, one at a time, and then fails, tells it no more, asks
-/// it no more and ends by that.
+/// Tells whether a session breaks off if its peer takes so many bytes, one at a time, and then fails. It
+/// must tell the peer no more, ask it no more, and end by that failure.
 fn breaks_off(
     rt: &(impl Wait + AllocGlobal),
     shelf: &mut Shelf,
@@ -167,7 +167,7 @@ fn breaks_off(
         && page.calls == usize::from(taken) + 1
 }
 
-/// Whether it breaks off, and the change is made as soon as the reply before it was taken.
+/// Tells whether it breaks off so. The change is made when the reply before it was taken.
 fn is_swept(rt: &(impl Wait + AllocGlobal), taken: u8, failure: Failure) -> bool {
     let mut shelf = Shelf::new(2);
     breaks_off(rt, &mut shelf, taken, failure) && shelf.word(0) == u64::from(taken >= 5)
@@ -181,8 +181,8 @@ fn writer_sweep(rt: HostRuntime) {
     }
 }
 
-/// Whether a peer who says so many bytes of the whole, one at a time, and then does this is told the
-/// replies to the lines among them.
+/// Tells whether a peer that says so many bytes of the whole, one at a time, and then does this, is told
+/// the replies to the lines among them.
 fn part_is_told(rt: &(impl Wait + AllocGlobal), count: usize, failure: Failure) -> bool {
     let (says, told) = (INPUT.get(..count), OUTPUT.get(..replied(count)));
     let (Some(says), Some(told)) = (says, told) else {
@@ -227,7 +227,7 @@ fn jobs_that_are_asked_for(rt: HostRuntime) {
     assert!(rt; notebook.was_asked_for(&[1, 0]));
 }
 
-/// How many lines a long session has: their replies have over 100,000 bytes.
+/// How many lines a long session has. Their replies have over 100,000 bytes.
 const MANY: u32 = 20_000;
 
 #[test]

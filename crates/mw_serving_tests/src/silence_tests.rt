@@ -1,4 +1,4 @@
-//! Clients who are silent or slow to leave, and a system without room for connections.
+//! Tests clients that are silent or slow to leave, and a system without room for connections.
 ghost use Rattle.std.specs.Prelude.{None};
 
 use crate::test_clients::Caller;
@@ -33,8 +33,8 @@ impl Connection for Nobody {
     }
 }
 
-/// A listener that answers as each letter of a text says: `c` by a connection, `a` that a client went
-/// away, and any other that there is no room.
+/// A listener that answers as each letter of a text says: `c` gives a connection, `a` says that a client
+/// went away, and any other says that there is no room.
 #[derive(Drop)]
 struct Door<'a> {
     answers: &'a [u8],
@@ -60,8 +60,8 @@ impl Listener for Door<'_> {
     }
 }
 
-/// What a listener's clock and watch were told, in order: how many milliseconds to wait, and by a 0 that
-/// there is no room.
+/// What a listener's clock and watch were told, in order: how many milliseconds to wait, and 0 if there is
+/// no room.
 #[derive(Drop)]
 struct Told {
     all: RefCell<ArrayVec<u128, 32>>,
@@ -70,7 +70,7 @@ struct Told {
 impl Told {
     fn note(&self, number: u128) {
         if let Ok(mut all) = self.all.try_borrow_mut() {
-            // Where there is no room, the test sees that something is missing.
+            // If there is no room, the test finds that something is missing.
             let _ = all.try_push(number);
         }
     }
@@ -103,7 +103,7 @@ impl RoomWatch for Told {
     }
 }
 
-/// Whether a listener that answers so waits, and tells of want of room, as these numbers say.
+/// Tells whether a listener that answers so waits, and says that there is no room, as these numbers say.
 fn waits_so(answers: &[u8], wanted: &[u128]) -> bool {
     let told = Told {
         all: RefCell::new(ArrayVec::new()),
@@ -132,7 +132,7 @@ const SHOP: Shop = Shop {
     connections: 2,
 };
 
-/// A client who says nothing more is sent away, and the next one is served.
+/// A client that says nothing more is sent away, and the next one is served.
 fn come_silent<R: Net<Listener = TcpListener, Stream = TcpStream>>(
     rt: &R,
     port: u16,
@@ -152,7 +152,7 @@ fn silent_clients_are_sent_away(rt: HostRuntime) -> Result<(), Fail> {
     Ok(())
 }
 
-/// Says a byte now and then until it is done, for twenty seconds at most.
+/// Says a byte now and then until `done` is set, for twenty seconds at most.
 fn drip<R: Clock>(rt: &R, mut client: Caller, done: &AtomicBool) {
     for _ in 0..100u8 {
         if done.load(Ordering::SeqCst) {
@@ -163,7 +163,7 @@ fn drip<R: Clock>(rt: &R, mut client: Caller, done: &AtomicBool) {
     }
 }
 
-/// A client who sends on behind the end of its session doesn't keep the worker from the next one.
+/// A client that goes on sending after the end of its session doesn't keep the worker from the next one.
 fn come_dripping<R: Net<Listener = TcpListener, Stream = TcpStream> + Threads + Clock + Sync>(
     rt: &R,
     port: u16,

@@ -16,7 +16,7 @@ pub struct Caller {
 }
 
 impl Caller {
-    /// A client of the server at this port.
+    /// Connects a client to the server at this port.
     pub fn new<R: Net<Listener = TcpListener, Stream = TcpStream>>(
         rt: &R,
         port: u16,
@@ -24,7 +24,7 @@ impl Caller {
         Caller::begin(TcpStream::connect(rt, ("127.0.0.1", port))?)
     }
 
-    /// A client of the server at the local socket with this path.
+    /// Connects a client to the server at the local socket with this path.
     pub fn local<R: Net>(rt: &R, path: &str) -> io::Result<Self> {
         let socket = UnixStream::connect(rt, path)?;
         Caller::begin(TcpStream::from(OwnedFd::from(socket)))
@@ -36,8 +36,8 @@ impl Caller {
         Ok(Caller { stream })
     }
 
-    /// Says this over and over, so many times at most, and never listens. True if at last no more was
-    /// taken.
+    /// Says this again and again, so many times at most, and never listens. Gives true if at last no more
+    /// was taken.
     pub fn insists(&mut self, text: &[u8], times: usize) -> bool {
         for _ in 0..times {
             if !self.says(text) {
@@ -47,12 +47,12 @@ impl Caller {
         false
     }
 
-    /// Says this. True if all of it was taken in time.
+    /// Says this. Gives true if all of it was taken in time.
     pub fn says(&mut self, text: &[u8]) -> bool {
         self.stream.write_all(text).is_ok()
     }
 
-    /// True if just this is heard next.
+    /// Gives true if just this comes next.
     pub fn hears(&mut self, text: &[u8]) -> bool {
         let mut heard = [0; 128];
         match heard.get_mut(..text.len()) {
@@ -61,31 +61,31 @@ impl Caller {
         }
     }
 
-    /// True if the server closes the connection and says no more.
+    /// Gives true if the server closes the connection and says no more.
     pub fn hears_the_end(&mut self) -> bool {
         let mut heard = [0; 1];
         self.stream.read(&mut heard).is_ok_and(|count| count == 0)
     }
 
-    /// Says this and hears that.
+    /// Says `text`. Gives true if just `answer` comes.
     pub fn asks(&mut self, text: &[u8], answer: &[u8]) -> bool {
         self.says(text) && self.hears(answer)
     }
 
-    /// Says this and hears just that to the end.
+    /// Says `text`. Gives true if just `answer` comes, and then the end.
     pub fn asks_at_last(&mut self, text: &[u8], answer: &[u8]) -> bool {
         self.asks(text, answer) && self.hears_the_end()
     }
 }
 
-/// Comes and goes so many times, so that a server that still waits for clients has them.
+/// Comes and goes so many times, so that a server that still waits for clients gets them.
 pub fn come_and_go<R: Net<Listener = TcpListener, Stream = TcpStream>>(
     rt: &R,
     port: u16,
     times: u32,
 ) {
     for _ in 0..times {
-        // Nobody listens any more where the server has ended.
+        // If the server has ended, nobody listens.
         if Caller::new(rt, port).is_err() {
             return;
         }

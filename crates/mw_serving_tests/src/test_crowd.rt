@@ -13,7 +13,7 @@ use std::sync::{Mutex, Wait};
 /// What a client says, and what it is told.
 #[derive(Clone, Copy, Drop)]
 pub struct Script {
-    /// With no words the listener fails in its place.
+    /// What it says. None: the listener fails in place of this client.
     pub says: Option<&'static [u8]>,
     /// How many bytes it takes of what it is told before it goes away.
     pub takes: usize,
@@ -21,7 +21,7 @@ pub struct Script {
     pub ends: Option<Ended>,
 }
 
-/// What a client was told, how its last session ended, and how many it had.
+/// What a client was told, how its last session ended, and how many sessions it had.
 #[derive(Drop)]
 pub struct Heard {
     pub text: ArrayVec<u8, 256>,
@@ -38,7 +38,7 @@ impl Heard {
         }
     }
 
-    /// True if this is what the script tells of.
+    /// Tells whether this is what the script says.
     pub fn suits(&self, script: &Script) -> bool {
         self.text.as_slice() == script.told
             && self.ended == script.ends
@@ -46,7 +46,7 @@ impl Heard {
     }
 
     fn note(&mut self, text: &[u8], ended: Ended) {
-        // Where there is no room, the test sees that something is missing.
+        // If there is no room, the test finds that something is missing.
         let _ = self.text.try_extend_from_slice(text);
         self.ended = Some(ended);
         self.sessions = self.sessions.saturating_add(1);
@@ -75,7 +75,7 @@ impl<'a> Connection for Client<'a> {
     }
 }
 
-/// Clients who come one after the other.
+/// Clients that come one after the other.
 #[derive(Drop)]
 pub struct Crowd<'a> {
     pub scripts: &'a [Script],

@@ -20,7 +20,7 @@ pub struct Shop {
     /// How many words the tenant has.
     pub words: u16,
     pub workers: u8,
-    /// For how many connections the listener is asked.
+    /// How many connections the listener is asked for.
     pub connections: u32,
 }
 
@@ -41,8 +41,8 @@ pub fn serve<L: Listener + Drop, R: Threads + Wait + Sync>(
     Ok(serve_all(rt, alloc, listener, services, Some(shop.connections)))
 }
 
-/// Serves clients who come as this does. Whether it says that all was right, and the server has ended with
-/// them.
+/// Serves clients that come as `clients` does. Tells whether it says that all was right, and the server has
+/// ended with them.
 pub fn serves_beside<L, R, F>(
     rt: &R,
     alloc: Global,
@@ -68,8 +68,8 @@ where
     Ok(heard? && end == ServeEnd::Served)
 }
 
-/// Serves clients over loopback who come to the port that this is told, each of whom may be silent for so
-/// many seconds. Whether it says that all was right, and the server has ended with them.
+/// Serves clients over loopback. `clients` is told the port, and each client may be silent for so many
+/// seconds. Tells whether `clients` says that all was right, and the server has ended with them.
 pub fn serves_right<R, F>(rt: &R, shop: Shop, idle: Option<u32>, clients: F) -> Result<bool, Fail>
 where
     R: Files<File = File>

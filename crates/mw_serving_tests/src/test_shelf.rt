@@ -1,5 +1,5 @@
-//! A service in memory for the tests: one tenant, `t`, and its words. Many may ask for them where they lie
-//! under a lock.
+//! A service in memory for the tests: one tenant, `t`, and its words. Many workers may ask for them if they
+//! are under a lock.
 use arrayvec::ArrayVec;
 use mw_report::{Figures, TenantFigures};
 use mw_session::Service;
@@ -93,7 +93,7 @@ impl Service for Shelf {
     }
 }
 
-/// One worker's way to the words.
+/// One worker's access to the words.
 #[derive(Drop)]
 pub struct Clerk<'a, R: Wait> {
     pub rt: &'a R,

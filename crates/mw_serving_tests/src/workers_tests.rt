@@ -14,7 +14,7 @@ use std::thread::Threads;
 use std::time::{Clock, Duration};
 use std::{io, thread};
 
-/// A client who takes all that it is told.
+/// Makes a client that takes all that it is told.
 fn hears_all(says: &'static [u8], told: &'static [u8], ended: Ended) -> Script {
     Script {
         says: Some(says),
@@ -24,7 +24,7 @@ fn hears_all(says: &'static [u8], told: &'static [u8], ended: Ended) -> Script {
     }
 }
 
-/// A client who goes away when it has taken so many bytes.
+/// Makes a client that goes away when it has taken so many bytes.
 fn goes_away(says: &'static [u8], takes: usize, told: &'static [u8]) -> Script {
     Script {
         says: Some(says),
@@ -34,7 +34,7 @@ fn goes_away(says: &'static [u8], takes: usize, told: &'static [u8]) -> Script {
     }
 }
 
-/// A client who didn't get through.
+/// A client that didn't get through.
 const NOBODY: Script = Script {
     says: None,
     takes: 0,
@@ -72,7 +72,7 @@ fn scripts() -> [Script; 9] {
     ]
 }
 
-/// Serves all scripts by so many workers, and looks at what each client was told.
+/// Serves all scripts by so many workers, and checks what each client was told.
 fn serves_all<R: Threads + Wait + AllocGlobal + Sync>(
     rt: &R,
     workers: u8,
@@ -99,7 +99,7 @@ fn serves_all<R: Threads + Wait + AllocGlobal + Sync>(
     Ok(all && all_suit(rt, &scripts, &heard))
 }
 
-/// Whether each client was told what its script says.
+/// Tells whether each client was told what its script says.
 fn all_suit<R: Wait>(rt: &R, scripts: &[Script], heard: &[Mutex<Heard>]) -> bool {
     let mut pairs = scripts.iter().zip(heard);
     pairs.all(|(script, heard)| heard.lock(rt).suits(script))
@@ -114,8 +114,8 @@ fn each_client_is_served_once(rt: HostRuntime) -> Result<(), AllocError> {
     Ok(())
 }
 
-/// Two clients, of whom the second begins once the session of the first has ended. The first doesn't
-/// close its side before the second was served.
+/// Two clients, of which the second begins when the session of the first has ended. The first closes its
+/// side only after the second was served.
 fn two_clients<R: Net<Listener = TcpListener, Stream = TcpStream>>(
     rt: &R,
     port: u16,
@@ -141,7 +141,7 @@ fn one_client_after_the_other(rt: HostRuntime) -> Result<(), Fail> {
     Ok(())
 }
 
-/// A client who has a word of its own.
+/// A client that has a word of its own.
 fn has_its_word<R: Net<Listener = TcpListener, Stream = TcpStream>>(
     rt: &R,
     alloc: Global,
@@ -156,7 +156,7 @@ fn has_its_word<R: Net<Listener = TcpListener, Stream = TcpStream>>(
     Ok(right && client.asks_at_last(b"QUIT\n", b"BYE\n"))
 }
 
-/// Whether a client changes its word from this value to the next, and then reads that.
+/// Tells whether a client changes its word from this value to the next, and then reads that.
 fn changes(client: &mut Caller, alloc: Global, word: usize, value: u8) -> io::Result<bool> {
     let next = value.saturating_add(1);
     let change = format!(in alloc; "CAS {word}:{value}:{next}\n")?;
@@ -164,17 +164,17 @@ fn changes(client: &mut Caller, alloc: Global, word: usize, value: u8) -> io::Re
     Ok(changed && reads(client, alloc, word, next)?)
 }
 
-/// Whether a client reads this value of a word.
+/// Tells whether a client reads this value of a word.
 fn reads(client: &mut Caller, alloc: Global, word: usize, value: u8) -> io::Result<bool> {
     let look = format!(in alloc; "GET {word}\n")?;
     let seen = format!(in alloc; "VAL {value}\n")?;
     Ok(client.asks(look.as_bytes(), seen.as_bytes()))
 }
 
-/// How many bytes a hasty client says behind the end of its session.
+/// How many bytes a hasty client says after the end of its session.
 const TOO_MUCH: usize = 20_000;
 
-/// A client who says this and far more in one write, listens only when its session has long ended, and
+/// A client that says this and far more in one write, listens only long after its session has ended, and
 /// hears just that to the end.
 fn hears_in_the_end<R: Net<Listener = TcpListener, Stream = TcpStream> + Clock>(
     rt: &R,
@@ -191,7 +191,7 @@ fn hears_in_the_end<R: Net<Listener = TcpListener, Stream = TcpStream> + Clock>(
     Ok(said && client.hears(told.as_bytes()) && client.hears_the_end())
 }
 
-/// What a client says who changes a word over and over and quits, and what it is told.
+/// What a client says that changes a word again and again and quits, and what it is told.
 const CHANGES: &str = "\
 TENANT t
 CAS 29:0:1
@@ -220,8 +220,8 @@ QUIT
 const REPLIES: &str =
     "OK 32\nYES\nYES\nYES\nYES\nYES\nYES\nYES\nYES\nYES\nYES\nYES\nYES\nYES\nYES\nYES\nYES\nYES\nYES\nYES\nYES\nBYE\n";
 
-/// Clients who say more than their session looks at, behind `QUIT` and without a line feed, and yet
-/// hear every reply.
+/// Clients that say more than their session looks at, after `QUIT` and without a line feed, and still hear
+/// every reply.
 fn hasty_ones<R: Net<Listener = TcpListener, Stream = TcpStream> + Clock>(
     rt: &R,
     alloc: Global,
@@ -231,10 +231,10 @@ fn hasty_ones<R: Net<Listener = TcpListener, Stream = TcpStream> + Clock>(
     Ok(quit && hears_in_the_end(rt, alloc, port, "", "ERR 1\n")?)
 }
 
-/// How many clients with a word of their own there are.
+/// How many clients have a word of their own.
 const MANY: usize = 16;
 
-/// A client who is served on, beside one who says nothing and all others.
+/// A client is served on beside one that says nothing and beside all others.
 fn all_kinds<R: Net<Listener = TcpListener, Stream = TcpStream> + Threads + Clock + Sync>(
     rt: &R,
     alloc: Global,
@@ -246,7 +246,7 @@ fn all_kinds<R: Net<Listener = TcpListener, Stream = TcpStream> + Threads + Cloc
     Ok(bound && others_are_served(rt, alloc, port)? && is_served_on(&mut steady))
 }
 
-/// Clients who cut a line and never listen, beside those who say too much and many with a word of their
+/// Clients that cut a line and never listen, beside those that say too much and many with a word of their
 /// own.
 fn others_are_served<R: Net<Listener = TcpListener, Stream = TcpStream> + Threads + Clock + Sync>(
     rt: &R,
@@ -261,7 +261,7 @@ fn others_are_served<R: Net<Listener = TcpListener, Stream = TcpStream> + Thread
     Ok(all && many_have_their_words(rt, alloc, port)?)
 }
 
-/// A client who doesn't end its line.
+/// A client that doesn't end its line.
 fn is_endless<R: Net<Listener = TcpListener, Stream = TcpStream>>(
     rt: &R,
     port: u16,
@@ -270,7 +270,7 @@ fn is_endless<R: Net<Listener = TcpListener, Stream = TcpStream>>(
     Ok(endless.asks_at_last(&[b'x'; MAX_LINE + 1], b"ERR 1\n"))
 }
 
-/// Many clients with a word of their own, at once.
+/// Many clients, each with a word of its own, at once.
 fn many_have_their_words<
     R: Net<Listener = TcpListener, Stream = TcpStream> + Threads + Clock + Sync,
 >(rt: &R, alloc: Global, port: u16) -> io::Result<bool> {
@@ -283,7 +283,7 @@ fn many_have_their_words<
     Ok(many.iter().all(|served| matches!(served, Ok(true))))
 }
 
-/// A client who has changed word 31 reads what it and others have written, and quits.
+/// A client that has changed word 31 reads what it and others have written, and quits.
 fn is_served_on(steady: &mut Caller) -> bool {
     steady.asks(
         b"GET 31\nGET 30\nGET 0\nQUIT\n",

@@ -1,5 +1,5 @@
--- A job that some tenant may ask for is well formed for a tenant where its addresses are below the tenant's words, which
--- the last of them decides.
+-- A job that some tenant may ask for is well formed for a tenant just if its addresses are below the tenant's words;
+-- the last address decides. Used by: the proofs of `reaches` and step_for_job. It may change freely as long as this crate checks.
 use Rattle.std.proofs.Common.{◌≡◌, ℕ, zero, suc, ◌+◌, ◌-◌, ◌<◌, ◌≤◌, Bool, true, false, ◌&&◌, List, [], ◌∷◌, length, nat_le, nat_lt, Some, slice_get, IsTrue, refl, sym, ap, subst, ◌∙◌, inl, inr, arith, leb-true, lt-ltb, le-ltb}
 use Rattle.std.specs.List.{list_all}
 use Rattle.std.proofs.lemmas.Bool.{and_parts, cases_lt}
@@ -43,7 +43,7 @@ formed words (Cas entries) h =
     let first = and_parts a b third.0 in
     rw (last.1, first.0, first.1) (and_true (list_all (is_in_range words) es) ∙ all_in_range words es third.1)
 
--- a job that is well formed for the most words and whose addresses are below a tenant's words is well formed for these
+-- a job that is well formed for the most words, with addresses below a tenant's words, is well formed for these words
 pub reaching_is_formed : (words : ℕ) (wanted : Job) → IsTrue (is_well_formed MAX_WORDS wanted) → reaches words wanted ≡ true → IsTrue (is_well_formed words wanted)
 reaching_is_formed words wanted h is = formed words wanted h ∙ is
 

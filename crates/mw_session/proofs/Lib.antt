@@ -1,8 +1,8 @@
-pub mod Through
-pub mod Sending
+pub mod TransitionLaws
+pub mod WrittenTexts
 pub mod Jobs
-pub mod Performing
-pub mod Turning
-pub mod Ending
-pub mod Judging
-pub mod Hearing
+pub mod StepOutputs
+pub mod AnsweredLines
+pub mod SessionEnds
+pub mod LineJudgments
+pub mod LinesHeard

@@ -1,8 +1,8 @@
 pub mod Talk
-pub mod Through
-pub mod Serving
+pub mod Transitions
+pub mod ServiceCalls
 pub mod Lines
-pub mod Judged
-pub mod Parts
-pub mod Whole
+pub mod StepOfLine
+pub mod SessionParts
+pub mod WholeSessions
 pub mod UnderWay

@@ -1,4 +1,6 @@
--- What is heard of each line.
+-- What is heard of each line: a request, its first fault, or that it is too long.
+-- Used by: SessionParts, StepOfLine, WholeSessions, the contracts of laws.rt. A change here changes how a line is heard, and so
+-- what one_hearing says.
 use Rattle.std.specs.Prelude.{◌≡◌, ◌↔◌, ℕ, List, [], ◌∷◌, Result, Err, IfOk, None}
 use Rattle.mw_line.specs.declared.requests.LineFault.{LineFault}
 use Rattle.mw_line.specs.declared.requests.LineFault.TheVariants as line_fault
@@ -10,7 +12,7 @@ use Rattle.mw_frame.specs.declared.lines.Line.TheVariants as line
 use Rattle.mw_session.specs.Talk.{Heard, Said, Overlong}
 
 -- What a text says: the request of the command that it spells, if the command keeps the limits; else the command's
--- first fault. A text that spells none is no command.
+-- first fault. A text that spells no command says that it is none.
 pub record Says (text : List ℕ) (said : Result Request LineFault) : Type 0 where
   pub spelled : IfOk said (λ r. Spells (command_of r) text × (first_fault (command_of r) ≡ None))
   pub answered : (c : Command) → Spells c text → Answers c said

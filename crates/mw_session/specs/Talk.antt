@@ -1,4 +1,6 @@
 -- What a session says and what it asks the service for, line by line. A session begins unbound.
+-- Used by: 6 pages of specs/, mw_workers, mw_programs, mw_serving_tests, the contracts of laws.rt, service.rt and steps.rt. It is
+-- what a session promises, line by line: a new command needs a case here.
 use Rattle.std.specs.Prelude.{ℕ, ◌++◌, Bool, List, [], ◌∷◌, nat_lt, if◌then◌else◌, Option, Some, None, Result, Ok, Err}
 use Rattle.std.specs.List.{list_all}
 use Rattle.mw_words.specs.declared.jobs.Job.{Job}
@@ -18,7 +20,7 @@ use Rattle.mw_session.specs.declared.steps.Bound.TheVariants.{Nobody, Tenant, Ad
 use Rattle.mw_session.specs.declared.steps.Step.{Step}
 use Rattle.mw_session.specs.declared.steps.Step.TheVariants.{Refuse, Find, BindAdmin, Ask, Report, Leave, Overrun}
 
--- What was heard of a line: a request, or what is wrong with the line; or that the line was too long.
+-- What is heard of a line: a request, or what is wrong with the line; or that the line was too long.
 pub data Heard : Type 0 where
   Said : Result Request LineFault → Heard
   Overlong : Heard
@@ -36,14 +38,13 @@ pub data Call : Type 0 where
   Asks : (tenant : ℕ) → Job → Reply → Call
   Counts : Figures → Call
 
--- the job's addresses are below the tenant's words
+-- the job's addresses are below the tenant's number of words
 abbrev pub reaches : ℕ → Job → Bool
 reaches words (job.Get addr) = nat_lt addr words
 reaches words (job.Cas entries) = list_all (λ e. nat_lt e.addr words) entries.items
 
--- What a session does with a request, by what it is bound to. The first fault counts: not bound, bound already, of the
--- other kind of session, and an address that the tenant does not have. That no tenant has a name is seen when it is
--- looked for.
+-- What a session does with a request, by what it is bound to. The first fault counts: not bound; bound already; the
+-- other kind of session; an address that the tenant doesn't have. Only the search shows that no tenant has a name.
 abbrev pub step_for : Bound → Request → Step
 step_for bound request.Quit = Leave
 step_for Nobody (request.Tenant name) = Find name
@@ -59,21 +60,21 @@ step_for Admin request.Admin = Refuse fault.AlreadyBound
 step_for Admin (request.Job wanted) = Refuse fault.WrongSession
 step_for Admin request.Report = Report
 
--- What a session does at a line. What is wrong with the line itself comes first.
+-- What a session does at a line. Faults of the line itself come first.
 abbrev pub step_at : Bound → Heard → Step
 step_at bound Overlong = Overrun
 step_at bound (Said (Err broken)) = Refuse (fault_of broken)
 step_at bound (Said (Ok asked)) = step_for bound asked
 
--- How a talk ends: no line is left; after QUIT; after a line that is too long; or short, at a line that needs an answer
--- where none is left.
+-- How a talk ends: no line is left (Listens); after QUIT; after a line that is too long (Cuts); or short, at a line
+-- that needs an answer of the service when none is left.
 pub data End : Type 0 where
   Listens : End
   Quits : End
   Cuts : End
   Short : End
 
--- A session: its text, its calls of the service in order, and how it ends.
+-- A session's text, its calls of the service in order, and how it ends.
 pub record Script : Type 0 where
   pub text : List ℕ
   pub calls : List Call
@@ -83,7 +84,7 @@ pub record Script : Type 0 where
 abbrev pub ends : End → Script
 ends end = record { text = []; calls = []; end = end }
 
--- this text after these calls, and then the rest
+-- this text and these calls, and then the rest
 abbrev pub after : List ℕ → List Call → Script → Script
 after text calls rest = record { text = text ++ rest.text; calls = calls ++ rest.calls; end = rest.end }
 
@@ -91,7 +92,7 @@ after text calls rest = record { text = text ++ rest.text; calls = calls ++ rest
 abbrev pub says : Say → Script → Script
 says line rest = after (text_of line) [] rest
 
--- What a step says and asks, and then the rest, which depends on what the session is bound to then and on the answers
+-- What a step says and asks, and then the rest, which depends on what the session is then bound to and on the answers
 -- that are left.
 abbrev pub does : Step → Bound → List Answer → (Bound → List Answer → Script) → Script
 does (Refuse wrong) bound answers rest = says (say.Err wrong) (rest bound answers)

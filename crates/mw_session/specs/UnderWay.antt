@@ -1,4 +1,5 @@
--- Where a session stands between two reads.
+-- A session between two reads.
+-- Used by: proofs of this crate. Callers do not see it: it is the loop invariant of Session::run, and may change with that loop.
 use Rattle.std.specs.Prelude.{◌≡◌, ℕ, ◌++◌, List, [], Option}
 use Rattle.std.specs.Io.KnownBytes.{Consumes}
 use Rattle.mw_frame.specs.declared.lines.Line.{Line}
@@ -7,9 +8,9 @@ use Rattle.mw_frame.specs.Stream.{Stream, fed, lines_of}
 use Rattle.mw_session.specs.declared.steps.Bound.{Bound}
 use Rattle.mw_session.specs.declared.steps.Bound.TheVariants.{Nobody}
 use Rattle.mw_session.specs.Talk.{Call}
-use Rattle.mw_session.specs.Parts.{On, Talked}
+use Rattle.mw_session.specs.SessionParts.{On, Talked}
 
--- All lines that have come were answered, and no other call was made.
+-- All complete lines that have come were answered, and no other call was made.
 pub record UnderWay (left new_left taken new_taken : Option (List ℕ)) (Asked : List Call → Type 0) (feed : Stream) (bound : Bound) (written : ℕ) : Type 0 where
   pub read : List ℕ
   pub is_read : Consumes left new_left read

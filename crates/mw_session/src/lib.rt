@@ -1,9 +1,9 @@
-//! One session: lines come in, and each is answered before the next is looked at.
+//! One session: it answers each line before it looks at the next.
 //!
-//! A session reads bytes, cuts them into lines, judges each line by what the session is bound to,
-//! asks the service where the line needs it, and writes the answer. It begins unbound. `TENANT` binds
-//! it to a tenant, whose words `GET` and `CAS` speak of, and `ADMIN` to the administrator, who may ask
-//! for the `REPORT`. What is wrong with a line is answered by the first of these faults:
+//! A session reads bytes, cuts them into lines, and judges each line by what the session is bound to. It asks the
+//! service if the line needs that, and writes the answer. A session begins unbound. `TENANT` binds it to a tenant, for
+//! whose words `GET` and `CAS` ask. `ADMIN` binds it to the administrator, who may ask for the `REPORT`. A line with
+//! faults is answered with the first of these:
 //!
 //! | fault | when |
 //! |---|---|
@@ -13,13 +13,16 @@
 //! | 9 | a value is too large for a word |
 //! | 6 | an address is one that no tenant has |
 //! | 7 | an address isn't above the one before it |
-//! | 3 | `GET`, `CAS` or `REPORT`, and the session isn't bound |
-//! | 4 | `TENANT` or `ADMIN`, and the session is bound |
-//! | 10 | `GET` or `CAS` of the administrator, or `REPORT` of a tenant |
+//! | 3 | it is `GET`, `CAS` or `REPORT`, and the session isn't bound |
+//! | 4 | it is `TENANT` or `ADMIN`, and the session is bound |
+//! | 10 | it is `GET` or `CAS` from the administrator, or `REPORT` from a tenant |
 //! | 5 | no tenant has the name |
 //! | 6 | an address is one that this tenant doesn't have |
 //!
-//! After each but the first the session goes on, bound as before.
+//! After each fault but the first the session goes on, bound as it was.
+//!
+//! mw_workers runs a session for each connection, and mw_programs one for a script. What a session says is
+//! `specs/Talk`; CONTRIBUTING lists under *A command* what a new line needs.
 #![tactic(auto)]
 
 mod laws;
@@ -27,7 +30,7 @@ mod replies;
 mod service;
 mod session;
 mod steps;
-mod writing;
+mod writer;
 
 pub use laws::one_hearing;
 pub use service::Service;

@@ -1,8 +1,10 @@
-//! What is said to a line, and what the service is asked for it.
+//! The reply to a line, and what the service is asked for it.
+//!
+//! `session.rt` calls [`perform`] for each line. A new `Step` needs a case here, and in `does` of `specs/Talk`.
 ghost use Rattle.std.specs.Prelude.{◌≡◌};
 ghost use Rattle.mw_line.specs.Replies as line_spec;
-ghost use Rattle.mw_session.specs.Parts.{Performs, bytes_of};
-ghost use Rattle.mw_session.specs.Serving.{AreAnswered, CanAsk, IsServed};
+ghost use Rattle.mw_session.specs.SessionParts.{Performs, bytes_of};
+ghost use Rattle.mw_session.specs.ServiceCalls.{AreAnswered, CanAsk, IsServed};
 
 use crate::service::Service;
 use crate::steps::{Bound, Step};
@@ -10,7 +12,7 @@ use arrayvec::ArrayVec;
 use mw_line::{ErrCode, MAX_REPLY, Say};
 use mw_report::{MAX_REPORT, report_text};
 
-/// What is said to one line.
+/// The reply to one line.
 #[derive(Drop)]
 pub enum ReplyText {
     /// One line of an answer.
@@ -31,7 +33,7 @@ impl ReplyText {
     }
 }
 
-/// Takes a step: asks the service what it needs, binds the session, and gives the text.
+/// Takes a step: asks the service what the step needs, binds the session, and gives the text of the reply.
 pub fn perform<S: Service>(step: &Step, bound: &mut Bound, service: &mut S) -> ReplyText
     requires served { IsServed (S.has_words service.old) bound.old }
     requires can_ask { CanAsk (S.has_words service.old) step.now }

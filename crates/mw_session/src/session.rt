@@ -1,15 +1,18 @@
 //! The session itself: it reads, and answers the lines that have come.
+//!
+//! mw_workers calls [`Session::run`] for each connection, and mw_programs for a script. It is promised by
+//! `specs/WholeSessions`; the loop may change with `specs/UnderWay` and `specs/SessionParts`.
 ghost use Rattle.std.specs.Prelude.{◌≡◌, [], ◌∷◌, List, OnOk};
 ghost use Rattle.mw_frame.specs.declared.lines.Line.{Line as LineRead};
 ghost use Rattle.mw_frame.specs.Stream.{lines_of};
-ghost use Rattle.mw_session.specs.Parts.{Gives, Turned};
-ghost use Rattle.mw_session.specs.Serving.{AreAnswered, IsServed};
-ghost use Rattle.mw_session.specs.Whole.{Holds};
+ghost use Rattle.mw_session.specs.SessionParts.{Gives, Turned};
+ghost use Rattle.mw_session.specs.ServiceCalls.{AreAnswered, IsServed};
+ghost use Rattle.mw_session.specs.WholeSessions.{Holds};
 
 use crate::replies::perform;
 use crate::service::Service;
 use crate::steps::{Bound, step_at};
-use crate::writing::write_counted;
+use crate::writer::write_counted;
 use mw_frame::{Feed, Line};
 use std::alloc::Global;
 use std::io::{Read, Write};
@@ -18,7 +21,7 @@ use std::sync::Wait;
 /// How a session ended.
 #[derive(Clone, Copy, Debug, PartialEq, Eq)]
 pub enum Ended {
-    /// The peer said `QUIT`. What it sent behind that isn't looked at.
+    /// The peer said `QUIT`. What it sent after that isn't looked at.
     Quit,
     /// The peer sends no more. A last line without its line feed got no reply.
     PeerEnd,
@@ -26,10 +29,10 @@ pub enum Ended {
     TooLong,
     /// The reader failed.
     ReadFault,
-    /// The writer failed, or took nothing, after so many bytes of this session. The number stays at
+    /// The writer failed, or took nothing, after it had taken so many bytes of this session. The number stops at
     /// `u64::MAX`.
     WriteFault(u64),
-    /// There was no memory for what came.
+    /// Memory was out for what came.
     Memory,
 }
 
@@ -43,13 +46,13 @@ pub struct Session {
     feed: Feed,
     /// For whom the session speaks.
     bound: Bound,
-    /// How many bytes the writer has taken; it stays at `u64::MAX`.
+    /// How many bytes the writer has taken; stops at `u64::MAX`.
     written: u64,
 }
 
 impl Session {
-    /// Serves one peer: reads its lines and writes the reply to each, before the next line is looked
-    /// at, until the session ends. A reader may never end, so this may wait for ever.
+    /// Serves one peer until the session ends: reads its lines, and writes the reply to each before it looks at the
+    /// next. It may wait for ever, because a reader may never end.
     pub fn run<R: Read, W: Write, S: Service>(
         alloc: Global,
         rt: &impl Wait,
@@ -86,7 +89,7 @@ impl Session {
         unreachable!()
     }
 
-    /// Answers the lines that are there, in order. An error says how the session has ended.
+    /// Answers the complete lines that have come, in order. The error says how the session ended.
     fn answer_all<W: Write, S: Service>(
         &mut self,
         writer: &mut W,
@@ -108,7 +111,7 @@ impl Session {
         Ok(())
     }
 
-    /// Answers a line. An error says how the session has ended.
+    /// Answers a line. The error says how the session ended.
     fn answer<W: Write, S: Service>(
         &mut self,
         line: &Line,

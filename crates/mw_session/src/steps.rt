@@ -1,9 +1,12 @@
 //! What a line asks the session to do.
+//!
+//! `session.rt` calls [`step_at`] for each line, and `replies.rt` takes the step. A new command needs a [`Step`]
+//! here, and a case in `specs/Talk` and `specs/StepOfLine`.
 ghost use Rattle.std.specs.Prelude.{◌≡◌, ℕ, IsTrue};
 ghost use Rattle.mw_words.specs.Change.{is_well_formed};
 ghost use Rattle.mw_words.specs.declared.limits.TheConstants.{MAX_WORDS};
-ghost use Rattle.mw_session.specs.Judged.{Judges, Suits};
-ghost use Rattle.mw_session.specs.Parts.{end_of};
+ghost use Rattle.mw_session.specs.StepOfLine.{Judges, Suits};
+ghost use Rattle.mw_session.specs.SessionParts.{end_of};
 ghost use Rattle.mw_session.specs.Talk as spec;
 ghost use Rattle.mw_line.specs.Limits.{FitsLargestTenant};
 
@@ -17,7 +20,7 @@ use mw_words::{Job, Name};
 pub enum Bound {
     /// For nobody yet.
     Nobody,
-    /// For the tenant of this number, who has so many words.
+    /// For the tenant of this number, which has so many words.
     Tenant(u8, u16),
     /// For the administrator.
     Admin,
@@ -28,17 +31,17 @@ pub enum Bound {
 pub enum Step {
     /// Say what is wrong with the line.
     Refuse(ErrCode),
-    /// Look for the tenant of this name, and be bound to it.
+    /// Look for the tenant of this name, and bind the session to it.
     Find(Name),
-    /// Be bound to the administrator.
+    /// Bind the session to the administrator.
     BindAdmin,
-    /// Ask for the job of the tenant of this number.
+    /// Ask the service for this job of the tenant of this number.
     Ask(u8, Job),
     /// Report the figures.
     Report,
     /// End, as the line asks.
     Leave,
-    /// End, since the line is too long.
+    /// End, because the line is too long.
     Overrun,
 }
 
@@ -55,7 +58,7 @@ impl Step {
     }
 }
 
-/// What a session that is bound so does at a line.
+/// Gives the step that a session does at a line, by what it is bound to.
 pub fn step_at(bound: Bound, line: &Line) -> Step
     ensures judges { Judges bound line.now result }
     ensures suits { Suits bound result }
@@ -88,7 +91,7 @@ fn step_for(bound: Bound, request: Request) -> Step
     }
 }
 
-/// Asks for a tenant's job if its addresses are below the tenant's words.
+/// Asks for a tenant's job if its addresses are below the tenant's number of words, and else refuses it.
 #[tactic(auto, using(crate::proofs::Jobs::reaching_is_formed))]
 fn step_for_job(number: u8, words: u16, job: Job) -> Step
     requires { IsTrue (is_well_formed MAX_WORDS job) }
@@ -102,8 +105,8 @@ fn step_for_job(number: u8, words: u16, job: Job) -> Step
     }
 }
 
-/// Whether the addresses of a job that a tenant with the most words may ask for are below `words`.
-/// Those of a change rise, so its last one decides.
+/// Whether the addresses of a job are below `words`. The job is well formed for a tenant with the most words. A
+/// change's addresses rise, so its last one decides.
 fn reaches(words: u16, job: &Job) -> bool
     requires { IsTrue (is_well_formed MAX_WORDS job.now) }
     ensures { result ≡ spec.reaches words job.now }

@@ -1,5 +1,5 @@
--- Files of which a damage tells which layout says what they say, and that its sizes are known, and what is left of a file where only
--- its first parts are kept.
+-- A damage tells which layout of a file is valid, and when its sizes are known. A file with only its first parts is as
+-- long. Used by: the proofs of damage_byte and SizedFile::value_byte.
 use Rattle.std.proofs.Common.{◌≡◌, ℕ, ◌+◌, ◌-◌, ◌*◌, ◌≤◌, ◌++◌, true, false, Some, List, length, take, drop, replicate, inl, inr, sym, ◌∙◌, subst, arith, length-append, length-drop}
 use Rattle.std.proofs.lemmas.Bool.{cases_Bool, leb-true}
 use Rattle.std.proofs.lemmas.List.{length-take-le, length-replicate}
@@ -7,7 +7,7 @@ use Rattle.mw_record.specs.declared.damages.Damage.{Damage}
 use Rattle.mw_record.specs.declared.damages.Damage.TheVariants.{NotThisFormat, Sizes, Short, SecondLayout}
 use Rattle.mw_record.specs.declared.layout.Layout.TheVariants.{First, Second}
 use Rattle.mw_record.specs.Layout.{home_at, size}
-use Rattle.mw_record.specs.Parts.{has_head, has_mark, has_sizes, has_all_bytes}
+use Rattle.mw_record.specs.LayoutBytes.{has_head, has_mark, has_sizes, has_all_bytes}
 use Rattle.mw_record.specs.Damages.{damage_of, is_switched, second_at, may_begin, layout_of, at_of, part_of, words_of, found_places}
 use Rattle.mw_record.proofs.Faults as faults
 use Rattle.mw_record.proofs.Faults.{part_fault}
@@ -21,7 +21,7 @@ has_all_of_head image d is ne =
       | inr fails ↦ absurd (ne (let e = faults.no_head image fails in cc))
     ]
 
--- the head of the layout that says what a file says is there, and the damage is that layout's
+-- the head of the valid layout is there, and the damage is that layout's
 pub record IsOfLayout (image : List ℕ) (d : Damage) : Type 0 where
   pub head : HasHead (at_of image) image
   pub fault : part_fault (layout_of image) (part_of image) ≡ Some d
@@ -57,7 +57,7 @@ of_second image d is a b head mark s =
       fault = faults.at_second image (λ layout part. part_fault layout part ≡ Some d) s (sym (faults.second_fault image begins second_head second_mark) ∙ fault);
     }
 
--- what has one of the damages that are looked for last has a layout that says what it says
+-- a file with one of the damages that are looked for last has a valid layout
 pub layout_known : (image : List ℕ) (d : Damage) → damage_of image ≡ Some d → (d ≡ Short → ⊥) → (d ≡ NotThisFormat → ⊥) → (d ≡ SecondLayout → ⊥) → IsOfLayout image d
 layout_known image d is a b c =
     let head = has_all_of_head image d is a in
@@ -73,7 +73,7 @@ layout_known image d is a b c =
 fits_behind : (at n long : ℕ) → at ≤ long → n ≤ long - at → at + n ≤ long
 fits_behind at n long a b = omega (arith, a, b)
 
--- and where its sizes aren't wrong, they are known
+-- and if its sizes aren't wrong, they are known
 pub sizes_known : (image : List ℕ) (d : Damage) → damage_of image ≡ Some d → (d ≡ Short → ⊥) → (d ≡ NotThisFormat → ⊥) → (d ≡ SecondLayout → ⊥) → (d ≡ Sizes → ⊥)
     → IsSized (layout_of image) (at_of image) (words_of image) (found_places image) image
 sizes_known image d is a b c e =
@@ -98,7 +98,7 @@ sizes_known image d is a b c e =
       whole = fits_behind (at_of image) (size layout (words_of image) (found_places image)) (length image) (omega (arith, told.head.whole)) long;
     }
 
--- as many bytes as before
+-- the file with only its first home words is as long
 pub length-first_homes : (at words homes : ℕ) (image : List ℕ) → homes ≤ words → at + home_at words ≤ length image → length (first_homes at words homes image) ≡ length image
 length-first_homes at words homes image fits whole =
     let zeros : List ℕ = replicate (8 * (words - homes)) 0 in

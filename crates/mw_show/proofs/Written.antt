@@ -1,4 +1,5 @@
--- What was written, piece by piece.
+-- Pieces that are written one after the other make the whole text. Used by: the proofs of show_image, show_records and
+-- show_words.
 use Rattle.std.proofs.Common.{◌≡◌, ℕ, zero, suc, ◌+◌, ◌≤◌, List, [], ◌∷◌, ◌++◌, Option, Some, Result, Ok, Err, OnOk, length, take, slice_get, sym, ap, ◌∙◌, subst, arith, add-one, append-nil}
 use Rattle.std.proofs.lemmas.List.{take_all}
 use Rattle.std.proofs.lemmas.Grind.{flat_map-append}
@@ -10,7 +11,7 @@ range_more : (a n j : ℕ) → a + n ≡ j → range_with_len a (suc n) ≡ rang
 range_more a zero j is = ap (λ k. k ∷ []) (omega (arith, is))
 range_more a (suc n) j is = ap (λ ks. a ∷ ks) (range_more (a + 1) n j (omega (arith, is)))
 
--- the texts of the numbers below one more
+-- the texts of the numbers below n + 1 are those below n and that of n
 texts_more : (f : ℕ → List ℕ) (n : ℕ) → flat_map f (range_with_len 0 (n + 1)) ≡ flat_map f (range_with_len 0 n) ++ f n
 texts_more f n =
     ap (λ k. flat_map f (range_with_len 0 k)) (add-one n)
@@ -22,7 +23,7 @@ pub text_more : (a b c : Option (List ℕ)) (f : ℕ → List ℕ) (n : ℕ) →
     → Appends a c (flat_map f (range_with_len 0 (n + 1)))
 text_more a b c f n so next = subst (Appends a c) (sym (texts_more f n)) (Appends-trans a b c _ _ so next)
 
--- a number without a text
+-- a number without a text adds nothing
 pub text_none : (a b : Option (List ℕ)) (f : ℕ → List ℕ) (n : ℕ) → Appends a b (flat_map f (range_with_len 0 n)) → f n ≡ []
     → Appends a b (flat_map f (range_with_len 0 (n + 1)))
 text_none a b f n so none =
@@ -46,7 +47,7 @@ item_more a b c f xs i x read so next =
 pub items_all : {X : Type 0} (a b : Option (List ℕ)) (f : X → List ℕ) (xs : List X) (i : ℕ) → length xs ≤ i → Appends a b (flat_map f (take i xs)) → Appends a b (flat_map f xs)
 items_all a b f xs i all so = subst (λ ys. Appends a b (flat_map f ys)) (take_all i xs all) so
 
--- a last piece behind what was written, where it didn't fail
+-- a last piece after what was written, if it didn't fail
 pub last_piece : {X E : Type 0} (r : Result X E) (a b c : Option (List ℕ)) (xs ys : List ℕ) → Appends a b xs → OnOk r (Appends b c ys) → OnOk r (Appends a c (xs ++ ys))
 last_piece (Ok x) a b c xs ys so last = Appends-trans a b c xs ys so last
 last_piece (Err e) a b c xs ys so last = last

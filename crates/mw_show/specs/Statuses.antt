@@ -1,9 +1,10 @@
--- The exit statuses.
+-- The exit statuses of mwshow.
+-- Used by: the contracts of src/input.rt and src/program.rt. A change here changes what these contracts say.
 use Rattle.std.specs.Prelude.{ℕ}
-use Rattle.mw_show.specs.declared.reading.ShowFault.{ShowFault}
-use Rattle.mw_show.specs.declared.reading.ShowFault.TheVariants.{CannotRead, NotPlain, InUse, Memory, Output}
+use Rattle.mw_show.specs.declared.input.ShowFault.{ShowFault}
+use Rattle.mw_show.specs.declared.input.ShowFault.TheVariants.{CannotRead, NotPlain, InUse, Memory, Output}
 
--- that which tells why a file was not shown
+-- the exit status for each reason why a file was not shown
 abbrev pub status_of : ShowFault → ℕ
 status_of CannotRead = 1
 status_of NotPlain = 1

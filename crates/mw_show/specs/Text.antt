@@ -1,4 +1,5 @@
--- What is printed of the bytes of a file, a line for each fact.
+-- What is printed for the bytes of a file, a line for each fact.
+-- Used by: the contracts of src/lines.rt and src/program.rt. A change here changes what these contracts say.
 use Rattle.std.specs.Prelude.{ℕ, ◌≡◌, ◌==◌, ◌||◌, ◌++◌, not, if◌then◌else◌, Bool, List, [], Option, codes, decimal, is_none}
 use Rattle.std.specs.List.{flat_map, range_with_len}
 use Rattle.std.specs.Option.{option_map_or}
@@ -6,16 +7,16 @@ use Rattle.std.specs.Io.KnownBytes.{Appends}
 use Rattle.mw_record.specs.declared.damages.Damage.{Damage}
 use Rattle.mw_record.specs.declared.layout.Layout.{Layout}
 use Rattle.mw_record.specs.declared.layout.Layout.TheVariants.{First, Second}
-use Rattle.mw_record.specs.Parts.{told_at}
+use Rattle.mw_record.specs.LayoutBytes.{told_at}
 use Rattle.mw_record.specs.Damages.{at_of, damage_of, found_places, layout_of, number_of, pairs_in, part_of, words_of}
 use Rattle.mw_show.specs.Places.{byte_of}
 
--- which layout says what the file says, and where it begins: only a second one is told
+-- which layout is valid, and where it begins; only a second one is printed
 abbrev pub layout_line : Layout → ℕ → List ℕ
 layout_line First at = []
 layout_line Second at = codes "second layout at " ++ decimal at ++ codes "\n"
 
--- how many words there are, and how many record places that layout has
+-- how many words there are, and how many record places the layout has
 abbrev pub sizes_text : List ℕ → List ℕ
 sizes_text image = codes "words " ++ decimal (words_of image) ++ codes "\n" ++ (codes "places " ++ decimal (found_places image) ++ codes "\n")
 
@@ -23,7 +24,7 @@ sizes_text image = codes "words " ++ decimal (words_of image) ++ codes "\n" ++ (
 abbrev pub entry_line : ℕ → ℕ × ℕ → List ℕ
 entry_line place entry = codes "open " ++ decimal place ++ codes " " ++ decimal entry.0 ++ codes " " ++ decimal entry.1 ++ codes "\n"
 
--- the entries of a place, none where its record isn't open
+-- the entries of a place; none if its record isn't open
 abbrev pub record_text : List ℕ → ℕ → List ℕ
 record_text image place = flat_map (entry_line place) (pairs_in image place)
 
@@ -31,7 +32,7 @@ record_text image place = flat_map (entry_line place) (pairs_in image place)
 abbrev pub records_text : List ℕ → List ℕ
 records_text image = flat_map (record_text image) (range_with_len 0 (found_places image))
 
--- what the word at an address is: its home word, with the open records put over it
+-- the word at an address: its home word, with the open records applied
 abbrev pub word_at : List ℕ → ℕ → ℕ
 word_at image addr = told_at (layout_of image) (part_of image) addr
 
@@ -39,7 +40,7 @@ word_at image addr = told_at (layout_of image) (part_of image) addr
 abbrev pub word_line : ℕ → ℕ → List ℕ
 word_line addr value = codes "word " ++ decimal addr ++ codes " " ++ decimal value ++ codes "\n"
 
--- it is told where all words are, or where it isn't 0
+-- a word is printed if all words are, or if it isn't 0
 abbrev pub word_text : Bool → ℕ → ℕ → List ℕ
 word_text all_words addr value = if all_words || not (value == 0) then word_line addr value else []
 
@@ -47,19 +48,19 @@ word_text all_words addr value = if all_words || not (value == 0) then word_line
 abbrev pub words_text : Bool → List ℕ → List ℕ
 words_text all_words image = flat_map (λ addr. word_text all_words addr (word_at image addr)) (range_with_len 0 (words_of image))
 
--- a file without damage
+-- the text of a file without damage
 abbrev pub file_text : Bool → List ℕ → List ℕ
 file_text all_words image = layout_line (layout_of image) (at_of image) ++ sizes_text image ++ records_text image ++ words_text all_words image
 
--- a damage, by its number and the byte where it lies
+-- a damage, by its number and its byte
 abbrev pub damage_line : Damage → ℕ → List ℕ
 damage_line damage byte = codes "damage " ++ decimal (number_of damage) ++ codes " byte " ++ decimal byte ++ codes "\n"
 
--- the bytes of any file
+-- the text for the bytes of any file
 abbrev pub text_of : Bool → List ℕ → List ℕ
 text_of all_words image = option_map_or (λ damage. damage_line damage (byte_of damage image)) (damage_of image) (file_text all_words image)
 
--- The text of the bytes of some file was written, and it is told whether that file has no damage.
+-- The text for the bytes of some file was written, and `sound` tells whether that file has no damage.
 pub record IsShown (all_words : Bool) (before now : Option (List ℕ)) (sound : Bool) : Type 0 where
   pub image : List ℕ
   pub is_sound : sound ≡ is_none (damage_of image)

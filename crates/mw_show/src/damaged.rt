@@ -1,8 +1,10 @@
-//! Where the damage of a file lies.
+//! Finds where the damage of a file is.
+//!
+//! Used by: `lines`.
 ghost use Rattle.std.specs.Prelude.{◌≡◌, ◌≤◌, IfOk, Some, length};
 ghost use Rattle.mw_record.specs.declared.layout.TheConstants.{HEAD_SIZE};
 ghost use Rattle.mw_record.specs.Damages.{at_of, damage_of, found_places, layout_of, second_at, words_of};
-ghost use Rattle.mw_record.specs.Parts.{places_told, words_told};
+ghost use Rattle.mw_record.specs.LayoutBytes.{places_told, words_told};
 ghost use Rattle.mw_show.specs.Places as spec;
 
 use crate::sized::SizedFile;
@@ -14,11 +16,12 @@ use mw_record::{
 use mw_words::MAX_WORDS;
 use std::alloc::{AllocError, Global};
 
-/// The byte at which the part that makes a damage begins, counted from the beginning of the file: of the
-/// record place, of the home word, or of the sizes in the head of the layout that says what the file says.
-/// Where the file doesn't begin as such a file does it is 0, and where it is too short the first that is
-/// not there. Where no second layout begins it is the offset at which one should, or the byte where that
-/// offset stands if none may begin there.
+/// Gives the byte at which the damaged part begins, counted from the beginning of the file.
+/// - The part is the record place, the home word, or the sizes in the head of the layout that is valid.
+/// - If the file doesn't begin as such a file does, the byte is 0.
+/// - If the file is too short, it is the first byte that is missing.
+/// - If no second layout begins, it is the offset at which one should; if none may begin at that offset, it
+///   is the byte of that offset in the head.
 ///
 /// # Errors
 ///
@@ -37,7 +40,8 @@ pub fn damage_byte(alloc: Global, bytes: &[u8], damage: Damage) -> Result<u64, A
     }
 }
 
-/// The offset at which the second layout should begin, or the byte where it stands.
+/// Gives the offset at which the second layout should begin, or, if none may begin there, the byte of that
+/// offset.
 fn second_byte(bytes: &[u8]) -> u64
     requires { HEAD_SIZE ≤ length bytes.now }
     ensures { result ≡ spec.second_byte (second_at bytes.now) }
@@ -49,7 +53,8 @@ fn second_byte(bytes: &[u8]) -> u64
     at
 }
 
-/// The byte of the number of words where a file may not have so many, or else of that of record places.
+/// Gives the byte of the number of words if a file may not have so many, else that of the number of record
+/// places.
 fn sizes_byte(bytes: &[u8]) -> u64
     requires long { HEAD_SIZE ≤ length bytes.now }
     requires head { spec.HasHead (at_of bytes.now) bytes.now }
@@ -63,7 +68,7 @@ fn sizes_byte(bytes: &[u8]) -> u64
     at + PLACES_AT as u64
 }
 
-/// The file with the layout that says what it says, and the sizes that its head tells.
+/// Gives the file with its valid layout, and the sizes that its head tells.
 fn sized(bytes: &[u8]) -> SizedFile<'_>
     requires long { HEAD_SIZE ≤ length bytes.now }
     requires sized { spec.IsSized (layout_of bytes.now) (at_of bytes.now) (words_of bytes.now) (found_places bytes.now) bytes.now }
@@ -84,7 +89,7 @@ fn sized(bytes: &[u8]) -> SizedFile<'_>
     }
 }
 
-/// The layout that says what the file says, and the offset at which it begins.
+/// Gives the layout that is valid, and the offset at which it begins.
 fn told_layout(bytes: &[u8]) -> (Layout, u64)
     requires { HEAD_SIZE ≤ length bytes.now }
     ensures layout { result.0 ≡ layout_of bytes.now }
@@ -97,7 +102,7 @@ fn told_layout(bytes: &[u8]) -> (Layout, u64)
     }
 }
 
-/// The offset of the second layout that the head of a file tells.
+/// Gives the offset of the second layout that the head of a file tells.
 #[tactic(auto, unfolding(mw_record::specs::Layout::number_at))]
 fn second_offset(bytes: &[u8]) -> u64
     requires { HEAD_SIZE ≤ length bytes.now }
@@ -106,7 +111,7 @@ fn second_offset(bytes: &[u8]) -> u64
     LittleEndian::read_u64(&bytes[SECOND_AT..SECOND_AT + WORD_SIZE])
 }
 
-/// The number of words that the head of a layout tells.
+/// Gives the number of words that the head of a layout tells.
 #[tactic(auto, unfolding(mw_record::specs::Layout::number_at))]
 fn told_words(part: &[u8]) -> u32
     requires { HEAD_SIZE ≤ length part.now }
@@ -115,7 +120,7 @@ fn told_words(part: &[u8]) -> u32
     LittleEndian::read_u32(&part[WORDS_AT..PLACES_AT])
 }
 
-/// The number of record places that it tells.
+/// Gives the number of record places that the head of a layout tells.
 #[tactic(auto, unfolding(mw_record::specs::Layout::number_at))]
 fn told_places(part: &[u8]) -> u16
     requires { HEAD_SIZE ≤ length part.now }

@@ -1,25 +1,27 @@
-//! What a tenant's file says, in lines: `mwshow [--words] FILE` prints them. The file is only read.
+//! Shows what a tenant's file says, in lines: `mwshow [--words] FILE` prints them. It only reads the file.
 //!
-//! Of a file without damage there is a line for each fact, in this order, the first one only where all
-//! that the file says stands in its second layout:
+//! A file without damage has a line for each fact, in this order. The first line is there only if the
+//! second layout is valid:
 //!
 //! | line | tells |
 //! |---|---|
 //! | `second layout at A` | the second layout begins at byte A |
 //! | `words W` | it has W words |
-//! | `places P` | it has P record places, in the layout that says what the file says |
+//! | `places P` | it has P record places, in the layout that is valid |
 //! | `open P A V` | the open record of place P gives the value V to the word at address A |
-//! | `word A V` | the word at address A, with the open records put over it, is V |
+//! | `word A V` | the word at address A, with the open records applied, is V |
 //!
-//! Of a damaged file there is one line, `damage N byte B`: the damage's number, and the byte, counted from
-//! the beginning of the file, at which the part that makes it begins.
+//! A damaged file has one line, `damage N byte B`: the damage's number, and the byte at which the damaged
+//! part begins, counted from the beginning of the file.
+//!
+//! Used by: mwshow, mw_store_tests.
 #![tactic(auto)]
 
 mod damaged;
+mod input;
 mod lines;
-mod reading;
-mod showing;
+mod program;
 mod sized;
 
 pub use lines::show;
-pub use showing::{show_args, show_file};
+pub use program::{show_args, show_file};

@@ -1,22 +1,24 @@
-//! The lines that are printed of a file's bytes.
+//! Writes the lines for a file's bytes.
+//!
+//! Used by: `program`. `specs/Text` says what is printed: change both together.
 ghost use Rattle.std.specs.Prelude.{◌≡◌, ◌<◌, None, Some, OnOk, is_none, IfOk};
 ghost use Rattle.std.specs.Io.KnownBytes.{Appends};
 ghost use Rattle.mw_record.specs.Damages.{at_of, damage_of, found_places, layout_of};
 ghost use Rattle.mw_show.specs.Text as spec;
 
 use crate::damaged::damage_byte;
-use crate::reading::ShowFault;
+use crate::input::ShowFault;
 use mw_record::{Damage, Image, Layout, decode};
 use std::alloc::Global;
 use std::io::{self, Write};
 
-/// Writes what the bytes of a whole file say to `out`, line by line. All words are told with
-/// `all_words`, else those that aren't 0. Gives whether the file has no damage.
+/// Writes to `out` what the bytes of a whole file say, line by line. With `all_words` it writes all words,
+/// else those that aren't 0. Gives whether the file has no damage.
 ///
 /// # Errors
 ///
-/// [`ShowFault::Memory`] where memory was refused, which is asked for only of a damaged file, and
-/// [`ShowFault::Output`] where `out` failed. Some of the lines may have been written.
+/// [`ShowFault::Memory`] if memory was refused, which is needed only for a damaged file.
+/// [`ShowFault::Output`] if `out` failed. Some of the lines may have been written.
 pub fn show<O: Write>(
     alloc: Global,
     bytes: &[u8],
@@ -56,7 +58,7 @@ fn show_image<O: Write>(image: &Image<'_>, all_words: bool, out: &mut O) -> io::
     show_words(image, all_words, out)
 }
 
-/// Writes where the second layout begins, where it says what the file says.
+/// Writes where the second layout begins, if it is valid.
 fn show_layout<O: Write>(image: &Image<'_>, out: &mut O) -> io::Result<()>
     ensures { OnOk result (Appends (O.contents out.old) (O.contents out.new) (spec.layout_line (layout_of image.now) (at_of image.now))) }
 {
@@ -84,7 +86,7 @@ fn show_records<O: Write>(image: &Image<'_>, out: &mut O) -> io::Result<()>
     Ok(())
 }
 
-/// Writes the entries of the record of a place, where it is open.
+/// Writes the entries of the record of a place, if it is open.
 fn show_record<O: Write>(image: &Image<'_>, place: u16, out: &mut O) -> io::Result<()>
     requires { place < found_places image.now }
     ensures { OnOk result (Appends (O.contents out.old) (O.contents out.new) (spec.record_text image.now place)) }
@@ -113,7 +115,7 @@ fn show_words<O: Write>(image: &Image<'_>, all_words: bool, out: &mut O) -> io::
     Ok(())
 }
 
-/// Writes the word at an address, where it is to be told.
+/// Writes the word at an address, if all words are written or it isn't 0.
 fn show_word<O: Write>(addr: u16, value: u64, all_words: bool, out: &mut O) -> io::Result<()>
     ensures { OnOk result (Appends (O.contents out.old) (O.contents out.new) (spec.word_text all_words addr value)) }
 {

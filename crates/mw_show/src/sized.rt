@@ -1,4 +1,6 @@
-//! A damaged file whose sizes are known, and its parts alone.
+//! A damaged file whose sizes are known, and its parts.
+//!
+//! Used by: `damaged`.
 ghost use Rattle.std.specs.Prelude.{◌≡◌, ◌+◌, ◌≤◌, IfOk};
 ghost use Rattle.mw_record.specs.Layout.{header, place_at};
 ghost use Rattle.mw_show.specs.Places as spec;
@@ -6,20 +8,25 @@ ghost use Rattle.mw_show.specs.Places as spec;
 use mw_record::{Damage, HEAD_SIZE, Layout, decode, header, header2, home_at};
 use std::alloc::{AllocError, Global};
 
-/// The bytes of a file whose layout begins at an offset and has sizes that it may have, none of which is
-/// missing.
+/// The bytes of a file whose layout begins at an offset. The layout has sizes that it may have, and none of
+/// its bytes is missing.
 #[derive(Drop)]
 pub struct SizedFile<'a> {
+    /// The file's bytes.
     pub bytes: &'a [u8],
+    /// The layout.
     pub layout: Layout,
+    /// The offset at which it begins.
     pub at: u64,
+    /// How many words it has.
     pub words: u16,
+    /// How many record places it has.
     pub places: u16,
     ghost sized: { spec.IsSized layout at words places bytes.now },
 }
 
 impl SizedFile<'_> {
-    /// The byte of the place with which the damage comes.
+    /// Gives the byte of the first place that makes the damage.
     ///
     /// # Errors
     ///
@@ -31,8 +38,8 @@ impl SizedFile<'_> {
         Ok(self.byte_of_place(place))
     }
 
-    /// The byte of the first record with a value above the greatest, and where none has, of the first
-    /// home word that is one.
+    /// Gives the byte of the first record with a value above the greatest. If no record has one, gives that
+    /// of the first home word above it.
     ///
     /// # Errors
     ///
@@ -56,14 +63,14 @@ impl SizedFile<'_> {
         Ok(home_at(self.at, home))
     }
 
-    /// The byte at which a place begins.
+    /// Gives the byte at which a place begins.
     fn byte_of_place(&self, place: u16) -> u64
         ensures { result ≡ self.now.at + place_at self.now.layout self.now.words place }
     {
         self.at + self.layout.place_at(self.words, place)
     }
 
-    /// The first place with which the damage comes, or how many places there are.
+    /// Gives the first place that makes the damage, or the number of places.
     fn place_of(&self, alloc: Global, damage: Damage) -> Result<u16, AllocError>
         ensures { IfOk result (λ place. place ≡ spec.place_of self.now.layout self.now.at self.now.words self.now.places damage self.now.bytes.now) }
     {
@@ -76,7 +83,7 @@ impl SizedFile<'_> {
         Ok(self.places)
     }
 
-    /// The first home word with which a value is above the greatest, or how many words there are.
+    /// Gives the first home word that makes a value above the greatest, or the number of words.
     fn home_of(&self, alloc: Global) -> Result<u16, AllocError>
         ensures { IfOk result (λ addr. addr ≡ spec.home_of self.now.at self.now.words self.now.bytes.now) }
     {
@@ -89,7 +96,7 @@ impl SizedFile<'_> {
         Ok(self.words)
     }
 
-    /// The file with its first places alone.
+    /// Gives the file with only its first places.
     fn first_places(&self, alloc: Global, places: u16) -> Result<Vec<u8>, AllocError>
         requires some { 1 ≤ places }
         requires fits { places ≤ self.now.places }
@@ -102,7 +109,7 @@ impl SizedFile<'_> {
         Ok(first)
     }
 
-    /// The layout's head with so many places.
+    /// Gives the layout's head with so many places.
     fn head(&self, places: u16) -> [u8; HEAD_SIZE]
         requires some { 1 ≤ places }
         requires fits { places ≤ self.now.places }
@@ -114,7 +121,7 @@ impl SizedFile<'_> {
         }
     }
 
-    /// The file with zeros in place of all but its first home words.
+    /// Gives the file with zeros in all but its first home words.
     fn first_homes(&self, alloc: Global, homes: u16) -> Result<Vec<u8>, AllocError>
         requires { homes ≤ self.now.words }
         ensures { IfOk result (λ first. first.items ≡ spec.first_homes self.now.at self.now.words homes self.now.bytes.now) }
@@ -128,7 +135,7 @@ impl SizedFile<'_> {
     }
 }
 
-/// Whether the bytes of a file have this damage.
+/// Tells whether the bytes of a file have this damage.
 fn has_damage(bytes: &[u8], damage: Damage) -> bool
     ensures { result ≡ spec.has_damage damage bytes.now }
 {

@@ -1,11 +1,12 @@
--- A world in memory of which one worker, one tenant or the shared words were changed.
+-- If one element of a list is set and the map is set there too, the list still agrees with the map. Used by:
+-- WorldAfterStep, Unchanged, CallEndLaws, TakenOverMarks.
 use Rattle.std.specs.Prelude.{ℕ, zero, suc, ◌≡◌, ◌≢◌, ◌<◌, List, [], ◌∷◌, length, slice_get, slice_set, Some}
 use Rattle.std.proofs.Common.{refl, sym, ap, subst, ◌∙◌, inl, inr, arith}
 use Rattle.std.proofs.lemmas.Bool.{cases_eq}
 use Rattle.std.proofs.lemmas.Bool.Decides.{nat_tests}
 use Rattle.mw_world_file.specs.Maps.{upd}
 
--- an element that was set, and the others
+-- the element that was set, and the others
 pub set_here : {A : Type 0} (xs : List A) (i : ℕ) (x : A) → i < length xs → slice_get (slice_set xs i x) i ≡ Some x
 set_here [] i x lt = absurd (omega (arith, lt))
 set_here (y ∷ ys) zero x lt = refl
@@ -24,7 +25,7 @@ upd_here f i k x e = grind (arith, nat_tests, e)
 upd_else : {A : Type 0} (f : ℕ → A) (i k : ℕ) (x : A) → k ≢ i → upd f i x k ≡ f k
 upd_else f i k x apart = grind (arith, nat_tests, apart)
 
--- Two lists and maps that agree, of which one element each was set.
+-- A list and a map that agree, after one element of each was set.
 pub set_agrees : {A : Type 0} (xs : List A) (f : ℕ → A) (n i : ℕ) (x : A) → i < length xs
     → ((k : ℕ) → k < n → slice_get xs k ≡ Some (f k)) → (k : ℕ) → k < n → slice_get (slice_set xs i x) k ≡ Some (upd f i x k)
 set_agrees xs f n i x there agree k lt = elim (cases_eq k i) [
@@ -32,7 +33,7 @@ set_agrees xs f n i x there agree k lt = elim (cases_eq k i) [
   | inr apart ↦ set_else xs i k x apart ∙ agree k lt ∙ ap Some (sym (upd_else f i k x apart))
 ]
 
--- The same where each element stands for what the map gives.
+-- The same if each element represents what the map gives.
 pub set_stands : {A B : Type 0} (P : A → B → Type 0) (xs : List A) (f : ℕ → B) (i : ℕ) (x : A) (y : B) → i < length xs → P x y
     → ((k : ℕ) (a : A) → slice_get xs k ≡ Some a → P a (f k)) → (k : ℕ) (a : A) → slice_get (slice_set xs i x) k ≡ Some a → P a (upd f i y k)
 set_stands P xs f i x y there here stand k a is = elim (cases_eq k i) [

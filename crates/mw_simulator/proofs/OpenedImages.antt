@@ -1,4 +1,5 @@
--- What a crash leaves of a tenant's disk while its file is opened at a start, if every run serves each tenant as its store alone would.
+-- If every run is durably linearizable, a crash while a start opens a tenant's file leaves the words that the start
+-- found, which the store alone allows. Used by: the proof of every_image_is_of_store.
 use Rattle.std.specs.Prelude.{ℕ, zero, suc, ◌≡◌, ◌<◌, ◌==◌, ◌&&◌, Bool, true, false, if◌then◌else◌, List, Vec, length, slice_get, Option, Some, None}
 use Rattle.std.specs.declared.alloc.Global.{Global}
 use Rattle.std.proofs.Common.{refl, sym, ap, subst, ◌∙◌, inl, inr, arith}
@@ -7,27 +8,27 @@ use Rattle.std.proofs.lemmas.Option.{slice_get_cases}
 use Rattle.mw_disk.specs.Facts.{MayHaveLeft}
 use Rattle.mw_disk.specs.Memory.{memory_facts}
 use Rattle.mw_lone.specs.Store.{Store, entries_in_doubt}
-use Rattle.mw_world_file.specs.declared.kept.Book.{Book}
+use Rattle.mw_world_file.specs.declared.book.SimulatedFile.{SimulatedFile}
 use Rattle.mw_world_file.specs.Devices.{disk_under}
 use Rattle.mw_world_file.specs.Files.{File}
 use Rattle.mw_world.specs.declared.config.Config.{Config}
 use Rattle.mw_world.specs.declared.events.Event.TheVariants.{Restart as IsRestart}
 use Rattle.mw_world.specs.declared.events.Interrupted.{Interrupted}
 use Rattle.mw_world.specs.declared.events.Stop.{Stop}
-use Rattle.mw_world.specs.Claim.Headline.{EveryRunServesAlone, IsRun, LeavesStore}
-use Rattle.mw_world.specs.Definition.Happenings.{Found, Happening}
+use Rattle.mw_world.specs.Claim.Headline.{EveryRunIsDurablyLinearizable, IsRun, LeavesStore}
+use Rattle.mw_world.specs.Definition.Events.{Found, WorldEvent}
 use Rattle.mw_world.specs.Definition.Restarts.{UnderWay, doubt_then, found_of, interrupted_request, is_sealed_then, may_all_be_found, may_be_found, may_fail, may_find, may_interrupt, opened_file, quotas_then, restarted, under_way}
-use Rattle.mw_world.specs.Definition.State.{Opening, State, may_be_quotas, places_of, store_of, tenants_of}
-use Rattle.mw_world_memory.specs.declared.accounts.Account.{Account as AccountInMemory}
+use Rattle.mw_world.specs.Definition.State.{TenantStart, State, may_be_quotas, places_of, store_of, tenants_of}
+use Rattle.mw_world_memory.specs.declared.tenants.TenantState.{TenantState as TenantStateInMemory}
 use Rattle.mw_simulator.specs.declared.world.World.{World}
 use Rattle.mw_simulator.specs.Images.{EveryImageInAStartIsOfStore, EveryImageIsOfStore, IsLeftInStart}
-use Rattle.mw_simulator.specs.Running.{Started, Steps, outage_of}
-use Rattle.mw_simulator.specs.Shows.{Shows}
-use Rattle.mw_simulator.specs.Staying.{book_at}
+use Rattle.mw_simulator.specs.Events.{Started, Steps, outage_of}
+use Rattle.mw_simulator.specs.Representation.{Represents}
+use Rattle.mw_simulator.specs.UnchangedParts.{book_at}
 use Rattle.mw_simulator.proofs.Crashes.{Found as FoundBook, tenant_found}
 use Rattle.mw_simulator.proofs.Images.{images_at_rest, images_in_a_call, there_at}
 
--- what may be found of each of so many tenants may be found of one of them
+-- what may be found of all tenants may be found of each
 among : (config : Config) (state : State) (founds : List Found) (count tenant : ℕ) → may_all_be_found config state founds count ≡ true → tenant < count
     → may_be_found config state tenant (found_of founds tenant) ≡ true
 among config state founds zero tenant all lt = absurd (omega (arith, lt))
@@ -40,7 +41,7 @@ among config state founds (suc count) tenant all lt =
           subst (λ k. may_be_found config state k (found_of founds k) ≡ true) same parts.1
     ]
 
--- what comes of a test that held
+-- the parts of a test that held
 held : {A : Type 0} (counted may fit : Bool) (x y : A) → (if counted && may && fit then Some x else None) ≡ Some y → (may ≡ true) × (x ≡ y)
 held true true true x y is = (refl, cc)
 held true true false x y is = absurd (cc)
@@ -51,7 +52,7 @@ opened_contents : (words : List ℕ) (fails_at : Option ℕ) → (opened_file wo
 opened_contents words None = refl
 opened_contents words (Some number) = refl
 
--- What may be found of a tenant's file, by its store.
+-- What may be found of a tenant's file, as its store alone says.
 may_find_so : (config : Config) (state : State) (tenant : ℕ) (interrupted : Option Interrupted) (found : Found) (store : Store) (words : List ℕ) → LeavesStore config state tenant store
     → found.interrupted ≡ interrupted → may_be_found config state tenant found ≡ true → found.words ≡ words
     → may_find (is_sealed_then (under_way config state interrupted)) store.words (entries_in_doubt store (interrupted_request (under_way config state interrupted))) words ≡ true
@@ -61,7 +62,7 @@ may_find_so config state tenant interrupted found store words leaves same may ar
     (subst (λ es. may_find (is_sealed_then call) file.contents es found.words ≡ true) (leaves.in_doubt interrupted parts.0.0) parts.0.1))
   where
     file : File
-    file = (state.accounts tenant).file
+    file = (state.tenant_states tenant).file
 
     call : Option UnderWay
     call = under_way config state interrupted
@@ -74,11 +75,11 @@ may_find_so config state tenant interrupted found store words leaves same may ar
         (and_parts (may_interrupt config state tenant interrupted) (may_find (is_sealed_then call) file.contents (doubt_then file call) found.words) two.0, two.1)
 
 -- A start of a world in memory.
-module _ (openings : ℕ → Opening) (events : List Happening) (state : State) (old new : World) (stops : Vec Stop Global) (tenant : ℕ) (now : Book) (store : Store) (image : List ℕ)
-    (serves : EveryRunServesAlone) (is : IsRun old.config openings events state) (shows : Shows old state) (steps : Steps old (IsRestart stops) new) (is_now : book_at new tenant ≡ Some now)
+module _ (openings : ℕ → TenantStart) (events : List WorldEvent) (state : State) (old new : World) (stops : Vec Stop Global) (tenant : ℕ) (now : SimulatedFile) (store : Store) (image : List ℕ)
+    (serves : EveryRunIsDurablyLinearizable) (is : IsRun old.config openings events state) (shows : Represents old state) (steps : Steps old (IsRestart stops) new) (is_now : book_at new tenant ≡ Some now)
     (legal : store_of openings state tenant ≡ Some store) (left : MayHaveLeft (memory_facts (disk_under now.device)) 0 image) where
   low : tenant < tenants_of old.config
-  low = let lt = there_at new.accounts.items tenant now is_now in omega (arith, lt, new.tenants, ap tenants_of steps.config)
+  low = let lt = there_at new.tenant_states.items tenant now is_now in omega (arith, lt, new.tenants, ap tenants_of steps.config)
 
   abbrev start : Started old new state stops.items
   start = steps.happens state shows
@@ -96,10 +97,10 @@ module _ (openings : ℕ → Opening) (events : List Happening) (state : State) 
   -- the words of the new book are those that were found
   words_are : found.words ≡ now.contents.items
   words_are =
-      sym (opened_contents found.words found.fails_at) ∙ ap (λ (one : State). (one.accounts tenant).file.contents) leads.1
-      ∙ (start.leads.shows.accounts tenant kept.shown kept.is).book.same_contents ∙ ap (λ (book : Book). book.contents.items) kept.same
+      sym (opened_contents found.words found.fails_at) ∙ ap (λ (one : State). (one.tenant_states tenant).file.contents) leads.1
+      ∙ (start.leads.shows.tenant_states tenant kept.shown kept.is).book.same_contents ∙ ap (λ (book : SimulatedFile). book.contents.items) kept.same
 
-  left_by : (was : AccountInMemory) → slice_get old.accounts.items tenant ≡ Some was → IsLeftInStart old.config state (outage_of stops.items tenant).interrupted store now.contents.items image
+  left_by : (was : TenantStateInMemory) → slice_get old.tenant_states.items tenant ≡ Some was → IsLeftInStart old.config state (outage_of stops.items tenant).interrupted store now.contents.items image
   left_by was at =
       let opened = start.found tenant was kept.shown at kept.is in
       let served = serves old.config openings events state tenant is low in
@@ -107,7 +108,7 @@ module _ (openings : ℕ → Opening) (events : List Happening) (state : State) 
       let may = among old.config state start.founds (tenants_of old.config) tenant leads.0 low in
       let since : MayHaveLeft (memory_facts (disk_under kept.shown.book.device)) (memory_facts opened.came.first).moment image =
       subst (λ t. MayHaveLeft (memory_facts (disk_under kept.shown.book.device)) t image) (sym opened.came.begins)
-      (subst (λ (book : Book). MayHaveLeft (memory_facts (disk_under book.device)) 0 image) (sym kept.same) left) in
+      (subst (λ (book : SimulatedFile). MayHaveLeft (memory_facts (disk_under book.device)) 0 image) (sym kept.same) left) in
       record {
         is = opened.came.moments.each image since ∙ ap Some words_are;
         found = may_find_so old.config state tenant (outage_of stops.items tenant).interrupted found store now.contents.items (subst (LeavesStore old.config state tenant) same_store served.left)
@@ -115,15 +116,15 @@ module _ (openings : ℕ → Opening) (events : List Happening) (state : State) 
       }
 
   left_in_start : IsLeftInStart old.config state (outage_of stops.items tenant).interrupted store now.contents.items image
-  left_in_start = elim ((slice_get_cases old.accounts.items tenant).1) [
+  left_in_start = elim ((slice_get_cases old.tenant_states.items tenant).1) [
     | inl w ↦ left_by w.0 w.2
     | inr past ↦ absurd (omega (arith, low, past.0, old.tenants))
   ]
 
-images_in_a_start : EveryRunServesAlone → EveryImageInAStartIsOfStore
+images_in_a_start : EveryRunIsDurablyLinearizable → EveryImageInAStartIsOfStore
 images_in_a_start serves config openings events state old new stops tenant now store image is same_config shows steps is_now legal left =
     subst (λ c. IsLeftInStart c state (outage_of stops.items tenant).interrupted store now.contents.items image) same_config
     (left_in_start openings events state old new stops tenant now store image serves (subst (λ c. IsRun c openings events state) (sym same_config) is) shows steps is_now legal left)
 
-pub images_of_store : EveryRunServesAlone → EveryImageIsOfStore
+pub images_of_store : EveryRunIsDurablyLinearizable → EveryImageIsOfStore
 images_of_store serves = record { at_rest = images_at_rest serves; in_a_call = images_in_a_call serves; in_a_start = images_in_a_start serves }

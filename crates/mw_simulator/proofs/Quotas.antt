@@ -1,4 +1,5 @@
--- The quotas that a start gives in memory are those that it gives in the world.
+-- The test of quotas in memory is the test of the definition. Used by: Restarted, the proofs of World::may_give and
+-- each_can_be.
 use Rattle.std.specs.Prelude.{ℕ, zero, suc, ◌≡◌, ◌≤◌, ◌<◌, ◌+◌, ◌&&◌, Bool, true, false, List, length, nat_le, slice_get, slice_index_or, Option, Some, None}
 use Rattle.std.specs.Option.{option_map_or, unwrap_or}
 use Rattle.std.proofs.Common.{refl, sym, ap, subst, ◌∙◌, inl, inr, arith}
@@ -9,14 +10,14 @@ use Rattle.mw_world_file.specs.Books.{places_of_file}
 use Rattle.mw_world.specs.declared.config.Config.{Config}
 use Rattle.mw_world.specs.declared.events.Stop.{Stop}
 use Rattle.mw_world.specs.Definition.State.{State, each_fits, may_be_quotas, places_of, quotas_together, tenants_of}
-use Rattle.mw_world_memory.specs.declared.accounts.Account.{Account as AccountInMemory}
+use Rattle.mw_world_memory.specs.declared.tenants.TenantState.{TenantState as TenantStateInMemory}
 use Rattle.mw_simulator.specs.declared.world.World.{World}
 use Rattle.mw_simulator.specs.Quotas.{HaveRoom, places_in, quota_after, quotas_in}
-use Rattle.mw_simulator.specs.Running.{outage_of, quotas_told}
-use Rattle.mw_simulator.specs.Shows.{Shows}
-use Rattle.mw_simulator.proofs.Entering.{element}
+use Rattle.mw_simulator.specs.Events.{outage_of, quotas_told}
+use Rattle.mw_simulator.specs.Representation.{Represents}
+use Rattle.mw_simulator.proofs.WorldAfterStep.{element}
 
--- what is asked of quotas and places is asked of those of the tenants alone
+-- the tests of quotas and places depend only on the existing tenants
 each_same : (quotas others places theirs : ℕ → ℕ) (count : ℕ) → ((k : ℕ) → k < count → quotas k ≡ others k) → ((k : ℕ) → k < count → places k ≡ theirs k)
     → each_fits quotas places count ≡ each_fits others theirs count
 each_same quotas others places theirs zero same so = refl
@@ -37,7 +38,7 @@ same_quotas config quotas others places theirs same so =
     ap (λ b. b && nat_le (quotas_together quotas (tenants_of config)) config.pool) (each_same quotas others places theirs (tenants_of config) same so)
     ∙ ap (λ sum. each_fits others theirs (tenants_of config) && nat_le sum config.pool) (together_same quotas others (tenants_of config) same)
 
--- one quota that can't be is enough
+-- one quota that can't be given makes the whole test fail
 none_fits : (quotas places : ℕ → ℕ) (count tenant : ℕ) → tenant < count → (is_quota (quotas tenant) && nat_le (quotas tenant) (places tenant)) ≡ false → each_fits quotas places count ≡ false
 none_fits quotas places zero tenant lt bad = absurd (omega (arith, lt))
 none_fits quotas places (suc count) tenant lt bad = elim (cases_lt tenant count) [
@@ -72,30 +73,30 @@ one_more_fits quotas places count quota many same so each is = subst (λ n. each
     grow false b d a is = absurd (cc)
 
 -- what was read of the tenants in memory
-quota_read : (accounts : List AccountInMemory) (stops : List Stop) (tenant : ℕ) (shown : AccountInMemory) → slice_get accounts tenant ≡ Some shown
-    → quotas_in accounts stops tenant ≡ quota_after (outage_of stops tenant).quota shown
-quota_read accounts stops tenant shown is = ap (λ o. option_map_or (quota_after (outage_of stops tenant).quota) o 0) is
+quota_read : (tenant_states : List TenantStateInMemory) (stops : List Stop) (tenant : ℕ) (shown : TenantStateInMemory) → slice_get tenant_states tenant ≡ Some shown
+    → quotas_in tenant_states stops tenant ≡ quota_after (outage_of stops tenant).quota shown
+quota_read tenant_states stops tenant shown is = ap (λ o. option_map_or (quota_after (outage_of stops tenant).quota) o 0) is
 
-places_read : (accounts : List AccountInMemory) (tenant : ℕ) (shown : AccountInMemory) → slice_get accounts tenant ≡ Some shown → places_in accounts tenant ≡ places_of_file shown.book
-places_read accounts tenant shown is = ap (λ o. option_map_or (λ (one : AccountInMemory). places_of_file one.book) o 0) is
+places_read : (tenant_states : List TenantStateInMemory) (tenant : ℕ) (shown : TenantStateInMemory) → slice_get tenant_states tenant ≡ Some shown → places_in tenant_states tenant ≡ places_of_file shown.book
+places_read tenant_states tenant shown is = ap (λ o. option_map_or (λ (one : TenantStateInMemory). places_of_file one.book) o 0) is
 
 -- a tenant in memory can have its quota, or can't
-module _ (accounts : List AccountInMemory) (stops : List Stop) (tenant quota : ℕ) (shown : AccountInMemory) (can : Bool) (there : tenant < length accounts)
-    (is : shown ≡ slice_index_or accounts tenant shown) (told : quota ≡ quota_after (outage_of stops tenant).quota shown)
+module _ (tenant_states : List TenantStateInMemory) (stops : List Stop) (tenant quota : ℕ) (shown : TenantStateInMemory) (can : Bool) (there : tenant < length tenant_states)
+    (is : shown ≡ slice_index_or tenant_states tenant shown) (told : quota ≡ quota_after (outage_of stops tenant).quota shown)
     (tells : can ≡ (is_quota quota && nat_le quota (places_of_file shown.book))) where
-  quota_here : quotas_in accounts stops tenant ≡ quota
-  quota_here = quota_read accounts stops tenant shown (element accounts tenant shown there is) ∙ sym told
+  quota_here : quotas_in tenant_states stops tenant ≡ quota
+  quota_here = quota_read tenant_states stops tenant shown (element tenant_states tenant shown there is) ∙ sym told
 
-  places_here : places_in accounts tenant ≡ places_of_file shown.book
-  places_here = places_read accounts tenant shown (element accounts tenant shown there is)
+  places_here : places_in tenant_states tenant ≡ places_of_file shown.book
+  places_here = places_read tenant_states tenant shown (element tenant_states tenant shown there is)
 
-  pub one_cannot : can ≡ false → false ≡ each_fits (quotas_in accounts stops) (places_in accounts) (length accounts)
-  one_cannot cannot = sym (none_fits (quotas_in accounts stops) (places_in accounts) (length accounts) tenant there
-      (ap (λ n. is_quota n && nat_le n (places_in accounts tenant)) quota_here ∙ ap (λ many. is_quota quota && nat_le quota many) places_here ∙ sym tells ∙ cannot))
+  pub one_cannot : can ≡ false → false ≡ each_fits (quotas_in tenant_states stops) (places_in tenant_states) (length tenant_states)
+  one_cannot cannot = sym (none_fits (quotas_in tenant_states stops) (places_in tenant_states) (length tenant_states) tenant there
+      (ap (λ n. is_quota n && nat_le n (places_in tenant_states tenant)) quota_here ∙ ap (λ many. is_quota quota && nat_le quota many) places_here ∙ sym tells ∙ cannot))
 
-  pub one_can : can ≡ true → each_fits (quotas_in accounts stops) (places_in accounts) tenant ≡ true → each_fits (quotas_in accounts stops) (places_in accounts) (tenant + 1) ≡ true
+  pub one_can : can ≡ true → each_fits (quotas_in tenant_states stops) (places_in tenant_states) tenant ≡ true → each_fits (quotas_in tenant_states stops) (places_in tenant_states) (tenant + 1) ≡ true
   one_can does each =
-      one_more_fits (quotas_in accounts stops) (places_in accounts) tenant quota (places_of_file shown.book) (sym quota_here) (sym places_here) each (sym tells ∙ does)
+      one_more_fits (quotas_in tenant_states stops) (places_in tenant_states) tenant quota (places_of_file shown.book) (sym quota_here) (sym places_here) each (sym tells ∙ does)
 
 -- each tenant's file has room for its quota
 fits_there : (quotas places : ℕ → ℕ) (count tenant : ℕ) → each_fits quotas places count ≡ true → tenant < count → quotas tenant ≤ places tenant
@@ -109,52 +110,52 @@ fits_there quotas places (suc count) tenant each lt =
           subst (λ k. quotas k ≤ places k) same (leb-true (quotas count) (places count) parts.1)
     ]
 
-have_room : (accounts : List AccountInMemory) (stops : List Stop) → each_fits (quotas_in accounts stops) (places_in accounts) (length accounts) ≡ true → HaveRoom accounts stops
-have_room accounts stops each tenant shown is =
-    subst (λ n. n ≤ places_of_file shown.book) (quota_read accounts stops tenant shown is)
-    (subst (λ n. quotas_in accounts stops tenant ≤ n) (places_read accounts tenant shown is)
-    (fits_there (quotas_in accounts stops) (places_in accounts) (length accounts) tenant each (slice_get_within accounts tenant shown is)))
+have_room : (tenant_states : List TenantStateInMemory) (stops : List Stop) → each_fits (quotas_in tenant_states stops) (places_in tenant_states) (length tenant_states) ≡ true → HaveRoom tenant_states stops
+have_room tenant_states stops each tenant shown is =
+    subst (λ n. n ≤ places_of_file shown.book) (quota_read tenant_states stops tenant shown is)
+    (subst (λ n. quotas_in tenant_states stops tenant ≤ n) (places_read tenant_states tenant shown is)
+    (fits_there (quotas_in tenant_states stops) (places_in tenant_states) (length tenant_states) tenant each (slice_get_within tenant_states tenant shown is)))
 
 -- the quotas in memory are those of the world
-module _ (world : World) (state : State) (stops : List Stop) (shows : Shows world state) where
-  quotas_are : (tenant : ℕ) → tenant < tenants_of world.config → quotas_in world.accounts.items stops tenant ≡ quotas_told state stops tenant
-  quotas_are tenant low = elim ((slice_get_cases world.accounts.items tenant).1) [
-    | inl there ↦ quota_read world.accounts.items stops tenant there.0 there.2
-        ∙ ap (λ quota. unwrap_or (outage_of stops tenant).quota quota) (shows.accounts tenant there.0 there.2).quota
+module _ (world : World) (state : State) (stops : List Stop) (shows : Represents world state) where
+  quotas_are : (tenant : ℕ) → tenant < tenants_of world.config → quotas_in world.tenant_states.items stops tenant ≡ quotas_told state stops tenant
+  quotas_are tenant low = elim ((slice_get_cases world.tenant_states.items tenant).1) [
+    | inl there ↦ quota_read world.tenant_states.items stops tenant there.0 there.2
+        ∙ ap (λ quota. unwrap_or (outage_of stops tenant).quota quota) (shows.tenant_states tenant there.0 there.2).quota
     | inr past ↦ absurd (omega (arith, low, past.0, world.tenants))
   ]
 
-  places_are : (tenant : ℕ) → tenant < tenants_of world.config → places_in world.accounts.items tenant ≡ places_of state tenant
-  places_are tenant low = elim ((slice_get_cases world.accounts.items tenant).1) [
-    | inl there ↦ places_read world.accounts.items tenant there.0 there.2 ∙ (shows.accounts tenant there.0 there.2).file_places
+  places_are : (tenant : ℕ) → tenant < tenants_of world.config → places_in world.tenant_states.items tenant ≡ places_of state tenant
+  places_are tenant low = elim ((slice_get_cases world.tenant_states.items tenant).1) [
+    | inl there ↦ places_read world.tenant_states.items tenant there.0 there.2 ∙ (shows.tenant_states tenant there.0 there.2).file_places
     | inr past ↦ absurd (omega (arith, low, past.0, world.tenants))
   ]
 
-  told_is : may_be_quotas world.config (quotas_in world.accounts.items stops) (places_in world.accounts.items) ≡ may_be_quotas world.config (quotas_told state stops) (places_of state)
-  told_is = same_quotas world.config (quotas_in world.accounts.items stops) (quotas_told state stops) (places_in world.accounts.items) (places_of state) quotas_are places_are
+  told_is : may_be_quotas world.config (quotas_in world.tenant_states.items stops) (places_in world.tenant_states.items) ≡ may_be_quotas world.config (quotas_told state stops) (places_of state)
+  told_is = same_quotas world.config (quotas_in world.tenant_states.items stops) (quotas_told state stops) (places_in world.tenant_states.items) (places_of state) quotas_are places_are
 
--- what the two tests in memory tell of the world's quotas
-module _ (world : World) (stops : List Stop) (held : List AccountInMemory) (is : held ≡ world.accounts.items) (each : Bool)
+-- what the two tests in memory say of the world's quotas
+module _ (world : World) (stops : List Stop) (held : List TenantStateInMemory) (is : held ≡ world.tenant_states.items) (each : Bool)
     (tells : each ≡ each_fits (quotas_in held stops) (places_in held) (length held)) where
-  each_is : each ≡ each_fits (quotas_in world.accounts.items stops) (places_in world.accounts.items) (tenants_of world.config)
+  each_is : each ≡ each_fits (quotas_in world.tenant_states.items stops) (places_in world.tenant_states.items) (tenants_of world.config)
   each_is = tells ∙ ap (λ all. each_fits (quotas_in all stops) (places_in all) (length all)) is
-      ∙ ap (λ count. each_fits (quotas_in world.accounts.items stops) (places_in world.accounts.items) count) world.tenants
+      ∙ ap (λ count. each_fits (quotas_in world.tenant_states.items stops) (places_in world.tenant_states.items) count) world.tenants
 
-  pub cannot_give : (state : State) → Shows world state → each ≡ false → false ≡ may_be_quotas world.config (quotas_told state stops) (places_of state)
+  pub cannot_give : (state : State) → Represents world state → each ≡ false → false ≡ may_be_quotas world.config (quotas_told state stops) (places_of state)
   cannot_give state shows cannot = sym (sym (told_is world state stops shows)
-      ∙ ap (λ b. b && nat_le (quotas_together (quotas_in world.accounts.items stops) (tenants_of world.config)) world.config.pool) (sym each_is ∙ cannot))
+      ∙ ap (λ b. b && nat_le (quotas_together (quotas_in world.tenant_states.items stops) (tenants_of world.config)) world.config.pool) (sym each_is ∙ cannot))
 
-  pub has_room : each ≡ true → HaveRoom world.accounts.items stops
-  has_room can = have_room world.accounts.items stops
-      (ap (λ count. each_fits (quotas_in world.accounts.items stops) (places_in world.accounts.items) count) world.tenants ∙ sym each_is ∙ can)
+  pub has_room : each ≡ true → HaveRoom world.tenant_states.items stops
+  has_room can = have_room world.tenant_states.items stops
+      (ap (λ count. each_fits (quotas_in world.tenant_states.items stops) (places_in world.tenant_states.items) count) world.tenants ∙ sym each_is ∙ can)
 
-  pub together_gives : (state : State) → Shows world state → each ≡ true → (other : List AccountInMemory) (together : ℕ) → other ≡ world.accounts.items
+  pub together_gives : (state : State) → Represents world state → each ≡ true → (other : List TenantStateInMemory) (together : ℕ) → other ≡ world.tenant_states.items
       → together ≡ quotas_together (quotas_in other stops) (length other) → nat_le together world.config.pool ≡ may_be_quotas world.config (quotas_told state stops) (places_of state)
   together_gives state shows can other together same sums =
       ap (λ sum. nat_le sum world.config.pool) sum_is
-      ∙ ap (λ b. b && nat_le (quotas_together (quotas_in world.accounts.items stops) (tenants_of world.config)) world.config.pool) (sym can ∙ each_is)
+      ∙ ap (λ b. b && nat_le (quotas_together (quotas_in world.tenant_states.items stops) (tenants_of world.config)) world.config.pool) (sym can ∙ each_is)
       ∙ told_is world state stops shows
     where
-      sum_is : together ≡ quotas_together (quotas_in world.accounts.items stops) (tenants_of world.config)
+      sum_is : together ≡ quotas_together (quotas_in world.tenant_states.items stops) (tenants_of world.config)
       sum_is = sums ∙ ap (λ all. quotas_together (quotas_in all stops) (length all)) same
-          ∙ ap (λ count. quotas_together (quotas_in world.accounts.items stops) count) world.tenants
+          ∙ ap (λ count. quotas_together (quotas_in world.tenant_states.items stops) count) world.tenants

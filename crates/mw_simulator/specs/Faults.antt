@@ -1,10 +1,11 @@
--- Why an event is refused, where a tenant's file refuses it.
+-- Why a world in memory refuses an event, if a tenant's file refuses it.
+-- Used by: the contracts of src/faults.rt. A change here changes what these contracts say.
 use Rattle.mw_world_file.specs.declared.faults.BookFault.{BookFault}
 use Rattle.mw_world_file.specs.declared.faults.BookFault.TheVariants.{NotEnabled as FileNotEnabled, Memory as FileMemory}
 use Rattle.mw_simulator.specs.declared.faults.WorldFault.{WorldFault}
 use Rattle.mw_simulator.specs.declared.faults.WorldFault.TheVariants.{NotEnabled, Memory}
 
--- the event is refused for the same reason
+-- the reason of the event's refusal, which is the file's
 abbrev pub fault_of : BookFault → WorldFault
 fault_of FileNotEnabled = NotEnabled
 fault_of FileMemory = Memory

@@ -1,4 +1,5 @@
--- Definitions of a world in memory that a crate above needs too, passed on: it then names this crate alone.
-pub use Rattle.mw_world_memory.specs.declared.accounts.Account.{Account}
-pub use Rattle.mw_world_memory.specs.declared.seats.Seat.{Seat}
-pub use Rattle.mw_world_memory.specs.Seats.{seat_of}
+-- Definitions of `mw_world_memory` that this crate passes on to `mw_world_table`, which then names this crate alone.
+-- Used by: mw_world_table. Add and take out names as these crates need them.
+pub use Rattle.mw_world_memory.specs.declared.tenants.TenantState.{TenantState}
+pub use Rattle.mw_world_memory.specs.declared.workers.WorkerState.{WorkerState}
+pub use Rattle.mw_world_memory.specs.Workers.{worker_state_of}

@@ -1,20 +1,23 @@
 //! Why an event is refused.
+//!
+//! mw_player makes its own fault of it (`PlayFault`). A new kind needs a case there and in `specs/Events`.
 
 use mw_world_file::BookFault;
 
-/// A world in memory gives a tenant's requests numbers below this one, as `mw_lone` does.
+/// The limit of request numbers: a world in memory gives a tenant's requests numbers below it, as `mw_lone`
+/// does.
 pub const MOST_REQUESTS: u64 = u64::MAX;
 
-/// Why an event is refused. The world is then unchanged, but for the room that it keeps for further marks
-/// and claims.
+/// Why an event is refused. A refused event leaves the world unchanged, except that its lists may keep more
+/// room for further marks and claims.
 #[derive(Clone, Copy, Debug, PartialEq, Eq)]
 pub enum WorldFault {
-    /// It can't happen where the world is.
+    /// The event can't happen in this state of the world.
     NotEnabled,
-    /// It can happen, but is a request whose number would be [`MOST_REQUESTS`], of which a world in memory
-    /// gives none.
+    /// The event can happen, but it is a request whose number would be [`MOST_REQUESTS`]. A world in memory
+    /// gives no such number.
     LastNumber,
-    /// Want of memory.
+    /// Memory is out.
     Memory,
 }
 

@@ -1,11 +1,13 @@
-//! What holds of a world in memory since every run of a world is as it is to be: a fact for proofs to cite. The
-//! function does nothing.
+//! States a theorem about each image that a crash may leave.
+//!
+//! The function does nothing, and nothing calls it: its contract is the fact, proved in `proofs/laws`. To
+//! change the fact, change its definition in `specs`, and then its proof.
 ghost use Rattle.mw_simulator.specs.Images.{EveryImageIsOfStore};
 
-/// Every run serves each tenant as its store alone would; so each image that a crash may leave has the
-/// store's words, with the change in doubt or without; also in the midst of a call on a tenant's file, where
-/// the change in doubt is the interrupted request's or the one that was before; and while the file is opened
-/// at a start, where it has the words that were found.
-pub fn what_serving_alone_leaves()
+/// Proves that each image that a crash may leave has the words of the tenant's store alone, with the change in
+/// doubt or without it. In the middle of a call on the tenant's file, the change in doubt is the one of the
+/// interrupted request, or else the one that was in doubt before. While a start opens the file, the image has
+/// the words that the start found. The reason is that every run serves each tenant as its store alone would.
+pub fn every_image_is_of_store()
     ensures images { EveryImageIsOfStore }
 {}

@@ -1,13 +1,18 @@
-//! A simulator: a program that plays worlds in memory, an event at a time, and keeps to the definition.
-//! It can be played by hand (`mwreplay`).
+//! A simulator. It plays a world in memory, an event at a time, and does what the definition of a world says.
+//! You can play it by hand with `mwreplay`.
 //!
-//! What to read first. `mw_world` says what a world is and what each event makes of it. `specs/Shows` says
-//! which of these worlds a world in memory is; `specs/Running` what each public call promises, by that
-//! definition, of an event, of a run and of a start; `specs/Staying` what a refused event leaves, and whose
-//! files an event leaves. `specs/Images` is what a crash leaves of a tenant's disk, if every run is as it is
-//! to be. The other files of `specs` are about the parts: `Bits`, `Ties`, `BitPlaces` and `Making` the shared
-//! words in bits, `Claims`, `Lines` and `Seats` what is kept beside them, `TenantBooks` the tenants' files,
-//! `Stepping` and `Ending` a step and a call, `Starts`, `Openings`, `Quotas` and `Stops` starts.
+//! What to read first. `mw_world` defines a world and what each event does to it. `specs/Representation` says
+//! which of these worlds a world in memory represents. `specs/Events` says what each public call promises of an
+//! event, a run and a start. `specs/Invariant` and `specs/ServiceAlone` say what holds after every run.
+//! `specs/UnchangedParts` says what a refused event leaves unchanged, and which files an event doesn't touch.
+//! `specs/Images` says what a crash leaves of a tenant's disk.
+//!
+//! The other files of `specs` are about parts: `StepParts` a step, `CallEnds` and `Crashes` a call on a file,
+//! `Starts`, `Quotas` and `Stops` a start. The specs of `mw_world_memory` have the parts of a world in memory:
+//! `Bits`, `BitsMatch`, `BitPlaces`, `StepsInBits` and `Openings` the shared words in bits, `Claims`, `Lines`
+//! and `Workers` what is kept beside them, `TenantBooks` the tenants' files.
+//!
+//! Used by: mw_world_trials, mw_world_table, mw_player, mw_table_tests.
 #![tactic(auto)]
 
 mod faults;
@@ -15,6 +20,6 @@ mod laws;
 mod world;
 
 pub use faults::{MOST_REQUESTS, WorldFault};
-pub use laws::what_serving_alone_leaves;
-pub use mw_world_memory::{Account, Seat};
+pub use laws::every_image_is_of_store;
+pub use mw_world_memory::{TenantState, WorkerState};
 pub use world::World;

@@ -6,7 +6,7 @@ use std::process::Abort;
 const SIXTEEN: &[u8] =
     b"a 1 1 a\nb 1 1 b\nc 1 1 c\nd 1 1 d\ne 1 1 e\nf 1 1 f\ng 1 1 g\nh 1 1 h\ni 1 1 i\nj 1 1 j\nk 1 1 k\nl 1 1 l\nm 1 1 m\nn 1 1 n\no 1 1 o\np 1 1 p\n";
 
-/// How many tenants a text tells.
+/// Gives how many tenants a text has.
 fn count(text: &[u8], pool: u16) -> Result<usize, Refusal> {
     match read_tenants(text, pool) {
         Ok(tenants) => Ok(tenants.len()),
@@ -14,13 +14,14 @@ fn count(text: &[u8], pool: u16) -> Result<usize, Refusal> {
     }
 }
 
-/// Whether a line is of this tenant.
+/// Tells whether a line is of this tenant.
 fn is_line(line: &TenantLine, name: &[u8], sizes: (u16, u8), path: &str) -> bool {
     let is_named = line.name.as_slice() == name && line.path.as_str() == path;
     is_named && (line.words, line.quota) == sizes
 }
 
-/// Whether these are the lines of a tenant with a name of three letters and of one with the least.
+/// Tells whether these are the lines of a tenant with a name of three letters and of one with the least of
+/// all.
 fn are_two_lines(lines: &[TenantLine]) -> bool {
     match lines {
         [first, second] => {
@@ -42,7 +43,7 @@ fn files_that_are_accepted(rt: HostRuntime) {
     same(&rt, &counts, &[Ok(16), Ok(1)]);
 }
 
-/// Refusals, and texts that are refused so, one a line, in which `/` stands for a line's end.
+/// Refusals, and texts that are refused so, one a line. `/` is for a line's end.
 const REFUSED_TEXTS: [(Refusal, &str); 4] = [
     (Refusal::None, ""),
     (
@@ -71,7 +72,7 @@ t 1 1 é/",
     ),
 ];
 
-/// A text whose lines end where `/` stands.
+/// Gives a text with a line feed for each `/`.
 fn with_line_ends<R: Abort + AllocGlobal>(rt: &R, text: &str) -> String {
     text.replace(rt.alloc(), "/", "\n").expect(rt, MEMORY)
 }
@@ -116,7 +117,7 @@ fn the_first_refusal_is_the_answer(rt: HostRuntime) {
     same(&rt, &count(b"t 1 1 a\nu 1 64 b\n", 65), &Ok(2));
 }
 
-/// What is read of two lines of eleven bytes each that are cut to so many.
+/// Reads two lines of eleven bytes each, cut to so many bytes.
 fn cut_to(length: usize) -> Result<usize, Refusal> {
     count(
         b"t 2 1 t.mw\nu 4 1 u.mw\n".get(..length).unwrap_or(b"?"),
@@ -138,7 +139,7 @@ fn cut_tenants(rt: HostRuntime) {
     }
 }
 
-/// Sixteen lines and this one.
+/// Reads sixteen lines and this one.
 fn seventeen(line: &[u8]) -> Result<usize, Refusal> {
     let mut text = [b' '; 256];
     let mut length = 0;
@@ -193,7 +194,7 @@ const REFUSALS: [(Refusal, &str); 8] = [
     (Refusal::Pool, "mwserve: refused 9 pool"),
 ];
 
-/// The text of a refusal.
+/// Gives the text of a refusal.
 fn text_of<R: Abort + AllocGlobal>(rt: &R, refusal: Refusal) -> String {
     format!(in rt.alloc(); "{refusal}").expect(rt, MEMORY)
 }
@@ -205,7 +206,7 @@ fn texts_of_refusals(rt: HostRuntime) {
     }
 }
 
-/// A command line, whose words a space parts.
+/// Splits a command line at its spaces.
 fn words_of(alloc: Global, line: &str) -> Result<Vec<String>, AllocError> {
     let mut words = Vec::new(alloc);
     for word in line.split(' ') {
@@ -214,7 +215,7 @@ fn words_of(alloc: Global, line: &str) -> Result<Vec<String>, AllocError> {
     Ok(words)
 }
 
-/// The name of a command line's fault, where it isn't want of memory.
+/// Gives the name of a command line's fault, unless memory is out.
 fn name_of(fault: &ArgFault) -> Result<&'static str, AllocError> {
     match fault {
         ArgFault::Refused(_) => Ok("refused"),
@@ -223,7 +224,7 @@ fn name_of(fault: &ArgFault) -> Result<&'static str, AllocError> {
     }
 }
 
-/// What a command line gives: what it asks for, or the name of its fault.
+/// Reads a command line. Gives what it asks for, or the name of its fault.
 fn read(alloc: Global, line: &str) -> Result<String, AllocError> {
     match read_args(alloc, &words_of(alloc, line)?) {
         Ok(args) => format!(in alloc; "{args:?}"),
@@ -288,8 +289,8 @@ fn command_lines_without_one_mode(rt: HostRuntime) {
     each_gives(&rt, LINES_WITHOUT_ONE_MODE, "mode");
 }
 
-/// Command lines that are not of the form that the help tells, with a number out of range, or that ask to
-/// be told something.
+/// Command lines that are not of the form that the help tells, that have a number out of range, or that ask
+/// for the help or the version.
 const REFUSED_LINES: &str = "\
 mwserve
 mwserve --script s
@@ -313,7 +314,7 @@ fn command_lines_that_are_refused(rt: HostRuntime) {
     each_gives(&rt, REFUSED_LINES, "refused");
 }
 
-/// Where memory is refused the answer is want of memory, and never another one.
+/// If memory is refused, the answer is that memory is out, and never another one.
 #[test]
 fn no_other_answer_for_want_of_memory(rt: HostRuntime) {
     for (line, wanted) in LINES {
@@ -323,14 +324,14 @@ fn no_other_answer_for_want_of_memory(rt: HostRuntime) {
     }
 }
 
-/// The text of the fault that a command line has.
+/// Gives the text of the fault of a command line.
 fn fault_of<R: Abort + AllocGlobal>(rt: &R, line: &str) -> String {
     let words = words_of(rt.alloc(), line).expect(rt, MEMORY);
     let fault = read_args(rt.alloc(), &words).expect_err(rt, "a fault");
     format!(in rt.alloc(); "{fault}").expect(rt, MEMORY)
 }
 
-/// What the help has to name, one a line.
+/// What the help must name, one a line.
 const OPTIONS: &str = "\
 --tenants <FILE>
 --pool <P>

@@ -1,5 +1,5 @@
-//! Tests of a tenant's store alone, of the store of all tenants, of what a server is started with and of what
-//! is shown of a tenant's file. They stand apart from the crates that they test, so that those are proved once.
+//! Tests a tenant's store alone, the store of all tenants, what a server is started with, and what is shown
+//! of a tenant's file. The tests are apart from the crates that they test, so that those are proved once.
 #![tactic(auto)]
 
 #[cfg(test)]

@@ -3,7 +3,7 @@ use mw_lone::*;
 use mw_words::{Entries, Entry, Job, Reply};
 use std::process::Abort;
 
-/// A change of one word.
+/// Makes a change of one word.
 fn change(addr: u16, expected: u64, new: u64) -> Job {
     let mut entries = Entries::new();
     entries.push(Entry {
@@ -14,7 +14,7 @@ fn change(addr: u16, expected: u64, new: u64) -> Job {
     Job::Cas(entries)
 }
 
-/// A change of the words 0 and 1.
+/// Makes a change of the words 0 and 1.
 fn change_both(first: (u64, u64), second: (u64, u64)) -> Job {
     let mut entries = Entries::new();
     entries.push(Entry {
@@ -30,7 +30,7 @@ fn change_both(first: (u64, u64), second: (u64, u64)) -> Job {
     Job::Cas(entries)
 }
 
-/// A start that tells the quota of 1.
+/// Makes a start that gives the quota of 1.
 fn restart(interrupted: Option<u64>, take: bool) -> Mark {
     Mark::Restart {
         interrupted,
@@ -40,7 +40,7 @@ fn restart(interrupted: Option<u64>, take: bool) -> Mark {
     }
 }
 
-/// A start that tells this quota, and finds no change in doubt.
+/// Makes a start that gives this quota, and finds no change in doubt.
 fn restart_with(quota: u8) -> Mark {
     Mark::Restart {
         interrupted: None,
@@ -53,7 +53,7 @@ fn restart_with(quota: u8) -> Mark {
 /// A mark, and the reply that the store hands out at it.
 type Told = (Mark, Option<Reply>);
 
-/// Requests, of which one is refused by quota and one by a word.
+/// Requests, of which one is refused by the quota and one by a word.
 fn requests() -> [Told; 16] {
     [
         (Mark::Ask(0, Job::Get(1)), None),
@@ -112,12 +112,12 @@ fn starts() -> [Told; 15] {
     ]
 }
 
-/// A store of the words 10 and 20, and a quota of 1.
+/// Makes a store of the words 10 and 20, with a quota of 1.
 fn new_store<R: Abort + AllocGlobal>(rt: &R) -> Lone {
     Lone::new(rt.alloc(), &[10, 20], 1, false).expect(rt, MEMORY)
 }
 
-/// Each of these marks can happen, and the store hands out the reply beside it.
+/// Each of these marks is legal, and the store hands out the reply beside it.
 fn tells<R: Abort>(rt: &R, lone: &mut Lone, marks: Vec<Told>) {
     for (mark, want) in marks {
         same(rt, &lone.mark(mark), &Ok(want));
@@ -135,7 +135,7 @@ fn replies_as_the_marks_say(rt: HostRuntime) {
     tells(&rt, &mut lone, marks);
 }
 
-/// Marks that can't happen where request 0 is admitted, and no other one came.
+/// Marks that are illegal after request 0 is admitted and no other one came.
 fn illegal() -> [Mark; 18] {
     [
         Mark::Ask(0, Job::Get(0)),
@@ -159,7 +159,7 @@ fn illegal() -> [Mark; 18] {
     ]
 }
 
-/// None of these marks can happen.
+/// None of these marks is legal.
 fn refuses<R: Abort>(rt: &R, lone: &mut Lone, marks: Vec<Mark>) {
     for mark in marks {
         same(rt, &lone.mark(mark), &Err(LoneFault::Illegal));
@@ -176,8 +176,7 @@ fn refuses_what_cannot_happen(rt: HostRuntime) {
     same(&rt, &lone.mark(Mark::Seal(0)), &Ok(None));
 }
 
-/// Starts that tell the greatest quota, and then 2; and as many changes as that, one of them still to be
-/// admitted.
+/// Starts that give the greatest quota, and then 2; and two changes, one of them not admitted yet.
 fn raised() -> [Told; 5] {
     [
         (restart_with(64), None),
@@ -198,7 +197,7 @@ fn filled() -> [Told; 4] {
     ]
 }
 
-/// A start that tells the quota of 1, by which the second change is refused.
+/// A start that gives the quota of 1, by which the second change is refused.
 fn lowered() -> [Told; 6] {
     [
         (restart_with(1), None),

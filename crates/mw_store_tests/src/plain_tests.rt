@@ -13,7 +13,7 @@ use mw_words::{Entries, Entry, Job, Reply};
 use std::alloc::{AllocError, Global};
 use std::process::Abort;
 
-/// A line of a tenant with this name of one letter, two words and this quota.
+/// Makes a line of a tenant with this name of one letter, two words and this quota.
 fn line(name: u8, quota: u8) -> TenantLine
     ensures words { result.words ≡ 2 }
     ensures quota { result.quota ≡ quota }
@@ -25,19 +25,19 @@ fn line(name: u8, quota: u8) -> TenantLine
     line
 }
 
-/// A disk of these bytes.
+/// Makes a disk of these bytes.
 fn disk_with<R: Abort + AllocGlobal>(rt: &R, bytes: Vec<u8>) -> MemDisk {
     MemDisk::new(rt.alloc(), bytes, Vec::new(rt.alloc())).expect(rt, MEMORY)
 }
 
-/// A disk with a new file of two words and one place, the two words being 0.
+/// Makes a disk with a new file of two words, both 0, and one place.
 fn new_disk<R: Abort + AllocGlobal>(rt: &R) -> MemDisk {
     let mut bytes = Vec::from_slice(rt.alloc(), &header(2, 1)).expect(rt, MEMORY);
     bytes.resize(size(2, 1) as usize, 0).expect(rt, MEMORY);
     disk_with(rt, bytes)
 }
 
-/// The file on a disk, and its words, where it opens and fits the line.
+/// Gives the file on a disk, and its words, if it opens and fits the line.
 fn file_of(
     alloc: Global,
     line: &TenantLine,
@@ -58,7 +58,7 @@ fn file_of(
     }
 }
 
-/// The store of two tenants over these disks: t with this quota, and u with a quota of one.
+/// Makes the store of two tenants over these disks: t with this quota, and u with a quota of one.
 fn store_of(
     alloc: Global,
     quota: u8,
@@ -77,7 +77,7 @@ fn store_of(
     Plain::new(alloc, &lines, files, u16::from(quota) + 1)
 }
 
-/// The store of two tenants, t and u, over these disks, each with a quota of one.
+/// Makes the store of two tenants, t and u, over these disks, each with a quota of one.
 fn store(alloc: Global, first: MemDisk, second: MemDisk) -> Result<Plain<MemDisk>, AllocError>
     ensures count { IfOk result (λ plain. tenants plain ≡ 2) }
     ensures first { IfOk result (λ plain. words_at plain 0 ≡ 2) }
@@ -86,7 +86,7 @@ fn store(alloc: Global, first: MemDisk, second: MemDisk) -> Result<Plain<MemDisk
     store_of(alloc, 1, first, second)
 }
 
-/// The store of two tenants, t and u, over new disks.
+/// Makes the store of two tenants, t and u, over new disks.
 fn new_store<R: Abort + AllocGlobal>(rt: &R) -> Plain<MemDisk>
     ensures count { tenants result ≡ 2 }
     ensures first { words_at result 0 ≡ 2 }
@@ -95,7 +95,7 @@ fn new_store<R: Abort + AllocGlobal>(rt: &R) -> Plain<MemDisk>
     store(rt.alloc(), new_disk(rt), new_disk(rt)).expect(rt, MEMORY)
 }
 
-/// The change of one word from 0 to 1.
+/// Makes the change of one word from 0 to 1.
 fn change(addr: u16) -> Job
     requires { addr < 2 }
     ensures { IsTrue (is_well_formed 2 result) }
@@ -109,7 +109,7 @@ fn change(addr: u16) -> Job
     Job::Cas(entries)
 }
 
-/// The reply to a job, if the tenant is there and may ask for it.
+/// Gives the reply to a job, if the tenant is there and may ask for it.
 fn ask(store: &mut Plain<MemDisk>, tenant: u8, job: &Job) -> Option<Reply> {
     if tenant as usize >= store.len() || !job.is_well_formed(store.words_of(tenant) as usize) {
         return None;
@@ -117,7 +117,7 @@ fn ask(store: &mut Plain<MemDisk>, tenant: u8, job: &Job) -> Option<Reply> {
     Some(store.ask(tenant, job))
 }
 
-/// The words of t, and of u.
+/// Gives the words of t, and of u.
 fn words(store: &mut Plain<MemDisk>) -> [Option<Reply>; 4] {
     [
         ask(store, 0, &Job::Get(0)),
@@ -131,7 +131,7 @@ fn val(value: u64) -> Option<Reply> {
     Some(Reply::Val(value))
 }
 
-/// The replies to two tenants' changes, of which those of t wait for each other.
+/// Gives the replies to two tenants' changes. Those of t wait for each other.
 fn two_at_a_time(store: &mut Plain<MemDisk>) -> [Option<Reply>; 5]
     requires count { tenants store.old ≡ 2 }
     requires first { words_at store.old 0 ≡ 2 }
@@ -174,7 +174,7 @@ fn tickets(rt: HostRuntime) {
     same(&rt, &told_of_tickets(&rt), &(replies, words, true));
 }
 
-/// The replies to two changes of the same word by t, and to a read by u.
+/// Gives the replies to two changes of the same word by t, and to a read by u.
 fn replies_in_order<R: Abort + AllocGlobal>(rt: &R) -> Vec<Reply> {
     let mut store = new_store(rt);
     let tasks = [
@@ -205,7 +205,7 @@ fn tasks_in_order(rt: HostRuntime) {
 /// second layout.
 const OPENING_CALLS: u64 = 7;
 
-/// A new disk that fails at so many calls from the opening.
+/// Makes a new disk that fails so many calls after the opening.
 fn failing_disk<R: Abort + AllocGlobal>(rt: &R, calls: u8) -> MemDisk {
     let mut disk = new_disk(rt);
     disk.fail_next(OPENING_CALLS + u64::from(calls) + 1)
@@ -213,7 +213,7 @@ fn failing_disk<R: Abort + AllocGlobal>(rt: &R, calls: u8) -> MemDisk {
     disk
 }
 
-/// What a crash leaves of the first of these disks, if there is one.
+/// Gives what a crash leaves of the first of these disks, if there is one.
 fn left_of_first<R: Abort + AllocGlobal>(rt: &R, disks: &[Option<MemDisk>]) -> Vec<u8> {
     match disks.first() {
         Some(Some(disk)) => disk.crash(&[]).expect(rt, MEMORY),
@@ -221,8 +221,8 @@ fn left_of_first<R: Abort + AllocGlobal>(rt: &R, disks: &[Option<MemDisk>]) -> V
     }
 }
 
-/// The reply to t's change where its device fails at so many calls from the opening, and what a crash
-/// leaves then of its disk.
+/// Gives the reply to t's change if its device fails so many calls after the opening, and what a crash then
+/// leaves of its disk.
 fn crash_in_trouble<R: Abort + AllocGlobal>(rt: &R, calls: u8) -> (Option<Reply>, Vec<u8>) {
     let failing = failing_disk(rt, calls);
     let mut first = store(rt.alloc(), failing, new_disk(rt)).expect(rt, MEMORY);
@@ -231,15 +231,15 @@ fn crash_in_trouble<R: Abort + AllocGlobal>(rt: &R, calls: u8) -> (Option<Reply>
     (reply, left_of_first(rt, &disks))
 }
 
-/// The words of t, whose disk has these bytes, and of u, whose disk is new.
+/// Gives the words of t, whose disk has these bytes, and of u, whose disk is new.
 fn words_of_opened<R: Abort + AllocGlobal>(rt: &R, bytes: Vec<u8>) -> [Option<Reply>; 4] {
     let left = disk_with(rt, bytes);
     let mut second = store(rt.alloc(), left, new_disk(rt)).expect(rt, MEMORY);
     words(&mut second)
 }
 
-/// The reply to t's change where its device fails at so many calls from the opening, and the words of t and
-/// of u after the next opening, as they are to be.
+/// Gives what is wanted if t's device fails so many calls after the opening: the reply to t's change, and
+/// the words of t and of u after the next opening.
 fn wanted_after(calls: u8) -> (Option<Reply>, [Option<Reply>; 4]) {
     match calls {
         0..=2 => (Some(Reply::Fault), [val(0), val(0), val(0), val(0)]),
@@ -257,7 +257,7 @@ fn each_device_call_fails(rt: HostRuntime) {
     }
 }
 
-/// What a crash leaves of t's disk after a change of its word 1, the quota being one.
+/// Gives what a crash leaves of t's disk after a change of its word 1, with a quota of one.
 fn left_after_a_change<R: Abort + AllocGlobal>(rt: &R) -> Vec<u8> {
     let mut store = new_store(rt);
     let _ = ask(&mut store, 0, &change(1));
@@ -265,7 +265,7 @@ fn left_after_a_change<R: Abort + AllocGlobal>(rt: &R) -> Vec<u8> {
     left_of_first(rt, &disks)
 }
 
-/// The reply to a change of a word of t's, if its start is the end of it.
+/// Gives the reply to a change of a word of t, if the change ends when it starts.
 fn begun(store: &mut Plain<MemDisk>, job: &Job) -> Option<Reply> {
     if store.len() == 0 || !job.is_well_formed(store.words_of(0) as usize) {
         return None;
@@ -276,7 +276,7 @@ fn begun(store: &mut Plain<MemDisk>, job: &Job) -> Option<Reply> {
     }
 }
 
-/// The quota of the first tenant and the places of its file, as they are reported.
+/// Gives the quota of the first tenant and the places of its file, as they are reported.
 fn told_of_first(store: &Plain<MemDisk>) -> (u8, u8) {
     match store.figures().tenants.first() {
         Some(figures) => (figures.quota, figures.places),
@@ -284,8 +284,8 @@ fn told_of_first(store: &Plain<MemDisk>) -> (u8, u8) {
     }
 }
 
-/// Where t is started again with this quota: its word 1, the replies to three changes of which none is
-/// finished, and what is reported of its quota and places.
+/// What is found if t is started again with this quota: its word 1, the replies to three changes of which
+/// none is finished, and what is reported of its quota and places.
 type Started = (Option<Reply>, [Option<Reply>; 3], (u8, u8));
 
 fn started_with<R: Abort + AllocGlobal>(rt: &R, quota: u8) -> Started
@@ -302,7 +302,7 @@ fn started_with<R: Abort + AllocGlobal>(rt: &R, quota: u8) -> Started
     (word, replies, told_of_first(&store))
 }
 
-/// A file that was made with one place has two once it was opened: a start may tell a quota of one or two,
+/// A file that was made with one place has two after it was opened. A start may give a quota of one or two,
 /// and with three it is not served.
 #[test]
 fn a_start_tells_the_quota(rt: HostRuntime) {

@@ -1,16 +1,16 @@
 use std::fmt::Debug;
 use std::process::Abort;
 
-/// What was found is what was wanted. Tests share this comparison, and the text that tells both values
-/// where they differ: a test of one's own is proved for the longer the more of these it holds.
+/// Checks that what was found is what was wanted, and tells both values if they differ. Tests share this
+/// comparison, because a test takes longer to prove with each comparison of its own.
 pub(crate) fn same<R: Abort, T: Debug + PartialEq>(rt: &R, found: &T, wanted: &T) {
     assert_eq!(rt; found, wanted);
 }
 
-/// What a test says that is refused memory.
+/// What a test says if memory is refused.
 pub(crate) const MEMORY: &str = "memory";
 
-/// A text that was found is the one that was wanted.
+/// Checks that a text that was found is the one that was wanted.
 pub(crate) fn same_text<R: Abort>(rt: &R, found: &str, wanted: &str) {
     assert!(rt; found == wanted, "{found:?} in place of {wanted:?}");
 }

@@ -1,4 +1,4 @@
-//! What is shown of a tenant's file.
+//! Tests what is shown of a tenant's file.
 
 use crate::same::{MEMORY, same_text};
 use mw_record::{header, header2, size, size2};
@@ -9,15 +9,16 @@ use std::rt::Files;
 use std::test::Fail;
 use std::{env, fs, process};
 
-/// The bytes of a new file with 2 words, from byte 32, and 2 record places, from bytes 48 and 184.
+/// Makes the bytes of a new file with 2 words, from byte 32, and 2 record places, from bytes 48 and 184.
 fn new_file<R: Abort + AllocGlobal>(rt: &R) -> Vec<u8> {
     let mut bytes = Vec::from_slice(rt.alloc(), &header(2, 2)).expect(rt, MEMORY);
     bytes.resize(size(2, 2) as usize, 0).expect(rt, MEMORY);
     bytes
 }
 
-/// The bytes of a file whose first layout is that of a new file, and whose second one, from byte 320, has 2
-/// words, from byte 352, and 4 record places, from bytes 368, 632, 896 and 1160; it ends at byte 1424.
+/// Makes the bytes of a file whose first layout is that of a new file. Its second one begins at byte 320
+/// and has 2 words, from byte 352, and 4 record places, from bytes 368, 632, 896 and 1160; it ends at byte
+/// 1424.
 fn switched_file<R: Abort + AllocGlobal>(rt: &R) -> Vec<u8> {
     let mut bytes = changed_file(rt, &new_file(rt), "15=165 16=64 17=1");
     let end = bytes.len() + size2(2, 4) as usize;
@@ -26,13 +27,13 @@ fn switched_file<R: Abort + AllocGlobal>(rt: &R) -> Vec<u8> {
     bytes
 }
 
-/// The place and the value of a byte that a text tells: `AT=VALUE`.
+/// Reads the place and the value of a byte from a text: `AT=VALUE`.
 fn read_change(change: &str) -> Option<(usize, u8)> {
     let (at, value) = change.split_once('=')?;
     Some((at.parse().ok()?, value.parse().ok()?))
 }
 
-/// A file with bytes that were changed as a text tells: `AT=VALUE`, with spaces between.
+/// Makes a file with bytes changed as a text says: `AT=VALUE`, with spaces between.
 fn changed_file<R: Abort + AllocGlobal>(rt: &R, file: &[u8], changes: &str) -> Vec<u8> {
     let mut bytes = Vec::from_slice(rt.alloc(), file).expect(rt, MEMORY);
     for change in changes.split_whitespace() {
@@ -44,20 +45,20 @@ fn changed_file<R: Abort + AllocGlobal>(rt: &R, file: &[u8], changes: &str) -> V
     bytes
 }
 
-/// The text of these bytes.
+/// Gives the text of these bytes.
 fn text_of<R: Abort + AllocGlobal>(rt: &R, bytes: Vec<u8>) -> String {
     String::from_utf8(bytes).expect(rt, "a text")
 }
 
-/// What is shown of a file.
+/// Gives what is shown of a file.
 fn shown<R: Abort + AllocGlobal>(rt: &R, bytes: &[u8], all_words: bool) -> String {
     let mut out = Vec::new(rt.alloc());
     show(rt.alloc(), bytes, all_words, &mut out).expect(rt, "what is shown");
     text_of(rt, out)
 }
 
-/// How a new file is changed, and what is shown of it then, with ` / ` for a line feed. The first line changes
-/// nothing: 77 is what the first byte is.
+/// How a new file is changed, and what is then shown of it, with ` / ` for a line feed. The first line
+/// changes nothing, because the first byte is 77.
 const NEW_FILES: &str = "\
 0=77 > words 2 / places 2
 40=7 > words 2 / places 2 / word 1 7
@@ -77,7 +78,8 @@ const NEW_FILES: &str = "\
 48=165 49=1 56=2 184=165 > damage 4 byte 48
 48=165 49=1 184=165 185=1 > damage 5 byte 184";
 
-/// The same of a file that has its second layout. Its first one is not looked at behind the offset, nor its sizes.
+/// The same for a file that has its second layout. Of its first layout, nothing after the offset is looked
+/// at, and neither are its sizes.
 const SWITCHED_FILES: &str = "\
 0=77 > second layout at 320 / words 2 / places 4
 360=7 > second layout at 320 / words 2 / places 4 / word 1 7
@@ -116,7 +118,7 @@ fn shows<R: Abort + AllocGlobal>(rt: &R, bytes: &[u8], text: &str) {
     same_text(rt, lines.as_str().strip_suffix(" / ").unwrap_or("?"), text);
 }
 
-/// Of a file that is changed as each line tells, the text behind it is shown.
+/// The text in each line is shown of a file that is changed as the line says.
 fn are_shown<R: Abort + AllocGlobal>(rt: &R, file: &[u8], lines: &str) {
     for line in lines.lines() {
         let (changes, text) = line.split_once(" > ").expect(rt, "a file");
@@ -158,7 +160,7 @@ impl Outcome {
     }
 }
 
-/// The program with the command line of these words.
+/// Runs the program with the command line of these words.
 fn run<R: Abort + AllocGlobal + Files<File = File>>(rt: &R, words: &[&str]) -> Outcome {
     let mut args = Vec::new(rt.alloc());
     for word in words {
@@ -168,7 +170,7 @@ fn run<R: Abort + AllocGlobal + Files<File = File>>(rt: &R, words: &[&str]) -> O
     outcome_of(rt, &args)
 }
 
-/// The program with this command line.
+/// Runs the program with this command line.
 fn outcome_of<R: Abort + AllocGlobal + Files<File = File>>(rt: &R, args: &[String]) -> Outcome {
     let mut out = Vec::new(rt.alloc());
     let mut err = Vec::new(rt.alloc());
@@ -180,7 +182,7 @@ fn outcome_of<R: Abort + AllocGlobal + Files<File = File>>(rt: &R, args: &[Strin
     }
 }
 
-/// The path of a test's own file.
+/// Gives the path of a test's own file.
 fn path_of(rt: &HostRuntime, name: &str) -> Result<String, Fail> {
     let id = process::id(rt.process());
     let name = format!(in rt.alloc(); "mwshow-{name}-{id}")?;
@@ -188,13 +190,13 @@ fn path_of(rt: &HostRuntime, name: &str) -> Result<String, Fail> {
     Ok(String::from_str(rt.alloc(), path.as_path().as_str())?)
 }
 
-/// At this path stands a file with these bytes.
+/// Writes a file with these bytes at this path.
 fn write_file<R: Abort + AllocGlobal + Files<File = File>>(rt: &R, path: &str, changes: &str) {
     let bytes = changed_file(rt, &new_file(rt), changes);
     fs::write(rt, path, bytes.as_slice()).expect(rt, "a file");
 }
 
-/// The file at this path is gone.
+/// Removes the file at this path.
 fn remove<R: Abort + AllocGlobal + Files<File = File>>(rt: &R, path: &str) {
     fs::remove_file(rt, path).expect(rt, "a file");
 }
@@ -219,7 +221,7 @@ fn a_damaged_file_ends_with_status_1(rt: HostRuntime) -> Result<(), Fail> {
     Ok(())
 }
 
-/// What the program gives of a file that is in use.
+/// Gives what the program gives for a file that is in use.
 fn run_in_use<R: Abort + AllocGlobal + Files<File = File>>(rt: &R, path: &str) -> Outcome {
     let server = File::open(rt, path).expect(rt, "a file");
     assert!(rt; server.try_lock().is_ok());

@@ -1,16 +1,17 @@
--- Definitions of the rule that crates above need too, passed on: these then name this crate alone.
-pub use Rattle.mw_rule.specs.Calling.{Answered, Serves}
-pub use Rattle.mw_rule.specs.Carrying.{Began, FindsWayAt, GoesOn, Has, IsFound, IsReady, IsReadyAt, IsReadyFor, Keeps, Looked, MayCome, Met, NotesAs, Took, comes, finished_as, settled, settled_as, stepped, told, told_of}
-pub use Rattle.mw_rule.specs.Continuing.{events_loaded, starts_by}
-pub use Rattle.mw_rule.specs.Courses.{Course, IsOnFrom, course_of}
-pub use Rattle.mw_rule.specs.Dealing.{bereft, borrows, entrusted, first_held, other_held, reins_of}
-pub use Rattle.mw_rule.specs.Filing.{Calls, LeavesRest, Loaded, LoadedAs, Starts, Went, after_call, broken_so, fails, filed_so, place_held, places_held, went}
-pub use Rattle.mw_rule.specs.FromLaws.{End, FileRights, FindsFault, FindsItsWay, GoesWell, MayEnd, MeetsFault, Skips, TellsFile, file_told, is_as_named, rights_broken, rights_by, rights_filed, rights_opened, went_well}
+-- Definitions of mw_rule that crates above need too, passed on so that they name this crate alone.
+-- Used by: mw_core, mw_engine, mw_table_tests. Add and take out names as these crates need them.
+pub use Rattle.mw_rule.specs.WholeCalls.{Answered, Serves}
+pub use Rattle.mw_rule.specs.Steps.{LearnsFirstStep, FindsWayAt, ExtendsWithLearned, HasToken, IsFound, IsReady, IsReadyAt, IsReadyFor, ExtendsView, LearnsPlainLoad, MayCome, LearnsMeeting, NotesAs, LearnsStep, comes, finished_as, settled, settled_as, stepped, told, actor_after}
+pub use Rattle.mw_rule.specs.RunEvents.{events_loaded, starts_by}
+pub use Rattle.mw_rule.specs.KnownRuns.{KnownRun, ExtendsKnownRun, known_run_of}
+pub use Rattle.mw_rule.specs.Splits.{without_file, takes_files, with_file_given, first_held, other_held, token_of}
+pub use Rattle.mw_rule.specs.FileCalls.{Calls, LeavesRest, Loaded, LoadedAs, Starts, LearnsFileCall, after_call, broken_so, fails, filed_so, place_held, places_held, went}
+pub use Rattle.mw_rule.specs.FromLaws.{End, FileToken, FindsFault, FindsItsWay, GoesWell, MayEnd, MeetsFault, Skips, TellsFile, file_told, is_as_named, file_token_broken, file_token_by, file_token_filed, file_token_opened, went_well}
 pub use Rattle.mw_rule.specs.Layout.{index_of}
-pub use Rattle.mw_rule.specs.Moves.{GoesOnByComing, GoesOnByNone, GoesOnByStep, WentOn}
+pub use Rattle.mw_rule.specs.WordActions.{AddsFirstStepEvents, AddsNoEvent, AddsStepEvent, WentOn}
 pub use Rattle.mw_rule.specs.Rule.{Each, IsFinished, IsRight}
-pub use Rattle.mw_rule.specs.Seen.{opening_at, seen_at}
+pub use Rattle.mw_rule.specs.Prefixes.{opening_at, seen_at}
 pub use Rattle.mw_rule.specs.declared.views.FoundStatus.{FoundStatus}
-pub use Rattle.mw_rule.specs.declared.views.Held.{Held}
-pub use Rattle.mw_rule.specs.declared.views.Reins.{Reins}
+pub use Rattle.mw_rule.specs.declared.views.HeldFile.{HeldFile}
+pub use Rattle.mw_rule.specs.declared.views.WorkerToken.{WorkerToken}
 pub use Rattle.mw_rule.specs.declared.views.View.{View}

@@ -1,28 +1,33 @@
--- The worker of each reins, and the number of its next attempt.
+-- A pass's worker and the number of its next attempt, and which number an attempt takes.
+-- Used by: the contracts of src/shared.rt and src/steps.rt, mw_core, mw_engine, mw_table_tests. A change here changes
+-- what these contracts say.
 use Rattle.std.specs.Prelude.{ℕ, ◌≡◌, ◌<◌, List, map, Option, Some, None}
 use Rattle.mw_words.specs.declared.limits.TheConstants.{WORN_NUMBER}
 use Rattle.mw_actor.specs.declared.points.Point.{Point}
 use Rattle.mw_actor.specs.declared.points.Point.TheVariants.{Plant}
-use Rattle.mw_actor.specs.Acting.{Acting}
-use Rattle.mw_rule.specs.declared.views.Reins.{Reins}
+use Rattle.mw_actor.specs.ActorState.{ActorState}
+use Rattle.mw_rule.specs.declared.views.WorkerToken.{WorkerToken}
 use Rattle.mw_rule.specs.declared.views.View.{View}
 use Rattle.mw_rule.specs.Rule.{Each}
 
-abbrev pub number_of : Reins → ℕ × ℕ
-number_of reins = (reins.worker, reins.attempt)
+-- the worker of a token, with the number of its next attempt
+abbrev pub number_of : WorkerToken → ℕ × ℕ
+number_of token = (token.worker, token.attempt)
 
+-- the same of each token of a view
 abbrev pub numbers : View → List (ℕ × ℕ)
-numbers view = map number_of view.reins
+numbers view = map number_of view.tokens
 
--- An attempt to hold a word has the number of the worker's next attempt, and that isn't the last number.
+-- An attempt to hold a word takes the number of the worker's next attempt, and that isn't the last number.
 abbrev pub TakesNumber : ℕ → Point → Type 0
 TakesNumber attempt (Plant task entry number) = (number ≡ attempt) × (attempt < WORN_NUMBER)
 TakesNumber attempt point = Unit {0}
 
-abbrev pub TakesNumberFor : ℕ → Option Acting → Type 0
+-- The same of a request, if there is one.
+abbrev pub TakesNumberFor : ℕ → Option ActorState → Type 0
 TakesNumberFor attempt None = Unit {0}
 TakesNumberFor attempt (Some actor) = TakesNumber attempt actor.point
 
--- It is so of each request that a thread carries.
+-- The same of each request that a thread carries.
 abbrev pub AreNumbered : View → Type 0
-AreNumbered view = Each (λ (reins : Reins). TakesNumberFor reins.attempt reins.actor) view.reins
+AreNumbered view = Each (λ (token : WorkerToken). TakesNumberFor token.attempt token.actor) view.tokens

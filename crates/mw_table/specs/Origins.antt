@@ -1,31 +1,37 @@
 -- What a table is made of: what it begins with, and which runs may have been before.
+-- Used by: the contracts of src/after_run.rt, src/at_start.rt, src/file_calls.rt and other code of this crate,
+-- specs/FileCalls, specs/Passes, mw_core, mw_engine, mw_world_table, mw_table_bench, mw_table_tests. A change here
+-- changes what these contracts say.
 use Rattle.std.specs.Prelude.{ℕ, List, map}
 use Rattle.mw_world.specs.declared.config.Config.{Config}
-use Rattle.mw_world.specs.Definition.Happenings.{Happening}
-use Rattle.mw_world.specs.Definition.State.{Opening}
+use Rattle.mw_world.specs.Definition.Events.{WorldEvent}
+use Rattle.mw_world.specs.Definition.State.{TenantStart}
 use Rattle.mw_rule.specs.declared.views.View.{View}
-use Rattle.mw_rule.specs.Dealing.{maker}
+use Rattle.mw_rule.specs.Splits.{maker}
 use Rattle.mw_table.specs.declared.origin.Origin.{Origin}
 use Rattle.mw_table.specs.declared.origin.Origin.TheVariants.{Start as OfStart, Run as OfRun}
-use Rattle.mw_table.specs.Beginning.{Basis}
-use Rattle.mw_table.specs.Fresh.{StartedWith, basis_of_start}
-use Rattle.mw_table.specs.Runs.{LedTo, basis_of_run, last_start, seat_so_far}
+use Rattle.mw_table.specs.Basis.{Basis}
+use Rattle.mw_table.specs.TableAtStart.{StartedWith, basis_of_start}
+use Rattle.mw_table.specs.Runs.{LedTo, basis_of_run, last_start, worker_state_so_far}
 
+-- what a table of this origin begins with
 abbrev pub basis_of : Origin → Basis
 basis_of (OfStart config found) = basis_of_start config.value found.value.items
-basis_of (OfRun config tenants workers) = basis_of_run config.value (map last_start tenants.value.items) (map seat_so_far workers.value.items)
+basis_of (OfRun config tenants workers) = basis_of_run config.value (map last_start tenants.value.items) (map worker_state_so_far workers.value.items)
 
+-- what its world is made of
 abbrev pub config_of : Origin → Config
 config_of origin = (basis_of origin).config
 
-abbrev pub openings_of : Origin → List Opening
+-- what the latest start gave each tenant
+abbrev pub openings_of : Origin → List TenantStart
 openings_of origin = (basis_of origin).openings
 
--- what the first start gave, and what has happened before the table was made
-abbrev pub begun_of : Origin → (ℕ → Opening) → List Happening → Type 0
+-- The first start may have given this, and these events may have happened before the table was made.
+abbrev pub begun_of : Origin → (ℕ → TenantStart) → List WorldEvent → Type 0
 begun_of (OfStart config found) = StartedWith config.value found.value.items
-begun_of (OfRun config tenants workers) = LedTo config.value (map last_start tenants.value.items) (map seat_so_far workers.value.items)
+begun_of (OfRun config tenants workers) = LedTo config.value (map last_start tenants.value.items) (map worker_state_so_far workers.value.items)
 
 -- what the first thread knows
 abbrev pub first_of : Origin → View
-first_of origin = maker (config_of origin) (openings_of origin) (basis_of origin).course (basis_of origin).seats (basis_of origin).files
+first_of origin = maker (config_of origin) (openings_of origin) (basis_of origin).known_run (basis_of origin).worker_states (basis_of origin).files

@@ -1,4 +1,6 @@
--- A pass and its table.
+-- Which table a pass is of, and what of a pass stays: its worker, or all but that it is idle now.
+-- Used by: the contracts of src/call_steps.rt, src/calls.rt, src/file_calls.rt and other code of this crate,
+-- specs/NewPasses, mw_core, mw_engine, mw_table_bench, mw_table_tests. A change here changes what these contracts say.
 use Rattle.std.specs.Prelude.{◌≡◌, Bool, true, false}
 use Rattle.mw_look.specs.declared.steps.Kind.TheVariants.{Plant as PlantKind}
 use Rattle.mw_look.specs.declared.steps.Op.{Op}
@@ -7,7 +9,7 @@ use Rattle.mw_table.specs.declared.shared.Pass.{Pass}
 use Rattle.mw_table.specs.declared.shared.Shared.{Shared}
 use Rattle.mw_table.specs.Origins.{config_of, openings_of}
 
--- The pass is of this table, and knows what its world is made of, and what the latest start gave.
+-- The pass is of this table, and knows what its world is made of and what the latest start gave.
 pub record IsOf (shared : Shared) (pass : Pass) : Type 0 where
   pub table : pass.seat.table_id ≡ shared.table.shared.table_id
   pub config : pass.seat.me.0.config ≡ config_of shared.table.shared.key
@@ -17,8 +19,8 @@ pub record IsOf (shared : Shared) (pass : Pass) : Type 0 where
 abbrev pub IsOfSameWorker : Pass → Pass → Type 0
 IsOfSameWorker old new = new.worker ≡ old.worker
 
--- The pass is idle, and else as it was.
-pub record IsRested (old new : Pass) : Type 0 where
+-- The pass is idle, and all else is the same.
+pub record IsIdleAfter (old new : Pass) : Type 0 where
   pub idle : new.idle ≡ true
   pub same_seat : new.seat ≡ old.seat
   pub same_worker : new.worker ≡ old.worker

@@ -1,4 +1,6 @@
--- Which shared word stands at an index of the table.
+-- The shared word at each index of the table.
+-- Used by: the contracts of src/at_start.rt and src/places.rt, mw_world_table. A change here changes what these
+-- contracts say.
 use Rattle.std.specs.Prelude.{ℕ, ◌≡◌, ◌+◌, ◌-◌, ◌*◌, ◌/◌, ◌%◌, ◌==◌, nat_lt, true, if◌then◌else◌}
 use Rattle.mw_words.specs.declared.limits.TheConstants.{MAX_ENTRIES, MAX_TENANTS, MAX_WORDS}
 use Rattle.mw_words.specs.declared.places.At.{At}
@@ -10,7 +12,7 @@ use Rattle.mw_world.specs.Definition.Extent.{has_place}
 use Rattle.mw_rule.specs.declared.indexes.TheConstants.{LINE}
 use Rattle.mw_rule.specs.Layout.{index_of, slot_wide, slots_from}
 
--- by the index within a slot's words
+-- the place at an index within a slot's words
 abbrev pub slot_place : ℕ → ℕ → At
 slot_place slot index =
     if index == 0 then AtGate slot
@@ -20,7 +22,7 @@ slot_place slot index =
     else (if nat_lt index (3 + 2 * MAX_ENTRIES) then Expected slot (index - (3 + MAX_ENTRIES))
     else New slot (index - (3 + 2 * MAX_ENTRIES))))))
 
--- by the line, before the slots
+-- the place that begins a line before the slots
 abbrev pub line_place : ℕ → At
 line_place line = if nat_lt line MAX_TENANTS then AtDoor line else AtRow (line - MAX_TENANTS)
 
@@ -28,13 +30,14 @@ line_place line = if nat_lt line MAX_TENANTS then AtDoor line else AtRow (line -
 abbrev pub nowhere : At
 nowhere = AtDoor MAX_TENANTS
 
--- The word at an index, whether there is such a word or not: those of tenants, workers and slots that aren't there stand unused, as do those within the lines of doors and rows.
+-- The place at an index, whether a world has a word there or not. Unused are the indexes of tenants, workers and
+-- slots that the world doesn't have, and the rest of the lines of doors and rows.
 abbrev pub place_at : ℕ → ℕ → At
 place_at pool index =
     if nat_lt index slots_from then (if index % LINE == 0 then line_place (index / LINE) else nowhere)
     else (if nat_lt index (slots_from + slot_wide * pool) then slot_place ((index - slots_from) / slot_wide) ((index - slots_from) % slot_wide)
     else Data ((index - (slots_from + slot_wide * pool)) / MAX_WORDS) ((index - (slots_from + slot_wide * pool)) % MAX_WORDS))
 
--- these bits stand at an index, if a shared word does
+-- These are the bits at an index, if a shared word is there.
 abbrev pub IsAt : Config → Cells → ℕ → ℕ → Type 0
 IsAt config cells index bits = (at : At) → has_place config at ≡ true → index_of config.pool at ≡ index → bits ≡ pack at (read cells at)

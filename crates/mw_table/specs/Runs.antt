@@ -1,75 +1,80 @@
 -- What a table begins with that is made after a run from a new world.
+-- Used by: the contracts of src/after_run.rt, specs/Origins, mw_world_table. A change here changes what these contracts
+-- say.
 use Rattle.std.specs.Prelude.{ℕ, ◌≡◌, ◌<◌, ◌+◌, Bool, List, [], ◌∷◌, slice_get, slice_index_or, Some, None}
 use Rattle.mw_lone.specs.declared.marks.Mark.{Mark}
 use Rattle.mw_lone.specs.declared.marks.Mark.TheVariants.{Restart}
 use Rattle.mw_world.specs.declared.config.Config.{Config}
-use Rattle.mw_world.specs.Definition.Happenings.{Happening}
-use Rattle.mw_world.specs.Definition.State.{Account, Opening, Seat, State, first_openings, idle_seat, new_world}
+use Rattle.mw_world.specs.Definition.Events.{WorldEvent}
+use Rattle.mw_world.specs.Definition.State.{TenantState, TenantStart, WorkerState, State, first_openings, idle_worker_state, new_world}
 use Rattle.mw_world.specs.Definition.World.{run}
-use Rattle.mw_rule.specs.FromLaws.{after_marks, first_moment}
+use Rattle.mw_rule.specs.FromLaws.{after_marks, first_abstract_state}
 use Rattle.mw_rule.specs.Rule.{Ties}
 use Rattle.mw_table.specs.declared.origin.TenantSoFar.{TenantSoFar}
 use Rattle.mw_table.specs.declared.origin.WorkerSoFar.{WorkerSoFar}
-use Rattle.mw_table.specs.Beginning.{Basis}
+use Rattle.mw_table.specs.Basis.{Basis}
 
--- What is told of a tenant's last start: the quota that the tenant has since, the places that its file has, and the tenant's marks up to and with that start.
+-- What is given of a tenant's last start: its quota since then, the places of its file, and its marks up to
+-- and including that start.
 pub record LastStart : Type 0 where
   pub quota : ℕ
   pub places : ℕ
   pub closed : List Mark
 
--- what a tenant tells of it
+-- the same, from what a tenant is after a run
 abbrev pub last_start : TenantSoFar → LastStart
 last_start tenant = record { quota = tenant.quota; places = tenant.places; closed = tenant.closed.items }
 
--- the worker that this is
-abbrev pub seat_so_far : WorkerSoFar → Seat
-seat_so_far worker = record { actor = worker.actor; request = worker.request; attempt = worker.attempt; kept = worker.kept; retiring = worker.retiring }
+-- the worker's state, from what a worker is after a run
+abbrev pub worker_state_so_far : WorkerSoFar → WorkerState
+worker_state_so_far worker = record { actor = worker.actor; request = worker.request; attempt = worker.attempt; kept = worker.kept; retiring = worker.retiring }
 
--- Whether a tenant's file opened at the last start among these marks; where there is none, at the start before.
+-- whether a tenant's file opened at the last start among these marks; if there is none, whether it was open before
 abbrev pub up_after : Bool → List Mark → Bool
 up_after is_up [] = is_up
 up_after is_up (Restart interrupted found opened quota ∷ marks) = up_after opened marks
 up_after is_up (mark ∷ marks) = up_after is_up marks
 
--- What the last start gave a tenant to which the first of all gave this: of its words and its file what its marks tell.
-abbrev pub opening_after : Opening → LastStart → Opening
+-- What the last start gave a tenant to which the first start gave this. The quota and the places are given; the
+-- tenant's marks tell its words and whether its file opened.
+abbrev pub opening_after : TenantStart → LastStart → TenantStart
 opening_after first last = record {
   quota = last.quota;
   places = last.places;
-  words = (after_marks (first_moment first.words) last.closed).words;
+  words = (after_marks (first_abstract_state first.words) last.closed).words;
   is_up = up_after first.is_up last.closed;
 }
 
--- what it gave each of these tenants, the first of which has this number
-abbrev pub openings_from : Config → ℕ → List LastStart → List Opening
+-- what the last start gave each of these tenants, from this number on
+abbrev pub openings_from : Config → ℕ → List LastStart → List TenantStart
 openings_from config tenant [] = []
 openings_from config tenant (last ∷ lasts) = opening_after (first_openings config tenant) last ∷ openings_from config (tenant + 1) lasts
 
--- a worker; past the last one, an idle one
-abbrev pub seat_at : List Seat → ℕ → Seat
-seat_at seats worker = slice_index_or seats worker idle_seat
+-- a worker's state; past the last worker, an idle one
+abbrev pub worker_state_at : List WorkerState → ℕ → WorkerState
+worker_state_at worker_states worker = slice_index_or worker_states worker idle_worker_state
 
--- What a table begins with after a run that led to these tenants and these workers. It gives no right to a file, and which run it was isn't known.
-abbrev pub basis_of_run : Config → List LastStart → List Seat → Basis
-basis_of_run config lasts seats = record { config = config; openings = openings_from config 0 lasts; course = None; seats = seat_at seats; files = [] }
+-- What a table begins with after a run that led to these tenants and workers. It has no files, and the run isn't known.
+abbrev pub basis_of_run : Config → List LastStart → List WorkerState → Basis
+basis_of_run config lasts worker_states = record { config = config; openings = openings_from config 0 lasts; known_run = None; worker_states = worker_state_at worker_states; files = [] }
 
--- This is told of the last start of a tenant of a world.
-pub record IsToldOf (account : Account) (last : LastStart) : Type 0 where
-  pub quota : account.quota ≡ last.quota
-  pub places : account.places ≡ last.places
-  pub closed : account.closed ≡ last.closed
+-- What is given of a tenant's last start is true of this tenant's state.
+pub record IsToldOf (tenant_state : TenantState) (last : LastStart) : Type 0 where
+  pub quota : tenant_state.quota ≡ last.quota
+  pub places : tenant_state.places ≡ last.places
+  pub closed : tenant_state.closed ≡ last.closed
 
--- The run that led to the world began at the first start of all, and these events have happened since. The world has these workers, and tenants of which this is told.
-pub record LedTo (config : Config) (lasts : List LastStart) (seats : List Seat) (openings : ℕ → Opening) (before : List Happening) : Type 0 where
+-- The first start is a new world's. From there these events lead to a world with these workers, and with tenants of
+-- whose last starts this is true.
+pub record LedTo (config : Config) (lasts : List LastStart) (worker_states : List WorkerState) (openings : ℕ → TenantStart) (before : List WorldEvent) : Type 0 where
   pub first : openings ≡ first_openings config
   pub state : State
   pub runs : run config (new_world config) before ≡ Some state
-  pub tenants : (tenant : ℕ) (last : LastStart) → slice_get lasts tenant ≡ Some last → IsToldOf (state.accounts tenant) last
-  pub workers : (worker : ℕ) → worker < config.workers → seat_at seats worker ≡ state.seats worker
+  pub tenants : (tenant : ℕ) (last : LastStart) → slice_get lasts tenant ≡ Some last → IsToldOf (state.tenant_states tenant) last
+  pub workers : (worker : ℕ) → worker < config.workers → worker_state_at worker_states worker ≡ state.worker_states worker
 
--- Some run from a new world led to a world with these tenants, these workers and these shared words, by the index of each in a table.
-pub record AreAfterRun (config : Config) (lasts : List LastStart) (seats : List Seat) (words : List ℕ) : Type 0 where
-  pub before : List Happening
-  pub led : LedTo config lasts seats (first_openings config) before
+-- Some run from a new world leads to a world with these tenants, these workers and these shared words, each at its index.
+pub record AreAfterRun (config : Config) (lasts : List LastStart) (worker_states : List WorkerState) (words : List ℕ) : Type 0 where
+  pub before : List WorldEvent
+  pub led : LedTo config lasts worker_states (first_openings config) before
   pub ties : Ties config led.state.cells words

@@ -1,12 +1,14 @@
--- What a request's first step tells, by the request that it announces, and by which events a run of the world goes on then.
+-- What a thread learns from a request's first step, by the request that it announces, and which events extend a run then.
+-- Used by: the contracts of src/first_steps.rt. A change here changes what these contracts say.
 use Rattle.std.specs.Prelude.{ℕ}
 use mathlib.Core.Option.{Option, some, none}
-use Rattle.mw_look.specs.declared.news.Got.TheVariants.{Word as Found}
-use Rattle.mw_actor.specs.Acting.{Acting}
+use Rattle.mw_look.specs.declared.observations.Got.TheVariants.{Word as Found}
+use Rattle.mw_actor.specs.ActorState.{ActorState}
 use Rattle.mw_rule.specs.declared.views.View.{View}
-use Rattle.mw_rule.specs.Carrying.{Began}
-use Rattle.mw_rule.specs.Moves.{GoesOnByComing}
+use Rattle.mw_rule.specs.Steps.{LearnsFirstStep}
+use Rattle.mw_rule.specs.WordActions.{AddsFirstStepEvents}
 
-abbrev pub BeganAs : Option Acting → ℕ → View → View → Type 0
+-- If the step announces a request, the thread learns its first step, which extends a run by its events.
+abbrev pub BeganAs : Option ActorState → ℕ → View → View → Type 0
 BeganAs none found old new = Unit {0}
-BeganAs (some actor) found old new = Began actor (Found found) old new × GoesOnByComing actor (Found found) old new
+BeganAs (some actor) found old new = LearnsFirstStep actor (Found found) old new × AddsFirstStepEvents actor (Found found) old new

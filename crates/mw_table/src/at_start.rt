@@ -1,20 +1,22 @@
 //! A table at a start.
+//!
+//! mw_engine and mw_table_bench make their tables by `Shared::new`.
 ghost use Rattle.std.specs.Prelude.{◌≡◌, ◌<◌, All, IfOk, length, slice_get};
 ghost use Rattle.mw_look.specs.Places.{pack};
 ghost use Rattle.mw_world.specs.Definition.Cells.{read};
-ghost use Rattle.mw_world.specs.Definition.State.{IsConfig, IsStart, idle_seat, tenants_of};
+ghost use Rattle.mw_world.specs.Definition.State.{IsConfig, IsStart, idle_worker_state, tenants_of};
 ghost use Rattle.mw_rule.specs.Layout.{words_of};
 ghost use Rattle.mw_rule.specs.Rule.{Ties};
-ghost use Rattle.mw_table.specs.Dealt.{AreBearings, AreInOrder, IsDealt};
-ghost use Rattle.mw_table.specs.Fresh.{basis_of_start, door_given, start_given, value_given, word_given, world_given};
-ghost use Rattle.mw_table.specs.Opened.{AreOpened};
+ghost use Rattle.mw_table.specs.NewPasses.{ArePassStates, AreInOrder, IsDealt};
+ghost use Rattle.mw_table.specs.TableAtStart.{basis_of_start, door_given, start_given, value_given, word_given, world_given};
+ghost use Rattle.mw_table.specs.NewFilePasses.{AreOpened};
 ghost use Rattle.mw_table.specs.Origins.{basis_of};
 ghost use Rattle.mw_table.specs.Places.{IsAt};
 
-use crate::dealing::Bearing;
+use crate::file_pass::FilePass;
+use crate::new_table::PassState;
 use crate::origin::{FileOpening, Origin};
 use crate::places::{has_place, place_at};
-use crate::right::FileRight;
 use crate::shared::{Pass, Shared};
 use mw_rule::index_of;
 use mw_words::{At, Door, Gate};
@@ -23,20 +25,22 @@ use std::alloc::{AllocError, Global};
 use std::snapshot::Snapshot;
 
 impl Shared {
-    /// A table at a start, by what each tenant's file gave, with a pass for each worker, by worker, and the right to
-    /// each tenant's file, by tenant, which tells of the file what its opening gave. There is an
-    /// opening for each tenant, in the order of the tenants: of an opened file with as many words as the tenant
-    /// has, each a word's value, and with quotas of 1 to [`MAX_QUOTA`] slots, none above the places of its file, that
-    /// the pool has room for together.
-    /// Each tenant has the words of its file; where that didn't open, its words are 0 and its door has the fault. No
-    /// worker has a request, and all passes are idle. The only error is want of memory; then there is no table.
+    /// Makes a table at a start from what each tenant's file gave, with a pass for each worker and a file pass for
+    /// each tenant, both in order. A file pass knows of its file what the opening gave.
+    ///
+    /// There is one opening for each tenant, in the order of the tenants. An opened file has as many words as the
+    /// tenant has, each a word's value. Each quota is 1 to [`MAX_QUOTA`] slots and at most the places of its file,
+    /// and the pool has room for all quotas together.
+    ///
+    /// Each tenant has the words of its file. If the file didn't open, its words are 0 and its door has the fault. No
+    /// worker has a request, and all passes are idle. The only error is that memory is out; then there is no table.
     ///
     /// [`MAX_QUOTA`]: mw_words::MAX_QUOTA
     pub fn new(
         alloc: Global,
         config: &Config,
         openings: &Vec<FileOpening>,
-    ) -> Result<(Shared, Vec<Pass>, Vec<FileRight>), AllocError>
+    ) -> Result<(Shared, Vec<Pass>, Vec<FilePass>), AllocError>
         requires config { IsConfig config.now }
         requires one_each { length openings.now.items ≡ tenants_of config.now }
         requires start { IsStart config.now (start_given config.now openings.now.items) }
@@ -44,29 +48,29 @@ impl Shared {
         ensures count { IfOk result (λ made. length made.1.items ≡ config.now.workers) }
         ensures passes { IfOk result (λ made. All (IsDealt made.0 (basis_of_start config.now openings.now.items)) made.1.items) }
         ensures order { IfOk result (λ made. AreInOrder made.1.items) }
-        ensures rights { IfOk result (λ made. AreOpened made.0 (basis_of_start config.now openings.now.items) made.2.items) }
+        ensures file_passes { IfOk result (λ made. AreOpened made.0 (basis_of_start config.now openings.now.items) made.2.items) }
     {
         let words = words_at_start(alloc, config, openings)?;
-        let bearings = idle_bearings(alloc, config.workers)?;
+        let pass_states = idle_pass_states(alloc, config.workers)?;
         let origin = Origin::Start(Snapshot::of(config), Snapshot::of(openings));
-        let (shared, passes, left) = Shared::open(alloc, &words, &origin, config, &bearings)?;
-        let rights = shared.entrust(alloc, left, config.tenants.len() as u8)?;
-        Ok((shared, passes, rights))
+        let (shared, passes, left) = Shared::open(alloc, &words, &origin, config, &pass_states)?;
+        let file_passes = shared.give_file(alloc, left, config.tenants.len() as u8)?;
+        Ok((shared, passes, file_passes))
     }
 }
 
-/// What the passes of idle workers say of themselves.
-fn idle_bearings(alloc: Global, workers: u8) -> Result<Vec<Bearing>, AllocError>
-    ensures { IfOk result (λ bearings. AreBearings (λ worker. idle_seat) workers bearings.items) }
+/// Returns what the passes of idle workers say of them.
+fn idle_pass_states(alloc: Global, workers: u8) -> Result<Vec<PassState>, AllocError>
+    ensures { IfOk result (λ pass_states. ArePassStates (λ worker. idle_worker_state) workers pass_states.items) }
 {
-    let idle = Bearing {
+    let idle = PassState {
         attempt: 0,
         idle: true,
     };
     vec![in alloc; idle; usize::from(workers)]
 }
 
-/// The bits of the table's words, by index.
+/// Returns the bits of the table's words, each at its index.
 fn words_at_start(
     alloc: Global,
     config: &Config,
@@ -89,7 +93,7 @@ fn words_at_start(
     Ok(words)
 }
 
-/// The bits at an index. Where no shared word stands they are 0.
+/// Returns the bits at an index; 0 if there is no shared word.
 fn bits_at(config: &Config, openings: &[FileOpening], index: usize) -> u64
     requires config { IsConfig config.now }
     requires one_each { length openings.now ≡ tenants_of config.now }
@@ -104,7 +108,7 @@ fn bits_at(config: &Config, openings: &[FileOpening], index: usize) -> u64
     }
 }
 
-/// The bits at a place.
+/// Returns the bits at a place.
 fn bits_of(config: &Config, openings: &[FileOpening], at: At) -> u64
     requires config { IsConfig config.now }
     requires one_each { length openings.now ≡ tenants_of config.now }
@@ -130,7 +134,7 @@ fn bits_of(config: &Config, openings: &[FileOpening], at: At) -> u64
     }
 }
 
-/// The bits of a tenant's door: no slot is in use.
+/// Returns the bits of a tenant's door: no slot is in use.
 fn door_of(openings: &[FileOpening], tenant: u8) -> u64
     ensures { result ≡ door_given (slice_get openings.now tenant) }
 {
@@ -142,7 +146,7 @@ fn door_of(openings: &[FileOpening], tenant: u8) -> u64
     door.pack()
 }
 
-/// The bits of a tenant's word, which are its value.
+/// Returns the bits of a tenant's word, which are its value.
 fn value_of(openings: &[FileOpening], tenant: u8, address: u16) -> u64
     ensures { result ≡ value_given (slice_get openings.now tenant) address }
 {
@@ -152,7 +156,7 @@ fn value_of(openings: &[FileOpening], tenant: u8, address: u16) -> u64
     }
 }
 
-/// A word of a file, if it opened, else 0.
+/// Returns a word of a file that opened; else 0.
 fn word_of(words: &Option<Vec<u64>>, address: u16) -> u64
     ensures { result ≡ word_given words.now address }
 {

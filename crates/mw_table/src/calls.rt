@@ -1,6 +1,8 @@
-//! One call for each kind of step. Each asks that it is the next step of the request that the pass carries, so what it
-//! is given is what that step expects and puts. An exchange answers whether it won: whether the word was still as
-//! expected. If it wasn't, nothing was changed.
+//! One call for each kind of step. Each requires that it is the next step of the request that the pass carries, so
+//! its arguments are what that step expects and puts. An exchange returns whether it won, which it does if the word
+//! still had the expected bits. If it lost, it changed nothing.
+//!
+//! No crate calls these: mw_core makes each step by `step`, of `turns.rt`.
 ghost use Rattle.std.specs.Prelude.{◌≡◌, ◌+◌, cond};
 ghost use Rattle.mw_words.specs.declared.places.At.TheVariants.{Door as AtDoor, Gate as AtGate, Row as AtRow, Status as AtStatus};
 ghost use Rattle.mw_words.specs.declared.statuses.Status.TheVariants as status;
@@ -8,9 +10,9 @@ ghost use Rattle.mw_words.specs.declared.words.Word.TheVariants as word;
 ghost use Rattle.mw_words.specs.Patterns.{IsDoorInRange, IsGateInRange, IsRowInRange, IsStatusInRange, IsWordInRange, packed_door, packed_gate, packed_row, packed_status, packed_word};
 ghost use Rattle.mw_look.specs.declared.steps.Kind.TheVariants as kind;
 ghost use Rattle.mw_look.specs.declared.steps.Op.TheVariants.{Change as ChangeBits};
-ghost use Rattle.mw_look.specs.declared.news.Got.TheVariants.{Word as Found, Won as GotWon, Lost as GotLost};
-ghost use Rattle.mw_rule.specs.Carrying.{Drives, Took};
-ghost use Rattle.mw_rule.specs.Moves.{GoesOnByStep};
+ghost use Rattle.mw_look.specs.declared.observations.Got.TheVariants.{Word as Found, Won as GotWon, Lost as GotLost};
+ghost use Rattle.mw_rule.specs.Steps.{IsNextStep, LearnsStep};
+ghost use Rattle.mw_rule.specs.WordActions.{AddsStepEvent};
 ghost use Rattle.mw_table.specs.Passes.{IsOf, IsOfSameWorker};
 
 use crate::shared::{Pass, Shared};
@@ -18,122 +20,122 @@ use mw_look::Kind;
 use mw_words::{At, Door, Gate, Row, Status, Word};
 
 impl Shared {
-    /// One slot more is in use, by the tenant's door, if that is still as it was read. Whether it was.
+    /// Counts one slot more at the tenant's door, if the door is still as it was read. Returns whether it was.
     pub fn admit(&self, pass: &mut Pass, tenant: u8, from: Door, to: Door) -> bool
         requires own { IsOf self.now pass.old }
-        requires next { Drives pass.old.seat.me.0 pass.old.worker (ChangeBits kind.Admit (AtDoor tenant) (packed_door from) (packed_door to)) }
+        requires next { IsNextStep pass.old.seat.me.0 pass.old.worker (ChangeBits kind.Admit (AtDoor tenant) (packed_door from) (packed_door to)) }
         ensures own { IsOf self.now pass.new }
         ensures worker { IsOfSameWorker pass.old pass.new }
-        ensures took { Took (cond result GotWon GotLost) pass.old.seat.me.0 pass.new.seat.me.0 }
-        ensures event { GoesOnByStep (cond result GotWon GotLost) pass.old.seat.me.0 pass.new.seat.me.0 }
+        ensures took { LearnsStep (cond result GotWon GotLost) pass.old.seat.me.0 pass.new.seat.me.0 }
+        ensures event { AddsStepEvent (cond result GotWon GotLost) pass.old.seat.me.0 pass.new.seat.me.0 }
     {
         self.exchange(pass, Kind::Admit, At::Door(tenant), from.pack(), to.pack())
     }
 
-    /// A slot is taken, by its gate, if that is still as it was read. Whether it was.
+    /// Takes a slot, by its gate, if the gate is still as it was read. Returns whether it was.
     pub fn claim(&self, pass: &mut Pass, slot: u8, from: Gate, to: Gate) -> bool
         requires own { IsOf self.now pass.old }
         requires from { IsGateInRange from }
         requires to { IsGateInRange to }
-        requires next { Drives pass.old.seat.me.0 pass.old.worker (ChangeBits kind.Claim (AtGate slot) (packed_gate from) (packed_gate to)) }
+        requires next { IsNextStep pass.old.seat.me.0 pass.old.worker (ChangeBits kind.Claim (AtGate slot) (packed_gate from) (packed_gate to)) }
         ensures own { IsOf self.now pass.new }
         ensures worker { IsOfSameWorker pass.old pass.new }
-        ensures took { Took (cond result GotWon GotLost) pass.old.seat.me.0 pass.new.seat.me.0 }
-        ensures event { GoesOnByStep (cond result GotWon GotLost) pass.old.seat.me.0 pass.new.seat.me.0 }
+        ensures took { LearnsStep (cond result GotWon GotLost) pass.old.seat.me.0 pass.new.seat.me.0 }
+        ensures event { AddsStepEvent (cond result GotWon GotLost) pass.old.seat.me.0 pass.new.seat.me.0 }
     {
         self.exchange(pass, Kind::Claim, At::Gate(slot), from.pack(), to.pack())
     }
 
-    /// One pin more, on a slot's gate, if that is still as it was read, its number too. Whether it was.
+    /// Adds one pin to a slot's gate, if the gate is still as it was read, its number too. Returns whether it was.
     pub fn pin(&self, pass: &mut Pass, slot: u8, from: Gate, to: Gate) -> bool
         requires own { IsOf self.now pass.old }
         requires from { IsGateInRange from }
         requires to { IsGateInRange to }
-        requires next { Drives pass.old.seat.me.0 pass.old.worker (ChangeBits kind.Pin (AtGate slot) (packed_gate from) (packed_gate to)) }
+        requires next { IsNextStep pass.old.seat.me.0 pass.old.worker (ChangeBits kind.Pin (AtGate slot) (packed_gate from) (packed_gate to)) }
         ensures own { IsOf self.now pass.new }
         ensures worker { IsOfSameWorker pass.old pass.new }
-        ensures took { Took (cond result GotWon GotLost) pass.old.seat.me.0 pass.new.seat.me.0 }
-        ensures event { GoesOnByStep (cond result GotWon GotLost) pass.old.seat.me.0 pass.new.seat.me.0 }
+        ensures took { LearnsStep (cond result GotWon GotLost) pass.old.seat.me.0 pass.new.seat.me.0 }
+        ensures event { AddsStepEvent (cond result GotWon GotLost) pass.old.seat.me.0 pass.new.seat.me.0 }
     {
         self.exchange(pass, Kind::Pin, At::Gate(slot), from.pack(), to.pack())
     }
 
-    /// A word of a slot of one's own is written: its status, its count, or a part of an entry.
+    /// Writes a word of a slot of one's own: its status, its count, or a part of an entry.
     pub fn fill(&self, pass: &mut Pass, at: At, bits: u64)
         requires own { IsOf self.now pass.old }
-        requires next { Drives pass.old.seat.me.0 pass.old.worker (ChangeBits kind.Fill at 0 bits) }
+        requires next { IsNextStep pass.old.seat.me.0 pass.old.worker (ChangeBits kind.Fill at 0 bits) }
         ensures own { IsOf self.now pass.new }
         ensures worker { IsOfSameWorker pass.old pass.new }
-        ensures took { Took GotWon pass.old.seat.me.0 pass.new.seat.me.0 }
-        ensures event { GoesOnByStep GotWon pass.old.seat.me.0 pass.new.seat.me.0 }
+        ensures took { LearnsStep GotWon pass.old.seat.me.0 pass.new.seat.me.0 }
+        ensures event { AddsStepEvent GotWon pass.old.seat.me.0 pass.new.seat.me.0 }
     {
         self.store(pass, Kind::Fill, at, bits)
     }
 
-    /// One pin less, on a slot's gate. The gate's bits as they were, from which the request knows whether its pin
-    /// was the last one.
+    /// Takes one pin off a slot's gate. Returns the bits that the gate had, from which the request knows whether its
+    /// pin was the last one.
     pub fn unpin(&self, pass: &mut Pass, slot: u8) -> u64
         requires own { IsOf self.now pass.old }
-        requires next { Drives pass.old.seat.me.0 pass.old.worker (ChangeBits kind.Unpin (AtGate slot) 0 0) }
+        requires next { IsNextStep pass.old.seat.me.0 pass.old.worker (ChangeBits kind.Unpin (AtGate slot) 0 0) }
         ensures own { IsOf self.now pass.new }
         ensures worker { IsOfSameWorker pass.old pass.new }
-        ensures took { Took (Found result) pass.old.seat.me.0 pass.new.seat.me.0 }
-        ensures event { GoesOnByStep (Found result) pass.old.seat.me.0 pass.new.seat.me.0 }
+        ensures took { LearnsStep (Found result) pass.old.seat.me.0 pass.new.seat.me.0 }
+        ensures event { AddsStepEvent (Found result) pass.old.seat.me.0 pass.new.seat.me.0 }
     {
         self.subtract(pass, Kind::Unpin, At::Gate(slot), 1 << 48)
     }
 
-    /// A slot that nobody has pinned is free: its gate with the next number.
+    /// Frees a slot that nobody has pinned: stores its gate with the next number.
     pub fn free(&self, pass: &mut Pass, slot: u8, gate: Gate)
         requires own { IsOf self.now pass.old }
         requires gate { IsGateInRange gate }
-        requires next { Drives pass.old.seat.me.0 pass.old.worker (ChangeBits kind.Free (AtGate slot) 0 (packed_gate gate)) }
+        requires next { IsNextStep pass.old.seat.me.0 pass.old.worker (ChangeBits kind.Free (AtGate slot) 0 (packed_gate gate)) }
         ensures own { IsOf self.now pass.new }
         ensures worker { IsOfSameWorker pass.old pass.new }
-        ensures took { Took GotWon pass.old.seat.me.0 pass.new.seat.me.0 }
-        ensures event { GoesOnByStep GotWon pass.old.seat.me.0 pass.new.seat.me.0 }
+        ensures took { LearnsStep GotWon pass.old.seat.me.0 pass.new.seat.me.0 }
+        ensures event { AddsStepEvent GotWon pass.old.seat.me.0 pass.new.seat.me.0 }
     {
         self.store(pass, Kind::Free, At::Gate(slot), gate.pack())
     }
 
-    /// One slot less is in use, by the tenant's door. The door's bits as they were.
+    /// Counts one slot less at the tenant's door. Returns the bits that the door had.
     pub fn drop_used(&self, pass: &mut Pass, tenant: u8) -> u64
         requires own { IsOf self.now pass.old }
-        requires next { Drives pass.old.seat.me.0 pass.old.worker (ChangeBits kind.Drop (AtDoor tenant) 0 0) }
+        requires next { IsNextStep pass.old.seat.me.0 pass.old.worker (ChangeBits kind.Drop (AtDoor tenant) 0 0) }
         ensures own { IsOf self.now pass.new }
         ensures worker { IsOfSameWorker pass.old pass.new }
-        ensures took { Took (Found result) pass.old.seat.me.0 pass.new.seat.me.0 }
-        ensures event { GoesOnByStep (Found result) pass.old.seat.me.0 pass.new.seat.me.0 }
+        ensures took { LearnsStep (Found result) pass.old.seat.me.0 pass.new.seat.me.0 }
+        ensures event { AddsStepEvent (Found result) pass.old.seat.me.0 pass.new.seat.me.0 }
     {
         self.subtract(pass, Kind::Drop, At::Door(tenant), 1)
     }
 
-    /// One's own row names an entry of a change.
+    /// Stores one's own row, which then names an entry of a change.
     pub fn row(&self, pass: &mut Pass, row: Row)
         requires own { IsOf self.now pass.old }
         requires row { IsRowInRange row }
-        requires next { Drives pass.old.seat.me.0 pass.old.worker (ChangeBits kind.Row (AtRow pass.old.worker) 0 (packed_row row)) }
+        requires next { IsNextStep pass.old.seat.me.0 pass.old.worker (ChangeBits kind.Row (AtRow pass.old.worker) 0 (packed_row row)) }
         ensures own { IsOf self.now pass.new }
         ensures worker { IsOfSameWorker pass.old pass.new }
-        ensures took { Took GotWon pass.old.seat.me.0 pass.new.seat.me.0 }
-        ensures event { GoesOnByStep GotWon pass.old.seat.me.0 pass.new.seat.me.0 }
+        ensures took { LearnsStep GotWon pass.old.seat.me.0 pass.new.seat.me.0 }
+        ensures event { AddsStepEvent GotWon pass.old.seat.me.0 pass.new.seat.me.0 }
     {
         let at = At::Row(pass.worker);
         self.store(pass, Kind::Row, at, row.pack())
     }
 
-    /// A tenant's word stands as the worker's next attempt to hold it, if it has the expected value. Whether it
-    /// had. Either way the attempt's number is used up.
+    /// Puts the worker's next attempt into a tenant's word, if the word has the expected value. Returns whether it
+    /// had. Won or lost, the attempt's number is used up.
     pub fn plant(&self, pass: &mut Pass, at: At, expected: u64) -> bool
         requires own { IsOf self.now pass.old }
         requires from { IsWordInRange (word.Plain expected) }
         requires to { IsWordInRange (word.Planted pass.old.worker pass.old.attempt) }
-        requires next { Drives pass.old.seat.me.0 pass.old.worker (ChangeBits kind.Plant at (packed_word (word.Plain expected)) (packed_word (word.Planted pass.old.worker pass.old.attempt))) }
+        requires next { IsNextStep pass.old.seat.me.0 pass.old.worker (ChangeBits kind.Plant at (packed_word (word.Plain expected)) (packed_word (word.Planted pass.old.worker pass.old.attempt))) }
         ensures own { IsOf self.now pass.new }
         ensures worker { IsOfSameWorker pass.old pass.new }
         ensures attempt { pass.new.attempt ≡ pass.old.attempt + 1 }
-        ensures took { Took (cond result GotWon GotLost) pass.old.seat.me.0 pass.new.seat.me.0 }
-        ensures event { GoesOnByStep (cond result GotWon GotLost) pass.old.seat.me.0 pass.new.seat.me.0 }
+        ensures took { LearnsStep (cond result GotWon GotLost) pass.old.seat.me.0 pass.new.seat.me.0 }
+        ensures event { AddsStepEvent (cond result GotWon GotLost) pass.old.seat.me.0 pass.new.seat.me.0 }
     {
         let attempt = Word::Planted {
             worker: pass.worker,
@@ -142,28 +144,29 @@ impl Shared {
         self.attempt(pass, at, Word::Plain(expected).pack(), attempt.pack())
     }
 
-    /// An attempt holds a tenant's word, or puts its value back, if it still stands there. Whether it did.
+    /// Ends an attempt: the word is held by the change, or gets its value back, if the attempt is still there.
+    /// Returns whether it was.
     pub fn resolve(&self, pass: &mut Pass, at: At, from: Word, to: Word) -> bool
         requires own { IsOf self.now pass.old }
         requires from { IsWordInRange from }
         requires to { IsWordInRange to }
-        requires next { Drives pass.old.seat.me.0 pass.old.worker (ChangeBits kind.Resolve at (packed_word from) (packed_word to)) }
+        requires next { IsNextStep pass.old.seat.me.0 pass.old.worker (ChangeBits kind.Resolve at (packed_word from) (packed_word to)) }
         ensures own { IsOf self.now pass.new }
         ensures worker { IsOfSameWorker pass.old pass.new }
-        ensures took { Took (cond result GotWon GotLost) pass.old.seat.me.0 pass.new.seat.me.0 }
-        ensures event { GoesOnByStep (cond result GotWon GotLost) pass.old.seat.me.0 pass.new.seat.me.0 }
+        ensures took { LearnsStep (cond result GotWon GotLost) pass.old.seat.me.0 pass.new.seat.me.0 }
+        ensures event { AddsStepEvent (cond result GotWon GotLost) pass.old.seat.me.0 pass.new.seat.me.0 }
     {
         self.exchange(pass, Kind::Resolve, at, from.pack(), to.pack())
     }
 
-    /// A change is to be made, if it is still open. Whether it was.
+    /// Decides that a change is made, if it is still open. Returns whether it was.
     pub fn decide_yes(&self, pass: &mut Pass, slot: u8) -> bool
         requires own { IsOf self.now pass.old }
-        requires next { Drives pass.old.seat.me.0 pass.old.worker (ChangeBits kind.DecideYes (AtStatus slot) (packed_status status.Open) (packed_status status.YesDirty)) }
+        requires next { IsNextStep pass.old.seat.me.0 pass.old.worker (ChangeBits kind.DecideYes (AtStatus slot) (packed_status status.Open) (packed_status status.YesDirty)) }
         ensures own { IsOf self.now pass.new }
         ensures worker { IsOfSameWorker pass.old pass.new }
-        ensures took { Took (cond result GotWon GotLost) pass.old.seat.me.0 pass.new.seat.me.0 }
-        ensures event { GoesOnByStep (cond result GotWon GotLost) pass.old.seat.me.0 pass.new.seat.me.0 }
+        ensures took { LearnsStep (cond result GotWon GotLost) pass.old.seat.me.0 pass.new.seat.me.0 }
+        ensures event { AddsStepEvent (cond result GotWon GotLost) pass.old.seat.me.0 pass.new.seat.me.0 }
     {
         self.exchange(
             pass,
@@ -174,16 +177,16 @@ impl Shared {
         )
     }
 
-    /// A change is not to be made, if it is still open: this is the entry that refuses it, and the value
-    /// of its word. Whether it was.
+    /// Decides that a change is not made, if it is still open. `entry` is the entry that refuses it, and `value` is
+    /// what its word has. Returns whether the change was open.
     pub fn decide_no(&self, pass: &mut Pass, slot: u8, entry: u8, value: u64) -> bool
         requires own { IsOf self.now pass.old }
         requires no { IsStatusInRange (status.No entry value) }
-        requires next { Drives pass.old.seat.me.0 pass.old.worker (ChangeBits kind.DecideNo (AtStatus slot) (packed_status status.Open) (packed_status (status.No entry value))) }
+        requires next { IsNextStep pass.old.seat.me.0 pass.old.worker (ChangeBits kind.DecideNo (AtStatus slot) (packed_status status.Open) (packed_status (status.No entry value))) }
         ensures own { IsOf self.now pass.new }
         ensures worker { IsOfSameWorker pass.old pass.new }
-        ensures took { Took (cond result GotWon GotLost) pass.old.seat.me.0 pass.new.seat.me.0 }
-        ensures event { GoesOnByStep (cond result GotWon GotLost) pass.old.seat.me.0 pass.new.seat.me.0 }
+        ensures took { LearnsStep (cond result GotWon GotLost) pass.old.seat.me.0 pass.new.seat.me.0 }
+        ensures event { AddsStepEvent (cond result GotWon GotLost) pass.old.seat.me.0 pass.new.seat.me.0 }
     {
         let no = Status::No { entry, value };
         self.exchange(
@@ -195,16 +198,16 @@ impl Shared {
         )
     }
 
-    /// A held word gets the value that the decision gives it, if it is still held for the change. Whether it was.
+    /// Gives a held word the value that the decision gives it, if the change still holds it. Returns whether it did.
     pub fn release(&self, pass: &mut Pass, at: At, from: Word, to: Word) -> bool
         requires own { IsOf self.now pass.old }
         requires from { IsWordInRange from }
         requires to { IsWordInRange to }
-        requires next { Drives pass.old.seat.me.0 pass.old.worker (ChangeBits kind.Release at (packed_word from) (packed_word to)) }
+        requires next { IsNextStep pass.old.seat.me.0 pass.old.worker (ChangeBits kind.Release at (packed_word from) (packed_word to)) }
         ensures own { IsOf self.now pass.new }
         ensures worker { IsOfSameWorker pass.old pass.new }
-        ensures took { Took (cond result GotWon GotLost) pass.old.seat.me.0 pass.new.seat.me.0 }
-        ensures event { GoesOnByStep (cond result GotWon GotLost) pass.old.seat.me.0 pass.new.seat.me.0 }
+        ensures took { LearnsStep (cond result GotWon GotLost) pass.old.seat.me.0 pass.new.seat.me.0 }
+        ensures event { AddsStepEvent (cond result GotWon GotLost) pass.old.seat.me.0 pass.new.seat.me.0 }
     {
         self.exchange(pass, Kind::Release, at, from.pack(), to.pack())
     }

@@ -1,4 +1,7 @@
-//! What a table begins with.
+//! What a table is made of: a start, or a run from a new world.
+//!
+//! `at_start` and `after_run` make it. mw_core passes on [`FileOpening`], and mw_world_table gives the values
+//! so far.
 ghost use Rattle.mw_table.specs.Origins.{begun_of, config_of, first_of};
 
 use mw_actor::Actor;
@@ -7,39 +10,39 @@ use mw_rule::Begins;
 use mw_world::Config;
 use std::snapshot::Snapshot;
 
-/// What the opening of a tenant's file gave at a start.
+/// What a tenant's file gave when it was opened at a start.
 #[derive(Drop)]
 pub struct FileOpening {
-    /// How many slots the tenant may use at a time.
+    /// The tenant's quota: how many slots it may use at a time.
     pub quota: u8,
-    /// How many places for changes the file has, no fewer than the quota. Where it didn't open, that isn't known:
-    /// then as many as the quota will do.
+    /// How many places for changes the file has, at least the quota. If the file didn't open, that isn't known; then
+    /// the quota itself will do.
     pub places: u8,
-    /// The tenant's words, or none where the file didn't open.
+    /// The tenant's words. `None`: the file didn't open.
     pub words: Option<Vec<u64>>,
 }
 
-/// A tenant after a run: what tells of its last start.
+/// A tenant after a run: what says of its last start all that a table needs.
 #[derive(Drop)]
 pub struct TenantSoFar {
-    /// How many slots the tenant may use at a time.
+    /// The tenant's quota: how many slots it may use at a time.
     pub quota: u8,
-    /// How many places for changes its file has, or has once a start has opened it, if none has.
+    /// How many places for changes its file has. If no start has opened it, how many it has when one does.
     pub places: u16,
-    /// Its marks up to and with the last start.
+    /// Its marks up to and including the last start.
     pub closed: Vec<Mark>,
 }
 
 /// A worker after a run.
 #[derive(Drop)]
 pub struct WorkerSoFar {
-    /// Its request, if it has one.
+    /// Its request. `None`: it has none.
     pub actor: Option<Actor>,
-    /// The request's number among its tenant's.
+    /// The request's number, among the requests of its tenant.
     pub request: u64,
     /// The number of its next attempt to hold a word.
     pub attempt: u64,
-    /// The place that it kept last among its tenant's marks.
+    /// The place that it reserved last among its tenant's marks.
     pub kept: usize,
     /// The request whose slot it freed last.
     pub retiring: u64,
@@ -48,9 +51,9 @@ pub struct WorkerSoFar {
 /// What a table was made of. Contracts name it; a running table keeps nothing of it.
 #[derive(Drop)]
 pub enum Origin {
-    /// A start: what the world is made of, and by tenant what its file gave.
+    /// A start: what the world is made of, and what each tenant's file gave.
     Start(Snapshot<Config>, Snapshot<Vec<FileOpening>>),
-    /// A run from a new world: what the world is made of, and its tenants and its workers after the run.
+    /// A run from a new world: what the world is made of, and its tenants and workers after the run.
     Run(Snapshot<Config>, Snapshot<Vec<TenantSoFar>>, Snapshot<Vec<WorkerSoFar>>),
 }
 

@@ -1,43 +1,45 @@
-//! What a pass tells of itself.
+//! What a pass says of itself.
+//!
+//! Used by: mw_core, mw_engine.
 ghost use Rattle.std.specs.Prelude.{◌≡◌, ◌≢◌, true, None};
 ghost use Rattle.mw_actor.specs.Program.{replied};
-ghost use Rattle.mw_table.specs.Carried.{IsCarried};
-ghost use Rattle.mw_table.specs.Passes.{IsRested};
-ghost use Rattle.mw_table.specs.Resting.{IsAtRest};
+ghost use Rattle.mw_table.specs.CarriedRequest.{IsCarried};
+ghost use Rattle.mw_table.specs.Passes.{IsIdleAfter};
+ghost use Rattle.mw_table.specs.Idleness.{IsIdle};
 
 use crate::shared::Pass;
 use mw_actor::Actor;
 
 impl Pass {
-    /// The worker whose steps these are.
+    /// Returns the worker whose steps the pass makes.
     pub fn worker(&self) -> u8
         ensures { result ≡ self.now.worker }
     {
         self.worker
     }
 
-    /// The number of the worker's next attempt to hold a word.
+    /// Returns the number of the worker's next attempt to hold a word.
     pub fn attempt(&self) -> u64
         ensures { result ≡ self.now.attempt }
     {
         self.attempt
     }
 
-    /// Whether the pass is idle: then it carries no request, so that one may come. A pass is so from the
-    /// start where its worker has no request then, until a request comes, and again once it was told by
-    /// [`Pass::rest`] that the request has its reply.
+    /// Returns whether the pass is idle. An idle pass carries no request, so one may come. A pass is idle from the
+    /// start if its worker has no request then. It is not idle from when a request comes until [`Pass::rest`] says
+    /// that the request has its reply.
     pub fn idle(&self) -> bool
         ensures is { result ≡ self.now.idle }
-        ensures rests { result ≡ true → IsAtRest self.now.seat.me.0 }
+        ensures rests { result ≡ true → IsIdle self.now.seat.me.0 }
     {
         self.idle
     }
 
-    /// The request that the pass carried has its reply, and the pass is idle again.
+    /// Makes the pass idle again. The request that it carried must have its reply.
     pub fn rest(&mut self, actor: &Actor)
         requires carried { IsCarried self.old actor.now }
         requires replied { replied actor.now ≢ None }
-        ensures rested { IsRested self.old self.new }
+        ensures rested { IsIdleAfter self.old self.new }
         ensures carried { IsCarried self.new actor.now }
     {
         self.idle = true;

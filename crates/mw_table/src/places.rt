@@ -1,4 +1,7 @@
-//! Which shared word stands at an index of the table.
+//! The shared word at each index of the table.
+//!
+//! Used by: `at_start`, mw_world_table. It goes back from an index of mw_rule (`index_of`) to the word:
+//! change both together.
 ghost use Rattle.std.specs.Prelude.{◌≡◌, ◌<◌, ◌≤◌, ◌+◌, ◌*◌, nat_lt};
 ghost use Rattle.mw_words.specs.declared.limits.TheConstants.{MAX_POOL, MAX_TENANTS, MAX_WORDS, MAX_WORKERS};
 ghost use Rattle.mw_world.specs.Definition.Extent as extent;
@@ -10,7 +13,8 @@ use mw_rule::{LINE, SLOT_WIDE, SLOTS_FROM};
 use mw_words::{At, MAX_ENTRIES, MAX_TENANTS, MAX_WORDS};
 use mw_world::Config;
 
-/// The place whose word stands at an index of a table of so many slots. Where none does, it is one that no world has.
+/// Returns the place of the word at an index, in a table of `pool` slots. At an index where such a table never has a
+/// word, it returns a place that no world has.
 pub fn place_at(pool: u16, index: usize) -> At
     requires pool { pool ≤ MAX_POOL }
     requires index { index < slots_from + slot_wide * pool + MAX_WORDS * MAX_TENANTS }
@@ -35,7 +39,7 @@ pub fn place_at(pool: u16, index: usize) -> At
     }
 }
 
-/// The place whose word begins a line before the slots.
+/// Returns the place of the word that begins a line before the slots.
 fn line_place(line: usize) -> At
     requires { line < MAX_TENANTS + MAX_WORKERS }
     ensures { result ≡ spec.line_place line }
@@ -47,7 +51,7 @@ fn line_place(line: usize) -> At
     }
 }
 
-/// The place whose word stands at an index of a slot's words.
+/// Returns the place of the word at an index within a slot's words.
 fn slot_place(slot: u8, index: usize) -> At
     requires { index < slot_wide }
     ensures { result ≡ spec.slot_place slot index }
@@ -76,7 +80,7 @@ fn slot_place(slot: u8, index: usize) -> At
     }
 }
 
-/// Whether a world of this configuration has a word at a place.
+/// Returns whether a world of this configuration has a word at a place.
 pub fn has_place(config: &Config, at: At) -> bool
     ensures { result ≡ extent.has_place config.now at }
 {

@@ -1,10 +1,12 @@
 //! The table, and the passes with which threads step on it.
+//!
+//! Used by: nearly all modules of this crate, mw_core, mw_world_table. mw_core passes both types on.
 ghost use Rattle.std.specs.Prelude.{◌≡◌, true, [], ◌∷◌};
 ghost use Rattle.mw_world.specs.Definition.State.{IsConfig};
 ghost use Rattle.mw_rule.specs.Layout.{words_of};
 ghost use Rattle.mw_table.specs.Numbers.{numbers};
 ghost use Rattle.mw_table.specs.Origins.{config_of};
-ghost use Rattle.mw_table.specs.Resting.{IsAtRest};
+ghost use Rattle.mw_table.specs.Idleness.{IsIdle};
 
 use crate::origin::Origin;
 use atomic_table::{Seat, Table};
@@ -23,9 +25,9 @@ pub struct Shared {
     ghost long: { table.shared.table_id.words ≡ words_of (config_of table.shared.key) },
 }
 
-/// The right to make the steps of one worker, with what the thread that has it knows. It can't be copied, and a
-/// table deals one for each worker; so no two threads make steps of one worker. Where it is dropped, nobody makes
-/// that worker's steps any more.
+/// The capability to make one worker's steps, with what its thread knows. It can't be copied, and a table gives one
+/// for each worker, so no two threads make steps of one worker. If it is dropped, nobody makes that worker's steps
+/// any more.
 #[derive(Drop)]
 pub struct Pass {
     pub(crate) seat: Seat<Actor, View>,
@@ -33,5 +35,5 @@ pub struct Pass {
     pub(crate) attempt: u64,
     pub(crate) idle: bool,
     ghost numbered: { numbers seat.me.0 ≡ (worker, attempt) ∷ [] },
-    ghost rests: { idle ≡ true → IsAtRest seat.me.0 },
+    ghost rests: { idle ≡ true → IsIdle seat.me.0 },
 }

@@ -1,9 +1,11 @@
-//! A step of any kind.
+//! A step of any kind but a call on a file.
+//!
+//! mw_core makes each step of a request by it, except the first and those of a call on a file.
 ghost use Rattle.std.specs.Prelude.{◌≡◌, cond};
 ghost use Rattle.mw_look.specs.declared.steps.Op.TheVariants.{Change as ChangeBits};
-ghost use Rattle.mw_look.specs.declared.news.Got.TheVariants.{Won as GotWon, Lost as GotLost};
-ghost use Rattle.mw_rule.specs.Carrying.{Drives, Took};
-ghost use Rattle.mw_rule.specs.Moves.{GoesOnByStep};
+ghost use Rattle.mw_look.specs.declared.observations.Got.TheVariants.{Won as GotWon, Lost as GotLost};
+ghost use Rattle.mw_rule.specs.Steps.{IsNextStep, LearnsStep};
+ghost use Rattle.mw_rule.specs.WordActions.{AddsStepEvent};
 ghost use Rattle.mw_rule.specs.Ways.{way_of};
 ghost use Rattle.mw_rule.specs.declared.ways.Way.TheVariants as way;
 ghost use Rattle.mw_table.specs.Passes.{IsOf, IsOfSameWorker};
@@ -14,16 +16,16 @@ use mw_rule::{Way, way_of};
 use mw_words::At;
 
 impl Shared {
-    /// The next step of the request that the pass carries, whatever it is but a call on a file. What it found, of
-    /// which the machine is to be told. A run of the world goes on by just this step, and behind it by the hand-out
-    /// of the reply, once that stands.
+    /// Makes the next step of the request that the pass carries, which is no call on a file. Returns what it found,
+    /// which the caller must tell the request's machine. It extends a run of the world by this step and, if the
+    /// request has its reply then, by its hand-out.
     pub fn step(&self, pass: &mut Pass, op: Op) -> Got
         requires own { IsOf self.now pass.old }
-        requires next { Drives pass.old.seat.me.0 pass.old.worker op }
+        requires next { IsNextStep pass.old.seat.me.0 pass.old.worker op }
         ensures own { IsOf self.now pass.new }
         ensures worker { IsOfSameWorker pass.old pass.new }
-        ensures took { Took result pass.old.seat.me.0 pass.new.seat.me.0 }
-        ensures event { GoesOnByStep result pass.old.seat.me.0 pass.new.seat.me.0 }
+        ensures took { LearnsStep result pass.old.seat.me.0 pass.new.seat.me.0 }
+        ensures event { AddsStepEvent result pass.old.seat.me.0 pass.new.seat.me.0 }
     {
         match op {
             Op::Load(at) => Got::Word(self.load(pass, at)),
@@ -32,14 +34,14 @@ impl Shared {
         }
     }
 
-    /// Changes a word in the way of the kind. What it found.
+    /// Changes a word as the kind says. Returns what it found.
     fn change(&self, pass: &mut Pass, kind: Kind, at: At, from: u64, to: u64) -> Got
         requires own { IsOf self.now pass.old }
-        requires next { Drives pass.old.seat.me.0 pass.old.worker (ChangeBits kind at from to) }
+        requires next { IsNextStep pass.old.seat.me.0 pass.old.worker (ChangeBits kind at from to) }
         ensures own { IsOf self.now pass.new }
         ensures worker { IsOfSameWorker pass.old pass.new }
-        ensures took { Took result pass.old.seat.me.0 pass.new.seat.me.0 }
-        ensures event { GoesOnByStep result pass.old.seat.me.0 pass.new.seat.me.0 }
+        ensures took { LearnsStep result pass.old.seat.me.0 pass.new.seat.me.0 }
+        ensures event { AddsStepEvent result pass.old.seat.me.0 pass.new.seat.me.0 }
     {
         match way_of(kind) {
             Way::Exchange => {
@@ -58,15 +60,16 @@ impl Shared {
         }
     }
 
-    /// Exchanges a word for another, or for an attempt to hold it, if it is what is expected. Whether it was.
+    /// Exchanges a word for another, or for an attempt to hold it, if the word has the expected bits. Returns whether
+    /// it had.
     fn replace(&self, pass: &mut Pass, kind: Kind, at: At, from: u64, to: u64) -> bool
         requires own { IsOf self.now pass.old }
         requires way { way_of kind ≡ way.Exchange }
-        requires next { Drives pass.old.seat.me.0 pass.old.worker (ChangeBits kind at from to) }
+        requires next { IsNextStep pass.old.seat.me.0 pass.old.worker (ChangeBits kind at from to) }
         ensures own { IsOf self.now pass.new }
         ensures worker { IsOfSameWorker pass.old pass.new }
-        ensures took { Took (cond result GotWon GotLost) pass.old.seat.me.0 pass.new.seat.me.0 }
-        ensures event { GoesOnByStep (cond result GotWon GotLost) pass.old.seat.me.0 pass.new.seat.me.0 }
+        ensures took { LearnsStep (cond result GotWon GotLost) pass.old.seat.me.0 pass.new.seat.me.0 }
+        ensures event { AddsStepEvent (cond result GotWon GotLost) pass.old.seat.me.0 pass.new.seat.me.0 }
     {
         match kind {
             Kind::Plant => self.attempt(pass, at, from, to),

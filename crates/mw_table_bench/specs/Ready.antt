@@ -1,9 +1,10 @@
 -- When a pass may read a tenant's first word.
+-- Used by: the contracts of src/opening.rt and src/runs.rt. A change here changes what these contracts say.
 use Rattle.std.specs.Prelude.{ℕ, ◌≡◌, ◌<◌, true}
 use Rattle.mw_world.specs.Definition.State.{tenant_at, tenants_of}
 use Rattle.mw_core.specs.FromTable.{IsOf, Pass, Shared, config_of, opening_at, openings_of}
 
--- The pass is idle, on a table of two slots, where the tenant is there, has a word and may use one slot.
+-- The pass is idle, on a table of two slots. The tenant is there, has one word and may use one slot.
 pub record MayGet (shared : Shared) (pass : Pass) (tenant : ℕ) : Type 0 where
   pub own : IsOf shared pass
   pub idle : pass.idle ≡ true

@@ -1,15 +1,18 @@
-//! So many loads of a table's words, or whole reads, to be timed from outside.
+//! Makes so many loads of a table's words, or whole reads, to be timed from outside.
 //!
-//! `mw_table_bench loads N`: one thread loads a word. `mw_table_bench gets N`: one thread reads a word of a tenant, by
-//! whole requests. `mw_table_bench two N`: two threads do, each on a tenant of its own. What was found is printed, as one
-//! number; of any other command line, and where memory is refused, nothing is.
+//! In `mw_table_bench loads N` one thread loads a word. In `mw_table_bench gets N` one thread reads a word
+//! of a tenant, by whole requests. In `mw_table_bench two N` two threads do so, each on a tenant of its
+//! own. It prints what was found, as one number. For any other command line, and if memory is refused, it
+//! prints nothing.
+//!
+//! `scripts/bench-table` runs and times it. It depends on the commands, and on one number being printed.
 #![tactic(auto)]
 
 mod opening;
-mod running;
+mod runs;
 
 use crate::opening::{Opened, open};
-use crate::running::{gets, gets_of_two, loads};
+use crate::runs::{gets, gets_of_two, loads};
 use std::{env, io};
 
 fn main(rt: HostRuntime) {

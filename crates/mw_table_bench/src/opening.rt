@@ -1,4 +1,6 @@
-//! A table of two tenants.
+//! Makes a table of two tenants.
+//!
+//! Used by: `main`, before it measures.
 ghost use Rattle.std.specs.Prelude.{◌≡◌, [], ◌∷◌, ℕ, IfOk, IfSome, Some, Vec};
 ghost use Rattle.std.specs.declared.alloc.Global.{Global};
 ghost use Rattle.mw_table_bench.specs.Ready.{MayGet};
@@ -15,7 +17,7 @@ pub(crate) struct Opened {
     pub(crate) other: Pass,
 }
 
-/// What their files gave: the words 7 and 9.
+/// What the tenants' files gave: the words 7 and 9.
 fn openings(alloc: Global) -> Result<Vec<FileOpening>, AllocError>
     ensures { IfOk result (λ found. (one : Vec ℕ Global) × (other : Vec ℕ Global) × (one.items ≡ 7 ∷ []) × (other.items ≡ 9 ∷ []) × (found.items ≡ record { quota = 1; places = 2; words = Some one } ∷ record { quota = 1; places = 2; words = Some other } ∷ [])) }
 {
@@ -33,7 +35,7 @@ fn openings(alloc: Global) -> Result<Vec<FileOpening>, AllocError>
     Ok(openings)
 }
 
-/// The table at a start. None where memory is refused.
+/// Makes the table at a start. Gives None if memory is refused.
 pub(crate) fn open(alloc: Global) -> Option<Opened>
     ensures one { IfSome result (λ opened. MayGet opened.core.shared opened.one 0) }
     ensures other { IfSome result (λ opened. MayGet opened.core.shared opened.other 1) }

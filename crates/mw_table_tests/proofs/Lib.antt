@@ -1,2 +1,2 @@
-pub mod Dealing
-pub mod Reading
+pub mod NewPassesOfWorlds
+pub mod ReadsStayReads

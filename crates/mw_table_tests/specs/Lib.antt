@@ -1,2 +1,2 @@
 pub mod Reached
-pub mod Reading
+pub mod ReadRequests

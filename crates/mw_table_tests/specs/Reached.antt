@@ -1,8 +1,10 @@
--- A world in memory that a run has led to.
+-- A world in memory is the end of some run.
+-- Used by: the contracts of src/race_tests.rt, src/reading_tests.rt and src/worlds.rt. A change here changes what these
+-- contracts say.
 use Rattle.std.specs.Prelude.{List}
-use Rattle.mw_world.specs.Definition.Happenings.{Happening}
+use Rattle.mw_world.specs.Definition.Events.{WorldEvent}
 use Rattle.mw_simulator.specs.declared.world.World.{World}
-use Rattle.mw_simulator.specs.Running.{Stands}
+use Rattle.mw_simulator.specs.Events.{IsAfterRun}
 
 abbrev pub IsReached : World → Type 0
-IsReached world = (before : List Happening) × Stands world before
+IsReached world = (before : List WorldEvent) × IsAfterRun world before

@@ -1,5 +1,5 @@
-//! Tests of the table of shared words, and of two threads that drive requests on one. They stand apart from the
-//! crates that they test, so that those are proved once.
+//! Tests the table of shared words, and two threads that drive requests on one. The tests are apart from
+//! the crates that they test, so that those are proved once.
 #![tactic(auto)]
 
 #[cfg(test)]

@@ -1,4 +1,4 @@
-//! A table of a world in memory, and one at a start.
+//! Tests a table of a world in memory, and a table at a start.
 ghost use Rattle.std.specs.Prelude.{◌≡◌, [], ◌∷◌, ℕ, IfOk, None, Some, Vec};
 ghost use Rattle.std.specs.declared.alloc.Global.{Global};
 ghost use Rattle.mw_world.specs.Definition.State.{tenant_at, tenants_of};
@@ -12,8 +12,8 @@ use mw_world_table::of_world;
 use std::alloc::{AllocError, Global};
 use std::test::Fail;
 
-/// What the passes of a new world's table find at its door and at its gate, before they meet. None where there
-/// isn't an idle pass for each worker and the place of a request for each, or where memory is refused.
+/// Gives what the passes of a new world's table find at its door and at its gate, before they meet. Gives
+/// None if there isn't an idle pass and a place for a request for each worker, or if memory is refused.
 fn found_in_a_new_world(alloc: Global) -> Option<[u64; 2]> {
     let world = new_world(alloc, config(1, 2, 1))?;
     let Ok((shared, mut passes, actors)) = of_world(alloc, &world) else {
@@ -41,7 +41,7 @@ fn a_new_world_in_a_table(rt: HostRuntime) -> Result<(), Fail> {
     Ok(())
 }
 
-/// What their files gave: the first has the word 7, the other didn't open.
+/// What the tenants' files gave: the first has the word 7, the other didn't open.
 fn one_of_two(alloc: Global) -> Result<Vec<FileOpening>, AllocError>
     ensures { IfOk result (λ found. (words : Vec ℕ Global) × (words.items ≡ 7 ∷ []) × (found.items ≡ record { quota = 1; places = 2; words = Some words } ∷ record { quota = 1; places = 1; words = None } ∷ [])) }
 {
@@ -60,7 +60,7 @@ fn one_of_two(alloc: Global) -> Result<Vec<FileOpening>, AllocError>
     Ok(openings)
 }
 
-/// What stands at the doors of two tenants, and at the first word of each.
+/// Loads the doors of two tenants, and the first word of each.
 fn figures(shared: &Shared, pass: &mut Pass) -> [u64; 4]
     requires own { IsOf shared.now pass.old }
     requires tenants { tenants_of (config_of shared.now.table.shared.key) ≡ 2 }
@@ -83,8 +83,8 @@ fn figures(shared: &Shared, pass: &mut Pass) -> [u64; 4]
     ]
 }
 
-/// What stands at the doors and first words of the table of two tenants, of whom one has a file. None where there
-/// isn't an idle pass for each worker, by worker, or where memory is refused.
+/// Gives the doors and first words of the table of two tenants, one of which has a file. Gives None if
+/// there isn't an idle pass for each worker, in their order, or if memory is refused.
 fn found_at_a_start(alloc: Global) -> Option<[u64; 4]> {
     let config = two_tenants();
     let Ok(openings) = one_of_two(alloc) else {

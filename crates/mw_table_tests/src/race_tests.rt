@@ -1,4 +1,6 @@
-//! Two threads drive two requests on one table.
+//! Tests two threads that drive two requests on one table.
+//!
+//! Used by: `reading_tests`.
 ghost use Rattle.std.specs.Prelude.{◌≡◌, ◌≤◌, All, IfSome};
 ghost use Rattle.mw_world.specs.Definition.State.{tenant_at};
 ghost use Rattle.mw_core.specs.FromTable.{IsCarried, IsDealt, IsOf, basis_of, config_of};
@@ -37,7 +39,7 @@ struct Driven {
     reply: Option<Reply>,
 }
 
-/// The request that a pass of a new table carries, if it has one without a reply.
+/// Gives the request that a pass of a new table carries, if it has one without a reply.
 fn request_of(core: &Core, world: &World, pass: &Pass) -> Option<Actor>
     requires reached { IsReached world.now }
     requires dealt { IsDealt core.now.shared (basis_of_world world.now) pass.now }
@@ -50,7 +52,7 @@ fn request_of(core: &Core, world: &World, pass: &Pass) -> Option<Actor>
     }
 }
 
-/// The world's shared words, and a pass for each worker. None where memory is refused.
+/// Opens the world's shared words, with a pass for each worker. Gives None if memory is refused.
 pub(crate) fn open(alloc: Global, world: &World) -> Option<Opened>
     requires reached { IsReached world.now }
     ensures world { IfSome result (λ opened. basis_of opened.core.shared.table.shared.key ≡ basis_of_world world.now) }
@@ -65,7 +67,8 @@ pub(crate) fn open(alloc: Global, world: &World) -> Option<Opened>
     }
 }
 
-/// The last of the passes, with the request that it carries. None where it carries none, or none is left.
+/// Takes the last of the passes, with the request that it carries. Gives None if it carries none, or no
+/// pass is left.
 fn take(core: &Core, world: &World, passes: &mut Vec<Pass>) -> Option<Side>
     requires reached { IsReached world.now }
     requires dealt { All (IsDealt core.now.shared (basis_of_world world.now)) passes.old.items }
@@ -78,8 +81,8 @@ fn take(core: &Core, world: &World, passes: &mut Vec<Pass>) -> Option<Side>
     Some(Side { pass, actor })
 }
 
-/// The last two of the passes, each with the request that it carries, the lower worker's first. None where one
-/// carries none, or there are no two.
+/// Gives the last two of the passes, each with the request that it carries, the lower worker's first. Gives
+/// None if one carries none, or there aren't two.
 pub(crate) fn both(core: &Core, world: &World, mut passes: Vec<Pass>) -> Option<(Side, Side)>
     requires reached { IsReached world.now }
     requires dealt { All (IsDealt core.now.shared (basis_of_world world.now)) passes.items }
@@ -93,7 +96,7 @@ pub(crate) fn both(core: &Core, world: &World, mut passes: Vec<Pass>) -> Option<
     Some((lower, higher))
 }
 
-/// Makes the steps of a request until its reply stands, or its file is to be called.
+/// Makes the steps of a request until it has a reply, or its next step is a call on its file.
 fn drive(core: &Core, side: Side) -> Driven
     requires own { IsOf core.now.shared side.pass }
     requires carried { IsCarried side.pass side.actor }
@@ -117,7 +120,7 @@ fn drive(core: &Core, side: Side) -> Driven
     }
 }
 
-/// Two threads drive their requests at once.
+/// Has two threads drive their requests at once.
 fn drive_both<R: Threads + Sync>(rt: &R, core: &Core, one: Side, two: Side) -> (Driven, Driven)
     requires own_one { IsOf core.now.shared one.pass }
     requires carried_one { IsCarried one.pass one.actor }
@@ -129,8 +132,8 @@ fn drive_both<R: Threads + Sync>(rt: &R, core: &Core, one: Side, two: Side) -> (
     join(rt, || drive(core, one), || drive(core, two))
 }
 
-/// A world of one word and one slot: worker 0 has changed the word, and is about to give back its pin of the
-/// slot; worker 1 reads the word, and is about to pin the slot. None where it can't be played so.
+/// Makes a world of one word and one slot. Worker 0 has changed the word, and is about to give back its pin
+/// of the slot. Worker 1 reads the word, and is about to pin the slot. Gives None if it can't be played so.
 fn before_unpin(alloc: Global) -> Option<World>
     ensures reached { IfSome result IsReached }
     ensures config { IfSome result (λ world. world.config.pool ≡ 1) }
@@ -144,7 +147,8 @@ fn before_unpin(alloc: Global) -> Option<World>
     play_to(world, 0, Kind::Unpin)
 }
 
-/// The writer's YES, the reader's VAL 1, a free slot under its next number, and no slot in use.
+/// Tells whether the writer has YES, the reader has VAL 1, the slot is free under its next number, and no
+/// slot is in use.
 fn pin_raced(core: &Core, mut wrote: Driven, read: Driven) -> bool
     requires own { IsOf core.now.shared wrote.pass }
     requires pool { (config_of core.now.shared.table.shared.key).pool ≡ 1 }
@@ -164,7 +168,7 @@ fn pin_raced(core: &Core, mut wrote: Driven, read: Driven) -> bool
     replies && gate == free.pack() && door == unused.pack()
 }
 
-/// Whether a race to a pin ends as it must.
+/// Tells whether a race to a pin ends as it must.
 fn pin_race_ends<R: Threads + Sync>(rt: &R, alloc: Global) -> Option<bool> {
     let world = before_unpin(alloc)?;
     let Opened { core, passes } = open(alloc, &world)?;
@@ -182,8 +186,8 @@ fn pin_race(rt: HostRuntime) -> Result<(), Fail> {
     Ok(())
 }
 
-/// A world of two words and three slots: worker 0 is about to attempt to hold word 0 for a change of both
-/// words, worker 1 for a change of word 0 alone. None where it can't be played so.
+/// Makes a world of two words and three slots. Worker 0 is about to attempt to hold word 0 for a change of
+/// both words, worker 1 for a change of word 0 alone. Gives None if it can't be played so.
 fn before_plants(alloc: Global) -> Option<World>
     ensures reached { IfSome result IsReached }
     ensures pool { IfSome result (λ world. world.config.pool ≡ 3) }
@@ -196,7 +200,7 @@ fn before_plants(alloc: Global) -> Option<World>
     play_to(world, 1, Kind::Plant)
 }
 
-/// What stands at the gates and the statuses of slots 0 and 1, and at words 0 and 1.
+/// Loads the gates and the statuses of slots 0 and 1, and words 0 and 1.
 fn figures(core: &Core, pass: &mut Pass) -> [u64; 6]
     requires own { IsOf core.now.shared pass.old }
     requires pool { (config_of core.now.shared.table.shared.key).pool ≡ 3 }
@@ -225,7 +229,7 @@ fn figures(core: &Core, pass: &mut Pass) -> [u64; 6]
     ]
 }
 
-/// The gate of a slot in use, under its first number.
+/// Gives the bits of the gate of a slot in use, under its first number.
 fn pinned(pins: u16) -> u64
     requires { pins ≤ 2 }
 {
@@ -237,7 +241,7 @@ fn pinned(pins: u16) -> u64
     gate.pack()
 }
 
-/// The figures where worker 0's change is decided: it holds both words, and worker 1 has pinned it.
+/// The figures if worker 0's change is decided: it holds both words, and worker 1 has pinned it.
 fn first_decided() -> [u64; 6] {
     let held = Word::Held { slot: 0, seq: 0 };
     [
@@ -250,7 +254,7 @@ fn first_decided() -> [u64; 6] {
     ]
 }
 
-/// The figures where worker 1's change is decided: it holds word 0, and worker 0 has pinned it.
+/// The figures if worker 1's change is decided: it holds word 0, and worker 0 has pinned it.
 fn second_decided() -> [u64; 6] {
     let held = Word::Held { slot: 1, seq: 0 };
     [
@@ -263,7 +267,7 @@ fn second_decided() -> [u64; 6] {
     ]
 }
 
-/// Whether both threads stopped at the seal of one and the same change.
+/// Tells whether both threads stopped at the seal of the same change.
 fn plants_raced(core: &Core, mut one: Driven, two: Driven) -> bool
     requires own { IsOf core.now.shared one.pass }
     requires pool { (config_of core.now.shared.table.shared.key).pool ≡ 3 }
@@ -274,7 +278,7 @@ fn plants_raced(core: &Core, mut one: Driven, two: Driven) -> bool
     stopped && (found == first_decided() || found == second_decided())
 }
 
-/// Whether a race to hold a word ends as it must. Worker 2 has no request.
+/// Tells whether a race to hold a word ends as it must. Worker 2 has no request.
 fn plant_race_ends<R: Threads + Sync>(rt: &R, alloc: Global) -> Option<bool> {
     let world = before_plants(alloc)?;
     let Opened { core, mut passes } = open(alloc, &world)?;

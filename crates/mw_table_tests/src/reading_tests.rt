@@ -1,10 +1,10 @@
-//! A read that begins again. One thread makes its steps, and those of a change beside it.
+//! Tests a read that begins again. One thread makes its steps, and those of a change beside it.
 ghost use Rattle.std.specs.Prelude.{◌≡◌, true, IfSome};
 ghost use Rattle.mw_words.specs.declared.jobs.Job.TheVariants.{Get};
 ghost use Rattle.mw_core.specs.FromTable.{IsCarried, IsOf};
-ghost use Rattle.mw_core.specs.Looking.{IsLook};
+ghost use Rattle.mw_core.specs.ReadRounds.{IsLook};
 ghost use Rattle.mw_table_tests.specs.Reached.{IsReached};
-ghost use Rattle.mw_table_tests.specs.Reading.{IsReading};
+ghost use Rattle.mw_table_tests.specs.ReadRequests.{IsReading};
 
 use crate::race_tests::{Opened, Side, both, open};
 use crate::worlds::{change_one, come, config, new_world, play_to, step};
@@ -16,9 +16,9 @@ use mw_words::{At, Job, Reply};
 use std::alloc::Global;
 use std::test::Fail;
 
-/// A world of one word and one slot: worker 0 has planted an attempt to hold the word for a change, and is about to
-/// hold it; worker 1 reads the word, has found the attempt and its row, and is about to load the word again. None
-/// where it can't be played so.
+/// Makes a world of one word and one slot. Worker 0 has planted an attempt to hold the word for a change,
+/// and is about to hold it. Worker 1 reads the word, has found the attempt and its row, and is about to
+/// load the word again. Gives None if it can't be played so.
 fn before_confirm(alloc: Global) -> Option<World>
     ensures { IfSome result IsReached }
 {
@@ -31,7 +31,8 @@ fn before_confirm(alloc: Global) -> Option<World>
     step(world, 1)
 }
 
-/// Whether a request is a read of tenant 0's word 0 that is about to load it for the second time.
+/// Tells whether a request is a read of tenant 0's word 0 that is about to load it for the second time. The
+/// contract says only that it is a read.
 fn confirms(actor: &Actor) -> bool
     ensures { result ≡ true → IsReading actor.now }
 {
@@ -48,14 +49,14 @@ fn confirms(actor: &Actor) -> bool
     actor.tenant() == 0 && actor.ask() == Op::Load(at) && is_read(actor.job())
 }
 
-/// Whether a job is a read of word 0.
+/// Gives true only if a job is a read of word 0.
 fn is_read(job: &Job) -> bool
     ensures { result ≡ true → job.now ≡ Get 0 }
 {
     matches!(job, Job::Get(0))
 }
 
-/// Whether a read is at its first step.
+/// Gives true only if a read is at its first step.
 fn is_at_first(actor: &Actor) -> bool
     requires { IsReading actor.now }
     ensures { result ≡ true → IsLook actor.now }
@@ -66,7 +67,7 @@ fn is_at_first(actor: &Actor) -> bool
     }
 }
 
-/// Makes one step of a read. Whether it is at its first step then.
+/// Makes one step of a read. Tells whether the read is then at its first step.
 fn turns_back(core: &Core, side: &mut Side) -> bool
     requires own { IsOf core.now.shared side.old.pass }
     requires carried { IsCarried side.old.pass side.old.actor }
@@ -79,8 +80,8 @@ fn turns_back(core: &Core, side: &mut Side) -> bool
     is_at_first(&side.actor)
 }
 
-/// The reply of a read that had to begin again, since the change held the word between its loads. None where it
-/// hadn't to, or had to again.
+/// Gives the reply of a read that had to begin again, because the change held the word between its loads.
+/// Gives None if it didn't have to, or had to more than once.
 fn second_reply(core: &Core, mut writer: Side, mut reader: Side) -> Option<Reply>
     requires own_writer { IsOf core.now.shared writer.pass }
     requires carried_writer { IsCarried writer.pass writer.actor }
@@ -97,7 +98,7 @@ fn second_reply(core: &Core, mut writer: Side, mut reader: Side) -> Option<Reply
     core.try_look(&mut reader.pass, &mut reader.actor).ok()
 }
 
-/// What a read is told that finds a word with an attempt, and then the word held.
+/// Gives what a read is told that finds a word with an attempt, and then the word held.
 fn told_at_last(alloc: Global) -> Option<Reply> {
     let world = before_confirm(alloc)?;
     let Opened { core, passes } = open(alloc, &world)?;

@@ -1,4 +1,6 @@
-//! Worlds in memory, played up to the moment at which threads go on.
+//! Plays worlds in memory up to the moment from which threads go on.
+//!
+//! Used by: `making_tests`, `race_tests`, `reading_tests`.
 ghost use Rattle.std.specs.Prelude.{◌≡◌, ◌≤◌, ◌<◌, IfSome};
 ghost use Rattle.mw_words.specs.declared.limits.TheConstants.{MAX_POOL, MAX_QUOTA, MAX_WORDS, MAX_WORKERS};
 ghost use Rattle.mw_world.specs.Definition.State.{IsConfig, tenant_at};
@@ -14,7 +16,7 @@ use std::alloc::Global;
 /// More steps than a request makes.
 pub(crate) const MANY_STEPS: u32 = 100_000;
 
-/// One tenant of so many words, which may use all slots.
+/// Makes the configuration of one tenant with so many words, which may use all slots.
 pub(crate) fn config(pool: u8, workers: u8, words: u16) -> Config
     requires pool { (1 ≤ pool) × (pool ≤ MAX_QUOTA) }
     requires workers { (1 ≤ workers) × (workers ≤ MAX_WORKERS) }
@@ -39,7 +41,7 @@ pub(crate) fn config(pool: u8, workers: u8, words: u16) -> Config
     }
 }
 
-/// A new world of one tenant. None where memory is refused.
+/// Makes a new world of one tenant. Gives None if memory is refused.
 pub(crate) fn new_world(alloc: Global, config: Config) -> Option<World>
     requires { IsConfig config }
     ensures reached { IfSome result IsReached }
@@ -51,14 +53,14 @@ pub(crate) fn new_world(alloc: Global, config: Config) -> Option<World>
     }
 }
 
-/// A change of word 0 from 0.
+/// Makes a change of word 0 from 0.
 pub(crate) fn change_one(new: u64) -> Job {
     let mut entries = Entries::new();
     entries.push(from_zero(0, new));
     Job::Cas(entries)
 }
 
-/// A change of words 0 and 1 from 0.
+/// Makes a change of words 0 and 1 from 0.
 pub(crate) fn change_two(new: u64) -> Job {
     let mut entries = Entries::new();
     entries.push(from_zero(0, new));
@@ -74,7 +76,7 @@ fn from_zero(addr: u16, new: u64) -> Entry {
     }
 }
 
-/// The world once an event happened. None where it can't.
+/// Gives the world after an event, and None if the event can't happen.
 fn after(mut world: World, event: Event) -> Option<World>
     requires reached { IsReached world }
     ensures reached { IfSome result IsReached }
@@ -86,7 +88,7 @@ fn after(mut world: World, event: Event) -> Option<World>
     }
 }
 
-/// The world once a request came. None where it can't come.
+/// Gives the world after a request came, and None if it can't come.
 pub(crate) fn come(world: World, worker: u8, job: Job) -> Option<World>
     requires reached { IsReached world }
     ensures reached { IfSome result IsReached }
@@ -95,8 +97,8 @@ pub(crate) fn come(world: World, worker: u8, job: Job) -> Option<World>
     after(world, Event::Come(worker, 0, job))
 }
 
-/// The world once the worker's request made its next step, or its call on its file, which goes well. None where it
-/// can't.
+/// Gives the world after the next step of the worker's request, or after its call on its file, which
+/// succeeds. Gives None if the event can't happen.
 pub(crate) fn step(mut world: World, worker: u8) -> Option<World>
     requires reached { IsReached world }
     ensures reached { IfSome result IsReached }
@@ -108,7 +110,7 @@ pub(crate) fn step(mut world: World, worker: u8) -> Option<World>
     }
 }
 
-/// Whether the next step of a worker's request is a change of this kind.
+/// Tells whether the next step of a worker's request is a change of this kind.
 fn is_next(world: &World, worker: u8, kind: Kind) -> bool
     requires { worker < world.now.config.workers }
 {
@@ -118,7 +120,8 @@ fn is_next(world: &World, worker: u8, kind: Kind) -> bool
     matches!(actor.ask(), Op::Change { kind: found, .. } if found == kind)
 }
 
-/// The world where a worker's request has come to a step of a kind. None where it doesn't come there.
+/// Gives the world in which a worker's request has come to a step of a kind, and None if it doesn't come
+/// there.
 pub(crate) fn play_to(mut world: World, worker: u8, kind: Kind) -> Option<World>
     requires worker { worker < world.config.workers }
     requires reached { IsReached world }

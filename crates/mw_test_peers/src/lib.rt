@@ -1,5 +1,7 @@
-//! Peers of sessions, for tests: a reader and a writer that fail where they are told to, and what they say and are told
-//! in the sweeps, which try each such place.
+//! Peers of sessions, for tests: a reader and a writer that fail when they are told to, and what they say
+//! and are told in the sweeps, which try each place of failure.
+//!
+//! Used by: mw_serving_tests, mw_engine_tests, for tests.
 #![tactic(auto)]
 
 mod peers;

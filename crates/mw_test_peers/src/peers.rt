@@ -1,10 +1,12 @@
-//! A reader and a writer that fail where they are told to.
+//! A reader and a writer that fail when they are told to.
+//!
+//! Used by: mw_engine_tests, mw_serving_tests.
 
 use arrayvec::ArrayVec;
 use std::io;
 use std::io::{ErrorKind, Read, Write};
 
-/// What a peer does behind its last byte.
+/// Says what a peer does after its last byte.
 #[derive(Clone, Copy)]
 pub enum Failure {
     /// It answers an error.
@@ -19,7 +21,7 @@ impl Failure {
     }
 }
 
-/// A reader of these bytes, so many a call. Behind them it fails.
+/// A reader of these bytes, so many a call. After them it fails.
 #[derive(Drop)]
 pub struct Sender<'a> {
     rest: &'a [u8],
@@ -28,7 +30,7 @@ pub struct Sender<'a> {
 }
 
 impl<'a> Sender<'a> {
-    /// A reader of these bytes, so many a call, that fails so behind them.
+    /// Makes a reader of these bytes, so many a call, that fails so after them.
     pub fn new(bytes: &'a [u8], piece: usize, failure: Failure) -> Self {
         Sender {
             rest: bytes,
@@ -58,12 +60,12 @@ pub struct Page {
     piece: usize,
     room: usize,
     failure: Failure,
-    /// How often it was written to, with the calls that failed.
+    /// How many times it was written to, with the calls that failed.
     pub calls: usize,
 }
 
 impl Page {
-    /// A writer that takes so many bytes a call and has room for so many, and then fails so.
+    /// Makes a writer that takes so many bytes a call and has room for so many, and then fails so.
     pub fn new(piece: usize, room: usize, failure: Failure) -> Self {
         Page {
             text: ArrayVec::new(),

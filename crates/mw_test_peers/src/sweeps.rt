@@ -1,4 +1,6 @@
 //! What the peers of the sweeps say, and what they are told.
+//!
+//! Used by: mw_engine_tests, mw_serving_tests.
 
 /// What they say to a tenant `t` of two words, both 0.
 pub const INPUT: &[u8] = b"TENANT t\nCAS 0:0:1\nQUIT\n";
@@ -6,7 +8,8 @@ pub const INPUT: &[u8] = b"TENANT t\nCAS 0:0:1\nQUIT\n";
 /// What they are told.
 pub const OUTPUT: &[u8] = b"OK 2\nYES\nBYE\n";
 
-/// How many bytes of [`OUTPUT`] answer the lines that are whole in so many bytes of [`INPUT`], which lack its last one.
+/// Gives how many bytes of [`OUTPUT`] answer the whole lines in the first `count` bytes of [`INPUT`].
+/// `count` is less than its length.
 pub fn replied(count: usize) -> usize {
     match count {
         ..=8 => 0,

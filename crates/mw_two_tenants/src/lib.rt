@@ -1,4 +1,6 @@
 //! The configuration of two small tenants, on which tests and measurements of the table run.
+//!
+//! Used by: mw_table_bench, mw_table_tests.
 #![tactic(auto)]
 
 ghost use Rattle.std.specs.Prelude.{◌≡◌, [], ◌∷◌};
@@ -7,7 +9,8 @@ ghost use Rattle.mw_world.specs.Definition.State.{IsConfig, no_tenant};
 use arrayvec::ArrayVec;
 use mw_world::{Config, Tenant};
 
-/// Two tenants of one word and one slot each, new files, two workers, and a pool of two slots.
+/// Makes the configuration of two tenants of one word and one slot each, with new files, two workers, and a
+/// pool of two slots.
 pub fn two_tenants() -> Config
     ensures made { IsConfig result }
     ensures pool { result.pool ≡ 2 }

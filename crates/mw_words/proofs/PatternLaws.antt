@@ -1,6 +1,7 @@
--- Words that workers share and their bit patterns are one to one: what was packed is unpacked again, two values in
--- range with one pattern are one value, and what is unpacked is in range and has the bits that it
--- was read from. All fit 64 bits.
+-- The shared words and their bits are one to one. A value in range that was packed is unpacked again, and its bits fit into 64.
+-- Two values in range with the same bits are the same. What is unpacked from 64 bits is in range and has those bits. Used by:
+-- mw_look, mw_rule, mw_engine, mw_law_counts, mw_world_memory, mw_player. A change of a pattern in specs/Patterns needs a change
+-- here. The proofs may change freely.
 use Rattle.std.specs.Prelude.{◌≡◌, ℕ, ◌^◌, ◌≤◌, ◌<◌, ◌==◌, ◌&&◌, ◌||◌, nat_lt, Bool, true, false, cond, Some, None, IfSome}
 use Rattle.std.specs.declared.option.Option.{Option}
 use Rattle.std.proofs.Common.{refl, sym, ap, ◌∙◌, arith}
@@ -15,17 +16,17 @@ use Rattle.mw_words.specs.declared.rows.Row.{Row}
 use Rattle.mw_words.specs.declared.limits.TheConstants.{MAX_POOL, MAX_WORKERS, MAX_ENTRIES}
 use Rattle.mw_words.specs.Patterns.{bit, field, IsWordInRange, IsWordOf, packed_word, unpacked_word, IsGateInRange, IsGateOf, packed_gate, unpacked_gate, IsDoorInRange, IsDoorOf, packed_door, unpacked_door, IsStatusInRange, IsStatusOf, packed_status, unpacked_status, IsRowInRange, IsRowOf, packed_row, unpacked_row}
 
--- what is in an option, or the default
+-- the value in an option, or the default
 abbrev some_or : {A : Type 0} → A → Option A → A
 some_or default (Some x) = x
 some_or default None = default
 
--- a flag's bit
+-- a flag's bit is at most 1
 bit_bound : (flag : Bool) → bit flag ≤ 1
 bit_bound true = omega arith
 bit_bound false = omega arith
 
--- a fact of what is chosen, from the fact of it where the test holds and of the rest
+-- a property holds of what a test chooses, if it holds of both choices
 by_test : {A : Type 0} (test : Bool) (x : A) (rest : Option A) (P : A → Type 0) → (test ≡ true → P x) → IfSome rest P → IfSome (cond test (Some x) rest) P
 by_test true x rest P here else = here refl
 by_test false x rest P here else = else
@@ -44,12 +45,12 @@ word_round (Planted worker attempt) fits = grind (arith, nat_tests, fits.0, fits
 word_round (Held slot seq) fits = grind (arith, nat_tests, fits.0, fits.1)
 word_round (Dirty slot value) fits = grind (arith, nat_tests, fits.0, fits.1)
 
--- a tenant's word in range is told by its bits
+-- two words in range with the same bits are the same
 pub packed_word_injective : (x y : Word) → IsWordInRange x → IsWordInRange y → packed_word x ≡ packed_word y → x ≡ y
 packed_word_injective x y fits_x fits_y same =
     ap (some_or x) (sym (word_round x fits_x) ∙ ap unpacked_word same ∙ word_round y fits_y)
 
--- a tenant's word that was unpacked is in range, and is packed to those bits again
+-- a word that was unpacked is in range and has those bits
 pub unpacked_word_is : (bits : ℕ) → bits < 2 ^ 64 → IfSome (unpacked_word bits) (IsWordOf bits)
 unpacked_word_is bits fits =
     let kind = field 62 2 bits in
@@ -74,12 +75,12 @@ gate_round gate fits = by_taken gate.taken gate.pins gate.seq fits
     by_taken true pins seq fits = grind (arith, nat_tests, fits.0, fits.1)
     by_taken false pins seq fits = grind (arith, nat_tests, fits.0, fits.1, fits.2 refl)
 
--- a gate in range is told by its bits
+-- two gates in range with the same bits are the same
 pub packed_gate_injective : (x y : Gate) → IsGateInRange x → IsGateInRange y → packed_gate x ≡ packed_gate y → x ≡ y
 packed_gate_injective x y fits_x fits_y same =
     ap (some_or x) (sym (gate_round x fits_x) ∙ ap unpacked_gate same ∙ gate_round y fits_y)
 
--- a gate that was unpacked is in range, and is packed to those bits again
+-- a gate that was unpacked is in range and has those bits
 pub unpacked_gate_is : (bits : ℕ) → bits < 2 ^ 64 → IfSome (unpacked_gate bits) (IsGateOf bits)
 unpacked_gate_is bits fits =
     let taken = field 63 1 bits == 1 in
@@ -100,12 +101,12 @@ door_round door fits = by_fault door.fault door.used fits
     by_fault true used fits = grind (arith, nat_tests, fits)
     by_fault false used fits = grind (arith, nat_tests, fits)
 
--- a door in range is told by its bits
+-- two doors in range with the same bits are the same
 pub packed_door_injective : (x y : Door) → IsDoorInRange x → IsDoorInRange y → packed_door x ≡ packed_door y → x ≡ y
 packed_door_injective x y fits_x fits_y same =
     ap (some_or x) (sym (door_round x fits_x) ∙ ap unpacked_door same ∙ door_round y fits_y)
 
--- a door that was unpacked is in range, and is packed to those bits again
+-- a door that was unpacked is in range and has those bits
 pub unpacked_door_is : (bits : ℕ) → bits < 2 ^ 64 → IfSome (unpacked_door bits) (IsDoorOf bits)
 unpacked_door_is bits fits =
     (by_test (field 16 47 bits == 0) (record { fault = field 63 1 bits == 1; used = field 0 16 bits }) _ (IsDoorOf bits) (λ is. grind (arith, nat_tests, is, fits))
@@ -131,12 +132,12 @@ status_round (No entry value) fits = grind (arith, nat_tests, fits.0, fits.1)
 status_round DoneYes fits = refl
 status_round (DoneNo entry value) fits = grind (arith, nat_tests, fits.0, fits.1)
 
--- a status in range is told by its bits
+-- two statuses in range with the same bits are the same
 pub packed_status_injective : (x y : Status) → IsStatusInRange x → IsStatusInRange y → packed_status x ≡ packed_status y → x ≡ y
 packed_status_injective x y fits_x fits_y same =
     ap (some_or x) (sym (status_round x fits_x) ∙ ap unpacked_status same ∙ status_round y fits_y)
 
--- a status that was unpacked is in range, and is packed to those bits again
+-- a status that was unpacked is in range and has those bits
 pub unpacked_status_is : (bits : ℕ) → bits < 2 ^ 64 → IfSome (unpacked_status bits) (IsStatusOf bits)
 unpacked_status_is bits fits =
     let state = field 60 4 bits in
@@ -160,12 +161,12 @@ packed_row_bound row fits = omega (arith, fits.0, fits.1, fits.2)
 pub row_round : (row : Row) → IsRowInRange row → unpacked_row (packed_row row) ≡ Some row
 row_round row fits = grind (arith, nat_tests, fits.0, fits.1, fits.2)
 
--- a row in range is told by its bits
+-- two rows in range with the same bits are the same
 pub packed_row_injective : (x y : Row) → IsRowInRange x → IsRowInRange y → packed_row x ≡ packed_row y → x ≡ y
 packed_row_injective x y fits_x fits_y same =
     ap (some_or x) (sym (row_round x fits_x) ∙ ap unpacked_row same ∙ row_round y fits_y)
 
--- a row that was unpacked is in range, and is packed to those bits again
+-- a row that was unpacked is in range and has those bits
 pub unpacked_row_is : (bits : ℕ) → bits < 2 ^ 64 → IfSome (unpacked_row bits) (IsRowOf bits)
 unpacked_row_is bits fits =
     let entry = field 48 8 bits in

@@ -1,9 +1,13 @@
-//! The door of a tenant: how many slots it uses and whether its file has failed, in 64 bits.
+//! The door of a tenant, in 64 bits: how many slots the tenant uses, and whether its file has failed.
+//!
+//! mw_actor and mw_look read doors, mw_pool says which moves a door allows, and mw_table and mw_world_memory make the
+//! steps on its bits. Another pattern of bits needs a change in `specs/Patterns`, and in the crates that have one of
+//! its bits as a number: mw_rule (`ways.rt`) and mw_table (`call_steps.rt`). No file has these bits.
 ghost use Rattle.std.specs.Prelude.{◌≡◌, ◌≢◌, IfSome, None};
 ghost use Rattle.mw_words.specs.declared.doors.Door.{Door as DoorModel};
 ghost use Rattle.mw_words.specs.Patterns.{IsDoorInRange, IsDoorOf, packed_door, unpacked_door};
 
-/// The bit that says whether the tenant's file has failed.
+/// The bit of the fault.
 const FAULT: u32 = 63;
 
 /// The door of a tenant.
@@ -16,15 +20,15 @@ pub struct Door {
 }
 
 impl Door {
-    /// The door's 64 bits.
+    /// Returns the door's 64 bits.
     pub fn pack(self) -> u64
         ensures { result ≡ packed_door self }
     {
         (u64::from(self.fault) << FAULT) + u64::from(self.used)
     }
 
-    /// The door that these bits are the pattern of, or `None` where they are no door's: a bit between
-    /// the fault and the slots in use isn't 0.
+    /// Returns the door with these bits. `None`: no door has them, because a bit between the fault and the
+    /// slots in use isn't 0.
     pub fn unpack(bits: u64) -> Option<Door>
         ensures is { result ≡ unpacked_door bits }
         ensures some { IfSome result (IsDoorOf bits) }

@@ -1,14 +1,18 @@
-//! The gate of a slot: who may use the slot, in 64 bits.
+//! The gate of a slot, in 64 bits: whether the slot is taken, and how many workers hold a pin of it.
+//!
+//! mw_actor and mw_look read gates, mw_pool says which moves a gate allows, and mw_table and mw_world_memory make the
+//! steps on its bits. Another pattern of bits needs a change in `specs/Patterns`, and in the crates that have a pin's
+//! bit as a number: mw_rule (`ways.rt`) and mw_table (`calls.rt`). No file has these bits.
 ghost use Rattle.std.specs.Prelude.{◌≡◌, ◌≢◌, ◌↔◌, IsTrue, IfSome, None};
 ghost use Rattle.mw_words.specs.declared.gates.Gate.{Gate as GateModel};
 ghost use Rattle.mw_words.specs.Patterns.{IsGateInRange, IsGateOf, packed_gate, unpacked_gate};
 
 use crate::limits::{MAX_PINS, WORN_NUMBER};
 
-/// The bit that says whether the gate is taken.
+/// The bit that tells whether the gate is taken.
 const TAKEN: u32 = 63;
 
-/// The bit at which the pins begin.
+/// The first bit of the pins.
 const PINS: u32 = 48;
 
 /// The gate of a slot. A gate that isn't taken has no pins.
@@ -16,21 +20,22 @@ const PINS: u32 = 48;
 pub struct Gate {
     /// Whether a worker has taken the slot for a change.
     pub taken: bool,
-    /// How many workers hold on to the slot, at most [`MAX_PINS`].
+    /// How many pins of the slot workers hold, at most [`MAX_PINS`].
     pub pins: u16,
-    /// The slot's sequence number, at most [`WORN_NUMBER`]. Each change that uses the slot has its own.
+    /// The slot's sequence number, at most [`WORN_NUMBER`]. Each change that uses the slot has a number of its
+    /// own.
     pub seq: u64,
 }
 
 impl Gate {
-    /// Whether each field is in its range, so that the gate has a bit pattern.
+    /// Tells whether each field is in its range, so that the gate has bits.
     pub fn is_in_range(self) -> bool
         ensures { IsTrue result ↔ IsGateInRange self }
     {
         self.pins <= MAX_PINS && self.seq <= WORN_NUMBER && (self.taken || self.pins == 0)
     }
 
-    /// The gate's 64 bits. Each field is in its range.
+    /// Returns the gate's 64 bits. Each field must be in its range.
     pub fn pack(self) -> u64
         requires { IsGateInRange self }
         ensures { result ≡ packed_gate self }
@@ -38,8 +43,7 @@ impl Gate {
         (u64::from(self.taken) << TAKEN) + (u64::from(self.pins) << PINS) + self.seq
     }
 
-    /// The gate that these bits are the pattern of, or `None` where they are no gate's: of a gate
-    /// that isn't taken and has pins.
+    /// Returns the gate with these bits. `None`: no gate has them, because the gate isn't taken and has pins.
     pub fn unpack(bits: u64) -> Option<Gate>
         ensures is { result ≡ unpacked_gate bits }
         ensures some { IfSome result (IsGateOf bits) }

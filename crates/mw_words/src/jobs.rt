@@ -1,4 +1,7 @@
-//! What a tenant may ask for.
+//! Jobs: what a tenant may ask for.
+//!
+//! Every layer uses [`Job`] and [`Entry`]. A new job needs a case wherever a job is matched: CONTRIBUTING lists the
+//! places under *A command*.
 ghost use Rattle.std.specs.Prelude.{◌≡◌};
 ghost use Rattle.std.specs.List.{list_all};
 ghost use Rattle.mw_words.specs.Change as spec;
@@ -6,31 +9,31 @@ ghost use Rattle.mw_words.specs.Change as spec;
 use crate::limits::{MAX_ENTRIES, MAX_VALUE};
 use arrayvec::ArrayVec;
 
-/// One word's part in a change: where it is, what it must hold, and what it is to hold then.
+/// One word's part in a change: the word's address, the value that it must have, and its new value.
 #[derive(Clone, Copy, Debug, Default, PartialEq, Eq)]
 pub struct Entry {
     /// The word's address.
     pub addr: u16,
-    /// The value that the word must hold, at most [`MAX_VALUE`].
+    /// The value that the word must have, at most [`MAX_VALUE`].
     pub expected: u64,
-    /// The value that it is to hold then, at most [`MAX_VALUE`].
+    /// The value that the change writes, at most [`MAX_VALUE`].
     pub new: u64,
 }
 
-/// The entries of one change, in rising order of address.
+/// The entries of one change, at rising addresses.
 pub type Entries = ArrayVec<Entry, MAX_ENTRIES>;
 
-/// What a tenant asks for: the value of the word at an address, or a change.
+/// What a tenant asks for: a read or a change.
 #[derive(Debug, PartialEq, Eq, Drop)]
 pub enum Job {
-    /// The value of one word.
+    /// The value of the word at this address.
     Get(u16),
-    /// Compare every entry's word with its expected value; if all are equal, write all new values.
+    /// Compares each entry's word with its expected value. If all are equal, writes all new values.
     Cas(Entries),
 }
 
 impl Job {
-    /// An equal job.
+    /// Returns an equal job.
     pub fn copy(&self) -> Job
         ensures { result ≡ self.now }
     {
@@ -40,7 +43,7 @@ impl Job {
         }
     }
 
-    /// Whether a tenant with so many words may ask for this: its addresses are below `words`, and a
+    /// Tells whether a tenant with so many words may ask for this: its addresses are below `words`, and a
     /// change is well formed.
     pub fn is_well_formed(&self, words: usize) -> bool
         ensures { result ≡ spec.is_well_formed words self.now }
@@ -52,7 +55,7 @@ impl Job {
     }
 }
 
-/// Entries equal to these. They take no memory.
+/// Returns equal entries. Takes no memory.
 pub fn copy_of(entries: &Entries) -> Entries
     ensures { result ≡ entries.now }
 {
@@ -63,8 +66,8 @@ pub fn copy_of(entries: &Entries) -> Entries
     copy
 }
 
-/// Whether these entries are a change of a tenant with so many words: at least one, at strictly
-/// rising addresses below `words`, with values of at most [`MAX_VALUE`].
+/// Tells whether these entries are a change of a tenant with so many words: 1 to [`MAX_ENTRIES`] of them, at
+/// strictly rising addresses below `words`, with values of at most [`MAX_VALUE`].
 pub fn is_change(entries: &Entries, words: usize) -> bool
     ensures { result ≡ spec.is_change words entries.now.items }
 {
@@ -83,7 +86,7 @@ fn is_in_range(entry: &Entry, words: usize) -> bool
     (entry.addr as usize) < words && entry.expected <= MAX_VALUE && entry.new <= MAX_VALUE
 }
 
-/// Whether each address is above the one before it.
+/// Tells whether each address is above the one before it.
 pub fn rises(entries: &[Entry]) -> bool
     ensures { result ≡ spec.rises entries.now }
 {

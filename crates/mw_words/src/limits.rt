@@ -1,10 +1,12 @@
 //! The limits of the server, each named once.
+//!
+//! CONTRIBUTING says under *A limit* what else must change with one, and which of them the format of a file fixes.
 
 /// The greatest value of a word, `2^48 - 1`.
 pub const MAX_VALUE: u64 = 281_474_976_710_655;
 
-/// The number at which a slot's sequence number or a worker's attempt number is worn out. Numbers
-/// in use are below it.
+/// The number at which a slot's sequence number or a worker's attempt number is worn, `2^48 - 1`. Numbers in
+/// use are below it.
 pub const WORN_NUMBER: u64 = 281_474_976_710_655;
 
 /// The most pins of a gate, `2^15 - 1`.
@@ -19,7 +21,7 @@ pub const MAX_WORDS: u16 = 4096;
 /// The most slots of the pool that all tenants share.
 pub const MAX_POOL: u16 = 256;
 
-/// The greatest quota: how many slots a tenant may use at a time.
+/// The greatest quota. A tenant's quota is how many slots it may use at a time.
 pub const MAX_QUOTA: u8 = 64;
 
 /// The most record places of a tenant's file.

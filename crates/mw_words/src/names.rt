@@ -1,4 +1,7 @@
 //! Tenants' names.
+//!
+//! Used by the readers of lines, of tenants files and of schedules. A change of [`is_name`] changes the protocol and
+//! the tenants file.
 ghost use Rattle.std.specs.Prelude.{◌≡◌};
 ghost use Rattle.std.specs.List.{list_all};
 ghost use Rattle.mw_words.specs.Name as spec;
@@ -9,7 +12,7 @@ use arrayvec::ArrayVec;
 /// A tenant's name: a letter `a` to `z`, and then up to 15 of `a` to `z`, `0` to `9` and `-`.
 pub type Name = ArrayVec<u8, MAX_NAME>;
 
-/// A name equal to this one. It takes no memory.
+/// Returns an equal name. Takes no memory.
 pub fn copy_of_name(name: &Name) -> Name
     ensures { result ≡ name.now }
 {
@@ -20,7 +23,7 @@ pub fn copy_of_name(name: &Name) -> Name
     copy
 }
 
-/// Whether these bytes are a tenant's name.
+/// Tells whether these bytes are a tenant's name.
 pub fn is_name(text: &[u8]) -> bool
     ensures { result ≡ spec.is_name text.now }
 {

@@ -1,6 +1,9 @@
-//! Which shared word is meant.
+//! The places of shared words.
+//!
+//! A machine names by it the shared word of its step, and mw_rule gives each place its index in the table
+//! (`index_of`). A new place needs its values in `specs/Places` of mw_look, and that index.
 
-/// A shared word: whose it is, and which of its words.
+/// The place of a shared word: its owner, and which of the owner's words it is.
 #[derive(Clone, Copy, Debug, PartialEq, Eq)]
 pub enum At {
     /// The door of a tenant.
@@ -34,7 +37,7 @@ pub enum At {
         /// The entry's index.
         entry: u8,
     },
-    /// The value that an entry of a slot's change is to write.
+    /// The value that an entry of a slot's change writes.
     New {
         /// The slot.
         slot: u8,

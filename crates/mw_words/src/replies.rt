@@ -1,20 +1,23 @@
 //! The replies to jobs.
+//!
+//! Every layer uses it. A new reply needs a case wherever a reply is matched: CONTRIBUTING lists the places under *A
+//! command*.
 
 /// The reply to a job.
 #[derive(Clone, Copy, Debug, PartialEq, Eq)]
 pub enum Reply {
     /// The value of the word that was asked for.
     Val(u64),
-    /// Every entry had its expected value, and every new value is there durably.
+    /// Each entry's word had its expected value. All new values are written, durably.
     Yes,
-    /// The word at this address held this value, which isn't the one expected. Nothing was written.
+    /// The word at this address had this value, which isn't the expected one. Nothing was written.
     No(u16, u64),
     /// All slots of the tenant's quota are in use. Nothing was written.
     Busy,
-    /// The tenant's file has failed, or didn't open. A change answered so is found after a later start
-    /// wholly or not at all.
+    /// The tenant's file has failed, or didn't open. If a change has this reply, a later start finds all of it
+    /// or nothing.
     Fault,
-    /// The numbers that keep changes apart are used up until the next start. A change answered so may
-    /// still be made, wholly or not at all.
+    /// The numbers that tell changes apart are used up until the next start. A change with this reply may still
+    /// be made: all of it or nothing.
     Worn,
 }

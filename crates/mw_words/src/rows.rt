@@ -1,17 +1,20 @@
-//! A worker's row: which entry of which change it is at, in 64 bits.
+//! A worker's row, in 64 bits: which entry of which change its attempt is for.
+//!
+//! mw_actor and mw_look load rows to see which change an attempt is for. Another pattern of bits needs a change in
+//! `specs/Patterns`. No file has these bits.
 ghost use Rattle.std.specs.Prelude.{◌≡◌, ◌≢◌, ◌↔◌, IsTrue, IfSome, None};
 ghost use Rattle.mw_words.specs.declared.rows.Row.{Row as RowModel};
 ghost use Rattle.mw_words.specs.Patterns.{IsRowInRange, IsRowOf, packed_row, unpacked_row};
 
 use crate::limits::{MAX_ENTRIES, WORN_NUMBER};
 
-/// The bit at which the slot begins.
+/// The first bit of the slot.
 const SLOT: u32 = 56;
 
-/// The bit at which the entry's index begins.
+/// The first bit of the entry's index.
 const ENTRY: u32 = 48;
 
-/// What a worker's present attempt is for: an entry of a slot's change.
+/// What a worker's latest attempt is for: an entry of a slot's change.
 #[derive(Clone, Copy, Debug, PartialEq, Eq)]
 pub struct Row {
     /// The slot.
@@ -23,14 +26,14 @@ pub struct Row {
 }
 
 impl Row {
-    /// Whether each field is in its range, so that the row has a bit pattern.
+    /// Tells whether each field is in its range, so that the row has bits.
     pub fn is_in_range(self) -> bool
         ensures { IsTrue result ↔ IsRowInRange self }
     {
         (self.entry as usize) < MAX_ENTRIES && self.seq <= WORN_NUMBER
     }
 
-    /// The row's 64 bits. Each field is in its range.
+    /// Returns the row's 64 bits. Each field must be in its range.
     pub fn pack(self) -> u64
         requires { IsRowInRange self }
         ensures { result ≡ packed_row self }
@@ -38,8 +41,8 @@ impl Row {
         (u64::from(self.slot) << SLOT) + (u64::from(self.entry) << ENTRY) + self.seq
     }
 
-    /// The row that these bits are the pattern of, or `None` where they are no row's: the entry's
-    /// index isn't below [`MAX_ENTRIES`].
+    /// Returns the row with these bits. `None`: no row has them, because the entry's index isn't below
+    /// [`MAX_ENTRIES`].
     pub fn unpack(bits: u64) -> Option<Row>
         ensures is { result ≡ unpacked_row bits }
         ensures some { IfSome result (IsRowOf bits) }

@@ -1,41 +1,44 @@
-//! The status of a slot: how far its change has come, in 64 bits.
+//! The status of a slot, in 64 bits: how far its change has come.
+//!
+//! Requests (mw_actor, mw_look) load and exchange statuses; mw_table and mw_core do so for a call on a file. Another
+//! pattern of bits needs a change in `specs/Patterns`; a new status needs a case wherever a status is matched, in the
+//! programs of mw_actor and mw_look and in the laws. No file has these bits.
 ghost use Rattle.std.specs.Prelude.{◌≡◌, ◌≢◌, ◌↔◌, IsTrue, IfSome, None};
 ghost use Rattle.mw_words.specs.declared.statuses.Status.{Status as StatusModel};
 ghost use Rattle.mw_words.specs.Patterns.{IsStatusInRange, IsStatusOf, packed_status, unpacked_status};
 
 use crate::limits::{MAX_ENTRIES, MAX_VALUE};
 
-/// The bit at which the state begins.
+/// The first bit of the state.
 const STATE: u32 = 60;
 
-/// The bit at which the entry's index begins. It and the value are 0 but where a word was found to
-/// differ.
+/// The first bit of the entry's index. The index and the value are 0 unless the state is No or DoneNo.
 const ENTRY: u32 = 48;
 
 /// How far the change of a slot has come.
 #[derive(Clone, Copy, Debug, PartialEq, Eq)]
 pub enum Status {
-    /// Its worker writes down what is to be changed. Nobody else works on it yet.
+    /// Its worker writes the change into the slot. Nobody else works on it yet.
     Draft,
-    /// It is to be decided, by any worker that serves its tenant.
+    /// It isn't decided yet. Any worker that serves its tenant may decide it.
     Open,
-    /// It is decided that the change is made, and its file is not yet known to hold it: the old values
-    /// are the words' values still.
+    /// It is decided that the change is made, but its file isn't known to hold it yet. Its words still have
+    /// their old values.
     YesDirty,
-    /// It is made, durably: a word that it holds has its new value from here on.
+    /// It is made, durably. From now on a word that it holds has its new value.
     Yes,
-    /// It is not made: an entry's word had another value than the one expected.
+    /// It is not made, because an entry's word had another value than the expected one.
     No {
         /// The entry's index, below [`MAX_ENTRIES`].
         entry: u8,
         /// The value that its word had, at most [`MAX_VALUE`].
         value: u64,
     },
-    /// It is made, and its file has the new values in their places. Words that still refer to it are
-    /// made plain, and then its slot is let go.
+    /// It is made and done: its file has the new values in their places. Words that still refer to it become
+    /// plain, and then its slot is freed.
     DoneYes,
-    /// It is not made, and its file has let its record go. Words that still refer to it get their old
-    /// values back, and then its slot is let go.
+    /// It is not made and done: its file has freed its record. Words that still refer to it get their old
+    /// values back, and then its slot is freed.
     DoneNo {
         /// The index of the entry whose word had another value, below [`MAX_ENTRIES`].
         entry: u8,
@@ -45,7 +48,7 @@ pub enum Status {
 }
 
 impl Status {
-    /// Whether each field is in its range, so that the status has a bit pattern.
+    /// Tells whether each field is in its range, so that the status has bits.
     pub fn is_in_range(self) -> bool
         ensures { IsTrue result ↔ IsStatusInRange self }
     {
@@ -57,7 +60,7 @@ impl Status {
         }
     }
 
-    /// The status's 64 bits. Each field is in its range.
+    /// Returns the status's 64 bits. Each field must be in its range.
     pub fn pack(self) -> u64
         requires { IsStatusInRange self }
         ensures { result ≡ packed_status self }
@@ -73,9 +76,8 @@ impl Status {
         }
     }
 
-    /// The status that these bits are the pattern of, or `None` where they are no status's: the state
-    /// is unknown, the entry's index isn't below [`MAX_ENTRIES`], or an index or a value stands with
-    /// a state that has none.
+    /// Returns the status with these bits. `None`: no status has them. The state is unknown, the entry's index
+    /// isn't below [`MAX_ENTRIES`], or there is an index or a value with a state that has none.
     pub fn unpack(bits: u64) -> Option<Status>
         ensures is { result ≡ unpacked_status bits }
         ensures some { IfSome result (IsStatusOf bits) }

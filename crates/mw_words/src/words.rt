@@ -1,17 +1,20 @@
-//! A tenant's words as the workers share them, each in 64 bits.
+//! A tenant's words as workers share them, each in 64 bits.
+//!
+//! Requests (mw_actor, mw_look) load and exchange these words, in the table of mw_table. Another pattern of bits
+//! needs a change in `specs/Patterns`. A file has values alone, and not these bits.
 ghost use Rattle.std.specs.Prelude.{◌≡◌, ◌≢◌, ◌↔◌, IsTrue, IfSome, None};
 ghost use Rattle.mw_words.specs.declared.words.Word.{Word as WordModel};
 ghost use Rattle.mw_words.specs.Patterns.{IsWordInRange, IsWordOf, packed_word, unpacked_word};
 
 use crate::limits::{MAX_POOL, MAX_VALUE, MAX_WORKERS, WORN_NUMBER};
 
-/// The bit at which the kind begins: 0 plain, 1 planted, 2 held, 3 dirty.
+/// The first bit of the kind: 0 plain, 1 planted, 2 held, 3 dirty.
 const KIND: u32 = 62;
 
-/// The bit at which the worker or the slot begins. A plain word has 0 there.
+/// The first bit of the worker or the slot. A plain word has 0 there.
 const OWNER: u32 = 48;
 
-/// A tenant's word: its value, or what stands in its place while a change is made.
+/// A tenant's word: its value, or a reference in its place while a change works on the word.
 #[derive(Clone, Copy, Debug, PartialEq, Eq)]
 pub enum Word {
     /// A value, at most [`MAX_VALUE`].
@@ -30,7 +33,7 @@ pub enum Word {
         /// The slot's sequence number, at most [`WORN_NUMBER`].
         seq: u64,
     },
-    /// The word has its new value, which a slot's change has put there and not yet let go.
+    /// The word has its new value from a slot's change, and still names the slot.
     Dirty {
         /// The slot.
         slot: u8,
@@ -40,7 +43,7 @@ pub enum Word {
 }
 
 impl Word {
-    /// Whether each field is in its range, so that the word has a bit pattern.
+    /// Tells whether each field is in its range, so that the word has bits.
     pub fn is_in_range(self) -> bool
         ensures { IsTrue result ↔ IsWordInRange self }
     {
@@ -52,7 +55,7 @@ impl Word {
         }
     }
 
-    /// The word's 64 bits. Each field is in its range.
+    /// Returns the word's 64 bits. Each field must be in its range.
     pub fn pack(self) -> u64
         requires { IsWordInRange self }
         ensures { result ≡ packed_word self }
@@ -67,8 +70,8 @@ impl Word {
         }
     }
 
-    /// The word that these bits are the pattern of, or `None` where they are no word's: the worker or
-    /// the slot isn't in range, or one stands in a plain word.
+    /// Returns the word with these bits. `None`: no word has them. The worker or the slot isn't in range, or a
+    /// plain word has one.
     pub fn unpack(bits: u64) -> Option<Word>
         ensures is { result ≡ unpacked_word bits }
         ensures some { IfSome result (IsWordOf bits) }

@@ -1,21 +1,22 @@
+//! Tests how pieces are cut into lines.
 use arrayvec::ArrayVec;
 use mw_frame::*;
 use mw_words::MAX_LINE;
 use std::alloc::{AllocError, Global};
 use std::test::Fail;
 
-/// The line of this text, which is no longer than a line may be.
+/// Makes the line of this text, which is no longer than a line may be.
 fn text(bytes: &[u8]) -> Option<Line> {
     Some(Line::Text(ArrayVec::try_from(bytes).ok()?))
 }
 
-/// Whether a feed that gets this piece has just these lines then.
+/// Tells whether a feed that gets this piece then has just these lines.
 fn gives(feed: &mut Feed, piece: &[u8], lines: &[&[u8]]) -> Result<bool, AllocError> {
     feed.feed(piece)?;
     Ok(has(feed, lines) && feed.next().is_none())
 }
 
-/// Whether the next lines of a feed are these.
+/// Tells whether the next lines of a feed are these.
 fn has(feed: &mut Feed, lines: &[&[u8]]) -> bool {
     for line in lines {
         if feed.next() != text(line) {
@@ -53,7 +54,7 @@ fn the_longest_line(rt: HostRuntime) -> Result<(), Fail> {
     Ok(())
 }
 
-/// A feed with a whole line, and more bytes behind it than a line may have.
+/// Makes a feed with a whole line, and more bytes after it than a line may have.
 fn overlong(alloc: Global) -> Result<Feed, AllocError> {
     let mut feed = Feed::new(alloc)?;
     feed.feed(b"QUIT\n")?;

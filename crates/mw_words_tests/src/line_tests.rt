@@ -1,8 +1,9 @@
+//! Tests how lines are read, and how replies are written.
 use mw_line::*;
 use mw_words::{Entries, Entry, Job, MAX_LINE, Name, Reply};
 use std::process::Abort;
 
-/// A change of words that hold 0, with these addresses and new values.
+/// Makes a change of words that have the value 0, with these addresses and new values.
 fn change(parts: &[(u16, u64)]) -> Option<Request> {
     let mut entries = Entries::new();
     for (addr, new) in parts {
@@ -24,7 +25,7 @@ fn get(addr: u16) -> Option<Request> {
     Some(Request::Job(Job::Get(addr)))
 }
 
-/// Whether a line is read, as this request.
+/// Tells whether a line is read as this request.
 fn is_read(line: &[u8], request: Option<Request>) -> bool {
     request.is_some() && read_line(line).ok() == request
 }

@@ -1,27 +1,28 @@
+//! Tests the bits of the shared words, kind by kind.
 use mw_words::*;
 use std::process::Abort;
 
-/// Whether a word is in range, and has these bits both ways.
+/// Tells whether a word is in range, and has these bits both ways.
 fn is_word(word: Word, bits: u64) -> bool {
     word.is_in_range() && word.pack() == bits && Word::unpack(bits) == Some(word)
 }
 
-/// Whether a gate is in range, and has these bits both ways.
+/// Tells whether a gate is in range, and has these bits both ways.
 fn is_gate(gate: Gate, bits: u64) -> bool {
     gate.is_in_range() && gate.pack() == bits && Gate::unpack(bits) == Some(gate)
 }
 
-/// Whether a door has these bits both ways.
+/// Tells whether a door has these bits both ways.
 fn is_door(door: Door, bits: u64) -> bool {
     door.pack() == bits && Door::unpack(bits) == Some(door)
 }
 
-/// Whether a status is in range, and has these bits both ways.
+/// Tells whether a status is in range, and has these bits both ways.
 fn is_status(status: Status, bits: u64) -> bool {
     status.is_in_range() && status.pack() == bits && Status::unpack(bits) == Some(status)
 }
 
-/// Whether a row is in range, and has these bits both ways.
+/// Tells whether a row is in range, and has these bits both ways.
 fn is_row(row: Row, bits: u64) -> bool {
     row.is_in_range() && row.pack() == bits && Row::unpack(bits) == Some(row)
 }
@@ -153,7 +154,7 @@ fn rows(rt: HostRuntime) {
     assert!(rt; !beyond.is_in_range());
 }
 
-/// Whether some word has one of these bits.
+/// Tells whether some word has one of these bits.
 fn some_word(all: &[u64]) -> bool {
     for bits in all {
         if Word::unpack(*bits).is_some() {
@@ -163,7 +164,7 @@ fn some_word(all: &[u64]) -> bool {
     false
 }
 
-/// Whether some door has one of these bits.
+/// Tells whether some door has one of these bits.
 fn some_door(all: &[u64]) -> bool {
     for bits in all {
         if Door::unpack(*bits).is_some() {
@@ -173,7 +174,7 @@ fn some_door(all: &[u64]) -> bool {
     false
 }
 
-/// Whether some status has one of these bits.
+/// Tells whether some status has one of these bits.
 fn some_status(all: &[u64]) -> bool {
     for bits in all {
         if Status::unpack(*bits).is_some() {
@@ -183,7 +184,7 @@ fn some_status(all: &[u64]) -> bool {
     false
 }
 
-/// Whether some row has one of these bits.
+/// Tells whether some row has one of these bits.
 fn some_row(all: &[u64]) -> bool {
     for bits in all {
         if Row::unpack(*bits).is_some() {

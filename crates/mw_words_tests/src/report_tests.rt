@@ -1,10 +1,11 @@
+//! Tests the text of reports.
 ghost use Rattle.std.specs.Prelude.{◌≤◌};
 ghost use Rattle.mw_report.specs.Table.{IsWithinLimits};
 
 use mw_report::*;
 use mw_words::{MAX_PLACES, MAX_QUOTA, MAX_WORDS, Name};
 
-/// A tenant with no slot in use.
+/// Makes the figures of a tenant with no slot in use.
 fn tenant(name: &[u8], words: u16, quota: u8, places: u8) -> TenantFigures
     requires words { words ≤ MAX_WORDS }
     requires quota { quota ≤ MAX_QUOTA }

@@ -1,3 +1,4 @@
+//! Tests which changes are well formed, and which texts are names.
 use mw_words::*;
 
 fn entry(addr: u16, new: u64) -> Entry {
@@ -8,7 +9,8 @@ fn entry(addr: u16, new: u64) -> Entry {
     }
 }
 
-/// Whether these entries are a change of four words, or none, as is wanted; and a copy of them is the same.
+/// Tells whether these entries are a change of four words, or none, as is wanted, and a copy of them is the
+/// same.
 fn is_so(entries: &[Entry], wanted: bool) -> bool {
     let Ok(entries) = Entries::try_from(entries) else {
         return false;
@@ -17,7 +19,7 @@ fn is_so(entries: &[Entry], wanted: bool) -> bool {
     is_so && Job::Cas(entries).copy().is_well_formed(4) == wanted
 }
 
-/// Whether a name with these bytes has the same copy.
+/// Tells whether a name with these bytes has the same copy.
 fn is_copied(bytes: &[u8]) -> bool {
     match Name::try_from(bytes) {
         Ok(name) => copy_of_name(&name) == name,

@@ -1,3 +1,3 @@
-pub mod Asked
+pub mod ListenerCalls
 pub mod Sessions
 pub mod Pauses

@@ -1,4 +1,6 @@
 -- How long to wait before a listener is asked again.
+-- Used by: the contracts of patience.rt. The first and the longest wait are constants of patience.rt. A change here changes when
+-- Patient asks again.
 use Rattle.std.specs.Prelude.{◌≡◌, ◌*◌, ℕ, min, Bool, true, false, if◌then◌else◌}
 use Rattle.std.specs.declared.result.Result.{Result}
 use Rattle.std.specs.declared.result.Result.TheVariants.{Ok, Err}
@@ -14,13 +16,13 @@ is_of_client Interrupted = true
 is_of_client ConnectionAborted = true
 is_of_client _ = false
 
--- each wait is twice as long as the one before, and none is longer than the longest
+-- the next wait is twice as long, and no longer than the longest
 abbrev pub longer : ℕ → ℕ
 longer pause = min (2 * pause) LONGEST_PAUSE
 
--- A listener was asked, with this wait due and it having been told or not that there is no room. With a connection the
--- waits begin anew and nothing was told; a fault about one client changes nothing; and where there is no room the next
--- wait is a longer one, and it was told.
+-- The next wait, and whether the watch was told, after an answer of the listener. After a connection the waits begin
+-- anew and nothing is told. A fault about one client changes nothing. If there is no room, the next wait is longer, and
+-- the watch is told.
 abbrev pub GoesOn : {C : Type 0} → Result C Error → ℕ → Bool → ℕ → Bool → Type 0
 GoesOn (Ok connection) pause told new_pause new_told = (new_pause ≡ FIRST_PAUSE) × (new_told ≡ false)
 GoesOn (Err fault) pause told new_pause new_told =

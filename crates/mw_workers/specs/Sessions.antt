@@ -1,12 +1,13 @@
--- What a worker's service went through.
+-- Which connections a worker's service served, and in what order.
+-- Used by the contracts of worker.rt (`serve_each`) and desk.rt (its intake). A change here changes what a worker promises.
 use Rattle.std.specs.Prelude.{ℕ, List, Option}
 use Rattle.mw_session.specs.declared.session.Ended.{Ended}
 use Rattle.mw_session.specs.Talk.{Call}
-use Rattle.mw_session.specs.Whole.{Holds}
-use Rattle.mw_session.specs.Through.{GoesThrough}
+use Rattle.mw_session.specs.WholeSessions.{Holds}
+use Rattle.mw_session.specs.Transitions.{GoesThrough}
 
--- Between two states of a service a connection was served by one session, however that ended, and then closed. What a
--- connection has left and was sent, and what the service says of its answers, each says by itself.
+-- Between two states of a service, one session served the connection, however it ended. `left` and `sent` say what the
+-- connection has left and was sent, and `answers` what the service says of its answers.
 abbrev pub IsServed : {C S : Type 0} → (C → Option (List ℕ)) → (C → Option (List ℕ)) → (S → S → List Call → Type 0) → S → C → S → Type 0
 IsServed {C = C} left sent answers old connection new =
     (ended : Ended) × (closed : C) × Holds (left connection) (left closed) (sent connection) (sent closed) (answers old new) ended

@@ -1,14 +1,16 @@
-//! What the acceptor does.
-ghost use Rattle.mw_workers.specs.Asked.{ArePut, EndsPut, IsPut};
+//! The acceptor: it takes connections and puts them where they wait for a worker.
+//!
+//! `server.rt` calls [`accept_all`] and `desk.rt` [`accept_one`]. Both are promised by `specs/ListenerCalls`.
+ghost use Rattle.mw_workers.specs.ListenerCalls.{ArePut, EndsPut, IsPut};
 
 use crate::peer::{Intake, Listener};
 use std::sync::Wait;
 use std::thread;
 
-/// Takes connections to where they wait for a worker.
+/// Takes connections from the listener, and puts each where it waits for a worker.
 ///
-/// With a number of connections, it asks the listener for just so many, each that fails counted too.
-/// Without a number it doesn't return. Nobody may come, so this may wait for ever.
+/// With a number of connections it asks the listener exactly so many times; failed calls count too. Without
+/// a number it doesn't return. Nobody may come, so this may wait for ever.
 pub fn accept_all<L: Listener, W: Intake<L::Connection>, R: Wait>(
     rt: &R,
     listener: &mut L,
@@ -49,7 +51,7 @@ fn accept_for_ever<L: Listener, W: Intake<L::Connection>, R: Wait>(
     unreachable!()
 }
 
-/// Asks the listener once, and puts the connection where it waits for a worker.
+/// Asks the listener once, and puts the connection, if it gives one, where it waits for a worker.
 pub(crate) fn accept_one<L: Listener, W: Intake<L::Connection>, R: Wait>(
     rt: &R,
     listener: &mut L,
@@ -59,7 +61,7 @@ pub(crate) fn accept_one<L: Listener, W: Intake<L::Connection>, R: Wait>(
 {
     match listener.accept() {
         Ok(connection) => waiting.put(rt, connection),
-        // Where the system has no room for a connection, a worker may be about to make some.
+        // If the system has no room for a connection, a worker may soon make some.
         Err(_) => thread::yield_now(),
     }
 }

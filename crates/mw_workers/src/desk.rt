@@ -1,13 +1,16 @@
-//! A listener with a worker of its own, beside those that many workers share.
+//! A listener with a worker of its own, beside the listener that the other workers share.
+//!
+//! mw_programs calls [`serve_beside`] (`clients.rt`) if the server has a second address, with a worker kept for it.
+//! `serve_desk`, `accept_while` and `Clerk` are known only here.
 ghost use Rattle.std.specs.Prelude.{ℕ, ◌<◌, vec_len};
-ghost use Rattle.mw_session.specs.Serving.{AreAnswered};
-ghost use Rattle.mw_workers.specs.Asked.{ArePut, EndsSo};
+ghost use Rattle.mw_session.specs.ServiceCalls.{AreAnswered};
+ghost use Rattle.mw_workers.specs.ListenerCalls.{ArePut, EndsSo};
 ghost use Rattle.mw_workers.specs.Sessions.{IsServed};
 
 use crate::acceptor::accept_one;
 use crate::patience::{Patient, RoomWatch};
 use crate::peer::{Connection, Intake, Listener};
-use crate::serving::{ServeEnd, serve_all};
+use crate::server::{ServeEnd, serve_all};
 use crate::sockets::Closer;
 use mw_session::Service;
 use std::alloc::Global;
@@ -17,20 +20,20 @@ use std::thread::Threads;
 use std::time::Clock;
 use std::{io, thread};
 
-/// A listener with a worker of its own: its clients don't wait for the other workers.
+/// A listener with a worker of its own. Its clients don't wait for the other workers.
 #[derive(Drop)]
 pub struct Desk<'a, L, S, W> {
-    /// Where its clients come from.
+    /// The listener, which gives this desk's clients.
     pub listener: L,
-    /// What its worker asks.
+    /// The service of its worker.
     pub service: S,
     /// Ends the listener's wait for a client.
     pub closer: Closer,
-    /// Hears where the system has no room for its clients.
+    /// Is told when the system has no room for its clients.
     pub watch: &'a W,
 }
 
-/// Passes on what it hears as long as a desk is open, since a closed one has no room for anybody.
+/// Passes on what it is told as long as the desk is open. A closed desk has no room for anybody.
 #[derive(Drop)]
 struct WhileOpen<'a, W> {
     open: &'a AtomicBool,
@@ -45,9 +48,9 @@ impl<W: RoomWatch> RoomWatch for WhileOpen<'_, W> {
     }
 }
 
-/// Serves clients as [`serve_all`] does, and beside it those of the desk, one at a time. Where the system
-/// has no room for one of these, it waits as [`Patient`] does. The desk is closed once serving has
-/// ended, and a client that is served there then is served to the end of its session.
+/// Serves clients as [`serve_all`] does, and also those of the desk, one at a time. If the system has no
+/// room for a client of the desk, the desk waits as [`Patient`] does. When serving has ended the desk is
+/// closed; a client that it serves then is served to the end of its session.
 ///
 /// A client may hold its worker for ever, so this may wait for ever.
 pub fn serve_beside<
@@ -100,7 +103,7 @@ pub fn serve_beside<
     )
 }
 
-/// Serves clients one after the other, as long as this is open.
+/// Serves the desk's clients one after the other, as long as `open` is set.
 fn serve_desk<L: Listener + Drop, S: Service + Drop, R: Wait>(
     rt: &R,
     listener: L,
@@ -111,8 +114,8 @@ fn serve_desk<L: Listener + Drop, S: Service + Drop, R: Wait>(
     accept_while(rt, &mut listener, &mut clerk, open);
 }
 
-/// Takes connections to where they are served, as long as this is open. It asks the listener once more at
-/// most after it was closed.
+/// Takes connections and puts each where it is served, as long as `open` is set. After `open` is cleared it
+/// asks the listener once more at most.
 fn accept_while<L: Listener, W: Intake<L::Connection>, R: Wait>(
     rt: &R,
     listener: &mut L,

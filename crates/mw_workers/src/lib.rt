@@ -1,40 +1,42 @@
-//! Many clients at once: an acceptor, a queue of connections, and the workers that serve them.
+//! Serves many clients at once, by an acceptor, a queue of connections, and workers.
 //!
-//! [`serve_all`] takes connections from a [`Listener`] and puts each into a queue of [`QUEUE`]. Each
-//! worker has a service of its own, takes one connection at a time out of the queue, and serves it by
-//! one session, [`mw_session::Session::run`], until that ends. So a client who is slow, or says
-//! nothing, or doesn't read its answers holds its own worker and nobody else, as long as another
-//! worker is free. However a session ends, its connection is closed then, and the worker takes the
-//! next.
+//! [`serve_all`] takes connections from a [`Listener`] and puts each into a queue of [`QUEUE`]. Each worker
+//! has a service of its own. It takes one connection at a time out of the queue, and serves it by one
+//! session, [`mw_session::Session::run`], until that ends. A client that is slow, says nothing, or doesn't
+//! read its answers holds only its own worker; others are served as long as another worker is free. However
+//! a session ends, its connection is then closed, and the worker takes the next.
 //!
-//! With a limit of silence ([`listen_at`]) a session by a socket ends too where its client sends no byte, or
-//! takes none of a reply, for so long; so it holds its worker no longer.
+//! With a limit of silence ([`listen_at`]), a session by a socket also ends if its client sends no byte, or
+//! takes none of a reply, for so long. Then its worker is free.
 //!
-//! A TCP connection is closed so that the client can read all that it was told: what it sends behind
-//! the end of its session is read and dropped until it closes its side, within narrow limits of time
-//! and size, for which the worker is held.
+//! A connection is closed so that the client can read all that it was told. After the session's end, the
+//! worker reads and drops what the client sends until the client closes its side, within narrow limits of
+//! time and size.
 //!
-//! [`accept_all`] is what the acceptor does, and [`serve_each`] what each worker does. Of both it is
-//! proved that they pass over no connection and change no order. The queue between them is
-//! [`crossbeam_channel`]'s: that a connection comes out of it once is tested.
+//! [`accept_all`] is what the acceptor does, and [`serve_each`] what each worker does. It is proved that
+//! both leave out no connection and keep the order. The queue between them is [`crossbeam_channel`]'s; it
+//! is tested that a connection comes out of it once.
 //!
-//! [`serve_beside`] serves those of another listener too, by a worker of their own, whom no other client
-//! holds.
+//! [`serve_beside`] also serves the clients of another listener, by a worker of their own, which no other
+//! client holds.
 //!
-//! [`Patient`] is a listener over another one, which waits where the system has no room for a
-//! connection, longer each time, and says so once.
+//! [`Patient`] is a listener over another one. When the system has no room for a connection, it waits,
+//! longer each time, and says so once.
 //!
-//! Each reply is sent at once: a TCP connection is told not to hold back what is written to it. Where
-//! the system refuses that, the client is served all the same.
+//! Each reply is sent at once: a TCP connection is set not to hold back what is written to it. If the
+//! system refuses that, the client is served all the same.
+//!
+//! mw_programs listens and serves by it. Its proofs are about which connection is put where; of threads and sockets
+//! they say nothing.
 #![tactic(auto)]
 
 mod acceptor;
 mod desk;
-mod door;
+mod listening_socket;
 mod local;
 mod patience;
 mod peer;
-mod serving;
+mod server;
 mod sockets;
 mod worker;
 
@@ -42,6 +44,6 @@ pub use acceptor::accept_all;
 pub use desk::{Desk, serve_beside};
 pub use patience::{FIRST_PAUSE, LONGEST_PAUSE, Patient, RoomWatch};
 pub use peer::{Connection, Intake, Listener};
-pub use serving::{QUEUE, ServeEnd, serve_all};
-pub use sockets::{Client, Clients, Closer, listen_at, port_of};
+pub use server::{QUEUE, ServeEnd, serve_all};
+pub use sockets::{Client, ClientListener, Closer, listen_at, port_of};
 pub use worker::serve_each;

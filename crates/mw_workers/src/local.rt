@@ -1,4 +1,7 @@
-//! Local sockets: clients on the same machine, who come by a path of the file system.
+//! Listens at local sockets, for clients on the same machine, who come by a path of the file system.
+//!
+//! Called by `listen_at` in `sockets.rt`. docs/OPERATING tells users what it does to a socket file: change both
+//! together.
 use std::fs::{self, File, Permissions};
 use std::io::{self, ErrorKind};
 use std::net::Net;
@@ -8,19 +11,19 @@ use std::os::unix::net::{SocketAddr, UnixListener, UnixStream};
 use std::path::Path;
 use std::rt::Files;
 
-/// How many clients may wait in the system, of whom the listener was not told yet.
+/// How many clients may wait in the system before the listener takes them.
 const BACKLOG: i32 = 128;
 
-/// Listens at this path, by a new socket file of this mode: who may write to the file may connect.
+/// Listens at this path, by a new socket file of this mode. Who may write to the file may connect.
 ///
-/// A socket file that is there already is removed where nobody listens at it, as at one that a killed
-/// server has left. So that of two servers who begin at a time one alone does so, the folder is locked
-/// meanwhile, and this waits for whoever else has locked it.
+/// If a socket file exists and nobody listens at it, as after a killed server, it is removed. The folder is
+/// locked meanwhile, so that of two servers that start at a time only one does this. The call waits for
+/// whoever else has locked the folder.
 ///
 /// # Errors
 ///
-/// The path is empty or too long for a socket, somebody listens there, another file is there, which
-/// stays as it is, or the system refuses. A socket file that was made stays, and nobody listens at it.
+/// The path is empty or too long for a socket, somebody listens there, another file is there, which stays
+/// as it is, or the system refuses. A socket file that was made stays, and nobody listens at it.
 pub(crate) fn listen_local<R: Files<File = File> + Net>(
     rt: &R,
     path: &str,
@@ -35,7 +38,7 @@ pub(crate) fn listen_local<R: Files<File = File> + Net>(
     make_way(rt, path)?;
     let socket = rt.unix_socket()?;
     rt.bind_unix(socket.as_fd(), &address)?;
-    // Before it listens nobody can connect, so nobody comes whom the mode keeps out.
+    // Nobody can connect before it listens, so nobody comes whom the mode keeps out.
     fs::set_permissions(rt, path, Permissions::from_mode(mode))?;
     if libc::net::listen(socket.as_raw_fd(), BACKLOG) != 0 {
         return Err(io::Error::from(ErrorKind::Other));
@@ -43,7 +46,7 @@ pub(crate) fn listen_local<R: Files<File = File> + Net>(
     Ok(UnixListener::from(socket))
 }
 
-/// The folder in which a path ends.
+/// Gives the folder of a path.
 fn folder_of(path: &str) -> &str {
     match Path::new(path).parent() {
         Some(folder) if !folder.as_str().is_empty() => folder.as_str(),
@@ -51,7 +54,7 @@ fn folder_of(path: &str) -> &str {
     }
 }
 
-/// Removes the socket file at a path, if there is one, and nobody listens at it.
+/// Removes the socket file at a path, if there is one and nobody listens at it.
 ///
 /// # Errors
 ///

@@ -1,4 +1,7 @@
-//! What is done where the system gives no connection.
+//! Waits when the system gives no connection.
+//!
+//! mw_programs puts a [`Patient`] over its listener, and `desk.rt` over the desk's. The two waits may have other
+//! numbers: no proof names these, but docs/OPERATING tells them.
 ghost use Rattle.std.specs.Prelude.{◌≡◌, false};
 ghost use Rattle.mw_workers.specs.Pauses.{GoesOn, is_of_client, longer};
 
@@ -7,25 +10,24 @@ use std::io::ErrorKind;
 use std::time::{Clock, Duration};
 use std::{io, thread};
 
-/// How long the first wait is, in milliseconds.
+/// The length of the first wait, in milliseconds.
 pub const FIRST_PAUSE: u64 = 1;
 
-/// How long a wait is at most, in milliseconds.
+/// The most that a wait lasts, in milliseconds.
 pub const LONGEST_PAUSE: u64 = 1000;
 
-/// Who hears that connections aren't taken.
+/// Is told when the system has no room for connections.
 pub trait RoomWatch {
-    /// The system had no room for a connection, as this fault tells. It had none before either, or the
-    /// call before gave a connection.
+    /// The system had no room for a connection; this is the fault. It is called for the first such fault,
+    /// and for the first one after each connection.
     fn no_room(&self, fault: &io::Error);
 }
 
-/// A listener over another one, which waits where the system has no room for a connection: at first for
-/// [`FIRST_PAUSE`], then twice as long each time, up to [`LONGEST_PAUSE`]. Once a connection has come
-/// it begins anew. The watch is told of the first such call, and then of the first one behind a
-/// connection.
+/// A listener over another one, which waits when the system has no room for a connection. The first wait is
+/// [`FIRST_PAUSE`]; each further one is twice as long, up to [`LONGEST_PAUSE`]. After a connection it
+/// begins anew. It tells the watch of the first such call, and of the first one after each connection.
 ///
-/// A call that was interrupted, or whose client went away, is given back at once.
+/// It gives back at once a call that was interrupted, or whose client went away.
 #[derive(Drop)]
 pub struct Patient<'a, L, K, W> {
     listener: L,
@@ -36,7 +38,7 @@ pub struct Patient<'a, L, K, W> {
 }
 
 impl<'a, L, K, W> Patient<'a, L, K, W> {
-    /// A listener over this one, which waits by the clock and tells the watch.
+    /// Makes a listener over this one. It waits by the clock, and tells the watch.
     pub fn new(listener: L, clock: &'a K, watch: &'a W) -> Self
         ensures listener { result.listener ≡ listener }
         ensures pause { result.pause ≡ FIRST_PAUSE }
@@ -79,14 +81,14 @@ impl<'a, L: Listener, K: Clock, W: RoomWatch> Listener for Patient<'a, L, K, W> 
     }
 }
 
-/// The wait behind a wait of so many milliseconds.
+/// Gives the wait that follows a wait of so many milliseconds.
 fn longer(pause: u64) -> u64
     ensures { result ≡ longer pause }
 {
     pause.saturating_mul(2).min(LONGEST_PAUSE)
 }
 
-/// Whether a fault of an accept is about the one client alone, and not about the room for connections.
+/// Tells whether a fault of an accept is about one client alone, and not about the room for connections.
 fn is_of_client(kind: ErrorKind) -> bool
     ensures { result ≡ is_of_client kind }
 {

@@ -1,7 +1,10 @@
-//! Clients over TCP, and by local sockets.
+//! Listeners and connections of TCP and of local sockets.
+//!
+//! mw_programs calls [`listen_at`]. No contract says what a socket carries. The limits at the top may have other
+//! numbers; docs/OPERATING and docs/PROTOCOL tell what follows from them.
 ghost use Rattle.std.specs.Prelude.{None};
 
-use crate::door::Door;
+use crate::listening_socket::ListeningSocket;
 use crate::local::listen_local;
 use crate::peer::{Connection, Listener};
 use mw_session::{Ended, Service, Session};
@@ -16,75 +19,75 @@ use std::time::{Clock, Duration, Instant};
 /// How long a client whose session has ended may be silent before its connection is closed, in seconds.
 const LINGER_SILENCE: u64 = 1;
 
-/// How long after the end of its session such a client is read at most, in seconds. What is read last may
-/// come a silence later.
+/// For how long after its session such a client is read, in seconds. The last read may end one silence
+/// later.
 const LINGER_TIME: u64 = 3;
 
-/// How many times at most such a client is read.
+/// How many times such a client is read at most.
 const LINGER_READS: u32 = 1024;
 
-/// How many bytes are read of it at a time, so that at most 1 MiB of it is read.
+/// How many bytes one read of such a client takes at most. So at most 1 MiB is read.
 const LINGER_PIECE: usize = 1024;
 
-/// What an address of a local socket begins with. The path of the socket follows.
+/// The first characters of the address of a local socket. Its path follows.
 const LOCAL: &str = "unix:";
 
-/// Clients over TCP, or by a local socket.
+/// A listener for clients over TCP, or by a local socket.
 #[derive(Drop)]
-pub struct Clients<'a, K> {
-    door: Door,
+pub struct ClientListener<'a, K> {
+    door: ListeningSocket,
     clock: &'a K,
-    /// How long a session waits for a byte, or for its client to take one.
+    /// How long a session waits for a byte, or for its client to take one. None: for ever.
     idle: Option<Duration>,
 }
 
-/// A client's connection over TCP, or by a local socket.
+/// A client's connection, over TCP or by a local socket.
 #[derive(Drop)]
 pub struct Client<'a, K> {
     stream: TcpStream,
     clock: &'a K,
 }
 
-/// Listens at an address, such as `127.0.0.1:7000`, where at port 0 the system picks a free port, or
-/// `unix:/run/mondlexi/socket`, where a local socket is made of this file mode: who may write to that
-/// file may connect. A socket file at which nobody listens is taken over, and no other file is.
+/// Listens at an address. At `127.0.0.1:7000` it listens over TCP; at port 0 the system picks a free port.
+/// At `unix:/run/mondlexi/socket` it makes a local socket of this file mode: who may write to that file may
+/// connect. It takes over a socket file at which nobody listens, and no other file.
 ///
-/// With a number of seconds, which isn't 0, a session is ended without a reply where its client sends
-/// no byte, or takes none of a reply, for so long.
+/// With a number of seconds, which isn't 0, a session ends without a reply if its client sends no byte, or
+/// takes none of a reply, for so long.
 ///
 /// # Errors
 ///
-/// The text is no address, or nobody can listen there: somebody else does, or the system refuses.
+/// The text is no address, or nobody can listen there, because somebody else does or the system refuses.
 pub fn listen_at<'a, R>(
     rt: &'a R,
     address: &str,
     mode: u32,
     idle: Option<u32>,
-) -> io::Result<Clients<'a, R>>
+) -> io::Result<ClientListener<'a, R>>
 where
     R: Files<File = File> + Net<Listener = TcpListener, Stream = TcpStream>,
 {
     let door = match address.strip_prefix(LOCAL) {
-        Some(path) => Door::Local(listen_local(rt, path, mode)?),
-        None => Door::Tcp(TcpListener::bind(rt, address)?),
+        Some(path) => ListeningSocket::Local(listen_local(rt, path, mode)?),
+        None => ListeningSocket::Tcp(TcpListener::bind(rt, address)?),
     };
     let idle = match idle {
         Some(seconds) => Some(Duration::from_secs(u64::from(seconds))),
         None => None,
     };
-    Ok(Clients {
+    Ok(ClientListener {
         door,
         clock: rt,
         idle,
     })
 }
 
-/// The port at which clients over TCP find the listener. None where they come by a local socket.
+/// Gives the port at which clients over TCP find the listener, and None for a local socket.
 ///
 /// # Errors
 ///
 /// The system doesn't tell.
-pub fn port_of<K>(clients: &Clients<'_, K>) -> io::Result<Option<u16>> {
+pub fn port_of<K>(clients: &ClientListener<'_, K>) -> io::Result<Option<u16>> {
     clients.door.port()
 }
 
@@ -92,8 +95,8 @@ pub fn port_of<K>(clients: &Clients<'_, K>) -> io::Result<Option<u16>> {
 #[derive(Drop)]
 pub struct Closer(TcpStream);
 
-impl<'a, K> Clients<'a, K> {
-    /// What ends the wait for these clients.
+impl<'a, K> ClientListener<'a, K> {
+    /// Gives what ends the wait for these clients.
     ///
     /// # Errors
     ///
@@ -104,20 +107,20 @@ impl<'a, K> Clients<'a, K> {
 }
 
 impl Closer {
-    /// From now on the system gives no client: an accept that waits, and each later one, fails at once.
+    /// Makes the system give no more clients: an accept that waits, and each later one, fails at once.
     pub fn close(&self) {
         let _ = self.0.shutdown(Shutdown::Both);
     }
 }
 
-impl<'a, K: Clock + Sync> Listener for Clients<'a, K> {
+impl<'a, K: Clock + Sync> Listener for ClientListener<'a, K> {
     type Connection = Client<'a, K>;
 
     ghost accepts = { λ _ _ _. Unit {0} };
 
     fn accept(&mut self) -> io::Result<Client<'a, K>> {
         let stream = self.door.next()?;
-        // One that could hold its worker for ever is not served, but closed.
+        // A connection without its limit could hold its worker for ever, so it is closed and not served.
         if limit_silence(&stream, self.idle).is_err() {
             return Err(io::Error::from(ErrorKind::ConnectionAborted));
         }
@@ -128,7 +131,7 @@ impl<'a, K: Clock + Sync> Listener for Clients<'a, K> {
     }
 }
 
-/// Limits how long a read or a write waits for the client, where there is a limit.
+/// Limits how long a read or a write waits for the client, if there is a limit.
 ///
 /// # Errors
 ///
@@ -150,19 +153,19 @@ impl<'a, K: Clock> Connection for Client<'a, K> {
         let mut reader = &self.stream;
         let mut writer = &self.stream;
         let ended = Session::run(alloc, rt, &mut reader, &mut writer, service);
-        // Where the system refuses it, the connection is closed all the same.
+        // If the system refuses this, the connection is closed all the same.
         let _ = say_goodbye(self.clock, &self.stream);
         ended
     }
 }
 
-/// Lets a client whose session has ended read all that it was told, before its connection is closed:
-/// the system resets one that is closed with bytes unread, and then the client loses what it hasn't
-/// read yet.
+/// Lets a client whose session has ended read all that it was told, before its connection is closed. The
+/// system resets a connection that is closed with unread bytes, and then the client loses what it hasn't
+/// read.
 ///
-/// Nothing more is written, and what the client still sends is read and dropped until it closes its
-/// side, is silent for [`LINGER_SILENCE`] seconds, was read [`LINGER_READS`] times, or
-/// [`LINGER_TIME`] seconds have gone by.
+/// Nothing more is written. What the client still sends is read and dropped, until the client closes its
+/// side, is silent for [`LINGER_SILENCE`] seconds, was read [`LINGER_READS`] times, or [`LINGER_TIME`]
+/// seconds have passed.
 ///
 /// # Errors
 ///

@@ -1,7 +1,9 @@
-//! What one worker does.
+//! A worker: it serves one connection after the other.
+//!
+//! `server.rt` calls [`serve_each`] on a thread for each service. It is promised by `specs/Sessions`.
 ghost use Rattle.std.specs.Prelude.{List};
 ghost use Rattle.std.specs.Iterator.{Drains, IsFinite};
-ghost use Rattle.mw_session.specs.Serving.{AreAnswered};
+ghost use Rattle.mw_session.specs.ServiceCalls.{AreAnswered};
 ghost use Rattle.mw_workers.specs.Sessions.{AreServed};
 
 use crate::peer::Connection;
@@ -9,8 +11,8 @@ use mw_session::Service;
 use std::alloc::Global;
 use std::sync::Wait;
 
-/// Serves each connection by one session, one after the other in the order in which they come, until
-/// no more come. However a session ends, the next connection is served.
+/// Serves each connection by one session, in the order in which they come, until no more come. However a
+/// session ends, it serves the next connection.
 pub fn serve_each<C: Connection + Drop, I: Iterator<Item = C> + Drop, S: Service, R: Wait>(
     rt: &R,
     alloc: Global,

@@ -1,4 +1,5 @@
--- What is to hold of every run holds where it begins, and a new world is one of those worlds.
+-- The invariant holds at every start, and a new world is a world at a start. Used by: the laws
+-- starts_keep_the_invariant and new_worlds_start, mw_table, mw_simulator, mw_player.
 use Rattle.std.specs.Prelude.{◌+◌, ◌&&◌, if◌then◌else◌, List, [], ◌∷◌, length, nat_le, replicate, slice_index_or, sum_by, IsTrue, Option, Some, None}
 use Rattle.std.specs.List.{list_all}
 use Rattle.std.proofs.Common.{◌≡◌, ◌∙◌, ℕ, zero, suc, refl, subst, sym, inl, inr, arith}
@@ -14,14 +15,14 @@ use Rattle.mw_world_file.specs.declared.unopened.TheConstants.{OLD_ENTRIES, OLD_
 use Rattle.mw_world_file.proofs.EnoughPlaces.{places_enough}
 use Rattle.mw_lone.proofs.KeptRuns.{put_words}
 use Rattle.mw_lone.proofs.SoundStores.{length-put}
-use Rattle.mw_actor.specs.Acting.{Acting}
+use Rattle.mw_actor.specs.ActorState.{ActorState}
 use Rattle.mw_world.specs.declared.config.Config.{Config}
 use Rattle.mw_world.specs.declared.config.Tenant.{Tenant}
-use Rattle.mw_world.specs.Definition.Counting.{pins_held, frees_at, waits_for, over_workers, slots_taken_for}
-use Rattle.mw_world.specs.Claim.Invariant.{Invariant, RequestsAreTheirWorkers, ChangesClaimTheirSlots, SlotsTellTheirChanges, ReferencesArePinned, AttemptsAreTheirWorkers, WordsFollowTheirChanges, LateFinishersLose, HeldWordsAreOwed, FilesAreTold, ChangesHavePlaces, CountsAreRight}
-use Rattle.mw_world.specs.Definition.State.{IsConfig, IsStart, Opening, first_openings, first_words_of, idle_seat, may_be_old, no_tenant, old_entries, quotas_together, tenant_at, world_at}
+use Rattle.mw_world.specs.Definition.Counts.{pins_held, frees_at, waits_for, over_workers, slots_taken_for}
+use Rattle.mw_world.specs.Claim.Invariant.{Invariant, RequestsAreTheirWorkers, ChangesClaimTheirSlots, SlotsTellTheirChanges, ReferencesArePinned, AttemptsAreTheirWorkers, WordsFollowTheirChanges, StaleHelpersLose, HeldWordsHaveReleasers, FilesMatch, ChangesHavePlaces, CountsAreRight}
+use Rattle.mw_world.specs.Definition.State.{IsConfig, IsStart, TenantStart, first_openings, first_words_of, idle_worker_state, may_be_old, no_tenant, old_entries, quotas_together, tenant_at, world_at}
 
-module _ (config : Config) (openings : ℕ → Opening) where
+module _ (config : Config) (openings : ℕ → TenantStart) where
   requests : RequestsAreTheirWorkers config (world_at config openings)
   requests = grind (arith, nat_tests)
 
@@ -40,13 +41,13 @@ module _ (config : Config) (openings : ℕ → Opening) where
   words : WordsFollowTheirChanges (world_at config openings)
   words = grind (arith, nat_tests)
 
-  late : LateFinishersLose (world_at config openings)
+  late : StaleHelpersLose (world_at config openings)
   late = grind (arith, nat_tests)
 
-  owed : HeldWordsAreOwed (world_at config openings)
-  owed = grind (arith, nat_tests)
+  releasers : HeldWordsHaveReleasers (world_at config openings)
+  releasers = grind (arith, nat_tests)
 
-  files : IsStart config openings → FilesAreTold config (world_at config openings)
+  files : IsStart config openings → FilesMatch config (world_at config openings)
   files is tenant low = record {
     long = is.long tenant low;
     fault = refl;
@@ -59,17 +60,17 @@ module _ (config : Config) (openings : ℕ → Opening) where
   places : ChangesHavePlaces config (world_at config openings)
   places = grind (arith, nat_tests)
 
-  -- no slot is taken
+  -- no slot is taken at a start
   none_taken : (tenant n : ℕ) → slots_taken_for (world_at config openings) tenant n ≡ 0
   none_taken tenant zero = refl
   none_taken tenant (suc n) = grind (arith, nat_tests, none_taken tenant n)
 
--- nothing is counted of idle workers
-none_idle : (counts : Acting → ℕ) (n : ℕ) → over_workers counts (λ worker. idle_seat) n ≡ 0
+-- the sum over idle workers is 0
+none_idle : (counts : ActorState → ℕ) (n : ℕ) → over_workers counts (λ worker. idle_worker_state) n ≡ 0
 none_idle counts zero = refl
 none_idle counts (suc n) = grind (arith, nat_tests, none_idle counts n)
 
-counts : (config : Config) (openings : ℕ → Opening) → IsStart config openings → CountsAreRight config (world_at config openings)
+counts : (config : Config) (openings : ℕ → TenantStart) → IsStart config openings → CountsAreRight config (world_at config openings)
 counts config openings is = record {
   pins = λ slot. grind (arith, nat_tests, none_idle (λ actor. pins_held slot actor.point) config.workers);
   left = λ slot seq e. grind (arith, nat_tests);
@@ -79,7 +80,7 @@ counts config openings is = record {
   limits = is.quotas;
 }
 
-pub first_invariant : (config : Config) (openings : ℕ → Opening) → IsConfig config → IsStart config openings → Invariant config (world_at config openings)
+pub first_invariant : (config : Config) (openings : ℕ → TenantStart) → IsConfig config → IsStart config openings → Invariant config (world_at config openings)
 first_invariant config openings made is = record {
   requests = requests config openings;
   claims = claims config openings made;
@@ -88,18 +89,18 @@ first_invariant config openings made is = record {
   attempts = attempts config openings;
   words = words config openings;
   late = late config openings;
-  owed = owed config openings;
+  releasers = releasers config openings;
   files = files config openings is;
   places = places config openings;
   counts = counts config openings is;
 }
 
--- a sum begins with its first part
+-- the sum over the first n + 1 tenants is the first summand and the sum of the rest
 together_first : (quotas : ℕ → ℕ) (n : ℕ) → quotas_together quotas (suc n) ≡ quotas 0 + quotas_together (λ k. quotas (suc k)) n
 together_first quotas zero = omega arith
 together_first quotas (suc n) = omega (arith, together_first quotas n)
 
--- the quotas of a list of tenants together
+-- the quotas of a list of tenants have the same sum in both definitions
 listed_together : (tenants : List Tenant) → quotas_together (λ k. (slice_index_or tenants k no_tenant).quota) (length tenants) ≡ sum_by (λ tenant. tenant.quota) tenants
 listed_together [] = refl
 listed_together (tenant ∷ tenants) =
@@ -110,10 +111,11 @@ listed_together (tenant ∷ tenants) =
       listed_together tenants,
     )
 
+-- zeros are words
 zeros_fit : (many : ℕ) → AreWords (replicate many 0)
 zeros_fit many index none low = grind (arith, nat_tests, get_or-replicate {A = ℕ} many index 0 none, length-replicate {A = ℕ} many 0, low)
 
--- the words of a first file are words, and as many as its tenant has
+-- a tenant's first file has as many words as the tenant
 first_long : (tenant : Tenant) → length (first_words_of tenant) ≡ tenant.words
 first_long tenant = length-put (replicate tenant.words 0) (old_entries tenant.old) ∙ length-replicate {A = ℕ} tenant.words 0
 
@@ -123,6 +125,7 @@ all_in_range words entries is =
     (and_parts (nat_le 1 (length entries) && nat_le (length entries) MAX_ENTRIES) (list_all (is_in_range words) entries)
     (and_parts (nat_le 1 (length entries) && nat_le (length entries) MAX_ENTRIES && list_all (is_in_range words) entries) (rises entries) is).0).1
 
+-- the words of a first file are at most the greatest value
 first_fit : (tenant : Tenant) → IsTrue (may_be_old tenant.words tenant.quota tenant.old) → AreWords (first_words_of tenant)
 first_fit tenant is = by_old tenant.old is where
   by_old : (old : Option (ArrayVec Entry)) → IsTrue (may_be_old tenant.words tenant.quota old) → AreWords (put (replicate tenant.words 0) (old_entries old))
@@ -131,7 +134,7 @@ first_fit tenant is = by_old tenant.old is where
       let formed = (and_parts (is_change tenant.words change.items && nat_le (length change.items) OLD_ENTRIES) (nat_le tenant.quota OLD_PLACES) made).0 in
       put_words tenant.words (replicate tenant.words 0) change.items (all_in_range tenant.words change.items (and_parts (is_change tenant.words change.items) (nat_le (length change.items) OLD_ENTRIES) formed).0) (zeros_fit tenant.words)
 
--- A new world is one of a start.
+-- A new world is a world at a start.
 pub new_worlds_start : (config : Config) → IsConfig config → IsStart config (first_openings config)
 new_worlds_start config is = record {
   quotas = record {

@@ -1,4 +1,4 @@
 pub mod FirstInvariant
-pub mod Following
+pub mod HeadlineConsequences
 pub mod PlacesApart
 pub mod RunsExtend

@@ -1,4 +1,5 @@
--- What was written at a place stands there, and all other places are as they were.
+-- A place has what was written there, and a write changes no other place. Used by: the law places_are_apart, mw_rule,
+-- mw_world_memory.
 use Rattle.std.specs.Prelude.{ℕ, ◌≡◌, ◌≢◌}
 use Rattle.std.proofs.Common.{refl, ap, arith}
 use Rattle.std.proofs.lemmas.Bool.Decides.{nat_tests}
@@ -12,7 +13,7 @@ upd_same f i x = grind (arith, nat_tests)
 upd_two_same : {A : Type 0} → (f : ℕ → ℕ → A) (i j : ℕ) (x : A) → upd_two f i j x i j ≡ x
 upd_two_same f i j x = grind (arith, nat_tests)
 
--- elsewhere the map gives what it gave
+-- at another index the map has its old value
 upd_other : {A : Type 0} → (f : ℕ → A) (i k : ℕ) (x : A) → k ≢ i → upd f i x k ≡ f k
 upd_other f i k x apart = grind (arith, nat_tests, apart)
 
@@ -28,7 +29,7 @@ read-same cells (AtStatus slot) x = upd_same cells.statuses slot x
 read-same cells (Count slot) x = upd_same cells.counts slot x
 read-same cells (Addr slot entry) x = upd_two_same cells.addrs slot entry x
 read-same cells (Expected slot entry) x = upd_two_same cells.expecteds slot entry x
-read-same cells (New slot entry) x = upd_two_same cells.news slot entry x
+read-same cells (New slot entry) x = upd_two_same cells.new_values slot entry x
 
 pub read-other : ReadOther
 read-other cells (AtDoor i) (AtDoor k) x apart = upd_other cells.doors i k x (λ p. apart (ap AtDoor p))
@@ -111,4 +112,4 @@ read-other cells (New i j) (AtStatus k) x apart = refl
 read-other cells (New i j) (Count k) x apart = refl
 read-other cells (New i j) (Addr k l) x apart = refl
 read-other cells (New i j) (Expected k l) x apart = refl
-read-other cells (New i j) (New k l) x apart = upd_two_other cells.news i j k l x (λ p q. apart (λ d. New (p d) (q d)))
+read-other cells (New i j) (New k l) x apart = upd_two_other cells.new_values i j k l x (λ p q. apart (λ d. New (p d) (q d)))

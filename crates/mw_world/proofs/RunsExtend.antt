@@ -1,4 +1,5 @@
--- Runs of a world, one event more at a time.
+-- A run with one event more is the step of that event after the run. Used by: the law runs_extend, mw_law_store,
+-- mw_rule, mw_simulator.
 use Rattle.std.specs.Prelude.{◌≡◌, [], ◌∷◌, ◌++◌, Option, Some, None}
 use Rattle.std.specs.Option.{option_and_then}
 use Rattle.std.proofs.Common.{refl}

@@ -1,8 +1,8 @@
--- What is claimed of worlds: what is to hold of every run, and runs that come out as one would expect.
+-- The claims about worlds: what must hold of every run, and runs that are computed.
 pub mod Examples
 pub mod Headline
 pub mod Invariant
-pub mod Lawful
+pub mod BitExactness
 pub mod Laws
-pub mod Owing
+pub mod Obligations
 pub mod Schedules

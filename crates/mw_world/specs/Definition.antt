@@ -1,14 +1,14 @@
--- What a world is and what may happen to it.
+-- The definition of a world, and of what may happen to it.
 pub mod Calls
 pub mod Cells
 pub mod Changes
-pub mod Counting
+pub mod Counts
 pub mod Extent
-pub mod Happenings
+pub mod Events
 pub mod History
 pub mod Logical
-pub mod Notes
-pub mod Noting
+pub mod StepLabels
+pub mod LabelEffects
 pub mod Requests
 pub mod Restarts
 pub mod State

@@ -1,4 +1,8 @@
-//! What a world is made of.
+//! The configuration of a world.
+//!
+//! mw_schedule makes one from a schedule's lines, mw_engine from a tenants file, and tests make their own.
+//! mw_simulator plays its world. Which ones are valid is said by `IsConfig`, in `specs/Definition/State`. A new field
+//! needs a clause there, and a value wherever a `Config` is made.
 
 use arrayvec::ArrayVec;
 use mw_words::{Entries, MAX_TENANTS, Name};
@@ -10,25 +14,25 @@ pub struct Tenant {
     pub name: Name,
     /// How many words it has, 1 to `MAX_WORDS`.
     pub words: u16,
-    /// How many slots it may use at a time until a start gives it another quota, 1 to `MAX_QUOTA`. Its file
-    /// has twice as many places for changes, or `MAX_PLACES`, where that is fewer; an old one has half of
-    /// that until a start opens it.
+    /// How many slots it may use at a time, 1 to `MAX_QUOTA`. A later start may give it another quota. Its file
+    /// has twice as many places for changes, and at most `MAX_PLACES`. An old file has half of that until a
+    /// start opens it.
     pub quota: u8,
-    /// The change whose record stands open in its first file, if that is one that no start has opened yet: 1 to
-    /// `OLD_ENTRIES` entries, of which the expected values aren't looked at. The quota is then at most
-    /// `OLD_PLACES`. `None`: the file is new and open.
+    /// The change whose record is open in its first file, if that file has the first layout and no start has
+    /// opened it yet. The change has 1 to `OLD_ENTRIES` entries, and nothing looks at their expected values.
+    /// The quota is then at most `OLD_PLACES`. `None`: the file is new and open.
     pub old: Option<Entries>,
 }
 
-/// What a world is made of. In a new world each tenant has the quota that is told here, and its first file. The
-/// sum of the quotas is at most `pool`, here and after each start.
+/// The configuration of a world. In a new world each tenant has the quota that its [`Tenant`] tells, and its
+/// first file. The quotas together are at most `pool`, here and after each start.
 #[derive(Debug, Drop)]
 pub struct Config {
     /// How many slots there are, 1 to `MAX_POOL`.
     pub pool: u16,
     /// How many workers there are, 1 to `MAX_WORKERS`.
     pub workers: u8,
-    /// The number under which each slot is used first, below `WORN_NUMBER`.
+    /// The number under which each slot is used first. It is below `WORN_NUMBER`.
     pub seq: u64,
     /// The tenants, at least one. A tenant's number is its index, from 0.
     pub tenants: ArrayVec<Tenant, MAX_TENANTS>,

@@ -1,49 +1,53 @@
-//! What may happen to a world.
+//! The events of a world.
+//!
+//! mw_schedule reads what events are made of, mw_player and tests make events, and mw_simulator plays them.
+//! `specs/Definition/Events` has the same events for proofs: a new kind needs a case there, in
+//! `specs/Definition/World`, and in `World::step` of mw_simulator.
 
 use mw_words::Job;
 pub use mw_world_file::Outcome;
 
-/// A call on a file that never came to its end.
+/// A call on a file that was interrupted: it never came to its end.
 #[derive(Clone, Copy, Debug, PartialEq, Eq)]
 pub struct Interrupted {
-    /// The worker whose next step the call is.
+    /// The worker whose next step is the call.
     pub worker: u8,
-    /// How many of the call's device calls were made.
+    /// How many of the call's device calls were made before the stop.
     pub made: u64,
 }
 
-/// How a tenant's file was stopped and opened again, and with which quota.
+/// How one tenant's file is stopped and opened again at a restart, and the tenant's quota from then on.
 #[derive(Drop)]
 pub struct Stop {
-    /// The tenant.
+    /// The tenant's number.
     pub tenant: u8,
-    /// The call that was under way.
+    /// The call on the file that was under way, if one was.
     pub interrupted: Option<Interrupted>,
-    /// The bytes that stand, once all has stopped, where bytes were written and not synced, in rising
-    /// order of offset. Where there are none left, the bytes stand that a read gives. What is left of
-    /// them is not looked at.
+    /// The bytes that the stop leaves in place of bytes that were written and not synced, in rising order of
+    /// offset. If they are too few, the rest has the bytes that a read gives. Bytes too many are ignored.
     pub torn: Vec<u8>,
-    /// The device call of the opening that fails, counted from 1.
+    /// The device call of the opening that fails, counted from 1. `None`: none fails.
     pub fails_at: Option<u64>,
-    /// How many slots the tenant may use at a time from then on: 1 to `MAX_QUOTA`, and no more than its file
-    /// has places once it is open. `None`: as many as before.
+    /// How many slots the tenant may use at a time from then on: 1 to `MAX_QUOTA`, and at most the number of
+    /// places that its file has once it is open. `None`: as many as before.
     pub quota: Option<u8>,
 }
 
-/// What happens to a world. An event that can't happen where the world is, is refused.
+/// An event of a world. An event that can't happen in the present state is refused.
 #[derive(Drop)]
 pub enum Event {
-    /// A worker that has no request begins one: the worker, the tenant that asks, and what it asks
-    /// for, which is well formed for that tenant.
+    /// An idle worker begins a request. The fields: the worker, the tenant that asks, and the job, which is
+    /// well formed for that tenant.
     Come(u8, u8, Job),
-    /// A worker makes the next step of its request, which is no call on a file.
+    /// A worker makes the next step of its request. That step isn't a call on a file.
     Step(u8),
-    /// A worker makes the next step of its request, a call on its tenant's file.
+    /// A worker makes the next step of its request, which is a call on its tenant's file. The device does as
+    /// told.
     File(u8, Outcome),
-    /// A worker hands out the reply to its request, and has none afterwards.
+    /// A worker hands out the reply to its request, and is idle afterwards.
     Hand(u8),
-    /// All stops and starts again. A tenant that isn't named had no call under way and no torn bytes,
-    /// its file opens, and its quota stays. No tenant is named twice, and the quotas of all together are at
-    /// most the pool.
+    /// The whole server stops and starts again. If a tenant isn't named, it had no call under way and no torn
+    /// bytes, its file opens, and its quota stays. No tenant is named twice. The quotas of all tenants together
+    /// are at most the pool.
     Restart(Vec<Stop>),
 }

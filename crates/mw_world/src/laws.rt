@@ -1,39 +1,43 @@
-//! What holds of the definitions of the world: facts for proofs to cite. The functions do nothing.
+//! States facts about the definitions of the world.
+//!
+//! The functions do nothing, and nothing calls them: each contract is a fact, proved in `proofs/laws`. Proofs
+//! of crates above import other pages of `proofs`, by which these facts are proved. To change a fact, change
+//! its definition in `specs`, and then its proof.
 ghost use Rattle.std.specs.Prelude.{ℕ};
 ghost use Rattle.mw_world.specs.Claim.Examples.{ComeOut};
-ghost use Rattle.mw_world.specs.Claim.Headline.{EqualMarksHaveEqualReplies, EveryRunServesAlone};
+ghost use Rattle.mw_world.specs.Claim.Headline.{EqualMarksHaveEqualReplies, EveryRunIsDurablyLinearizable};
 ghost use Rattle.mw_world.specs.Claim.Invariant.{Invariant};
 ghost use Rattle.mw_world.specs.Claim.Laws.{ReadSame, ReadOther, RunExtends};
-ghost use Rattle.mw_world.specs.Definition.State.{IsConfig, IsStart, Opening, first_openings, world_at};
+ghost use Rattle.mw_world.specs.Definition.State.{IsConfig, IsStart, TenantStart, first_openings, world_at};
 ghost use Rattle.mw_world.specs.declared.config.Config.{Config};
 
-/// What was written at a place stands there, and all other places are as they were.
+/// A place has what was last written there, and a write changes no other place.
 pub fn places_are_apart()
     ensures same { ReadSame }
     ensures other { ReadOther }
 {}
 
-/// A run is one event more than the run before its last event.
+/// A run of some events and one more is the run of those events, followed by the step of the last.
 pub fn runs_extend()
     ensures { RunExtends }
 {}
 
-/// Some short runs of the world come out as one would expect.
+/// The runs of `specs/Claim/Examples.antt` come out as they should. They are short and computed.
 pub fn runs_come_out()
     ensures { ComeOut }
 {}
 
-/// What is to hold at every moment of a run holds where it begins: at every start of a server's tenants.
+/// The invariant holds at every start of a server's tenants, where runs begin.
 pub fn starts_keep_the_invariant()
-    ensures { (config : Config) (openings : ℕ → Opening) → IsConfig config → IsStart config openings → Invariant config (world_at config openings) }
+    ensures { (config : Config) (openings : ℕ → TenantStart) → IsConfig config → IsStart config openings → Invariant config (world_at config openings) }
 {}
 
-/// A new world, of a configuration of which one can be made, is a world at a start.
+/// Each configuration that a world may have gives a start: the new world of that configuration.
 pub fn new_worlds_start()
     ensures { (config : Config) → IsConfig config → IsStart config (first_openings config) }
 {}
 
-/// If every run serves each tenant as its store alone would, equal marks have equal replies.
-pub fn what_serving_alone_gives()
-    ensures replies { EveryRunServesAlone → EqualMarksHaveEqualReplies }
+/// If every run is durably linearizable for each tenant, equal marks have equal replies.
+pub fn equal_marks_have_equal_replies()
+    ensures replies { EveryRunIsDurablyLinearizable → EqualMarksHaveEqualReplies }
 {}

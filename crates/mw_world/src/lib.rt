@@ -1,28 +1,32 @@
-//! The world: a server with its tenants, workers and files, as one value that events change one at a
-//! time. Whatever may happen to a server is a list of events, and what holds of every list of events
-//! holds of the server. Here is what a world is, what may happen to it, and what is to hold of it;
-//! `mw_simulator` is a program that plays worlds.
+//! The world: a server with its tenants, workers and files, as one value that events change one at a time. All
+//! that may happen to a server is a list of events. So what holds of every list of events holds of the server.
+//! This crate defines the world, its events, and the claims about it. `mw_simulator` is a program that plays
+//! worlds.
 //!
-//! What to read first. `specs/Definition`: `State`, `Cells` and `Extent` say what a world is, `Happenings`
-//! what may happen; `World` has each event and whole runs, by `Turns` and `Changes` (a step on a shared
-//! word), `Calls` (a call on a file), `Restarts`, and `Notes` and `Noting` (what a step means for the
-//! marks and the history). Then `specs/Claim`: `Headline` is what is to hold of every run, `Invariant` and
-//! `Owing` what is kept on the way, `Lawful` what running threads will ask of every run, `Examples` runs that
-//! come out by computation.
+//! Read `specs/Definition` first. `State`, `Cells` and `Extent` define the state, and `Events` the events.
+//! `World` has what each event does, and whole runs. It uses `Turns` and `Changes` (a step on a shared word),
+//! `Calls` (a call on a file), `Restarts`, and `StepLabels` and `LabelEffects` (what a step means for the marks
+//! and the history).
+//!
+//! Then read `specs/Claim`. `Headline` is what must hold of every run. `Invariant` and `Obligations` are the
+//! invariant. `BitExactness` is what running threads need of every run. `Examples` has runs that are computed.
+//!
+//! Used by: mw_law_moves, mw_law_counts, mw_law_runs and other crates above. The definitions are what the
+//! theorem is about (docs/THEOREM.md): a change of them is a change of what is proved.
 #![tactic(auto)]
 
 mod config;
 mod events;
 mod laws;
-mod notes;
 mod statuses;
+mod step_labels;
 
 pub use config::{Config, Tenant};
 pub use events::{Event, Interrupted, Outcome, Stop};
 pub use laws::{
-    new_worlds_start, places_are_apart, runs_come_out, runs_extend, starts_keep_the_invariant,
-    what_serving_alone_gives,
+    equal_marks_have_equal_replies, new_worlds_start, places_are_apart, runs_come_out, runs_extend,
+    starts_keep_the_invariant,
 };
 pub use mw_world_file::{OLD_ENTRIES, OLD_PLACES};
-pub use notes::{Note, Phase};
 pub use statuses::{starts_from, status_after};
+pub use step_labels::{Phase, StepLabel};

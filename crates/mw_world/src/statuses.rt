@@ -1,4 +1,7 @@
-//! The statuses from which calls on files start, and those that they leave.
+//! The status from which each call on a file starts, and the status that it leaves.
+//!
+//! Used by: mw_table, mw_core, mw_simulator. `specs/Definition/Calls` says the same for proofs: change both
+//! together.
 ghost use Rattle.std.specs.Prelude.{◌≡◌};
 ghost use Rattle.mw_words.specs.Patterns.{IsStatusInRange};
 ghost use Rattle.mw_world.specs.Definition.Calls as calls;
@@ -6,7 +9,7 @@ ghost use Rattle.mw_world.specs.Definition.Calls as calls;
 use mw_look::Call;
 use mw_words::Status;
 
-/// Whether a call starts from a status of its change. From any other it does nothing.
+/// Tells whether a call starts from this status of its change. From any other status the call does nothing.
 pub fn starts_from(call: Call, status: Status) -> bool
     ensures { result ≡ calls.starts_from call status }
 {
@@ -19,7 +22,7 @@ pub fn starts_from(call: Call, status: Status) -> bool
     )
 }
 
-/// The status after a call that went well, by the one that it starts from.
+/// Returns the status after a call that went well, given the status from which it started.
 pub fn status_after(call: Call, status: Status) -> Status
     ensures is { result ≡ calls.status_after call status }
     ensures in_range { IsStatusInRange status → IsStatusInRange result }

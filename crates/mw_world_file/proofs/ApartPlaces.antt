@@ -1,4 +1,5 @@
--- Changes that have no word in common, as the book tests it and as the file asks it.
+-- A prepared change that the book finds to share no word with a sealed one is a change that the file may seal. Used by:
+-- SealedFiles.
 use Rattle.std.proofs.Common.{◌≡◌, ℕ, zero, suc, ◌<◌, ◌==◌, ◌&&◌, ◌||◌, not, Bool, true, false, List, [], ◌∷◌, length, Some, slice_get, refl, sym, ap, ◌∙◌, inl, inr, arith}
 use Rattle.std.specs.List.{list_all, list_any}
 use Rattle.std.proofs.lemmas.Bool.{cases_Bool, cases_eq, and_parts, and_from, and_left, and_right, or_cases, eqb-true}
@@ -13,13 +14,13 @@ use Rattle.mw_world_file.specs.declared.places.Place.{Place as KeptPlace}
 use Rattle.mw_world_file.specs.Files.{File, Place, Empty, Prepared, Sealed, is_empty, is_sealed, entries_in, entries_at, share_a_word, is_apart}
 use Rattle.mw_world_file.specs.Devices.{told, told_at, place_in, stage_told, is_clear, AreKept}
 
--- a test that all pass, at one of them
+-- a test that all elements pass, at one of them
 all_at : {X : Type 0} (test : X → Bool) (xs : List X) (k : ℕ) (x : X) → list_all test xs ≡ true → slice_get xs k ≡ Some x → test x ≡ true
 all_at test [] k x all at = absurd (cc)
 all_at test (y ∷ xs) zero x all at = let same : y ≡ x = cc in ap test (sym same) ∙ (and_parts (test y) (list_all test xs) all).0
 all_at test (y ∷ xs) (suc k) x all at = all_at test xs k x (and_parts (test y) (list_all test xs) all).1 at
 
--- one that does not pass, where not all do
+-- an element that doesn't pass, if not all do
 record Misses {X : Type 0} (test : X → Bool) (xs : List X) : Type 0 where
   pub index : ℕ
   pub item : X
@@ -35,13 +36,13 @@ not_all test (x ∷ xs) not = elim (cases_Bool (test x)) [
   | inr fails ↦ record { index = 0; item = x; at = refl; fails = fails }
 ]
 
--- how the book tests one place
+-- the book's test of one place
 clear_as : (entries : List Entry) (place : Place) → is_clear entries place ≡ not (is_sealed place && share_a_word entries (entries_in place))
 clear_as entries Empty = refl
 clear_as entries (Prepared others) = refl
 clear_as entries (Sealed others) = refl
 
--- the book's test of the first places passes where each is clear, and fails where one isn't
+-- the book's test of the first places passes if each is clear, and fails if one isn't
 apart_from : (file : File) (entries : List Entry) (n : ℕ) → ((k : ℕ) → k < n → is_clear entries (file.places k) ≡ true) → is_apart file entries n ≡ true
 apart_from file entries zero all = refl
 apart_from file entries (suc n) all =
@@ -72,7 +73,7 @@ module _ (file : File) (places : List KeptPlace) (entries : List Entry) (same : 
       let lt : miss.index < length places = slice_get_within places miss.index miss.item miss.at in
       apart_fails file entries (length places) miss.index lt (ap (is_clear entries) (same miss.index lt ∙ ap told_at miss.at) ∙ miss.fails)
 
--- an address among the entries of a change
+-- a change has an address if, and only if, an entry has it
 holds_word : (entries : List Entry) (a : ℕ) → holds (pairs_of entries) a ≡ list_any (λ other. other.addr == a) entries
 holds_word [] a = refl
 holds_word (e ∷ entries) a = ap (λ b. (e.addr == a) || b) (holds_word entries a)
@@ -94,7 +95,7 @@ no_common (e ∷ these) those a none held = elim (or_cases (e.addr == a) (holds 
   right_false false b is = is
   right_false true b is = absurd (cc)
 
--- a place that the file calls sealed is told as one
+-- a place at the sealed stage has a sealed change
 sealed_told : (place : Place) → stage_told place ≡ SealedStage → place ≡ Sealed (entries_in place)
 sealed_told Empty is = absurd (let e : FreeStage ≡ SealedStage = is in cc)
 sealed_told (Prepared entries) is = absurd (let e : PreparedStage ≡ SealedStage = is in cc)
@@ -106,7 +107,7 @@ share_none entries others clear = by (share_a_word entries others) refl where
   by false is = refl
   by true is = absurd (let e : false ≡ true = sym (ap not is) ∙ clear in cc)
 
--- the change of a place may be sealed
+-- the change of the place may be sealed
 pub may_seal : (states : List PlaceState) (places : List KeptPlace) (number : ℕ) (entries : List Entry) → AreKept states places → place_in places number ≡ Prepared entries
     → list_all (λ place. is_clear entries (told place)) places ≡ true → MaySeal states number
 may_seal states places number entries kept here all = record {

@@ -1,4 +1,5 @@
--- The disk under a book after a call on its file, and how it came of the disk before.
+-- After a call on a file, the new book's disk came of the old one's by the device calls of that call. Used by: the
+-- proofs of SimulatedFile::prepare, seal, settle and cancel.
 use Rattle.std.proofs.Common.{◌≡◌, ℕ, ◌+◌, ◌==◌, ◌&&◌, min, nat_le, Bool, true, false, Some, Result, Ok, Err, is_ok, refl, sym, ap, subst, ◌∙◌, inl, inr, arith}
 use Rattle.std.proofs.lemmas.Bool.{cases_Bool, cond-false, and_parts, eqb-true}
 use Rattle.mw_look.specs.declared.steps.Call.{Call}
@@ -10,15 +11,15 @@ use Rattle.mw_file.specs.declared.tenant_file.FileFault.{FileFault}
 use Rattle.mw_file.specs.declared.tenant_file.FileFault.TheVariants.{Disk, Failed}
 use Rattle.mw_file.specs.File.{disk_of, has_failed, Ends}
 use Rattle.mw_world_file.specs.declared.device.Device.TheVariants.{Open}
-use Rattle.mw_world_file.specs.declared.kept.Book.{Book}
+use Rattle.mw_world_file.specs.declared.book.SimulatedFile.{SimulatedFile}
 use Rattle.mw_world_file.specs.declared.outcomes.Outcome.{Outcome}
 use Rattle.mw_world_file.specs.declared.outcomes.Outcome.TheVariants.{Good, Fail}
 use Rattle.mw_world_file.specs.Devices.{disk_under, IsReady}
-use Rattle.mw_world_file.specs.Working.{calls_for, failing, CallsRan, CameOf}
+use Rattle.mw_world_file.specs.CallEffects.{calls_for, failing, CallsRan, CameOf}
 use Rattle.mw_world_file.proofs.WorkedFiles.{unfailed_open}
 
--- what is known of two books is known of the disks of their files, which are open
-opened : (old new : Book) (held now : TenantFile Memory) (call : Call) (slot : ℕ) (outcome : Outcome) → old.device ≡ Open held → new.device ≡ Open now
+-- what is known of the disks of two open files is known of their books
+opened : (old new : SimulatedFile) (held now : TenantFile Memory) (call : Call) (slot : ℕ) (outcome : Outcome) → old.device ≡ Open held → new.device ≡ Open now
     → CallsRan (calls_for old call slot) outcome (disk_of held) (disk_of now) → Later (memory_facts (disk_of held)) (memory_facts (disk_of now)) → CameOf old call slot outcome (Ok new)
 opened old new held now call slot outcome before after ran later = (
   subst (λ d. CallsRan (calls_for old call slot) outcome (disk_under d) (disk_under new.device)) (sym before)
@@ -28,7 +29,7 @@ opened old new held now call slot outcome before after ran later = (
 )
 
 -- a call that went well
-pub came_well : (old new : Book) (held before now : TenantFile Memory) (call : Call) (slot calls : ℕ) (outcome : Outcome) → old.device ≡ Open held → new.device ≡ Open now → outcome ≡ Good
+pub came_well : (old new : SimulatedFile) (held before now : TenantFile Memory) (call : Call) (slot calls : ℕ) (outcome : Outcome) → old.device ≡ Open held → new.device ≡ Open now → outcome ≡ Good
     → disk_of before ≡ disk_of held → calls ≡ calls_for old call slot → AllWell calls (memory_facts (disk_of before)) (memory_facts (disk_of now))
     → Later (memory_facts (disk_of before)) (memory_facts (disk_of now)) → CameOf old call slot outcome (Ok new)
 came_well old new held before now call slot calls outcome is_old is_new well copied many ran later =
@@ -38,14 +39,15 @@ came_well old new held before now call slot calls outcome is_old is_new well cop
     (subst (λ d. AllWell calls (memory_facts d) (memory_facts (disk_of now))) copied ran)))
     (subst (λ d. Later (memory_facts d) (memory_facts (disk_of now))) copied later)
 
--- A disk on which all is well, with one of its calls to come told to fail, and what it is after a call on the file, with none refused memory.
+-- A ready disk with one of its next calls scripted to fail, and the disk after a call on the file during which memory
+-- wasn't out.
 module _ (disk before now : Memory) (number : ℕ) (ready : IsReady disk) (told : before ≡ failing disk number) (plan : (j : ℕ) → (memory_facts before).plan j ≡ with_fault disk number j)
     (granted : now.refused ≡ disk.refused) where
-  -- the call is the one that was told, and calls can be counted so far
+  -- the call that fails is the scripted one, and its number is in the range that can be counted
   abbrev is_told : ℕ → Bool
   is_told j = (j + 1 == number) && nat_le (disk.calls + number) most_counted
 
-  -- no other one failed
+  -- no other call failed
   none_else : (calls : ℕ) (failed : OneFailed calls (memory_facts before) (memory_facts now)) → is_told failed.well ≡ false → ⊥
   none_else calls failed other =
       let goes : (memory_facts before).plan failed.well ≡ Some true =
@@ -65,15 +67,15 @@ module _ (disk before now : Memory) (number : ℕ) (ready : IsReady disk) (told 
   ran_to_fault calls failed =
       subst (λ d. (one : OneFailed calls (memory_facts d) (memory_facts now)) × (one.well + 1 ≡ number)) told (failed, failed_there calls failed)
 
--- a call on the file that answered no Ok met the fault
+-- a call on the file that didn't answer Ok met the fault
 bad_answer : {T : Type 0} (before now : TenantFile Memory) (calls : ℕ) (r : Result T FileFault) → has_failed before ≡ false → is_ok r ≡ false → Ends memory_facts calls before now r
     → OneFailed calls (memory_facts (disk_of before)) (memory_facts (disk_of now))
 bad_answer before now calls (Ok x) unfailed bad ends = absurd (let e : true ≡ false = bad in cc)
 bad_answer before now calls (Err Disk) unfailed bad ends = ends.made
 bad_answer before now calls (Err Failed) unfailed bad ends = absurd (let e : true ≡ false = sym ends.before ∙ unfailed in cc)
 
--- a call of which a device call failed
-pub came_to_fault : {T : Type 0} (old new : Book) (held before now : TenantFile Memory) (call : Call) (slot calls number : ℕ) (outcome : Outcome) (r : Result T FileFault) → old.device ≡ Open held
+-- a call in which a device call failed
+pub came_to_fault : {T : Type 0} (old new : SimulatedFile) (held before now : TenantFile Memory) (call : Call) (slot calls number : ℕ) (outcome : Outcome) (r : Result T FileFault) → old.device ≡ Open held
     → new.device ≡ Open now → old.has_failed ≡ false → outcome ≡ Fail number → disk_of before ≡ failing (disk_of held) number
     → ((j : ℕ) → (memory_facts (disk_of before)).plan j ≡ with_fault (disk_of held) number j) → has_failed before ≡ has_failed held → calls ≡ calls_for old call slot → is_ok r ≡ false
     → Ends memory_facts calls before now r → (disk_of now).refused ≡ (disk_of held).refused → Later (memory_facts (disk_of before)) (memory_facts (disk_of now))

@@ -1,4 +1,5 @@
--- What a crash in the midst of a call leaves of a tenant's file.
+-- A crash at any moment of a call leaves the words from before, or these with the change at stake. Used by: the proofs
+-- of SimulatedFile::prepare, seal, settle and cancel, mw_book, mw_simulator.
 use Rattle.std.proofs.Common.{◌≡◌, ℕ, true, false, List, length, Some, Result, Ok, Err, refl, sym, ap, subst, ◌∙◌, inl, inr}
 use Rattle.mw_words.specs.declared.jobs.Entry.{Entry}
 use Rattle.arrayvec.specs.ArrayVec.{ArrayVec}
@@ -14,28 +15,28 @@ use Rattle.mw_file.specs.declared.tenant_file.TenantFile.{TenantFile}
 use Rattle.mw_file.specs.declared.tenant_file.FileFault.{FileFault}
 use Rattle.mw_file.specs.declared.tenant_file.FileFault.TheVariants.{Disk, Failed}
 use Rattle.mw_file.specs.File.{disk_of, states_of, has_failed, Ends}
-use Rattle.mw_file.specs.Keeps.{Keeps, IsEither, ContentsStay, ChangeIsSealed}
+use Rattle.mw_file.specs.RecoveryInvariant.{RecoversTo, IsBeforeOrAfter, ContentsStay, ChangeIsSealed}
 use Rattle.mw_file.specs.PlaceStates.{writes_of_place}
 use Rattle.mw_world_file.specs.declared.device.Device.TheVariants.{Open}
 use Rattle.mw_world_file.specs.declared.places.Place.TheVariants.{Prepared as KeptPrepared}
-use Rattle.mw_world_file.specs.declared.kept.Book.{Book}
+use Rattle.mw_world_file.specs.declared.book.SimulatedFile.{SimulatedFile}
 use Rattle.mw_world_file.specs.declared.outcomes.Outcome.{Outcome}
 use Rattle.mw_world_file.specs.declared.outcomes.Outcome.TheVariants.{Good, Fail}
-use Rattle.mw_world_file.specs.Books.{Shows, quota_of}
+use Rattle.mw_world_file.specs.Books.{Represents, quota_of}
 use Rattle.mw_world_file.specs.Calls.{place_for}
 use Rattle.mw_world_file.specs.Crashes.{IsFileOfEither, IsCrashSafe, at_stake}
 use Rattle.mw_world_file.specs.Devices.{disk_under}
 use Rattle.mw_world_file.specs.Files.{File, entries_in}
-use Rattle.mw_world_file.specs.Working.{failing}
+use Rattle.mw_world_file.specs.CallEffects.{failing}
 use Rattle.mw_world_file.proofs.SealedFiles.{writes_are}
 use Rattle.mw_world_file.proofs.WorkedFiles.{IsAt, keeps_open, told_there}
 
--- a file of either words, by the entries of the change
-pub of_either : (places : ℕ) (words : List ℕ) (change : List Entry) (image : List ℕ) → IsEither places words (pairs_of change) image → IsFileOfEither words change image
+-- bytes from before or after the change are a file of either words
+pub of_either : (places : ℕ) (words : List ℕ) (change : List Entry) (image : List ℕ) → IsBeforeOrAfter places words (pairs_of change) image → IsFileOfEither words change image
 of_either places words change image (inl is) = inl is.words_are
 of_either places words change image (inr is) = inr (is.words_are ∙ ap Some (sym (put-put_pairs change words)))
 
--- what a disk leaves does not rest on the call that it is told to fail
+-- what a crash leaves of a disk doesn't depend on the scripted fault
 untold : {P : List ℕ → Type 0} (outcome : Outcome) (disk before now : Memory) → (outcome ≡ Good → before ≡ disk) → ((number : ℕ) → outcome ≡ Fail number → before ≡ failing disk number)
     → LeavesOnly (memory_facts before) (memory_facts now) P → LeavesOnly (memory_facts disk) (memory_facts now) P
 untold {P = P} Good disk before now well bad leaves = subst (λ d. LeavesOnly (memory_facts d) (memory_facts now) P) (well refl) leaves
@@ -44,11 +45,11 @@ untold {P = P} (Fail number) disk before now well bad leaves =
     record { later = record { later = on.later.later; honest = on.later.honest; past = on.later.past; kept = on.later.kept }; each = on.each }
 
 -- A call on a copy of a book's file.
-module _ (old new : Book) (held before now : TenantFile Memory) (slot : ℕ) (outcome : Outcome) (is_old : old.device ≡ Open held) (is_new : new.device ≡ Open now)
+module _ (old new : SimulatedFile) (held before now : TenantFile Memory) (slot : ℕ) (outcome : Outcome) (is_old : old.device ≡ Open held) (is_new : new.device ≡ Open now)
     (well : outcome ≡ Good → disk_of before ≡ disk_of held) (bad : (number : ℕ) → outcome ≡ Fail number → disk_of before ≡ failing (disk_of held) number)
-    (copied : (contents : List ℕ) (doubt : Pairs) → Keeps memory_facts held contents doubt → Keeps memory_facts before contents doubt) where
-  -- what the file leaves its book's disk leaves
-  under_books : (words : List ℕ) (change : List Entry) → LeavesOnly (memory_facts (disk_of before)) (memory_facts (disk_of now)) (IsEither (length (states_of before)) words (pairs_of change))
+    (copied : (contents : List ℕ) (doubt : Pairs) → RecoversTo memory_facts held contents doubt → RecoversTo memory_facts before contents doubt) where
+  -- what a crash leaves of the copy's file, it leaves of the book's disk
+  under_books : (words : List ℕ) (change : List Entry) → LeavesOnly (memory_facts (disk_of before)) (memory_facts (disk_of now)) (IsBeforeOrAfter (length (states_of before)) words (pairs_of change))
       → LeavesOnly (memory_facts (disk_under old.device)) (memory_facts (disk_under new.device)) (IsFileOfEither words change)
   under_books words change leaves =
       subst (λ d. LeavesOnly (memory_facts (disk_under d)) (memory_facts (disk_under new.device)) (IsFileOfEither words change)) (sym is_old)
@@ -56,7 +57,7 @@ module _ (old new : Book) (held before now : TenantFile Memory) (slot : ℕ) (ou
       (untold outcome (disk_of held) (disk_of before) (disk_of now) well bad
       (leaves_wider (memory_facts (disk_of before)) (memory_facts (disk_of now)) (of_either (length (states_of before)) words change) leaves)))
 
-  -- one that leaves the words, and the change in doubt
+  -- a call that leaves the words, and the change in doubt
   pub stays_safe : (call : Call) → ((file : File) → at_stake call file (place_for call file (quota_of old) slot) ≡ file.doubt) → ContentsStay memory_facts before now → IsCrashSafe old call slot new
   stays_safe call none safe file shows =
       subst (λ es. LeavesOnly (memory_facts (disk_under old.device)) (memory_facts (disk_under new.device)) (IsFileOfEither file.contents es)) (sym (none file ∙ shows.same_doubt))
@@ -64,11 +65,11 @@ module _ (old new : Book) (held before now : TenantFile Memory) (slot : ℕ) (ou
       (under_books old.contents.items old.doubt.items
       (safe refl old.contents.items (pairs_of old.doubt.items) (copied old.contents.items (pairs_of old.doubt.items) (keeps_open old held is_old file shows))).moments))
 
-  -- a seal, by its answer
+  -- a seal, for each answer
   module _ (number : ℕ) (entries : ArrayVec Entry) (is : IsAt old slot number (KeptPrepared entries)) (same : states_of before ≡ states_of held) (r : Result (Unit {0}) FileFault)
       (unfailed : has_failed before ≡ false) (calls : ℕ) (ends : Ends memory_facts calls before now r) (safe : ChangeIsSealed memory_facts before now (writes_of_place (states_of before) number) r) where
-    sealed_moments : (file : File) → Shows old file → (answer : Result (Unit {0}) FileFault) → Ends memory_facts calls before now answer → ChangeIsSealed memory_facts before now (pairs_of entries.items) answer
-        → LeavesOnly (memory_facts (disk_of before)) (memory_facts (disk_of now)) (IsEither (length (states_of before)) old.contents.items (pairs_of entries.items))
+    sealed_moments : (file : File) → Represents old file → (answer : Result (Unit {0}) FileFault) → Ends memory_facts calls before now answer → ChangeIsSealed memory_facts before now (pairs_of entries.items) answer
+        → LeavesOnly (memory_facts (disk_of before)) (memory_facts (disk_of now)) (IsBeforeOrAfter (length (states_of before)) old.contents.items (pairs_of entries.items))
     sealed_moments file shows (Ok x) ended sealed =
         (sealed refl old.contents.items (pairs_of old.doubt.items) (copied old.contents.items (pairs_of old.doubt.items) (keeps_open old held is_old file shows))).moments
     sealed_moments file shows (Err Disk) ended sealed =

@@ -1,4 +1,5 @@
--- A tenant's first file has as many places as the tenant's quota, or more.
+-- A tenant's first file has at least as many places as the tenant's quota. Used by: the proof of SimulatedFile::new,
+-- mw_world.
 use Rattle.std.specs.Prelude.{ℕ, ◌≤◌}
 use Rattle.std.proofs.Common.{arith}
 use Rattle.std.proofs.lemmas.Bool.Decides.{nat_tests}

@@ -1,4 +1,5 @@
--- The places of a file, as the file says and as the book keeps them.
+-- The places that a book keeps stay those of its file when one of them changes, and both find the same lowest empty
+-- one. Used by: WorkedFiles, mw_book, mw_law_store, mw_law_calls, mw_table, mw_core.
 use Rattle.std.proofs.Common.{◌≡◌, ◌≢◌, ℕ, suc, ◌+◌, ◌<◌, ◌≤◌, ◌||◌, min, nat_lt, Bool, true, false, List, [], ◌∷◌, length, Option, Some, None, slice_get, slice_set, get_or, if◌then◌else◌, refl, sym, ap, ◌∙◌, inl, inr, arith}
 use Rattle.std.specs.List.{list_any}
 use Rattle.std.proofs.lemmas.Bool.{cases_Bool, cases_eq, cond-true, cond-false, eq-eqb, ne_eqb, or_left, lt-ltb, le-ltb}
@@ -14,7 +15,7 @@ use Rattle.mw_world_file.specs.Maps.{upd}
 use Rattle.mw_world_file.specs.Files.{File, Place, Empty, Prepared, Sealed, is_empty, entries_in, empty_from}
 use Rattle.mw_world_file.specs.Devices.{told, told_at, place_in, stage_told, AreKept}
 
--- what a list has after one element was written
+-- a list after one element was written
 pub get_written : {X : Type 0} (xs : List X) (i : ℕ) (x : X) → i < length xs → slice_get (slice_set xs i x) i ≡ Some x
 get_written xs i x within = slice_get_read (slice_set xs i x) (length xs) i x (sym (length-set xs i x)) within (sym (get_or-set_same xs i x x within))
 
@@ -31,14 +32,14 @@ place_written places number p within = ap told_at (get_written places number p w
 pub place_others : (places : List KeptPlace) (number k : ℕ) (p : KeptPlace) → k ≢ number → place_in (slice_set places number p) k ≡ place_in places k
 place_others places number k p apart = ap told_at (get_others places number k p apart)
 
--- a map that was changed where a list was written
+-- a map that was changed at one place
 pub upd_here : {A : Type 0} (f : ℕ → A) (i k : ℕ) (x : A) → k ≡ i → upd f i x k ≡ x
 upd_here f i k x same = cond-true _ x (f k) (eq-eqb k i same)
 
 pub upd_there : {A : Type 0} (f : ℕ → A) (i k : ℕ) (x : A) → k ≢ i → upd f i x k ≡ f k
 upd_there f i k x apart = cond-false _ x (f k) (ne_eqb k i apart)
 
--- the places after one was written
+-- the places after one of them was written
 pub set_told : (at : ℕ → Place) (places : List KeptPlace) (number : ℕ) (p : KeptPlace) (place : Place) → place ≡ told p → number < length places
     → ((k : ℕ) → k < length places → at k ≡ place_in places k)
     → (k : ℕ) → k < length (slice_set places number p) → upd at number place k ≡ place_in (slice_set places number p) k
@@ -47,7 +48,7 @@ set_told at places number p place is within same k lt = elim (cases_eq k number)
   | inr apart ↦ upd_there at number k place apart ∙ same k (let e = length-set places number p in omega (arith, e, lt)) ∙ sym (place_others places number k p apart)
 ]
 
--- the numbers after one was written
+-- the numbers after one of them was written
 pub set_number : (at : ℕ → ℕ) (numbers : List ℕ) (i n most : ℕ) → most ≤ length numbers → i < most → ((k : ℕ) → k < most → at k ≡ get_or numbers k 0)
     → (k : ℕ) → k < most → upd at i n k ≡ get_or (slice_set numbers i n) k 0
 set_number at numbers i n most long within same k lt = elim (cases_eq k i) [
@@ -55,7 +56,7 @@ set_number at numbers i n most long within same k lt = elim (cases_eq k i) [
   | inr apart ↦ upd_there at i k n apart ∙ same k lt ∙ sym (get_or-set_other numbers i k n 0 apart)
 ]
 
--- the places are as the file says after a place of both has gone on
+-- the places are those of the file after one place of both changed
 pub kept_on : (old new : List PlaceState) (places : List KeptPlace) (number : ℕ) (p : KeptPlace) (stage : Stage) (w : Pairs) → number < length places → AreKept old places
     → IsStaged old new number stage w → stage ≡ stage_told (told p) → (is_empty (told p) ≡ false → w ≡ pairs_of (entries_in (told p)))
     → AreKept new (slice_set places number p)
@@ -74,8 +75,8 @@ kept_on old new places number p stage w within kept staged is writes = record {
   there : (k : ℕ) → k ≡ number → place_in (slice_set places number p) k ≡ told p
   there k here = ap (place_in (slice_set places number p)) here ∙ place_written places number p within
 
--- The lowest empty place, as the file finds it and as the book counts it. The file may find one past the last that the book has, where it has
--- none.
+-- The lowest empty place that the file finds is the one that the book counts. If the book has none, the file may find
+-- one past the book's last.
 abbrev pub Lowest : File → ℕ → ℕ → Option ℕ → Type 0
 Lowest file first left None = empty_from file first left ≡ first + left
 Lowest file first left (Some place) = empty_from file first left ≡ min place (first + left)
@@ -95,7 +96,7 @@ free_told Empty = refl
 free_told (Prepared entries) = refl
 free_told (Sealed entries) = refl
 
--- a place that is found from a number on isn't below it
+-- a place that is found from a number on isn't below that number
 found_since : (first : ℕ) (states : List PlaceState) (place : ℕ) → free_from first states ≡ Some place → first ≤ place
 found_since first [] place found = absurd (cc)
 found_since first (s ∷ states) place found = elim (cases_Bool (is_free s)) [
@@ -109,7 +110,7 @@ found_since first (s ∷ states) place found = elim (cases_Bool (is_free s)) [
       omega (arith, le)
 ]
 
--- the book has no place, and whatever the file finds is past it
+-- if the book has no more places, what the file finds is past them
 past_all : (states : List PlaceState) (file : File) (first : ℕ) (found : Option ℕ) → free_from first states ≡ found → Lowest file first 0 found
 past_all states file first None is = omega arith
 past_all states file first (Some place) is = let le = found_since first states place is in omega (arith, le)
@@ -131,7 +132,7 @@ pub lowest : (states : List PlaceState) (places : List KeptPlace) (file : File) 
 lowest states places file count kept same =
     lowest_from states places file 0 count kept.stages (λ k lt. ap file.places (let e : 0 + k ≡ k = omega arith in e) ∙ same k lt)
 
--- the book's test whether it has an empty place is that of the file
+-- the book's test for an empty place is the file's
 empty_among_from : (places : List KeptPlace) (file : File) (first : ℕ) → ((k : ℕ) → k < length places → file.places (first + k) ≡ place_in places k)
     → list_any (λ place. is_empty (told place)) places ≡ nat_lt (empty_from file first (length places)) (first + length places)
 empty_among_from [] file first same = sym (le-ltb first (first + 0) (omega arith))

@@ -1,23 +1,25 @@
--- A new file, and what it is opened with.
+-- A new file represents zeros, and after its opening has as many places as a tenant's first file. Used by: the proof of
+-- SimulatedFile::new.
 use Rattle.std.proofs.Common.{◌≡◌, ℕ, ◌≤◌, ◌*◌, min, replicate, subst, arith}
 use Rattle.std.proofs.lemmas.Bool.Decides.{nat_tests}
 use Rattle.mw_words.specs.declared.limits.TheConstants.{MAX_WORDS}
 use Rattle.mw_record.specs.declared.layout.Layout.TheVariants.{First}
 use Rattle.mw_record.specs.declared.layout.TheConstants.{FIRST_PLACES, PLACES_GROW}
 use Rattle.mw_record.specs.Layout.{new_file}
-use Rattle.mw_record.specs.Stands.{MayHave}
+use Rattle.mw_record.specs.Contents.{MayHave}
 use Rattle.mw_record.proofs.ClosedPlaces.{new_file_has, new_file_first}
 use Rattle.mw_record.proofs.Sound.{first_file}
-use Rattle.mw_file.specs.Keeps.{IsFile}
+use Rattle.mw_file.specs.RecoveryInvariant.{IsFile}
 use Rattle.mw_world_file.specs.FirstPlaces.{first_places}
 
--- A new file is one of zeros, and has as many places for each that it was made with as a file's places grow when it is opened.
+-- A new file represents zeros. The places that it was made with grow by PLACES_GROW when it is opened.
 new_is_file : (words places : ℕ) → MayHave First words places → IsFile (PLACES_GROW * places) (replicate words 0) (new_file words places)
 new_is_file words places may =
     let file = first_file words places (replicate words 0) (new_file words places) (new_file_first words places) (new_file_has words places may) in
     record { words_are = file.0; places_are = file.2 }
 
--- as many as a tenant's first file has, where it was made with the quota, or with as many as a first layout may have
+-- so it has as many as a tenant's first file, if it was made with the quota, or with the most that a first layout may
+-- have
 pub grown : (quota made : ℕ) → made ≡ min quota FIRST_PLACES → PLACES_GROW * made ≡ first_places quota
 grown quota made as_many = grind (arith, nat_tests, as_many)
 

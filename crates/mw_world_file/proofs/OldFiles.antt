@@ -1,4 +1,5 @@
--- An old file, and the words that its bytes stand for.
+-- An old file represents zeros with the change of its open record put over them. Used by: the proofs of
+-- SimulatedFile::unopened and old_bytes.
 use Rattle.std.proofs.Common.{◌≡◌, ℕ, zero, suc, ◌+◌, ◌-◌, ◌*◌, ◌&&◌, ◌<◌, ◌≤◌, true, false, nat_le, None, Some, Result, Ok, Err, IfOk, Vec, List, [], ◌∷◌, ◌++◌, length, replicate, get_or, refl, sym, ap, ◌∙◌, subst, inl, inr, arith, append_assoc}
 use Rattle.std.specs.declared.alloc.Global.{Global}
 use Rattle.std.specs.List.{flat_map}
@@ -11,32 +12,32 @@ use Rattle.mw_record.specs.declared.layout.Layout.TheVariants.{First}
 use Rattle.mw_record.specs.declared.layout.TheConstants.{BODY_SIZE, COMMITTED, ENTRY_SIZE, FIRST_ENTRIES, HEAD_SIZE, PLACES_GROW, WORD_SIZE}
 use Rattle.mw_record.specs.Layout.{body, entry_bytes, header, home_at, number_bytes, pairs_of, place_at, place_size}
 use Rattle.mw_record.specs.Records.{Pairs, all_over, home, is_record, record_at, rises_below}
-use Rattle.mw_record.specs.Stands.{HasWords, MayHave, Stands}
+use Rattle.mw_record.specs.Contents.{HasWords, MayHave, Represents}
 use Rattle.mw_record.specs.Damages.{is_switched}
 use Rattle.mw_record.proofs.Changes.{Opens, stands_more}
 use Rattle.mw_record.proofs.ReadAgain.{body_again, head_of_header, length-header, length_of_change, numbers_of_change, put-put_pairs, record_of_change, values_of_change}
-use Rattle.mw_record.proofs.Reading.{number_zero, record_open, record_shut}
+use Rattle.mw_record.proofs.ReadBytes.{number_zero, record_open, record_shut}
 use Rattle.mw_record.proofs.Sound.{first_file}
 use Rattle.mw_record.proofs.Writes.{length-body, length-entries}
-use Rattle.mw_file.specs.Keeps.{IsFile}
-use Rattle.mw_disk.specs.Facts.{IsAtRest}
+use Rattle.mw_file.specs.RecoveryInvariant.{IsFile}
+use Rattle.mw_disk.specs.Facts.{IsSynced}
 use Rattle.mw_disk.specs.Memory.{Memory, memory_facts}
 use Rattle.mw_world_file.specs.declared.device.Device.TheVariants.{Shut}
 use Rattle.mw_world_file.specs.declared.places.Place.{Place as KeptPlace}
 use Rattle.mw_world_file.specs.declared.places.Place.TheVariants.{Empty as KeptEmpty}
 use Rattle.mw_world_file.specs.declared.unopened.TheConstants.{OLD_BODY, OLD_ENTRIES}
-use Rattle.mw_world_file.specs.Books.{Tells}
+use Rattle.mw_world_file.specs.Books.{PartsRepresent}
 use Rattle.mw_world_file.specs.Devices.{place_in}
 use Rattle.mw_world_file.specs.Files.{broken, file_of}
 use Rattle.mw_world_file.specs.OldFiles.{old_body, old_file}
 use Rattle.mw_world_file.proofs.OpenedFiles.{none_there, zero_there}
 
--- no open record is put over a value
+-- if no record is open, a value stays
 none_over : (places addr value : ℕ) → all_over (λ place. None) places addr value ≡ value
 none_over zero addr value = refl
 none_over (suc places) addr value = none_over places addr value
 
--- past its entries a record's body has zeros
+-- after its entries a record's body has zeros
 body_zero : (change : List Entry) (k : ℕ) → length change ≤ OLD_ENTRIES → OLD_BODY ≤ k → get_or (body change) k 0 ≡ 0
 body_zero change k few past =
     let n : ℕ = length change in
@@ -49,7 +50,7 @@ body_zero change k few past =
     ∙ get_or-append_right front zeros (7 + ENTRY_SIZE * n) k 0 long (omega (arith, few, past))
     ∙ zero_there (ENTRY_SIZE * (MAX_ENTRIES - n)) (k - (7 + ENTRY_SIZE * n))
 
--- a change of so few entries is a record of the first layout
+-- a change with so few entries is a record of the first layout
 first_record : (words : ℕ) (change : List Entry) → length change ≤ OLD_ENTRIES → is_change words change ≡ true → is_record First words (pairs_of change) ≡ true
 first_record words change few formed =
     let pairs : Pairs = pairs_of change in
@@ -73,11 +74,11 @@ module _ (words places : ℕ) (change : List Entry) (few : length change ≤ OLD
   abbrev from_first : List ℕ
   from_first = COMMITTED ∷ (old_body change ++ others)
 
-  -- what stands in the first place
+  -- the bytes of the first place
   long_body : length (old_body change) ≡ OLD_BODY
   long_body = length-take-le OLD_BODY (body change) (let long = length-body change (length_of_change words change formed) in omega (arith, long))
 
-  -- behind the head
+  -- the bytes after the head
   behind_head : (k : ℕ) → get_or image (HEAD_SIZE + k) 0 ≡ get_or (zeros ++ from_first) k 0
   behind_head k =
       get_or-append_right (header First words places) (zeros ++ from_first) HEAD_SIZE (HEAD_SIZE + k) 0 (length-header First words places) (omega arith)
@@ -90,7 +91,7 @@ module _ (words places : ℕ) (change : List Entry) (few : length change ≤ OLD
       ap (λ n. get_or image n 0) (let e : home_at a + k ≡ HEAD_SIZE + (WORD_SIZE * a + k) = omega arith in e)
       ∙ behind_head (WORD_SIZE * a + k) ∙ get_or_append_left zeros from_first 0 (WORD_SIZE * a + k) within ∙ zero_there (WORD_SIZE * words) (WORD_SIZE * a + k))
 
-  -- from the first place on
+  -- the bytes from the first place on
   from_place : (k : ℕ) → get_or image (place_at First words 0 + k) 0 ≡ get_or from_first k 0
   from_place k =
       ap (λ n. get_or image n 0) (let e : place_at First words 0 + k ≡ HEAD_SIZE + (WORD_SIZE * words + k) = omega arith in e)
@@ -114,7 +115,7 @@ module _ (words places : ℕ) (change : List Entry) (few : length change ≤ OLD
       ]
       ∙ ap (λ n. get_or (body change) n 0) (let e : k ≡ 0 + k = omega arith in e)
 
-  -- the change stands open in the first place, and all others are closed
+  -- the change is open in the first place, and all others are closed
   is_open : record_at First image words 0 ≡ Some (pairs_of change)
   is_open =
       record_open First image words 0 (place_at First words 0) refl committed
@@ -127,7 +128,7 @@ module _ (words places : ℕ) (change : List Entry) (few : length change ≤ OLD
       ∙ others_there (OLD_BODY + place_size First * j) (omega arith) in
       omega (arith, commit, zero_here))
 
-  zeros_stand : Stands First words places (home image) (λ place. None) (replicate words 0)
+  zeros_stand : Represents First words places (home image) (λ place. None) (replicate words 0)
   zeros_stand = record {
     count = length-replicate words 0;
     each = λ a lt. zero_there words a ∙ sym (none_over places a (home image a) ∙ home_zero a lt);
@@ -166,7 +167,7 @@ module _ (words places : ℕ) (change : List Entry) (few : length change ≤ OLD
           long_body,
           length-replicate {A = ℕ} (place_size First * (places - 1)) 0,
         );
-    stands = subst (λ ws. Stands First words places (home image) (record_at First image words) ws) (sym (put-put_pairs change (replicate words 0)))
+    stands = subst (λ ws. Represents First words places (home image) (record_at First image words) ws) (sym (put-put_pairs change (replicate words 0)))
         (stands_more First words places 0 (pairs_of change) (home image) (λ place. None) (record_at First image words) (replicate words 0) opens zeros_stand);
   }
 
@@ -174,19 +175,19 @@ module _ (words places : ℕ) (change : List Entry) (few : length change ≤ OLD
   unfolding number_bytes
   old_file_first = refl
 
-  -- it is a file of its change, put over zeros
+  -- the bytes are a file of the change put over zeros
   pub old_is_file : IsFile (PLACES_GROW * places) (put (replicate words 0) change) image
   old_is_file = let file = first_file words places (put (replicate words 0) change) image old_file_first old_file_has in record { words_are = file.0; places_are = file.2 }
 
--- so it is, where it was made
+-- so are the bytes that were made
 pub made_old : {E : Type 0} (words places : ℕ) (change : List Entry) (made : Result (Vec ℕ Global) E) → length change ≤ OLD_ENTRIES → MayHave First words places → is_change words change ≡ true
     → IfOk made (λ bytes. bytes.items ≡ old_file words places change) → IfOk made (λ bytes. IsFile (PLACES_GROW * places) (put (replicate words 0) change) bytes.items)
 made_old words places change (Ok bytes) few may formed same = subst (λ (image : List ℕ). IsFile (PLACES_GROW * places) (put (replicate words 0) change) image) (sym same) (old_is_file words places change few may formed)
 made_old words places change (Err fault) few may formed same = tt
 
--- the parts of its book tell of an old file, whose disk leaves nothing but its bytes
+-- the parts of its book represent an old file, whose disk leaves only its bytes
 pub tells_unopened : (disk : Memory) (contents words : List ℕ) (places : List KeptPlace) (count : ℕ) (doubt : List Entry) (bytes : List ℕ) (n slots : ℕ) → contents ≡ words → places ≡ replicate n KeptEmpty → doubt ≡ []
-    → (memory_facts disk).reads ≡ bytes → IsAtRest (memory_facts disk) → IsFile count words bytes → Tells (Shut disk) contents places count (replicate slots 0) true doubt (broken (file_of words) [])
+    → (memory_facts disk).reads ≡ bytes → IsSynced (memory_facts disk) → IsFile count words bytes → PartsRepresent (Shut disk) contents places count (replicate slots 0) true doubt (broken (file_of words) [])
 tells_unopened disk contents words places count doubt bytes n slots are empty none reads rest is = record {
   same_contents = sym are;
   same_places = λ place lt. sym (ap (λ ps. place_in ps place) empty ∙ none_there n place);

@@ -1,38 +1,40 @@
--- The book of a file that was just opened.
+-- The book of a file that was just opened represents that file, with its words and places. Used by: OldFiles,
+-- ShutFiles, the proofs of open_book and words_of.
 use Rattle.std.proofs.Common.{◌≡◌, ℕ, zero, suc, ◌+◌, ◌≤◌, ◌==◌, min, true, false, if◌then◌else◌, List, [], ◌∷◌, ◌++◌, length, take, replicate, get_or, slice_get, Some, None, is_none, IsTrue, refl, sym, ap, subst, ◌∙◌, arith}
 use Rattle.std.proofs.lemmas.List.{length-take}
 use Rattle.mw_words.specs.declared.jobs.Entry.{Entry}
 use Rattle.mw_disk.specs.Memory.{Memory, memory_facts}
 use Rattle.mw_record.specs.declared.layout.TheConstants.{MAX_FILE}
 use Rattle.mw_record.specs.Damages.{damage_of, file_words, found_places, is_switched, pairs_in, places_of}
-use Rattle.mw_record.proofs.Longer.{is_switched_first, found_places_first, places_of_first, damage_of_first, pairs_in_first}
+use Rattle.mw_record.proofs.FirstBytes.{is_switched_first, found_places_first, places_of_first, damage_of_first, pairs_in_first}
 use Rattle.mw_file.specs.declared.place_states.PlaceState.{PlaceState}
 use Rattle.mw_file.specs.declared.tenant_file.TenantFile.{TenantFile}
 use Rattle.mw_file.specs.File.{states_of}
-use Rattle.mw_file.specs.Opening.{IsOpened, entries_below, records_below, open_entries, open_records, ready_calls, repair_calls, read_calls, open_calls}
-use Rattle.mw_file.specs.Migrating.{migration_calls}
+use Rattle.mw_file.specs.OpeningEnds.{IsOpened, entries_below, records_below, open_entries, open_records, ready_calls, repair_calls, read_calls, open_calls}
+use Rattle.mw_file.specs.Migration.{migration_calls}
 use Rattle.mw_file.specs.PlaceStates.{all_free}
 use Rattle.mw_file.proofs.Free.{stage_of-all_free}
-use Rattle.mw_file.specs.Keeps.{Keeps}
+use Rattle.mw_file.specs.RecoveryInvariant.{RecoversTo}
 use Rattle.mw_world_file.specs.declared.device.Device.TheVariants.{Open}
 use Rattle.mw_world_file.specs.declared.places.Place.{Place as KeptPlace}
 use Rattle.mw_world_file.specs.declared.places.Place.TheVariants.{Empty as KeptEmpty}
 use Rattle.mw_world_file.specs.Files.{Empty, is_empty, file_of}
-use Rattle.mw_world_file.specs.Devices.{place_in, stage_told, AreKept, StandsFor}
-use Rattle.mw_world_file.specs.Books.{Tells}
+use Rattle.mw_world_file.specs.Devices.{place_in, stage_told, AreKept, DeviceRecoversTo}
+use Rattle.mw_world_file.specs.Books.{PartsRepresent}
 
--- each of so many empty places is empty, and there are none past the last
+-- each of `n` empty places is empty, and so is every place after them
 pub none_there : (n place : ℕ) → place_in (replicate n KeptEmpty) place ≡ Empty
 none_there zero place = refl
 none_there (suc n) zero = refl
 none_there (suc n) (suc place) = none_there n place
 
+-- each of `n` zeros is 0, and so is what is read after them
 pub zero_there : (n k : ℕ) → get_or {A = ℕ} (replicate n 0) k 0 ≡ 0
 zero_there zero k = refl
 zero_there (suc n) zero = refl
 zero_there (suc n) (suc k) = zero_there n k
 
--- free places are kept as empty ones
+-- if all places of a file are free, a book keeps them as empty places
 pub free_kept : (states : List PlaceState) (places : List KeptPlace) (n : ℕ) → IsTrue (all_free states) → places ≡ replicate n KeptEmpty → AreKept states places
 free_kept states places n free empty = record {
   stages = λ place. stage_of-all_free states place free ∙ sym (ap stage_told (there place));
@@ -41,19 +43,19 @@ free_kept states places n free empty = record {
   there : (place : ℕ) → place_in places place ≡ Empty
   there place = ap (λ ps. place_in ps place) empty ∙ none_there n place
 
--- the parts of its book tell of a file at rest
-pub tells_opened : (file : TenantFile Memory) (contents : List ℕ) (places : List KeptPlace) (count : ℕ) (doubt : List Entry) (n slots : ℕ) → Keeps memory_facts file contents []
-    → places ≡ replicate n KeptEmpty → doubt ≡ [] → Tells (Open file) contents places count (replicate slots 0) false doubt (file_of contents)
+-- the parts of the book represent a file that was just opened
+pub tells_opened : (file : TenantFile Memory) (contents : List ℕ) (places : List KeptPlace) (count : ℕ) (doubt : List Entry) (n slots : ℕ) → RecoversTo memory_facts file contents []
+    → places ≡ replicate n KeptEmpty → doubt ≡ [] → PartsRepresent (Open file) contents places count (replicate slots 0) false doubt (file_of contents)
 tells_opened file contents places count doubt n slots keeps empty none = record {
   same_contents = refl;
   same_places = λ place lt. sym (ap (λ ps. place_in ps place) empty ∙ none_there n place);
   same_place_of = λ slot lt. sym (zero_there slots slot);
   same_failed = refl;
   same_doubt = sym none;
-  stands = subst (λ es. StandsFor (Open file) count contents es) (sym none) keeps;
+  stands = subst (λ es. DeviceRecoversTo (Open file) count contents es) (sym none) keeps;
 }
 
--- one element more
+-- the first `k` elements, and then element `k`, are the first `k + 1` elements
 pub take_next : {A : Type 0} (xs : List A) (k : ℕ) (x : A) → slice_get xs k ≡ Some x → take k xs ++ x ∷ [] ≡ take (k + 1) xs
 take_next {A = A} xs k x at = let next : suc k ≡ k + 1 = omega arith in by xs k at ∙ ap (λ n. take n xs) next where
   by : (ys : List A) (n : ℕ) → slice_get ys n ≡ Some x → take n ys ++ x ∷ [] ≡ take (suc n) ys
@@ -61,7 +63,7 @@ take_next {A = A} xs k x at = let next : suc k ≡ k + 1 = omega arith in by xs 
   by (y ∷ ys) zero is = let e : Some y ≡ Some x = is in cc
   by (y ∷ ys) (suc n) is = ap (λ rest. y ∷ rest) (by ys n is)
 
--- The device calls of an opening are those of the bytes that can belong to a file.
+-- The device calls of an opening depend only on the bytes that can belong to a file.
 module _ (bytes : List ℕ) (none : damage_of bytes ≡ None) where
   same_entries : (n : ℕ) → n ≤ found_places bytes → entries_below (take MAX_FILE bytes) n ≡ entries_below bytes n
   same_entries zero le = refl
@@ -97,10 +99,11 @@ module _ (bytes : List ℕ) (none : damage_of bytes ≡ None) where
       ∙ ap (λ d. read_calls bytes + (if is_none d then ready_calls (take MAX_FILE bytes) else 0)) (damage_of_first bytes)
       ∙ ap (λ n. read_calls bytes + (if is_none (damage_of bytes) then n else 0)) same_ready
 
--- a file of these words, on a disk in memory, is opened with these words, and with the places that its bytes tell of
+-- a file in memory is opened with the words of its bytes
 pub opened_words : (disk : Memory) (file : TenantFile Memory) (words contents : List ℕ) → IsOpened memory_facts disk file words → file_words (memory_facts disk).reads ≡ Some contents → words ≡ contents
 opened_words disk file words contents opened is = let e : Some words ≡ Some contents = sym (opened.whole refl) ∙ is in cc
 
+-- an opened file in memory has as many places as its bytes tell
 pub opened_places : (disk : Memory) (file : TenantFile Memory) (words : List ℕ) → IsOpened memory_facts disk file words → length (states_of file) ≡ places_of (memory_facts disk).reads
 opened_places disk file words opened =
     let reads : List ℕ = (memory_facts disk).reads in

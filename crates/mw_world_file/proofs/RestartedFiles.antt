@@ -1,4 +1,5 @@
--- The book of a file after a start.
+-- A book after a start represents the file after an opening of bytes that the start may find. Used by: the proof of
+-- SimulatedFile::restart.
 use Rattle.std.proofs.Common.{◌≡◌, ◌≤◌, ℕ, ◌∙◌, ◌||◌, Bool, true, false, List, [], ◌∷◌, length, Option, Some, None, Result, Ok, Err, IsErrAnd, refl, sym, ap, subst, inl, inr, arith}
 use Rattle.std.specs.Str.{bytes_eq}
 use Rattle.std.proofs.lemmas.Slice.Eq.{bytes_eq-Decides}
@@ -6,23 +7,23 @@ use Rattle.mw_words.specs.declared.jobs.Entry.{Entry}
 use Rattle.mw_words.specs.Change.{put}
 use Rattle.mw_record.specs.Damages.{file_words, places_of}
 use Rattle.mw_lone.proofs.SoundStores.{length-put}
-use Rattle.mw_world_file.specs.declared.kept.Book.{Book}
+use Rattle.mw_world_file.specs.declared.book.SimulatedFile.{SimulatedFile}
 use Rattle.mw_world_file.specs.declared.cut.Cut.{Cut}
 use Rattle.mw_world_file.specs.declared.cut.Left.{Left}
 use Rattle.mw_world_file.specs.declared.faults.BookFault.{BookFault}
 use Rattle.mw_world_file.specs.declared.faults.BookFault.TheVariants.{NotEnabled, Memory as NoMemory}
 use Rattle.mw_world_file.specs.Files.{File}
 use Rattle.mw_world_file.specs.Restarts.{takes, may_find, opened_file}
-use Rattle.mw_world_file.specs.Books.{Shows, quota_of, places_of_file}
-use Rattle.mw_world_file.specs.Reopening.{doubt_left, is_sealed_left, IsRestarted, Restarts}
-use Rattle.mw_world_file.specs.Stopping.{IsStopped, Stops, IsReopened, ReopenEnds}
+use Rattle.mw_world_file.specs.Books.{Represents, quota_of, places_of_file}
+use Rattle.mw_world_file.specs.Recovery.{doubt_left, is_sealed_left, IsRestarted, Restarts}
+use Rattle.mw_world_file.specs.StoppedFiles.{IsStopped, Stops, IsReopened, ReopenEnds}
 
--- the words of an opened file, whether or not a device call failed
+-- the words of an opened file, whether a device call failed or not
 opened_words : (words : List ℕ) (fails_at : Option ℕ) → (opened_file words fails_at).contents ≡ words
 opened_words words None = refl
 opened_words words (Some number) = refl
 
--- words that may be found are as many as those before
+-- words that a start may find are as many as before
 same_length : (words found : List ℕ) → bytes_eq found words ≡ true → length found ≡ length words
 same_length words found same = ap length ((bytes_eq-Decides found words).0 same)
 
@@ -37,19 +38,19 @@ as_long false before doubt found may = by (bytes_eq found before) refl where
   by true same = same_length before found same
   by false differ = taken_long before doubt found (sym (ap (λ b. b || takes before doubt found) differ) ∙ may)
 
--- bytes that are left can be opened with a quota for which the book's file has places
-room_left : (old : Book) (file : File) (cut : Option Cut) (torn : List ℕ) (left : Left) (quota : ℕ) → IsStopped old file cut torn left → quota ≤ places_of_file old → quota ≤ places_of left.image.items
+-- bytes that are left can be opened with a quota that fits the places of the book's file
+room_left : (old : SimulatedFile) (file : File) (cut : Option Cut) (torn : List ℕ) (left : Left) (quota : ℕ) → IsStopped old file cut torn left → quota ≤ places_of_file old → quota ≤ places_of left.image.items
 room_left old file cut torn left quota stopped room = let has = stopped.room in omega (arith, has, room)
 
--- how an opening of these bytes ends, where a book uses so many places of the file
-abbrev Reopens : List ℕ → ℕ → Option ℕ → Result Book BookFault → Type 0
+-- how an opening of these bytes ends, if the book uses this number of places of the file
+abbrev Reopens : List ℕ → ℕ → Option ℕ → Result SimulatedFile BookFault → Type 0
 Reopens image quota fails_at r = (words : List ℕ) → file_words image ≡ Some words → quota ≤ places_of image → ReopenEnds image quota words fails_at r
 
--- the number of places is the quota, as the opening is given it
-reopened_with : (image : List ℕ) (used quota : ℕ) (fails_at : Option ℕ) (r : Result Book BookFault) → used ≡ quota → Reopens image used fails_at r → Reopens image quota fails_at r
+-- the number of used places is the quota
+reopened_with : (image : List ℕ) (used quota : ℕ) (fails_at : Option ℕ) (r : Result SimulatedFile BookFault) → used ≡ quota → Reopens image used fails_at r → Reopens image quota fails_at r
 reopened_with image used quota fails_at r same ends = subst (λ n. Reopens image n fails_at r) same ends
 
-pub restarted : (old : Book) (file : File) → Shows old file → (cut : Option Cut) (torn : List ℕ) (fails_at : Option ℕ) (quota : ℕ) (left : Left) (new : Book) (took : Bool) (used : ℕ) → used ≡ quota
+pub restarted : (old : SimulatedFile) (file : File) → Represents old file → (cut : Option Cut) (torn : List ℕ) (fails_at : Option ℕ) (quota : ℕ) (left : Left) (new : SimulatedFile) (took : Bool) (used : ℕ) → used ≡ quota
     → quota ≤ places_of_file old → IsStopped old file cut torn left
     → ((words : List ℕ) → file_words left.image.items ≡ Some words → used ≤ places_of left.image.items → IsReopened left.image.items used words fails_at new)
     → took ≡ takes old.contents.items left.doubt.items new.contents.items → IsRestarted old file cut torn fails_at quota new took
@@ -73,8 +74,8 @@ restarted old file shows cut torn fails_at quota left new took used same room st
   are = sym reopened.shows.same_contents ∙ opened_words stopped.words fails_at
 
 -- a file that wasn't opened again
-pub not_restarted : (old : Book) (cut : Option Cut) (torn : List ℕ) (fails_at : Option ℕ) (quota : ℕ) (left : Left) (fault : BookFault) (r : Result (Book × Bool) BookFault) (used : ℕ) → used ≡ quota
-    → quota ≤ places_of_file old → IsErrAnd r (λ e. e ≡ fault) → ((file : File) → Shows old file → IsStopped old file cut torn left)
+pub not_restarted : (old : SimulatedFile) (cut : Option Cut) (torn : List ℕ) (fails_at : Option ℕ) (quota : ℕ) (left : Left) (fault : BookFault) (r : Result (SimulatedFile × Bool) BookFault) (used : ℕ) → used ≡ quota
+    → quota ≤ places_of_file old → IsErrAnd r (λ e. e ≡ fault) → ((file : File) → Represents old file → IsStopped old file cut torn left)
     → ((words : List ℕ) → file_words left.image.items ≡ Some words → used ≤ places_of left.image.items → ReopenEnds left.image.items used words fails_at (Err fault))
     → Restarts old cut torn fails_at quota r
 not_restarted old cut torn fails_at quota left fault (Ok started) used same room is lefts ends = absurd is
@@ -89,8 +90,8 @@ not_restarted old cut torn fails_at quota left fault (Err NotEnabled) used same 
           (reopened_with left.image.items used quota fails_at (Err fault) same ends stopped.words stopped.is_left.has (room_left old file cut torn left quota stopped room));
     })
 
--- a file that wasn't stopped so
-pub not_stopped : (old : Book) (cut : Option Cut) (torn : List ℕ) (fails_at : Option ℕ) (quota : ℕ) (fault : BookFault) (r : Result (Book × Bool) BookFault) → IsErrAnd r (λ e. e ≡ fault) → Stops old cut torn (Err fault) → Restarts old cut torn fails_at quota r
+-- a file that can't be stopped so
+pub not_stopped : (old : SimulatedFile) (cut : Option Cut) (torn : List ℕ) (fails_at : Option ℕ) (quota : ℕ) (fault : BookFault) (r : Result (SimulatedFile × Bool) BookFault) → IsErrAnd r (λ e. e ≡ fault) → Stops old cut torn (Err fault) → Restarts old cut torn fails_at quota r
 not_stopped old cut torn fails_at quota fault (Ok started) is ends = absurd is
 not_stopped old cut torn fails_at quota fault (Err NoMemory) is ends = tt
 not_stopped old cut torn fails_at quota fault (Err NotEnabled) is ends = λ file shows. inl (subst (λ f. Stops old cut torn (Err f)) (sym is) ends file shows)

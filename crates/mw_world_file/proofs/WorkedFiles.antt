@@ -1,4 +1,6 @@
--- A file after a call, and the book that shows it.
+-- After a call on a file, the new book represents the file after the call. Used by: SealedFiles, StoppedFiles,
+-- CalledDisks, CrashedFiles, ShutFiles, the proofs of SimulatedFile::prepare, cancel, seal, settle, stop_preparing and
+-- other functions.
 use Rattle.std.proofs.Common.{◌≡◌, ℕ, ◌+◌, ◌<◌, ◌≤◌, Bool, true, false, List, [], ◌∷◌, length, Option, Some, None, Result, Ok, Err, slice_get, slice_set, get_or, nat_lt, min, is_some, IsErrAnd, refl, sym, ap, subst, ◌∙◌, inl, inr, arith}
 use Rattle.std.specs.List.{list_any}
 use Rattle.std.proofs.lemmas.Bool.{cases_Bool, cond-true, cond-false, ltb-true}
@@ -14,14 +16,14 @@ use Rattle.mw_record.specs.Records.{Pairs}
 use Rattle.mw_record.specs.Layout.{pairs_of}
 use Rattle.mw_file.specs.declared.tenant_file.TenantFile.{TenantFile}
 use Rattle.mw_file.specs.File.{states_of, words_of, has_failed}
-use Rattle.mw_file.specs.Keeps.{Keeps}
+use Rattle.mw_file.specs.RecoveryInvariant.{RecoversTo}
 use Rattle.mw_file.specs.declared.place_states.Stage.{Stage}
 use Rattle.mw_file.specs.PlaceStates.{free_place, IsStaged}
 use Rattle.mw_world_file.specs.declared.device.Device.{Device}
 use Rattle.mw_world_file.specs.declared.device.Device.TheVariants.{Open}
 use Rattle.mw_world_file.specs.declared.places.Place.{Place as KeptPlace}
 use Rattle.mw_world_file.specs.declared.places.Place.TheVariants.{Prepared as KeptPrepared}
-use Rattle.mw_world_file.specs.declared.kept.Book.{Book}
+use Rattle.mw_world_file.specs.declared.book.SimulatedFile.{SimulatedFile}
 use Rattle.mw_world_file.specs.declared.outcomes.Outcome.{Outcome}
 use Rattle.mw_world_file.specs.declared.outcomes.Outcome.TheVariants.{Good, Fail}
 use Rattle.mw_world_file.specs.declared.faults.BookFault.{BookFault}
@@ -29,23 +31,23 @@ use Rattle.mw_world_file.specs.declared.faults.BookFault.TheVariants.{NotEnabled
 use Rattle.mw_world_file.specs.Files.{File, Prepared, is_empty, entries_in, entries_at, broken, prepared, empty_from, file_of}
 use Rattle.mw_world_file.specs.Calls.{place_for, suits, device_calls, filed, doubt_of}
 use Rattle.mw_world_file.specs.Maps.{upd}
-use Rattle.mw_world_file.specs.Devices.{told, told_at, place_in, stage_told, StandsFor, AreKept, states_on, words_on, has_failed_on, is_open}
-use Rattle.mw_world_file.specs.Books.{Tells, Shows, HasParts, quota_of, places_of_file}
-use Rattle.mw_world_file.specs.Working.{may_end, left_by, worked_at, worked, Turns, Works}
+use Rattle.mw_world_file.specs.Devices.{told, told_at, place_in, stage_told, DeviceRecoversTo, AreKept, states_on, words_on, has_failed_on, is_open}
+use Rattle.mw_world_file.specs.Books.{PartsRepresent, Represents, HasParts, quota_of, places_of_file}
+use Rattle.mw_world_file.specs.CallEffects.{may_end, left_by, worked_at, worked, Turns, Works}
 use Rattle.mw_world_file.proofs.KeptPlaces.{lowest, Lowest, empty_among, set_told, set_number, kept_on}
 
--- a call that was refused memory
-pub refused : (old : Book) (call : Call) (slot : ℕ) (entries : List Entry) (outcome : Outcome) (r : Result Book BookFault) → IsErrAnd r (λ e. e ≡ NoMemory) → Works old call slot entries outcome r
+-- a call during which memory was out
+pub refused : (old : SimulatedFile) (call : Call) (slot : ℕ) (entries : List Entry) (outcome : Outcome) (r : Result SimulatedFile BookFault) → IsErrAnd r (λ e. e ≡ NoMemory) → Works old call slot entries outcome r
 refused old call slot entries outcome (Ok book) is = absurd is
 refused old call slot entries outcome (Err NotEnabled) is = absurd (let e : NotEnabled ≡ NoMemory = is in cc)
 refused old call slot entries outcome (Err NoMemory) is = tt
 
--- a call that is known by another name
-pub works_as : (old : Book) (call other : Call) (slot : ℕ) (entries : List Entry) (outcome : Outcome) (r : Result Book BookFault) → call ≡ other → Works old other slot entries outcome r
+-- a call under another name
+pub works_as : (old : SimulatedFile) (call other : Call) (slot : ℕ) (entries : List Entry) (outcome : Outcome) (r : Result SimulatedFile BookFault) → call ≡ other → Works old other slot entries outcome r
     → Works old call slot entries outcome r
 works_as old call other slot entries outcome r same works = subst (λ k. Works old k slot entries outcome r) (sym same) works
 
--- a place that doesn't suit, a call that can't end so, and one that can
+-- a place that doesn't suit, a call that can't end so, and a call that can
 pub unsuited : (call : Call) (file : File) (places slot place : ℕ) (entries : List Entry) (outcome : Outcome) → suits call file places place ≡ false
     → worked_at call file places slot place entries outcome ≡ None
 unsuited call file places slot place entries outcome not = cond-false (suits call file places place) _ None not
@@ -62,33 +64,33 @@ pub suited : (call : Call) (file : File) (places slot place : ℕ) (entries : Li
 suited call file places slot place entries outcome is may =
     cond-true (suits call file places place) _ None is ∙ cond-true (may_end (device_calls call (entries_at file place)) outcome) (Some (left_by call file slot place entries outcome)) None may
 
--- what is told by the parts of a book is shown by it
-pub shows_parts : (book : Book) (device : Device) (contents : List ℕ) (places : List KeptPlace) (count : ℕ) (place_of : List ℕ) (failed : Bool) (doubt : List Entry) (file : File)
-    → HasParts book device contents places count place_of failed doubt → Tells device contents places count place_of failed doubt file → Shows book file
+-- a book represents what its parts represent
+pub shows_parts : (book : SimulatedFile) (device : Device) (contents : List ℕ) (places : List KeptPlace) (count : ℕ) (place_of : List ℕ) (failed : Bool) (doubt : List Entry) (file : File)
+    → HasParts book device contents places count place_of failed doubt → PartsRepresent device contents places count place_of failed doubt file → Represents book file
 shows_parts book device contents places count place_of failed doubt file parts tells = record {
   same_contents = tells.same_contents ∙ sym parts.is_contents;
   same_places = λ k lt. tells.same_places k (subst (λ ps. k < length ps) parts.is_places lt) ∙ ap (λ ps. place_in ps k) (sym parts.is_places);
   same_place_of = λ slot lt. tells.same_place_of slot lt ∙ ap (λ numbers. get_or numbers slot 0) (sym parts.is_place_of);
   same_failed = tells.same_failed ∙ sym parts.is_failed;
   same_doubt = tells.same_doubt ∙ sym parts.is_doubt;
-  stands = subst (λ d. StandsFor d book.file_places book.contents.items book.doubt.items) (sym parts.is_device)
-      (subst (λ n. StandsFor device n book.contents.items book.doubt.items) (sym parts.is_file_places)
-      (subst (λ ws. StandsFor device count ws book.doubt.items) (sym parts.is_contents)
-      (subst (λ es. StandsFor device count contents es) (sym parts.is_doubt) tells.stands)));
+  stands = subst (λ d. DeviceRecoversTo d book.file_places book.contents.items book.doubt.items) (sym parts.is_device)
+      (subst (λ n. DeviceRecoversTo device n book.contents.items book.doubt.items) (sym parts.is_file_places)
+      (subst (λ ws. DeviceRecoversTo device count ws book.doubt.items) (sym parts.is_contents)
+      (subst (λ es. DeviceRecoversTo device count contents es) (sym parts.is_doubt) tells.stands)));
 }
 
--- what an open file stands for
-pub stands_open : (device : Device) (held : TenantFile Memory) (places : ℕ) (contents : List ℕ) (doubt : List Entry) → device ≡ Open held → StandsFor device places contents doubt
-    → Keeps memory_facts held contents (pairs_of doubt)
-stands_open device held places contents doubt is stands = subst (λ d. StandsFor d places contents doubt) is stands
+-- what an open file recovers to
+pub stands_open : (device : Device) (held : TenantFile Memory) (places : ℕ) (contents : List ℕ) (doubt : List Entry) → device ≡ Open held → DeviceRecoversTo device places contents doubt
+    → RecoversTo memory_facts held contents (pairs_of doubt)
+stands_open device held places contents doubt is stands = subst (λ d. DeviceRecoversTo d places contents doubt) is stands
 
--- no change is in doubt of a file that hasn't failed
+-- a file that hasn't failed has no change in doubt
 none_written : (doubt : List Entry) → pairs_of doubt ≡ [] → doubt ≡ []
 none_written [] none = refl
 none_written (e ∷ doubt) none = absurd (cc)
 
 -- The facts of a book whose file is open.
-module _ (old : Book) (held : TenantFile Memory) (is : old.device ≡ Open held) where
+module _ (old : SimulatedFile) (held : TenantFile Memory) (is : old.device ≡ Open held) where
   pub places_open : length (states_of held) ≡ places_of_file old
   places_open = sym (ap (λ d. length (states_on d)) is) ∙ old.has (ap (λ d. is_open d) is)
 
@@ -98,18 +100,18 @@ module _ (old : Book) (held : TenantFile Memory) (is : old.device ≡ Open held)
   pub kept_open : AreKept (states_of held) old.places.items
   kept_open = subst (λ d. AreKept (states_on d) old.places.items) is old.kept
 
-  pub keeps_open : (file : File) → Shows old file → Keeps memory_facts held old.contents.items (pairs_of old.doubt.items)
+  pub keeps_open : (file : File) → Represents old file → RecoversTo memory_facts held old.contents.items (pairs_of old.doubt.items)
   keeps_open file shows = stands_open old.device held old.file_places old.contents.items old.doubt.items is shows.stands
 
-  -- it has as many words as the book
+  -- the file has as many words as the book
   pub sized_open : words_of held ≡ length old.contents.items
   sized_open = sym (ap (λ d. words_on d) is) ∙ old.sized (ap (λ d. is_open d) is)
 
-  -- it has failed where the book says so
+  -- the file has failed only if the book says so
   pub unfailed_open : old.has_failed ≡ false → has_failed held ≡ false
   unfailed_open sound = sym (ap (λ d. has_failed_on d) is) ∙ old.failed ∙ sound
 
-  -- a place of a copy of the file has gone on
+  -- a place of a copy of the file changed
   pub kept_after : (before now : TenantFile Memory) (number : ℕ) (p : KeptPlace) (stage : Stage) (w : Pairs) → states_of before ≡ states_of held → number < length old.places.items
       → IsStaged (states_of before) (states_of now) number stage w → stage ≡ stage_told (told p) → (is_empty (told p) ≡ false → w ≡ pairs_of (entries_in (told p)))
       → AreKept (states_of now) (slice_set old.places.items number p)
@@ -117,12 +119,12 @@ module _ (old : Book) (held : TenantFile Memory) (is : old.device ≡ Open held)
       kept_on (states_of before) (states_of now) old.places.items number p stage w within (subst (λ ss. AreKept ss old.places.items) (sym same) kept_open) staged is_stage is_writes
 
   -- a device call of a call failed
-  pub broken_turns : (now : TenantFile Memory) (new : Book) (call : Call) (slot : ℕ) (entries : List Entry) (outcome : Outcome) (number : ℕ) (doubt : ArrayVec Entry) → outcome ≡ Fail number
+  pub broken_turns : (now : TenantFile Memory) (new : SimulatedFile) (call : Call) (slot : ℕ) (entries : List Entry) (outcome : Outcome) (number : ℕ) (doubt : ArrayVec Entry) → outcome ≡ Fail number
       → HasParts new (Open now) old.contents.items old.places.items old.file_places old.place_of true doubt.items
-      → ((file : File) → Shows old file → Keeps memory_facts now old.contents.items (pairs_of doubt.items))
-      → ((file : File) → Shows old file → suits call file (quota_of old) (place_for call file (quota_of old) slot) ≡ true)
-      → ((file : File) → Shows old file → may_end (device_calls call (entries_at file (place_for call file (quota_of old) slot))) outcome ≡ true)
-      → ((file : File) → Shows old file → doubt_of call (entries_at file (place_for call file (quota_of old) slot)) ≡ doubt.items)
+      → ((file : File) → Represents old file → RecoversTo memory_facts now old.contents.items (pairs_of doubt.items))
+      → ((file : File) → Represents old file → suits call file (quota_of old) (place_for call file (quota_of old) slot) ≡ true)
+      → ((file : File) → Represents old file → may_end (device_calls call (entries_at file (place_for call file (quota_of old) slot))) outcome ≡ true)
+      → ((file : File) → Represents old file → doubt_of call (entries_at file (place_for call file (quota_of old) slot)) ≡ doubt.items)
       → Turns old new (λ file. worked call file (quota_of old) slot entries outcome)
   broken_turns now new call slot entries outcome number doubt fails parts keeps suit may in_doubt = record {
     places = ap (λ ps. length ps) parts.is_places;
@@ -143,23 +145,23 @@ module _ (old : Book) (held : TenantFile Memory) (is : old.device ≡ Open held)
     );
   }
 
-  -- a call leaves the words, with none in doubt
-  pub none_doubted : (now : TenantFile Memory) → old.has_failed ≡ false → ((contents : List ℕ) (doubt : Pairs) → Keeps memory_facts held contents doubt → Keeps memory_facts now contents doubt)
-      → (file : File) → Shows old file → Keeps memory_facts now old.contents.items []
+  -- a call leaves the words, with no change in doubt
+  pub none_doubted : (now : TenantFile Memory) → old.has_failed ≡ false → ((contents : List ℕ) (doubt : Pairs) → RecoversTo memory_facts held contents doubt → RecoversTo memory_facts now contents doubt)
+      → (file : File) → Represents old file → RecoversTo memory_facts now old.contents.items []
   none_doubted now sound stays file shows =
       let keeps = keeps_open file shows in
       let none : pairs_of old.doubt.items ≡ [] = keeps.certain (unfailed_open sound) in
-      subst (λ doubt. Keeps memory_facts now old.contents.items doubt) none (stays old.contents.items (pairs_of old.doubt.items) keeps)
+      subst (λ doubt. RecoversTo memory_facts now old.contents.items doubt) none (stays old.contents.items (pairs_of old.doubt.items) keeps)
 
 -- what is known of the place of a slot's change
-pub record IsAt (old : Book) (slot number : ℕ) (p : KeptPlace) : Type 0 where
+pub record IsAt (old : SimulatedFile) (slot number : ℕ) (p : KeptPlace) : Type 0 where
   pub at : number ≡ get_or old.place_of slot 0
   pub there : slice_get old.places.items number ≡ Some p
   pub within : number < length old.places.items
   pub state_within : slot < MAX_POOL
 
 -- what was read of a book at a slot
-pub is_at : (old : Book) (slot : ℕ) (p x : KeptPlace) (xs : List KeptPlace) → x ≡ p → true ≡ nat_lt (get_or old.place_of slot 0) (length xs) → x ≡ get_or xs (get_or old.place_of slot 0) x
+pub is_at : (old : SimulatedFile) (slot : ℕ) (p x : KeptPlace) (xs : List KeptPlace) → x ≡ p → true ≡ nat_lt (get_or old.place_of slot 0) (length xs) → x ≡ get_or xs (get_or old.place_of slot 0) x
     → xs ≡ old.places.items → slot < MAX_POOL → IsAt old slot (get_or old.place_of slot 0) p
 is_at old slot p x xs same within read are state_within =
     let number : ℕ = get_or old.place_of slot 0 in
@@ -171,7 +173,7 @@ is_at old slot p x xs same within read are state_within =
       state_within = state_within;
     }
 
-pub is_there : (old : Book) (slot : ℕ) (p : KeptPlace) (xs : List KeptPlace) → slice_get xs (get_or old.place_of slot 0) ≡ Some p → xs ≡ old.places.items → slot < MAX_POOL
+pub is_there : (old : SimulatedFile) (slot : ℕ) (p : KeptPlace) (xs : List KeptPlace) → slice_get xs (get_or old.place_of slot 0) ≡ Some p → xs ≡ old.places.items → slot < MAX_POOL
     → IsAt old slot (get_or old.place_of slot 0) p
 is_there old slot p xs there are state_within = record {
   at = refl;
@@ -180,8 +182,8 @@ is_there old slot p xs there are state_within = record {
   state_within = state_within;
 }
 
-module _ (old : Book) (slot number : ℕ) (p : KeptPlace) (is : IsAt old slot number p) (file : File) (shows : Shows old file) where
-  -- the file says the same place, and the same of it
+module _ (old : SimulatedFile) (slot number : ℕ) (p : KeptPlace) (is : IsAt old slot number p) (file : File) (shows : Represents old file) where
+  -- the file has the same place for the slot, and the same change in it
   pub place_is : file.place_of slot ≡ number
   place_is = shows.same_place_of slot is.state_within ∙ sym is.at
 
@@ -192,13 +194,13 @@ module _ (old : Book) (slot number : ℕ) (p : KeptPlace) (is : IsAt old slot nu
   told_there = ap file.places place_is ∙ told_is
 
 -- a call on a place that has a change went well
-module _ (old : Book) (held : TenantFile Memory) (is : old.device ≡ Open held) where
-  pub done_turns : (now : TenantFile Memory) (new : Book) (call : Call) (slot : ℕ) (entries : List Entry) (outcome : Outcome) (number : ℕ) (words : List ℕ) (p : KeptPlace) → outcome ≡ Good
+module _ (old : SimulatedFile) (held : TenantFile Memory) (is : old.device ≡ Open held) where
+  pub done_turns : (now : TenantFile Memory) (new : SimulatedFile) (call : Call) (slot : ℕ) (entries : List Entry) (outcome : Outcome) (number : ℕ) (words : List ℕ) (p : KeptPlace) → outcome ≡ Good
       → HasParts new (Open now) words (slice_set old.places.items number p) old.file_places old.place_of old.has_failed old.doubt.items
       → length words ≡ length old.contents.items → number < length old.places.items
-      → ((file : File) → Shows old file → Keeps memory_facts now words (pairs_of old.doubt.items))
-      → ((file : File) → Shows old file → suits call file (quota_of old) (place_for call file (quota_of old) slot) ≡ true)
-      → ((file : File) → Shows old file → filed call file slot (place_for call file (quota_of old) slot) entries ≡ record file { contents = words; places = upd file.places number (told p) })
+      → ((file : File) → Represents old file → RecoversTo memory_facts now words (pairs_of old.doubt.items))
+      → ((file : File) → Represents old file → suits call file (quota_of old) (place_for call file (quota_of old) slot) ≡ true)
+      → ((file : File) → Represents old file → filed call file slot (place_for call file (quota_of old) slot) entries ≡ record file { contents = words; places = upd file.places number (told p) })
       → Turns old new (λ file. worked call file (quota_of old) slot entries outcome)
   done_turns now new call slot entries outcome number words p well parts count within keeps suit after = record {
     places = ap (λ ps. length ps) parts.is_places ∙ length-set old.places.items number p;
@@ -221,11 +223,11 @@ module _ (old : Book) (held : TenantFile Memory) (is : old.device ≡ Open held)
   }
 
 -- what the book's test of its places found
-pub found : (old : Book) (places : List KeptPlace) (test b : Bool) → places ≡ old.places.items → test ≡ list_any (λ place. is_empty (told place)) places → test ≡ b → list_any (λ place. is_empty (told place)) old.places.items ≡ b
+pub found : (old : SimulatedFile) (places : List KeptPlace) (test b : Bool) → places ≡ old.places.items → test ≡ list_any (λ place. is_empty (told place)) places → test ≡ b → list_any (λ place. is_empty (told place)) old.places.items ≡ b
 found old places test b are is same = ap (list_any (λ place. is_empty (told place))) (sym are) ∙ sym is ∙ same
 
--- The facts of a change that is written down in the lowest free place.
-module _ (old : Book) (held : TenantFile Memory) (slot : ℕ) (entries : ArrayVec Entry) (is : old.device ≡ Open held) where
+-- The facts of a change that a prepare writes into the lowest free place.
+module _ (old : SimulatedFile) (held : TenantFile Memory) (slot : ℕ) (entries : ArrayVec Entry) (is : old.device ≡ Open held) where
   -- what the book's own places say
   abbrev as_kept : File
   as_kept = record (file_of []) { places = place_in old.places.items }
@@ -239,23 +241,23 @@ module _ (old : Book) (held : TenantFile Memory) (slot : ℕ) (entries : ArrayVe
       → nat_lt (empty_from file 0 (quota_of old)) (quota_of old) ≡ b
   suits_as b test file same = sym (empty_among old.places.items file same) ∙ test
 
-  pub none_suits : list_any (λ place. is_empty (told place)) old.places.items ≡ false → (file : File) → Shows old file → nat_lt (empty_from file 0 (quota_of old)) (quota_of old) ≡ false
+  pub none_suits : list_any (λ place. is_empty (told place)) old.places.items ≡ false → (file : File) → Represents old file → nat_lt (empty_from file 0 (quota_of old)) (quota_of old) ≡ false
   none_suits none file shows = suits_as false none file shows.same_places
 
-  pub none_empty : (outcome : Outcome) → list_any (λ place. is_empty (told place)) old.places.items ≡ false → (file : File) → Shows old file
+  pub none_empty : (outcome : Outcome) → list_any (λ place. is_empty (told place)) old.places.items ≡ false → (file : File) → Represents old file
       → worked PrepareCall file (quota_of old) slot entries.items outcome ≡ None
   none_empty outcome none file shows = unsuited PrepareCall file (quota_of old) slot (empty_from file 0 (quota_of old)) entries.items outcome (none_suits none file shows)
 
-  -- it has an empty place
+  -- the book has an empty place
   module _ (some : list_any (λ place. is_empty (told place)) old.places.items ≡ true) where
-    pub some_empty : (file : File) → Shows old file → nat_lt (empty_from file 0 (quota_of old)) (quota_of old) ≡ true
+    pub some_empty : (file : File) → Represents old file → nat_lt (empty_from file 0 (quota_of old)) (quota_of old) ≡ true
     some_empty file shows = suits_as true some file shows.same_places
 
     kept_within : empty_from as_kept 0 (quota_of old) < quota_of old
     kept_within = ltb-true (empty_from as_kept 0 (quota_of old)) (quota_of old) (suits_as true some as_kept (λ k lt. refl))
 
     module _ (before : TenantFile Memory) (same : states_of before ≡ states_of held) where
-      -- the file finds one
+      -- the file finds an empty place
       pub is_found : is_some (free_place (states_of before)) ≡ true
       is_found = ap (λ ss. is_some (free_place ss)) same ∙ by (free_place (states_of held)) refl where
         by : (found : Option ℕ) → free_place (states_of held) ≡ found → is_some (free_place (states_of held)) ≡ true
@@ -265,33 +267,33 @@ module _ (old : Book) (held : TenantFile Memory) (slot : ℕ) (entries : ArrayVe
             absurd (let e : ⊥ = omega (arith, past, lt) in e)
         by (Some place) at = ap is_some at
 
-      -- and it is the book's lowest
+      -- it is the book's lowest one
       pub place_within : (place : ℕ) → free_place (states_of before) ≡ Some place → place < length old.places.items
       place_within place found =
           let low : empty_from as_kept 0 (quota_of old) ≡ min place (0 + quota_of old) = lowest_in as_kept (λ k lt. refl) (Some place) (sym (ap free_place same) ∙ found) in
           let lt = kept_within in
           omega (arith, low, lt)
 
-      lowest_is : (place : ℕ) → free_place (states_of before) ≡ Some place → (file : File) → Shows old file → empty_from file 0 (quota_of old) ≡ place
+      lowest_is : (place : ℕ) → free_place (states_of before) ≡ Some place → (file : File) → Represents old file → empty_from file 0 (quota_of old) ≡ place
       lowest_is place found file shows =
           let low : empty_from file 0 (quota_of old) ≡ min place (0 + quota_of old) = lowest_in file shows.same_places (Some place) (sym (ap free_place same) ∙ found) in
           let lt = place_within place found in
           omega (arith, low, lt)
 
-      -- the device failed as it was told
-      pub prepare_broken : (now : TenantFile Memory) (new : Book) (outcome : Outcome) (number : ℕ) (doubt : ArrayVec Entry) → outcome ≡ Fail number → doubt.items ≡ [] → may_end 2 outcome ≡ true
+      -- the device failed as scripted
+      pub prepare_broken : (now : TenantFile Memory) (new : SimulatedFile) (outcome : Outcome) (number : ℕ) (doubt : ArrayVec Entry) → outcome ≡ Fail number → doubt.items ≡ [] → may_end 2 outcome ≡ true
           → old.has_failed ≡ false
-          → ((contents : List ℕ) (doubt : Pairs) → Keeps memory_facts held contents doubt → Keeps memory_facts now contents doubt)
+          → ((contents : List ℕ) (doubt : Pairs) → RecoversTo memory_facts held contents doubt → RecoversTo memory_facts now contents doubt)
           → HasParts new (Open now) old.contents.items old.places.items old.file_places old.place_of true doubt.items
           → Turns old new (λ file. worked PrepareCall file (quota_of old) slot entries.items outcome)
       prepare_broken now new outcome number doubt fails none may sound stays parts =
           broken_turns old held is now new PrepareCall slot entries.items outcome number doubt fails parts
-          (λ file shows. subst (λ es. Keeps memory_facts now old.contents.items (pairs_of es)) (sym none) (none_doubted old held is now sound stays file shows))
+          (λ file shows. subst (λ es. RecoversTo memory_facts now old.contents.items (pairs_of es)) (sym none) (none_doubted old held is now sound stays file shows))
           some_empty (λ file shows. may) (λ file shows. sym none)
 
       -- all went well
-      pub prepare_done : (now : TenantFile Memory) (new : Book) (outcome : Outcome) (place : ℕ) → outcome ≡ Good → free_place (states_of before) ≡ Some place → slot < MAX_POOL → MAX_POOL ≤ length old.place_of
-          → ((contents : List ℕ) (doubt : Pairs) → Keeps memory_facts held contents doubt → Keeps memory_facts now contents doubt)
+      pub prepare_done : (now : TenantFile Memory) (new : SimulatedFile) (outcome : Outcome) (place : ℕ) → outcome ≡ Good → free_place (states_of before) ≡ Some place → slot < MAX_POOL → MAX_POOL ≤ length old.place_of
+          → ((contents : List ℕ) (doubt : Pairs) → RecoversTo memory_facts held contents doubt → RecoversTo memory_facts now contents doubt)
           → HasParts new (Open now) old.contents.items (slice_set old.places.items place (KeptPrepared entries)) old.file_places (slice_set old.place_of slot place) old.has_failed old.doubt.items
           → Turns old new (λ file. worked PrepareCall file (quota_of old) slot entries.items outcome)
       prepare_done now new outcome place well found within long stays parts = record {

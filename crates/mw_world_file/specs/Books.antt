@@ -1,37 +1,39 @@
--- A book, and the file that it shows.
+-- Which file a book represents. A book here is a SimulatedFile, the world's file in memory; the book that running threads use is
+-- in mw_book. Used by nearly all contracts of this crate, and by those of mw_simulator. A new field of SimulatedFile needs a part
+-- in HasParts; if the world knows of it, also in PartsRepresent.
 use Rattle.std.specs.Prelude.{◌≡◌, ◌<◌, ℕ, Bool, List, length, slice_index}
 use Rattle.mw_words.specs.declared.limits.TheConstants.{MAX_POOL}
 use Rattle.mw_words.specs.declared.jobs.Entry.{Entry}
 use Rattle.mw_world_file.specs.declared.device.Device.{Device}
 use Rattle.mw_world_file.specs.declared.places.Place.{Place as KeptPlace}
-use Rattle.mw_world_file.specs.declared.kept.Book.{Book}
-use Rattle.mw_world_file.specs.Devices.{place_in, StandsFor}
+use Rattle.mw_world_file.specs.declared.book.SimulatedFile.{SimulatedFile}
+use Rattle.mw_world_file.specs.Devices.{place_in, DeviceRecoversTo}
 use Rattle.mw_world_file.specs.Files.{File}
 
--- These parts of a book tell of this file: each says what the file says, and the file in memory stands for its words, with so many places
--- and with its change in doubt.
-pub record Tells (device : Device) (contents : List ℕ) (places : List KeptPlace) (file_places : ℕ) (place_of : List ℕ) (failed : Bool) (doubt : List Entry) (file : File) : Type 0 where
+-- These parts of a book represent this file. Each is what the file has, and the file in memory recovers to its words,
+-- with `file_places` places and its change in doubt.
+pub record PartsRepresent (device : Device) (contents : List ℕ) (places : List KeptPlace) (file_places : ℕ) (place_of : List ℕ) (failed : Bool) (doubt : List Entry) (file : File) : Type 0 where
   pub same_contents : file.contents ≡ contents
   pub same_places : (place : ℕ) → place < length places → file.places place ≡ place_in places place
   pub same_place_of : (slot : ℕ) → slot < MAX_POOL → file.place_of slot ≡ slice_index place_of slot
   pub same_failed : file.has_failed ≡ failed
   pub same_doubt : file.doubt ≡ doubt
-  pub stands : StandsFor device file_places contents doubt
+  pub stands : DeviceRecoversTo device file_places contents doubt
 
--- the book shows this file
-abbrev pub Shows : Book → File → Type 0
-Shows book file = Tells book.device book.contents.items book.places.items book.file_places book.place_of book.has_failed book.doubt.items file
+-- the book represents this file
+abbrev pub Represents : SimulatedFile → File → Type 0
+Represents book file = PartsRepresent book.device book.contents.items book.places.items book.file_places book.place_of book.has_failed book.doubt.items file
 
--- the tenant's quota: how many places of the file the book uses, which are the first ones; the file may have more
-abbrev pub quota_of : Book → ℕ
+-- The tenant's quota: how many places of the file the book uses. They are the first ones; the file may have more.
+abbrev pub quota_of : SimulatedFile → ℕ
 quota_of book = length book.places.items
 
--- how many places for changes the file has, in its second layout; one that no start has opened yet, as many as it gets then
-abbrev pub places_of_file : Book → ℕ
+-- how many places the file has in its second layout; for a file that no start has opened yet, as many as it gets then
+abbrev pub places_of_file : SimulatedFile → ℕ
 places_of_file book = book.file_places
 
 -- These are the parts of a book.
-pub record HasParts (book : Book) (device : Device) (contents : List ℕ) (places : List KeptPlace) (count : ℕ) (place_of : List ℕ) (failed : Bool) (doubt : List Entry) : Type 0 where
+pub record HasParts (book : SimulatedFile) (device : Device) (contents : List ℕ) (places : List KeptPlace) (count : ℕ) (place_of : List ℕ) (failed : Bool) (doubt : List Entry) : Type 0 where
   pub is_device : book.device ≡ device
   pub is_contents : book.contents.items ≡ contents
   pub is_places : book.places.items ≡ places

@@ -4,12 +4,12 @@ pub mod Crashes
 pub mod Devices
 pub mod Files
 pub mod FirstPlaces
-pub mod Giving
+pub mod StartValues
 pub mod Maps
 pub mod OldFiles
 pub mod Openings
-pub mod Reopening
+pub mod Recovery
 pub mod Restarts
 pub mod SoundBooks
-pub mod Stopping
-pub mod Working
+pub mod StoppedFiles
+pub mod CallEffects

@@ -1,4 +1,5 @@
--- Old files, which no start has opened yet. They are in the first layout.
+-- The bytes of an old file, which no start has opened yet. It has the first layout.
+-- Used by: the contracts of src/unopened.rt. A change here changes what these contracts say.
 use Rattle.std.specs.Prelude.{ℕ, ◌-◌, ◌*◌, List, ◌∷◌, ◌++◌, replicate, take}
 use Rattle.mw_words.specs.declared.jobs.Entry.{Entry}
 use Rattle.mw_record.specs.declared.layout.Layout.TheVariants.{First}
@@ -6,13 +7,13 @@ use Rattle.mw_record.specs.declared.layout.TheConstants.{COMMITTED, WORD_SIZE}
 use Rattle.mw_record.specs.Layout.{body, header, place_size}
 use Rattle.mw_world_file.specs.declared.unopened.TheConstants.{OLD_BODY}
 
--- What stands behind the commit byte of a place of the first layout with this change: as much of a record's body as the place has room for, which
--- is the whole of it but for zeros.
+-- The bytes after the commit byte of a place of the first layout with this change: as much of a record's body as the
+-- place has room for. If the change has at most OLD_ENTRIES entries, what is cut off is zeros.
 abbrev pub old_body : List Entry → List ℕ
 old_body change = take OLD_BODY (body change)
 
--- the bytes of a file in which the record of a change stands open in the first place: its head, home words that are 0, that place, and zeros for
--- the other places
+-- the bytes of a file in whose first place the record of a change is open: its head, home words that are 0, that place,
+-- and zeros for the other places
 abbrev pub old_file : ℕ → ℕ → List Entry → List ℕ
 old_file words places change =
     header First words places ++ (replicate (WORD_SIZE * words) 0 ++ (COMMITTED ∷ (old_body change ++ replicate (place_size First * (places - 1)) 0)))

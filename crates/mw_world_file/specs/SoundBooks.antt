@@ -1,12 +1,13 @@
--- What is known of a book, whatever happens to it.
+-- What always holds of a book: it represents a file with its tenant's number of words.
+-- Used by: mw_world_memory, mw_simulator. A change here changes what contracts there say.
 use Rattle.std.specs.Prelude.{ℕ, ◌≡◌, length, slice_index}
-use Rattle.mw_world_file.specs.declared.kept.Book.{Book}
-use Rattle.mw_world_file.specs.Books.{Shows}
+use Rattle.mw_world_file.specs.declared.book.SimulatedFile.{SimulatedFile}
+use Rattle.mw_world_file.specs.Books.{Represents}
 use Rattle.mw_world_file.specs.Devices.{place_in}
 use Rattle.mw_world_file.specs.Files.{File}
 
--- the file that a book tells of
-abbrev pub file_in : Book → File
+-- the file with the book's own words, places and change in doubt
+abbrev pub file_in : SimulatedFile → File
 file_in book = record {
   contents = book.contents.items;
   places = place_in book.places.items;
@@ -15,11 +16,11 @@ file_in book = record {
   doubt = book.doubt.items;
 }
 
--- A book shows its file, which has so many words.
-pub record IsSound (words : ℕ) (book : Book) : Type 0 where
-  pub shows : Shows book (file_in book)
+-- A book represents its file, which has `words` words.
+pub record IsSound (words : ℕ) (book : SimulatedFile) : Type 0 where
+  pub shows : Represents book (file_in book)
   pub long : length book.contents.items ≡ words
 
--- the same, with no more known than that it is so
-abbrev pub HasSound : ℕ → Book → Type 0
+-- the same, as a mere truth: no two proofs of it differ
+abbrev pub HasSound : ℕ → SimulatedFile → Type 0
 HasSound words book = ∥ IsSound words book ∥₁

@@ -1,4 +1,6 @@
-//! Changes and the words that they are of.
+//! Changes, and words after them.
+//!
+//! Used by: `calls`, `restarts`, `unopened`.
 ghost use Rattle.std.specs.Prelude.{◌≡◌, ◌==◌, IfOk};
 ghost use Rattle.std.specs.List.{list_any};
 ghost use Rattle.mw_words.specs.Change as change;
@@ -7,8 +9,8 @@ ghost use Rattle.mw_world_file.specs.Files as spec;
 use mw_words::Entry;
 use std::alloc::{AllocError, Global};
 
-/// These words with every entry's new value at its address. Past the last word there is nothing to
-/// write to. The only error is want of memory.
+/// Returns these words with each entry's new value at its address. An entry past the last word writes nothing.
+/// The only error is that memory is out.
 pub(crate) fn with_change(
     alloc: Global,
     words: &[u64],
@@ -25,7 +27,7 @@ pub(crate) fn with_change(
     Ok(changed)
 }
 
-/// Whether two changes have an entry of one word.
+/// Whether two changes have an entry for the same word.
 pub(crate) fn share_a_word(these: &[Entry], those: &[Entry]) -> bool
     ensures { result ≡ spec.share_a_word these.now those.now }
 {

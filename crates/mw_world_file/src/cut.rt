@@ -1,9 +1,12 @@
-//! What is under way when all stops, and what is left.
+//! A call that is under way when all stops, and what the stop leaves.
+//!
+//! mw_simulator makes a [`Cut`] of a call that was under way. `restarts` gives it to `stops`, which returns
+//! what is left (`Left`).
 
 use mw_look::Call;
 use mw_words::Entries;
 
-/// A call on a tenant's file that never came to its end.
+/// A call on a tenant's file that was interrupted before its end.
 #[derive(Drop)]
 pub struct Cut {
     /// The call.
@@ -16,11 +19,11 @@ pub struct Cut {
     pub made: u64,
 }
 
-/// What is left of a tenant's file once all has stopped.
+/// What a stop leaves of a tenant's file.
 #[derive(Drop)]
 pub(crate) struct Left {
     /// The bytes of its disk.
     pub(crate) image: Vec<u8>,
-    /// The change that they may have or not; none: no entries.
+    /// The change that they may have or not. It has no entries if none is in doubt.
     pub(crate) doubt: Entries,
 }

@@ -1,4 +1,6 @@
-//! Where a tenant's file is.
+//! A tenant's file on its disk in memory, open or shut.
+//!
+//! Used by: `book`, and the modules that make or change a book.
 
 use mw_disk::MemDisk;
 use mw_file::TenantFile;
@@ -8,6 +10,6 @@ use mw_file::TenantFile;
 pub(crate) enum Device {
     /// It was opened.
     Open(TenantFile<MemDisk>),
-    /// Its opening failed, and this is the disk.
+    /// Its opening failed, or no start has opened it yet. This is the disk.
     Shut(MemDisk),
 }

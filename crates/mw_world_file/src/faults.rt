@@ -1,13 +1,15 @@
 //! Why a call on a file, or a start of it, is refused.
+//!
+//! mw_simulator makes its own fault of it, in `src/faults.rt`: a new kind needs a case there.
 
 use std::alloc::AllocError;
 
-/// Why a call on a file, or a start of it, is refused. The book is then what it was.
+/// Why a call on a file, or a start of it, is refused. The book stays unchanged.
 #[derive(Clone, Copy, Debug, PartialEq, Eq)]
 pub enum BookFault {
-    /// It can't happen as things are.
+    /// It can't happen in this state of the file.
     NotEnabled,
-    /// Want of memory.
+    /// Memory is out.
     Memory,
 }
 

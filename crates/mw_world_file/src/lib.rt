@@ -1,29 +1,34 @@
-//! A tenant's file as a server in memory keeps it: the file itself, on a disk in memory, beside the words
-//! that it stands for, its places and the change that is in doubt.
+//! A tenant's file in memory, for the simulator: the file itself on a disk in memory, and beside it the words
+//! that it represents, its places and the change in doubt. A book here is such a file with what is kept beside
+//! it, a [`SimulatedFile`].
 //!
-//! A call on it makes a new book, of the file after the call, and leaves the old one as it was. It is told
-//! which device call fails, if one does. `restart` is what comes of a book once all has stopped, in the
-//! midst of a call too, and has started again.
+//! A call on a book makes a new book of the file after the call, and leaves the old book unchanged. The caller
+//! says which device call fails, if one does. `restart` makes the book after all stopped, also in the middle of
+//! a call, and started again.
+//!
+//! The code is for mw_simulator. `specs/Files`, `specs/Calls` and `specs/Restarts` define a tenant's file in a world,
+//! whatever disk it is on. mw_book, mw_world, the laws and the shared words use these definitions: a change of them
+//! is a change of what is proved.
 #![tactic(auto)]
 
+mod book;
+mod calls;
 mod changes;
 mod cut;
 mod device;
 mod faults;
-mod giving;
-mod kept;
-mod making;
+mod new_books;
 mod opened;
 mod opening;
 mod outcomes;
 mod places;
-mod restarting;
-mod stopping;
+mod restarts;
+mod start_values;
+mod stops;
 mod unopened;
-mod working;
 
+pub use book::SimulatedFile;
 pub use cut::Cut;
 pub use faults::BookFault;
-pub use kept::Book;
 pub use outcomes::Outcome;
 pub use unopened::{OLD_ENTRIES, OLD_PLACES};

@@ -1,44 +1,47 @@
 //! The book of a file that was just opened.
+//!
+//! Used by: `opening`, when an opening went well; `unopened`, which takes only `empty_places`. A new field
+//! of a book needs its value here and wherever a book is made: in `opening`, `unopened` and `calls`.
 ghost use Rattle.std.specs.Prelude.{◌≡◌, ◌≤◌, [], false, length, replicate, IfOk, IsTrue};
 ghost use Rattle.mw_disk.specs.Memory.{memory_facts};
 ghost use Rattle.mw_file.specs.File.{disk_of, has_failed, states_of};
-ghost use Rattle.mw_file.specs.Keeps.{Keeps};
+ghost use Rattle.mw_file.specs.RecoveryInvariant.{RecoversTo};
 ghost use Rattle.mw_file.specs.PlaceStates.{all_free};
-ghost use Rattle.mw_world_file.specs.Books.{Shows, quota_of, places_of_file};
+ghost use Rattle.mw_world_file.specs.Books.{Represents, quota_of, places_of_file};
 ghost use Rattle.mw_world_file.specs.Devices.{IsReady};
 ghost use Rattle.mw_world_file.specs.Files.{file_of};
 ghost use Rattle.mw_world_file.specs.declared.device.Device.TheVariants.{Open};
 ghost use Rattle.mw_world_file.specs.declared.places.Place.TheVariants.{Empty};
 
+use crate::book::{SLOTS, SimulatedFile};
 use crate::device::Device;
-use crate::kept::{Book, SLOTS};
 use crate::places::Place;
 use mw_disk::MemDisk;
 use mw_file::TenantFile;
 use mw_words::Entries;
 use std::alloc::{AllocError, Global};
 
-/// The book of a file that was just opened, with the words that it stands for. So many of its places are
-/// used, and all are empty. The only error is want of memory.
+/// Makes the book of a file that was just opened, with the words that it represents. It uses as many of its
+/// places as the quota, and all are empty. The only error is that memory is out.
 pub(crate) fn open_book(
     alloc: Global,
     file: TenantFile<MemDisk>,
     contents: Vec<u64>,
     quota: usize,
-) -> Result<Book, AllocError>
+) -> Result<SimulatedFile, AllocError>
     requires free { IsTrue (all_free (states_of file)) }
     requires room { quota ≤ length (states_of file) }
     requires sound { has_failed file ≡ false }
-    requires keeps { Keeps memory_facts file contents.items [] }
+    requires keeps { RecoversTo memory_facts file contents.items [] }
     requires ready { IsReady (disk_of file) }
-    ensures shows { IfOk result (λ book. Shows book (file_of contents.items)) }
+    ensures shows { IfOk result (λ book. Represents book (file_of contents.items)) }
     ensures places { IfOk result (λ book. quota_of book ≡ quota) }
     ensures has { IfOk result (λ book. places_of_file book ≡ length (states_of file)) }
     ensures device { IfOk result (λ book. book.device ≡ Open file) }
 {
     let places = empty_places(alloc, quota)?;
     let file_places = file.places();
-    Ok(Book {
+    Ok(SimulatedFile {
         device: Device::Open(file),
         contents,
         places,
@@ -49,7 +52,7 @@ pub(crate) fn open_book(
     })
 }
 
-/// So many empty places. The only error is want of memory.
+/// Makes `count` empty places. The only error is that memory is out.
 pub(crate) fn empty_places(alloc: Global, count: usize) -> Result<Vec<Place>, AllocError>
     ensures { IfOk result (λ places. places.items ≡ replicate count Empty) }
 {

@@ -1,19 +1,21 @@
 //! The opening of a tenant's file.
+//!
+//! Used by: `new_books`, `restarts`.
 ghost use Rattle.std.specs.Prelude.{◌≡◌, ◌<◌, ◌≤◌, ◌^◌, ℕ, List, Some, None, [], length, replicate, true, false, IsTrue, IsSome, IsSomeAnd, IfOk, MatchResult};
 ghost use Rattle.mw_disk.specs.Memory.{memory_facts};
 ghost use Rattle.mw_file.specs.File.{disk_of, states_of, has_failed};
-ghost use Rattle.mw_file.specs.Keeps.{Keeps};
+ghost use Rattle.mw_file.specs.RecoveryInvariant.{RecoversTo};
 ghost use Rattle.mw_file.specs.PlaceStates.{all_free};
 ghost use Rattle.mw_record.specs.Damages.{words_in, file_words, places_of};
-ghost use Rattle.mw_world_file.specs.Books.{HasParts, Shows, quota_of, places_of_file};
+ghost use Rattle.mw_world_file.specs.Books.{HasParts, Represents, quota_of, places_of_file};
 ghost use Rattle.mw_world_file.specs.Devices.{IsReady};
 ghost use Rattle.mw_world_file.specs.Files.{file_of};
-ghost use Rattle.mw_world_file.specs.Stopping.{named};
+ghost use Rattle.mw_world_file.specs.StoppedFiles.{named};
 ghost use Rattle.mw_world_file.specs.declared.device.Device.TheVariants.{Open, Shut};
 
+use crate::book::{SLOTS, SimulatedFile};
 use crate::device::Device;
 use crate::faults::BookFault;
-use crate::kept::{Book, SLOTS};
 use crate::opened::{empty_places, open_book};
 use crate::places::Place;
 use mw_disk::MemDisk;
@@ -22,7 +24,7 @@ use mw_record::{Image, Layout, PLACES_GROW, decode};
 use mw_words::Entries;
 use std::alloc::{AllocError, Global};
 
-/// The words of a file without damage.
+/// Reads the words of a file without damage. The only error is that memory is out.
 fn words_of(alloc: Global, image: &Image<'_>) -> Result<Vec<u64>, AllocError>
     ensures { IfOk result (λ words. words.items ≡ words_in image.now) }
 {
@@ -33,7 +35,7 @@ fn words_of(alloc: Global, image: &Image<'_>) -> Result<Vec<u64>, AllocError>
     Ok(words)
 }
 
-/// How many places for changes a file without damage has once it is open.
+/// Returns how many places a file without damage has after it is opened.
 fn places_once_open(image: &Image<'_>) -> u16
     ensures { result ≡ places_of image.now }
 {
@@ -43,7 +45,7 @@ fn places_once_open(image: &Image<'_>) -> u16
     }
 }
 
-/// A script that names this call.
+/// Makes a script that names this device call, or none. The only error is that memory is out.
 fn script_of(alloc: Global, fails_at: Option<u64>) -> Result<Vec<u64>, AllocError>
     ensures { IfOk result (λ script. script.items ≡ named fails_at) }
 {
@@ -54,24 +56,25 @@ fn script_of(alloc: Global, fails_at: Option<u64>) -> Result<Vec<u64>, AllocErro
     Ok(script)
 }
 
-impl Book {
-    ghost use Rattle.mw_world_file.specs.Stopping.{ReopenEnds};
+impl SimulatedFile {
+    ghost use Rattle.mw_world_file.specs.StoppedFiles.{ReopenEnds};
 
-    /// The book of a file that was opened, so many places of which are used, if no device call was to fail.
+    /// Makes the book of a file that was opened, which uses `quota` of its places. An opening in which a device
+    /// call must fail is refused.
     fn opened(
         alloc: Global,
         file: TenantFile<MemDisk>,
         words: Vec<u64>,
         quota: usize,
         fails_at: Option<u64>,
-    ) -> Result<Book, BookFault>
+    ) -> Result<SimulatedFile, BookFault>
         requires free { IsTrue (all_free (states_of file)) }
         requires room { quota ≤ length (states_of file) }
         requires sound { has_failed file ≡ false }
-        requires keeps { Keeps memory_facts file words.items [] }
+        requires keeps { RecoversTo memory_facts file words.items [] }
         requires ready { fails_at ≡ None → IsReady (disk_of file) }
         ensures { MatchResult result
-            (λ book. (fails_at ≡ None) × Shows book (file_of words.items) × (quota_of book ≡ quota) × (places_of_file book ≡ length (states_of file))
+            (λ book. (fails_at ≡ None) × Represents book (file_of words.items) × (quota_of book ≡ quota) × (places_of_file book ≡ length (states_of file))
             × (book.device ≡ Open file))
             (λ fault. fault ≡ BookFault.NotEnabled → IsSomeAnd fails_at (λ number. number < 2 ^ 64)) }
     {
@@ -81,8 +84,9 @@ impl Book {
         Ok(open_book(alloc, file, words, quota)?)
     }
 
-    /// The book of a file with so many places whose opening failed, if a device call was to fail and none was
-    /// refused memory.
+    /// Makes the book of a file whose opening failed. The file has `file_places` places, and the book uses
+    /// `quota` of them. The only error is that memory is out. It is also returned if no device call had to
+    /// fail.
     fn shut(
         alloc: Global,
         disk: MemDisk,
@@ -90,7 +94,7 @@ impl Book {
         file_places: u16,
         quota: usize,
         fails_at: Option<u64>,
-    ) -> Result<Book, BookFault>
+    ) -> Result<SimulatedFile, BookFault>
         requires { quota ≤ file_places }
         ensures { MatchResult result
             (λ book. IsSome fails_at × (disk.refused ≡ 0) × HasParts book (Shut disk) words.items (replicate quota Place.Empty) file_places (replicate SLOTS 0) true [])
@@ -102,7 +106,7 @@ impl Book {
         let Ok(places) = empty_places(alloc, quota) else {
             return Err(BookFault::Memory);
         };
-        Ok(Book {
+        Ok(SimulatedFile {
             device: Device::Shut(disk),
             contents: words,
             places,
@@ -113,19 +117,19 @@ impl Book {
         })
     }
 
-    /// The book of a file that is opened from these bytes, so many places of which are used. It has so many,
-    /// or more.
+    /// Opens a file from these bytes, and makes its book, which uses `quota` of its places. The file has at
+    /// least as many.
     ///
     /// # Errors
     ///
-    /// [`BookFault::NotEnabled`] where the opening makes no device call with the number of the one that
-    /// is to fail. [`BookFault::Memory`] where memory was refused.
+    /// [`BookFault::NotEnabled`]: the opening makes no device call with the number of the one that must fail.
+    /// [`BookFault::Memory`]: memory is out.
     pub(crate) fn open(
         alloc: Global,
         bytes: Vec<u8>,
         quota: usize,
         fails_at: Option<u64>,
-    ) -> Result<Book, BookFault>
+    ) -> Result<SimulatedFile, BookFault>
         ensures { (words : List ℕ) → file_words bytes.items ≡ Some words → quota ≤ places_of bytes.items → ReopenEnds bytes.items quota words fails_at result }
     {
         let Ok(image) = decode(&bytes) else {
@@ -140,12 +144,19 @@ impl Book {
         match TenantFile::open(alloc, disk) {
             Ok(opened) => {
                 let (file, words) = opened;
-                Book::opened(alloc, file, words, quota, fails_at)
+                SimulatedFile::opened(alloc, file, words, quota, fails_at)
             }
             Err(failed) => {
                 let (fault, disk) = failed;
                 match fault {
-                    OpenFault::Disk => Book::shut(alloc, disk, found, file_places, quota, fails_at),
+                    OpenFault::Disk => SimulatedFile::shut(
+                        alloc,
+                        disk,
+                        found,
+                        file_places,
+                        quota,
+                        fails_at,
+                    ),
                     OpenFault::Damage(_) => Err(BookFault::NotEnabled),
                     OpenFault::Memory => Err(BookFault::Memory),
                 }

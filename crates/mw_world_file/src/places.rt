@@ -1,4 +1,6 @@
 //! The places of a tenant's file, as a book keeps them.
+//!
+//! Used by: `book`, `calls`, `opened`, `opening`, `stops`.
 ghost use Rattle.std.specs.Prelude.{◌≡◌, IfOk};
 ghost use Rattle.std.specs.List.{list_any};
 ghost use Rattle.mw_world_file.specs.Devices.{told};
@@ -10,16 +12,16 @@ use std::alloc::{AllocError, Global};
 /// A place of a file, and the change in it.
 #[derive(Debug, Drop)]
 pub(crate) enum Place {
-    /// There is none.
+    /// It has no change.
     Empty,
-    /// A change that is written down.
+    /// It has a change that is written down.
     Prepared(Entries),
-    /// A change that is sealed.
+    /// It has a change that is sealed.
     Sealed(Entries),
 }
 
 impl Place {
-    /// An equal one.
+    /// Returns an equal place.
     pub(crate) fn copy(&self) -> Place
         ensures { result ≡ self.now }
     {
@@ -47,7 +49,7 @@ pub(crate) fn has_empty(places: &[Place]) -> bool
     places.iter().any(|place| place.is_empty())
 }
 
-/// The same places once more. The only error is want of memory.
+/// Copies places. The only error is that memory is out.
 pub(crate) fn copies(alloc: Global, places: &[Place]) -> Result<Vec<Place>, AllocError>
     ensures { IfOk result (λ copies. copies.items ≡ places.now) }
 {

@@ -1,14 +1,17 @@
 //! The book of an old file, which no start has opened yet.
+//!
+//! mw_simulator makes such a book if the configuration of a world gives the tenant an old file. mw_world
+//! passes on the two limits.
 ghost use Rattle.std.specs.Prelude.{◌≡◌, ◌≤◌, ◌*◌, [], length, replicate, IfOk, IsTrue};
 ghost use Rattle.mw_words.specs.declared.limits.TheConstants.{MAX_WORDS};
 ghost use Rattle.mw_record.specs.declared.layout.TheConstants.{FIRST_PLACES, PLACES_GROW};
 ghost use Rattle.mw_words.specs.Change.{is_change, put};
-ghost use Rattle.mw_file.specs.Keeps.{IsFile};
+ghost use Rattle.mw_file.specs.RecoveryInvariant.{IsFile};
 ghost use Rattle.mw_world_file.specs.OldFiles.{old_body, old_file};
 
+use crate::book::{SLOTS, SimulatedFile};
 use crate::changes::with_change;
 use crate::device::Device;
-use crate::kept::{Book, SLOTS};
 use crate::opened::empty_places;
 use mw_disk::MemDisk;
 use mw_record::{
@@ -18,13 +21,13 @@ use mw_record::{
 use mw_words::{Entries, MAX_ENTRIES};
 use std::alloc::{AllocError, Global};
 
-/// The most entries of the change whose record stands open in an old file.
+/// The most entries of the change whose record is open in an old file.
 pub const OLD_ENTRIES: usize = 8;
 
-/// The number of bytes of a record place of an old file after its commit byte.
+/// How many bytes a record place of an old file has after its commit byte.
 const OLD_BODY: usize = 135;
 
-/// The greatest quota of a tenant with an old file, which has as many places.
+/// The greatest quota of a tenant with an old file, which has as many places as the quota.
 pub const OLD_PLACES: u8 = 32;
 
 const _: () = prove!(OLD_ENTRIES == FIRST_ENTRIES);
@@ -33,29 +36,29 @@ const _: () = prove!(OLD_PLACES as u16 == FIRST_PLACES);
 
 const _: () = prove!(OLD_BODY + ENTRY_SIZE * (MAX_ENTRIES - FIRST_ENTRIES) == BODY_SIZE);
 
-impl Book {
-    ghost use Rattle.mw_world_file.specs.Books.{Shows, quota_of, places_of_file};
+impl SimulatedFile {
+    ghost use Rattle.mw_world_file.specs.Books.{Represents, quota_of, places_of_file};
     ghost use Rattle.mw_world_file.specs.Files.{broken, file_of};
     ghost use Rattle.mw_world_file.specs.FirstPlaces.{first_places};
 
-    /// The book of an old file, which no start has opened yet: of so many words, 1 to `MAX_WORDS`, and as
-    /// many places as the tenant's quota, 1 to `FIRST_PLACES`, all of which are used. A start that opens it
-    /// gives it more. Its home words are 0, and the record of this change, a well-formed one of its words,
-    /// stands open in its first place. It has failed until a start opens it. The only error is want of
-    /// memory.
+    /// Makes the book of an old file, which no start has opened yet. `words` is 1 to `MAX_WORDS`, and `quota`,
+    /// the tenant's, is 1 to `FIRST_PLACES`. The file has as many places as the quota, and uses them all; the
+    /// start that opens it gives it more. Its home words are 0. The record of `change`, a well-formed change of
+    /// its words, is open in its first place. Until a start opens it, it counts as failed. The only error is
+    /// that memory is out.
     pub fn unopened(
         alloc: Global,
         words: u16,
         quota: u8,
         change: &Entries,
-    ) -> Result<Book, AllocError>
+    ) -> Result<SimulatedFile, AllocError>
         requires some_word { 1 ≤ words }
         requires words_fit { words ≤ MAX_WORDS }
         requires some_place { 1 ≤ quota }
         requires places_fit { quota ≤ FIRST_PLACES }
         requires formed { IsTrue (is_change words change.now.items) }
         requires few { length change.now.items ≤ OLD_ENTRIES }
-        ensures shows { IfOk result (λ book. Shows book (broken (file_of (put (replicate words 0) change.now.items)) [])) }
+        ensures shows { IfOk result (λ book. Represents book (broken (file_of (put (replicate words 0) change.now.items)) [])) }
         ensures places { IfOk result (λ book. quota_of book ≡ quota) }
         ensures has { IfOk result (λ book. places_of_file book ≡ first_places quota) }
         ensures words { IfOk result (λ book. length book.contents.items ≡ words) }
@@ -63,7 +66,7 @@ impl Book {
         let contents = with_change(alloc, &zeros(alloc, words)?, change)?;
         let bytes = old_bytes(alloc, words, u16::from(quota), change)?;
         let disk = MemDisk::new(alloc, bytes, Vec::new(alloc))?;
-        Ok(Book {
+        Ok(SimulatedFile {
             device: Device::Shut(disk),
             contents,
             places: empty_places(alloc, usize::from(quota))?,
@@ -75,7 +78,7 @@ impl Book {
     }
 }
 
-/// So many words, all of them 0. The only error is want of memory.
+/// Makes `words` words, all 0. The only error is that memory is out.
 fn zeros(alloc: Global, words: u16) -> Result<Vec<u64>, AllocError>
     ensures { IfOk result (λ zeros. zeros.items ≡ replicate words 0) }
 {
@@ -84,8 +87,8 @@ fn zeros(alloc: Global, words: u16) -> Result<Vec<u64>, AllocError>
     Ok(zeros)
 }
 
-/// The bytes of an old file: its words are zeros, and over them this change, whose record stands open in
-/// its first place. The only error is want of memory.
+/// Makes the bytes of an old file that represents zeros with this change put over them. The change's record is
+/// open in the first place. The only error is that memory is out.
 fn old_bytes(
     alloc: Global,
     words: u16,
@@ -103,7 +106,7 @@ fn old_bytes(
     laid_out(alloc, words, places, change)
 }
 
-/// The same bytes, one part behind the other.
+/// Makes the same bytes, one part after the other. The only error is that memory is out.
 fn laid_out(alloc: Global, words: u16, places: u16, change: &Entries) -> Result<Vec<u8>, AllocError>
     requires some_word { 1 ≤ words }
     requires words_fit { words ≤ MAX_WORDS }
@@ -122,8 +125,8 @@ fn laid_out(alloc: Global, words: u16, places: u16, change: &Entries) -> Result<
     Ok(bytes)
 }
 
-/// What stands behind the commit byte of a place of an old file with this change. The only error is want of
-/// memory.
+/// Makes the bytes after the commit byte of a place of an old file with this change. The only error is that
+/// memory is out.
 fn old_record(alloc: Global, change: &Entries) -> Result<Vec<u8>, AllocError>
     ensures bytes { IfOk result (λ bytes. bytes.items ≡ old_body change.now.items) }
     ensures long { IfOk result (λ bytes. length bytes.items ≡ OLD_BODY) }

@@ -1,4 +1,5 @@
--- The shared words at a start: they have the places of the configuration, and are tied to what stands there at first.
+-- The bits at a start have exactly the places of the configuration, and match the shared words at that start. Used by:
+-- the proof of Cells::new, mw_simulator.
 use Rattle.std.specs.Prelude.{ℕ, zero, suc, ◌≡◌, ◌+◌, ◌*◌, ◌<◌, ◌≤◌, ◌&&◌, Bool, true, false, not, cond, if◌then◌else◌, nat_lt, List, [], ◌∷◌, length, map, replicate, is_some, slice_get, slice_index, slice_index_or, IfSome, MatchOption, Some, None, Vec}
 use Rattle.std.specs.declared.option.Option.{Option}
 use Rattle.std.specs.declared.alloc.Global.{Global}
@@ -16,11 +17,11 @@ use Rattle.mw_world.specs.declared.config.Tenant.{Tenant}
 use Rattle.mw_world.specs.Definition.State.{IsConfig, no_tenant, tenant_at, tenants_of, first_cells, words_given}
 use Rattle.mw_world.specs.Definition.Cells.{AllFit}
 use Rattle.mw_world_memory.specs.Bits.{Bits, entry_at, word_bits}
-use Rattle.mw_world_memory.specs.Ties.{Tie}
+use Rattle.mw_world_memory.specs.BitsMatch.{BitsMatch}
 use Rattle.mw_world_memory.specs.BitPlaces.{HasPlacesOf}
 use Rattle.mw_world_memory.specs.Openings.{Openings, opening_at, AreOpenings, Gave, first_door, AreFirstWords}
 
--- The shared words were made so.
+-- The bits were made like this.
 pub record StartsAs (config : Config) (openings : Openings) (bits : Bits) : Type 0 where
   pub doors : bits.doors ≡ map first_door openings
   pub gates : bits.gates ≡ replicate config.pool (packed_gate (record { taken = false; pins = 0; seq = config.seq }))
@@ -30,7 +31,7 @@ pub record StartsAs (config : Config) (openings : Openings) (bits : Bits) : Type
   pub counts : bits.counts ≡ replicate config.pool 0
   pub addrs : bits.addrs ≡ replicate (config.pool * MAX_ENTRIES) 0
   pub expecteds : bits.expecteds ≡ replicate (config.pool * MAX_ENTRIES) 0
-  pub news : bits.news ≡ replicate (config.pool * MAX_ENTRIES) 0
+  pub new_values : bits.new_values ≡ replicate (config.pool * MAX_ENTRIES) 0
 
 -- there is an element at each index below the length
 there_is : {A : Type 0} → (xs : List A) (i : ℕ) → is_some (slice_get xs i) ≡ nat_lt i (length xs)
@@ -70,7 +71,7 @@ words_long config openings words tenant are first =
           ap length (get_or_past words tenant [] (omega (arith, first.long, past))) ∙ sym (ap (λ t. t.words) (get_or_past config.tenants.items tenant no_tenant past))
     ]
 
--- there are just the shared words of the configuration
+-- the bits have exactly the places of the configuration
 pub start_has_places : (config : Config) (openings : Openings) (bits : Bits) → AreOpenings config openings → StartsAs config openings bits → HasPlacesOf config bits
 start_has_places config openings bits are starts (AtDoor tenant) = of_length bits.doors tenant (tenants_of config) (ap length starts.doors ∙ length-map openings first_door ∙ are.one_each)
 start_has_places config openings bits are starts (AtGate slot) = of_length bits.gates slot config.pool (long_as bits.gates config.pool _ starts.gates)
@@ -81,7 +82,7 @@ start_has_places config openings bits are starts (AtStatus slot) = of_length bit
 start_has_places config openings bits are starts (Count slot) = of_length bits.counts slot config.pool (long_as bits.counts config.pool 0 starts.counts)
 start_has_places config openings bits are starts (Addr slot entry) = entry_there bits.addrs slot entry config.pool (long_as bits.addrs (config.pool * MAX_ENTRIES) 0 starts.addrs)
 start_has_places config openings bits are starts (Expected slot entry) = entry_there bits.expecteds slot entry config.pool (long_as bits.expecteds (config.pool * MAX_ENTRIES) 0 starts.expecteds)
-start_has_places config openings bits are starts (New slot entry) = entry_there bits.news slot entry config.pool (long_as bits.news (config.pool * MAX_ENTRIES) 0 starts.news)
+start_has_places config openings bits are starts (New slot entry) = entry_there bits.new_values slot entry config.pool (long_as bits.new_values (config.pool * MAX_ENTRIES) 0 starts.new_values)
 
 -- each element of a list of one number is that number
 one_number : (n i x : ℕ) → IfSome (slice_get (replicate n x) i) (λ y. y ≡ x)
@@ -99,7 +100,7 @@ entry_in xs n slot entry x is = by (nat_lt entry MAX_ENTRIES)
     by true = number_in xs n (slot * MAX_ENTRIES + entry) x is
     by false = tt
 
--- an element of a list is what stands at its index
+-- an element of a list is the one at its index
 element_in : (xs : List ℕ) (i : ℕ) → IfSome (slice_get xs i) (λ y. y ≡ slice_index xs i)
 element_in [] i = tt
 element_in (x ∷ xs) zero = refl
@@ -139,9 +140,9 @@ words_as config openings bits words is_up are first gave tenant address =
       | inr past ↦ subst P (sym (get_or_past bits tenant [] (omega (arith, first.long, past)))) tt
     ]
 
--- they are tied to what stands there at first
+-- the bits match the shared words at the start
 pub start_is_tied : (config : Config) (openings : Openings) (bits : Bits) (words : ℕ → List ℕ) (is_up : ℕ → Bool) → AreOpenings config openings → StartsAs config openings bits →
-    Gave openings words is_up → Tie bits (first_cells config words is_up)
+    Gave openings words is_up → BitsMatch bits (first_cells config words is_up)
 start_is_tied config openings bits words is_up are starts gave (AtDoor tenant) =
     subst (λ doors. IfSome (slice_get doors tenant) (λ there. there ≡ packed_door (record { fault = not (is_up tenant); used = 0 }))) (sym starts.doors) (doors_as openings words is_up gave tenant)
 start_is_tied config openings bits words is_up are starts gave (AtGate slot) = number_in bits.gates config.pool slot _ starts.gates
@@ -151,9 +152,9 @@ start_is_tied config openings bits words is_up are starts gave (AtStatus slot) =
 start_is_tied config openings bits words is_up are starts gave (Count slot) = number_in bits.counts config.pool slot 0 starts.counts
 start_is_tied config openings bits words is_up are starts gave (Addr slot entry) = entry_in bits.addrs (config.pool * MAX_ENTRIES) slot entry 0 starts.addrs
 start_is_tied config openings bits words is_up are starts gave (Expected slot entry) = entry_in bits.expecteds (config.pool * MAX_ENTRIES) slot entry 0 starts.expecteds
-start_is_tied config openings bits words is_up are starts gave (New slot entry) = entry_in bits.news (config.pool * MAX_ENTRIES) slot entry 0 starts.news
+start_is_tied config openings bits words is_up are starts gave (New slot entry) = entry_in bits.new_values (config.pool * MAX_ENTRIES) slot entry 0 starts.new_values
 
--- the values of words are values of a word, past the last one too
+-- a tenant's words are values of a word, also after the last one
 word_low : (words : List ℕ) (address : ℕ) → AreWords words → word_at words address ≤ MAX_VALUE
 word_low words address are =
     elim (cases_lt address (length words)) [
@@ -165,7 +166,7 @@ first_low : (up : Bool) (words : List ℕ) (address : ℕ) → (up ≡ true → 
 first_low true words address are = word_low words address (are refl)
 first_low false words address are = omega arith
 
--- what stands at each place at first is in range, where the words of the files that opened are values of a word
+-- the shared words at a start are in range if the words of the opened files are values of a word
 pub first_cells_fit : (config : Config) (words : ℕ → List ℕ) (is_up : ℕ → Bool) → IsConfig config → ((tenant : ℕ) → is_up tenant ≡ true → AreWords (words tenant)) →
     AllFit (first_cells config words is_up)
 first_cells_fit config words is_up is are (AtDoor tenant) = omega arith

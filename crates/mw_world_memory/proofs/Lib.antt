@@ -1,3 +1,3 @@
 pub mod FirstBits
 pub mod MadeSteps
-pub mod Tying
+pub mod BitsMatchLaws

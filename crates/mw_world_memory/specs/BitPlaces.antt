@@ -1,10 +1,11 @@
--- Which shared words there are in bits.
+-- Of which shared words a world in memory has the bits.
+-- Used by: the contracts of src/cells/start.rt, mw_simulator. A change here changes what these contracts say.
 use Rattle.std.specs.Prelude.{◌≡◌}
 use Rattle.mw_words.specs.declared.places.At.{At}
 use Rattle.mw_world.specs.declared.config.Config.{Config}
 use Rattle.mw_world.specs.Definition.Extent.{has_place}
 use Rattle.mw_world_memory.specs.Bits.{Bits, is_there}
 
--- there are bits just for the shared words of this configuration
+-- there are bits for exactly the shared words of this configuration
 abbrev pub HasPlacesOf : Config → Bits → Type 0
 HasPlacesOf config bits = (at : At) → is_there bits at ≡ has_place config at

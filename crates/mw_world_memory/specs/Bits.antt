@@ -1,4 +1,6 @@
--- The shared words in bits, as lists.
+-- The bits of the shared words, as lists.
+-- Used by: the contracts of src/cells.rt and src/cells/steps.rt, specs/BitPlaces, specs/BitsMatch, specs/StepsInBits,
+-- mw_simulator. A change here changes what these contracts say.
 use Rattle.std.specs.Prelude.{ℕ, ◌≡◌, ◌+◌, ◌*◌, Bool, cond, nat_lt, List, [], None, is_some, slice_get, slice_set, slice_index_or}
 use Rattle.std.specs.declared.option.Option.{Option}
 use Rattle.mw_words.specs.declared.limits.TheConstants.{MAX_ENTRIES}
@@ -18,12 +20,12 @@ pub record Bits : Type 0 where
   -- by slot
   pub statuses : List ℕ
   pub counts : List ℕ
-  -- by entry, the entries of one slot after those of the slot before it
+  -- by entry, the entries of one slot after those of the slot before it; the last list has the new values
   pub addrs : List ℕ
   pub expecteds : List ℕ
-  pub news : List ℕ
+  pub new_values : List ℕ
 
--- the bits of an entry of a slot; a slot has no entries from the most entries of a change on
+-- the bits of an entry of a slot; a slot has MAX_ENTRIES entries
 abbrev pub entry_at : List ℕ → ℕ → ℕ → Option ℕ
 entry_at entries slot entry = cond (nat_lt entry MAX_ENTRIES) (slice_get entries (slot * MAX_ENTRIES + entry)) None
 
@@ -39,7 +41,7 @@ word_bits words tenant address = slice_get (slice_index_or words tenant []) addr
 abbrev pub with_word : List (List ℕ) → ℕ → ℕ → ℕ → List (List ℕ)
 with_word words tenant address bits = slice_set words tenant (slice_set (slice_index_or words tenant []) address bits)
 
--- the bits at a place; None where there is no such place
+-- the bits at a place; None: there is no such place
 abbrev pub bits_at : Bits → At → Option ℕ
 bits_at bits (AtDoor tenant) = slice_get bits.doors tenant
 bits_at bits (AtGate slot) = slice_get bits.gates slot
@@ -49,9 +51,9 @@ bits_at bits (AtStatus slot) = slice_get bits.statuses slot
 bits_at bits (Count slot) = slice_get bits.counts slot
 bits_at bits (Addr slot entry) = entry_at bits.addrs slot entry
 bits_at bits (Expected slot entry) = entry_at bits.expecteds slot entry
-bits_at bits (New slot entry) = entry_at bits.news slot entry
+bits_at bits (New slot entry) = entry_at bits.new_values slot entry
 
--- the bits once these stand at a place; nothing changes where there is no such place
+-- the bits with these put at a place; if there is no such place, nothing changes
 abbrev pub put_bits : Bits → At → ℕ → Bits
 put_bits bits (AtDoor tenant) put = record bits { doors = slice_set bits.doors tenant put }
 put_bits bits (AtGate slot) put = record bits { gates = slice_set bits.gates slot put }
@@ -61,7 +63,7 @@ put_bits bits (AtStatus slot) put = record bits { statuses = slice_set bits.stat
 put_bits bits (Count slot) put = record bits { counts = slice_set bits.counts slot put }
 put_bits bits (Addr slot entry) put = record bits { addrs = with_entry bits.addrs slot entry put }
 put_bits bits (Expected slot entry) put = record bits { expecteds = with_entry bits.expecteds slot entry put }
-put_bits bits (New slot entry) put = record bits { news = with_entry bits.news slot entry put }
+put_bits bits (New slot entry) put = record bits { new_values = with_entry bits.new_values slot entry put }
 
 -- there is such a place
 abbrev pub is_there : Bits → At → Bool

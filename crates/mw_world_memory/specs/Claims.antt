@@ -1,43 +1,45 @@
--- What is kept of a history: for which request each slot was claimed, and for which the reply FAULT was decided.
+-- What a log keeps of a history: the request that each slot was claimed for, and the changes whose FAULT was decided.
+-- Used by: the contracts of src/claims.rt, src/lines.rt and src/workers.rt, mw_simulator. A change here changes what
+-- these contracts say.
 use Rattle.std.specs.Prelude.{ℕ, ◌+◌, ◌≡◌, ◌≤◌, ◌==◌, ◌&&◌, Bool, List, reverse, Option, vec_len, vec_capacity}
 use Rattle.std.specs.List.{find, list_any}
 use Rattle.std.specs.Option.{option_map_or}
 use Rattle.mw_actor.specs.declared.points.Slot.{Slot}
 use Rattle.mw_world.specs.Definition.History.{History}
 use Rattle.mw_world_memory.specs.declared.claims.Claim.{Claim}
-use Rattle.mw_world_memory.specs.declared.claims.Claims.{Claims}
+use Rattle.mw_world_memory.specs.declared.claims.ClaimLog.{ClaimLog}
 
--- this is the slot under the number
+-- this is the slot under the sequence number
 abbrev pub is_under : Slot → ℕ → ℕ → Bool
 is_under change slot seq = (change.slot == slot) && (change.seq == seq)
 
--- the latest claim of the slot under the number, among these claims
+-- the latest of these claims of the slot under the sequence number
 abbrev pub latest : List Claim → ℕ → ℕ → Option Claim
 latest claims slot seq = find (λ claim. is_under claim.own slot seq) (reverse claims)
 
--- the slot under the number is one of these
+-- the slot under the sequence number is one of these
 abbrev pub is_one_of : List Slot → ℕ → ℕ → Bool
 is_one_of changes slot seq = list_any (λ change. is_under change slot seq) changes
 
--- the request for which a slot was claimed under a number; 0 where it wasn't
-abbrev pub request_in : Claims → ℕ → ℕ → ℕ
+-- the request that a slot was claimed for under a sequence number; 0: it wasn't
+abbrev pub request_in : ClaimLog → ℕ → ℕ → ℕ
 request_in known slot seq = option_map_or (λ claim. claim.request) (latest known.claims.items slot seq) 0
 
--- FAULT was decided for its request
-abbrev pub is_spoiled_in : Claims → ℕ → ℕ → Bool
-is_spoiled_in known slot seq = is_one_of known.spoiled.items slot seq
+-- FAULT was decided for the request of the slot's change
+abbrev pub is_fault_decided_in : ClaimLog → ℕ → ℕ → Bool
+is_fault_decided_in known slot seq = is_one_of known.fault_decided.items slot seq
 
--- What is known is that of this history.
-pub record Recalls (known : Claims) (past : History) : Type 0 where
+-- The log has what this history has.
+pub record Recalls (known : ClaimLog) (past : History) : Type 0 where
   pub requests : (slot seq : ℕ) → request_in known slot seq ≡ past.request slot seq
-  pub spoiled : (slot seq : ℕ) → is_spoiled_in known slot seq ≡ past.is_spoiled slot seq
+  pub fault_decided : (slot seq : ℕ) → is_fault_decided_in known slot seq ≡ past.is_fault_decided slot seq
 
--- the same is known
-pub record SameClaims (old new : Claims) : Type 0 where
+-- the two logs have the same
+pub record SameClaims (old new : ClaimLog) : Type 0 where
   pub claims : new.claims.items ≡ old.claims.items
-  pub spoiled : new.spoiled.items ≡ old.spoiled.items
+  pub fault_decided : new.fault_decided.items ≡ old.fault_decided.items
 
--- there is room for one note more, of any slot
-pub record HasRoomForNote (known : Claims) : Type 0 where
+-- there is room for one more label, of any slot
+pub record HasRoomForLabel (known : ClaimLog) : Type 0 where
   pub claims : vec_len known.claims + 1 ≤ vec_capacity known.claims
-  pub spoiled : vec_len known.spoiled + 1 ≤ vec_capacity known.spoiled
+  pub fault_decided : vec_len known.fault_decided + 1 ≤ vec_capacity known.fault_decided

@@ -2,8 +2,8 @@ pub mod BitPlaces
 pub mod Bits
 pub mod Claims
 pub mod Lines
-pub mod Making
+pub mod StepsInBits
 pub mod Openings
-pub mod Seats
+pub mod Workers
 pub mod TenantBooks
-pub mod Ties
+pub mod BitsMatch

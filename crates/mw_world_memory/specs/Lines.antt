@@ -1,8 +1,9 @@
--- The marks of a tenant as the code keeps them.
+-- Room for the marks of a tenant in memory.
+-- Used by: the contracts of src/lines.rt, mw_simulator. A change here changes what these contracts say.
 use Rattle.std.specs.Prelude.{ℕ, ◌+◌, ◌≡◌, ◌≤◌, Bool, false, nat_le, vec_len, vec_capacity}
 use Rattle.mw_world_memory.specs.declared.lines.Lines.{Lines}
 
--- there is room for one line more
+-- there is room for one more line
 abbrev pub HasRoomForLine : Lines → Type 0
 HasRoomForLine marks = vec_len marks.lines + 1 ≤ vec_capacity marks.lines
 
@@ -11,10 +12,11 @@ pub record SameLines (old new : Lines) : Type 0 where
   pub closed : new.closed ≡ old.closed
   pub lines : new.lines.items ≡ old.lines.items
 
--- there is room for so many closed marks more
+-- there is room for `count` more closed marks
 abbrev pub has_room_for : Lines → ℕ → Bool
 has_room_for marks count = nat_le (vec_len marks.closed + count) (vec_capacity marks.closed)
 
--- the lines before have room for the closed marks of others, or these have room for theirs
+-- the older lines have room for the closed marks of the newer ones, or the newer ones have room for those of the older
+-- ones
 abbrev pub OneHasRoom : Lines → Lines → Type 0
 OneHasRoom before since = has_room_for before (vec_len since.closed) ≡ false → vec_len since.closed + vec_len before.closed ≤ vec_capacity since.closed

@@ -1,10 +1,11 @@
--- What is known of the tenants' files in memory, whatever the world is.
+-- What always holds of the tenants' files in memory.
+-- Used by: mw_simulator. A change here changes what contracts there say.
 use Rattle.std.specs.Prelude.{ℕ, ◌≡◌, List, slice_get, Some}
 use Rattle.mw_world_file.specs.SoundBooks.{HasSound}
 use Rattle.mw_world.specs.declared.config.Config.{Config}
 use Rattle.mw_world.specs.Definition.State.{tenant_at}
-use Rattle.mw_world_memory.specs.declared.accounts.Account.{Account as AccountInMemory}
+use Rattle.mw_world_memory.specs.declared.tenants.TenantState.{TenantState as TenantStateInMemory}
 
--- each tenant in memory has a book that shows its file, with as many words as the tenant
-abbrev pub AreSound : Config → List AccountInMemory → Type 0
-AreSound config accounts = (tenant : ℕ) (shown : AccountInMemory) → slice_get accounts tenant ≡ Some shown → HasSound (tenant_at config tenant).words shown.book
+-- each tenant in memory has a book that represents its file, with as many words as the tenant
+abbrev pub AreSound : Config → List TenantStateInMemory → Type 0
+AreSound config tenant_states = (tenant : ℕ) (shown : TenantStateInMemory) → slice_get tenant_states tenant ≡ Some shown → HasSound (tenant_at config tenant).words shown.book

@@ -1,88 +1,92 @@
-//! For which request each slot was claimed.
+//! The request that each slot was claimed for.
+//!
+//! A world of mw_simulator has one [`ClaimLog`], and gives it each step's label. `lines` and `workers` ask it
+//! for the request of a change. `specs/Claims` says what the log keeps of a history (`Recalls`): change it
+//! with a field here.
 ghost use Rattle.std.specs.Prelude.{◌≡◌, ℕ, OnOk};
-ghost use Rattle.mw_actor.specs.Acting.{Acting};
+ghost use Rattle.mw_actor.specs.ActorState.{ActorState};
 ghost use Rattle.mw_world.specs.Definition.History.{History, no_history};
-ghost use Rattle.mw_world.specs.Definition.Noting.{noted};
-ghost use Rattle.mw_world_memory.specs.Claims.{HasRoomForNote, Recalls, SameClaims, is_spoiled_in, latest, request_in};
+ghost use Rattle.mw_world.specs.Definition.LabelEffects.{with_label};
+ghost use Rattle.mw_world_memory.specs.Claims.{HasRoomForLabel, Recalls, SameClaims, is_fault_decided_in, latest, request_in};
 
 use mw_actor::Slot;
-use mw_world::Note;
+use mw_world::StepLabel;
 use std::alloc::{AllocError, Global};
 
 /// A slot was claimed for a request.
 #[derive(Clone, Copy, Debug)]
 struct Claim {
-    /// The slot, under the number by which it was claimed.
+    /// The slot, with the sequence number of the claim.
     own: Slot,
     /// The request's number among its tenant's.
     request: u64,
 }
 
-/// What is known of each change since the last start: the request for which its slot was claimed, and
-/// whether the reply [`Fault`] was decided for it.
+/// What is known of each change since the last start: the request that its slot was claimed for, and whether
+/// the reply [`Fault`] was decided for it.
 ///
 /// [`Fault`]: mw_words::Reply::Fault
 #[derive(Debug, Drop)]
-pub struct Claims {
+pub struct ClaimLog {
     /// The claims, the latest last.
     claims: Vec<Claim>,
-    /// The changes for whose requests the reply was decided.
-    spoiled: Vec<Slot>,
+    /// The changes whose requests' FAULT was decided.
+    fault_decided: Vec<Slot>,
 }
 
-impl Claims {
-    /// Nothing has happened.
-    pub fn new(alloc: Global) -> Claims
+impl ClaimLog {
+    /// Makes a log without claims.
+    pub fn new(alloc: Global) -> ClaimLog
         ensures { Recalls result no_history }
     {
-        Claims {
+        ClaimLog {
             claims: Vec::new(alloc),
-            spoiled: Vec::new(alloc),
+            fault_decided: Vec::new(alloc),
         }
     }
 
-    /// Makes room for one note more. Where there is no memory for it, what is known stays known.
+    /// Makes room for one more label. If memory is out, the log is unchanged.
     pub fn reserve(&mut self) -> Result<(), AllocError>
-        ensures room { OnOk result (HasRoomForNote self.new) }
+        ensures room { OnOk result (HasRoomForLabel self.new) }
         ensures same { SameClaims self.old self.new }
         ensures keeps { (past : History) → Recalls self.old past → Recalls self.new past }
     {
         self.claims.reserve(1)?;
-        self.spoiled.reserve(1)?;
+        self.fault_decided.reserve(1)?;
         Ok(())
     }
 
-    /// Takes in what a step means that a worker made for this request of a tenant. There is room for it,
-    /// so that it takes no memory.
-    pub fn note(&mut self, note: Note, request: u64)
-        requires { HasRoomForNote self.old }
-        ensures { (worker : ℕ) (actor : Acting) (past : History) → Recalls self.old past → Recalls self.new (noted note worker actor request past) }
+    /// Takes in the label of a worker's step, made for this request of its tenant. There is room for it, so it
+    /// takes no memory.
+    pub fn label(&mut self, label: StepLabel, request: u64)
+        requires { HasRoomForLabel self.old }
+        ensures { (worker : ℕ) (actor : ActorState) (past : History) → Recalls self.old past → Recalls self.new (with_label label worker actor request past) }
     {
-        match note {
-            Note::Claimed(own) => {
+        match label {
+            StepLabel::Claimed(own) => {
                 let _ = self.claims.push(Claim { own, request });
             }
-            Note::GaveUp {
+            StepLabel::GaveUp {
                 own,
                 says_fault: true,
             } => {
-                let _ = self.spoiled.push(own);
+                let _ = self.fault_decided.push(own);
             }
-            Note::FailedToSeal(target) => {
-                let _ = self.spoiled.push(target);
+            StepLabel::FailedToSeal(target) => {
+                let _ = self.fault_decided.push(target);
             }
             _ => {}
         }
     }
 
-    /// The request for which the slot was claimed under this number, or 0 where it wasn't.
+    /// Returns the request that the slot was claimed for under this sequence number. 0: it wasn't.
     pub fn request(&self, change: Slot) -> u64
         ensures { result ≡ request_in self.now change.slot change.seq }
     {
         self.latest(change).map_or(0, |claim| claim.request)
     }
 
-    // The latest claim of the slot under this number.
+    // Returns the latest claim of the slot under this sequence number.
     fn latest(&self, change: Slot) -> Option<Claim>
         ensures { result ≡ latest self.now.claims.items change.slot change.seq }
     {
@@ -93,19 +97,20 @@ impl Claims {
             .copied()
     }
 
-    /// Whether the reply was decided for the request of the change by a seal that failed, or by its worker
-    /// when it gave up.
-    pub fn is_spoiled(&self, change: Slot) -> bool
-        ensures { result ≡ is_spoiled_in self.now change.slot change.seq }
+    /// Whether FAULT was decided for the change's request, by a seal that failed or by its worker when it gave
+    /// up.
+    pub fn is_fault_decided(&self, change: Slot) -> bool
+        ensures { result ≡ is_fault_decided_in self.now change.slot change.seq }
     {
-        self.spoiled.iter().any(|spoiled| spoiled.slot == change.slot && spoiled.seq == change.seq)
+        self.fault_decided.iter().any(|fault_decided| fault_decided.slot == change.slot
+            && fault_decided.seq == change.seq)
     }
 
-    /// All stops: what was known is forgotten.
+    /// Forgets all that is known, as all stops.
     pub fn clear(&mut self)
         ensures { Recalls self.new no_history }
     {
         self.claims.clear();
-        self.spoiled.clear();
+        self.fault_decided.clear();
     }
 }

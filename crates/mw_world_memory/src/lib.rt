@@ -1,22 +1,24 @@
-//! The parts of a world in memory: the shared words in bits, which slot was claimed for which request, the
-//! tenants' marks, the workers, and the tenants' files. A step on the shared words, a mark more and a note
-//! taken in are calls here; what event makes which of these changes is told by the crate that plays worlds.
+//! The parts of a world in memory: the shared words in bits, the request that each slot was claimed for, the
+//! tenants' marks, the workers, and the tenants' files. The calls here make one such change each: a step on the
+//! shared words, one more mark, or a label taken in. `mw_simulator` says which event makes which of these
+//! changes.
 //!
-//! What to read first. `specs/Bits` and `specs/Ties` say which shared words a list of bits is, `specs/Making`
-//! what a step makes of them, `specs/BitPlaces` and `specs/Openings` what stands there at a start. `specs/Claims`,
-//! `specs/Lines` and `specs/Seats` tell what is kept beside them, `specs/TenantBooks` the tenants' files.
+//! What to read first. `specs/Bits` and `specs/BitsMatch` say which shared words a list of bits represents.
+//! `specs/StepsInBits` says what a step does to them, and `specs/BitPlaces` and `specs/Openings` which words
+//! there are and what they are at a start. `specs/Claims`, `specs/Lines` and `specs/Workers` say what is kept
+//! beside them, and `specs/TenantBooks` what holds of the tenants' files.
 #![tactic(auto)]
 
-mod accounts;
 mod cells;
 mod claims;
 mod lines;
-mod notes;
-mod seats;
+mod step_labels;
+mod tenants;
+mod workers;
 
-pub use accounts::Account;
 pub use cells::Cells;
-pub use claims::Claims;
+pub use claims::ClaimLog;
 pub use lines::Lines;
-pub use notes::note_of;
-pub use seats::Seat;
+pub use step_labels::label_of;
+pub use tenants::TenantState;
+pub use workers::WorkerState;

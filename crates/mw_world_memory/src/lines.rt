@@ -1,21 +1,23 @@
 //! The marks of a tenant.
+//!
+//! Each tenant in memory has such lines (`tenants`), and mw_simulator adds the marks of events to them.
 ghost use Rattle.std.specs.Prelude.{◌≡◌, [], ◌∷◌, ◌++◌, Option, Some, IfOk, OnOk, length, slice_set};
 ghost use Rattle.mw_world.specs.Definition.History.{History};
-ghost use Rattle.mw_world.specs.Definition.Noting.{late_unless, marked, more, more_unless};
+ghost use Rattle.mw_world.specs.Definition.LabelEffects.{late_unless, marked, more, more_unless};
 ghost use Rattle.mw_world.specs.Definition.State.{marks_in};
 ghost use Rattle.mw_world_memory.specs.Claims.{Recalls};
 ghost use Rattle.mw_world_memory.specs.Lines.{HasRoomForLine, OneHasRoom, SameLines, has_room_for};
-ghost use Rattle.mw_world_memory.specs.Seats.{seat_of};
+ghost use Rattle.mw_world_memory.specs.Workers.{worker_state_of};
 
-use crate::claims::Claims;
-use crate::seats::Seat;
+use crate::claims::ClaimLog;
+use crate::workers::WorkerState;
 use mw_lone::Mark;
-use mw_world::Note;
+use mw_world::StepLabel;
 use std::alloc::{AllocError, Global};
 use std::mem;
 
-/// What happened to a tenant: the marks up to and with the last start, and those since, some of which are
-/// places that were kept and hold none.
+/// The marks of a tenant: those up to and including the last start, and the lines since. A line is a mark, or a
+/// reserved place without a mark.
 #[derive(Debug, Drop)]
 pub struct Lines {
     closed: Vec<Mark>,
@@ -23,7 +25,7 @@ pub struct Lines {
 }
 
 impl Lines {
-    /// Nothing has happened.
+    /// Makes lines without marks.
     pub fn new(alloc: Global) -> Lines
         ensures closed { result.closed.items ≡ [] }
         ensures lines { result.lines.items ≡ [] }
@@ -34,7 +36,7 @@ impl Lines {
         }
     }
 
-    /// Makes room for one line more. Where there is no memory for it, the marks stay as they are.
+    /// Makes room for one more line. If memory is out, the marks are unchanged.
     pub fn reserve(&mut self) -> Result<(), AllocError>
         ensures room { OnOk result (HasRoomForLine self.new) }
         ensures same { SameLines self.old self.new }
@@ -42,14 +44,14 @@ impl Lines {
         self.lines.reserve(1)
     }
 
-    /// How many lines there are since the last start.
+    /// Returns how many lines there are since the last start.
     pub fn len(&self) -> usize
         ensures { result ≡ length self.now.lines.items }
     {
         self.lines.len()
     }
 
-    /// One line more: a mark, or a place that is kept for one. There is room for it.
+    /// Appends a line: a mark, or a place reserved for one. There is room for it.
     pub fn more(&mut self, line: Option<Mark>)
         requires { HasRoomForLine self.old }
         ensures closed { self.new.closed ≡ self.old.closed }
@@ -58,59 +60,67 @@ impl Lines {
         let _ = self.lines.push(line);
     }
 
-    /// Takes in what a step means that a worker made, before which so much was known of the claims. There
-    /// is room for one line more.
-    pub fn mark(&mut self, note: Note, seat: &Seat, claims: &Claims)
+    /// Takes in the label of a worker's step. `worker_state` and `claims` are those from before the step. There
+    /// is room for one more line.
+    pub fn mark(&mut self, label: StepLabel, worker_state: &WorkerState, claims: &ClaimLog)
         requires { HasRoomForLine self.old }
         ensures closed { self.new.closed ≡ self.old.closed }
-        ensures lines { (past : History) → Recalls claims.now past → self.new.lines.items ≡ marked note (seat_of seat.now) past self.old.lines.items }
+        ensures lines { (past : History) → Recalls claims.now past → self.new.lines.items ≡ marked label (worker_state_of worker_state.now) past self.old.lines.items }
     {
-        match note {
-            Note::Admitted => self.more(Some(Mark::Admit(seat.request))),
-            Note::FoundBusy => self.more(Some(Mark::Busy(seat.request))),
-            Note::FoundFault => self.more(Some(Mark::GiveUp(seat.request))),
-            Note::Looked => self.more(Some(Mark::Look(seat.request))),
-            Note::Kept => self.more(None),
-            Note::LookedBefore => self.late(seat.kept, Mark::Look(seat.request)),
-            Note::Refused { target, entry, .. } => self.late_unless(
-                claims.is_spoiled(target),
-                seat.kept,
+        match label {
+            StepLabel::Admitted => self.more(Some(Mark::Admit(worker_state.request))),
+            StepLabel::FoundBusy => self.more(Some(Mark::Busy(worker_state.request))),
+            StepLabel::FoundFault => self.more(Some(Mark::GiveUp(worker_state.request))),
+            StepLabel::Looked => self.more(Some(Mark::Look(worker_state.request))),
+            StepLabel::Reserved => self.more(None),
+            StepLabel::LookedBefore => self.late(
+                worker_state.kept,
+                Mark::Look(worker_state.request),
+            ),
+            StepLabel::Refused { target, entry, .. } => self.late_unless(
+                claims.is_fault_decided(target),
+                worker_state.kept,
                 Mark::Miss(claims.request(target), entry),
             ),
-            Note::Lowered => self.more(Some(Mark::Retire(seat.retiring))),
-            Note::GaveUp {
+            StepLabel::Lowered => self.more(Some(Mark::Retire(worker_state.retiring))),
+            StepLabel::GaveUp {
                 own,
                 says_fault: true,
-            } => self.more_unless(claims.is_spoiled(own), Mark::GiveUp(seat.request)),
-            Note::SealedIt(target) => self.more(Some(Mark::Seal(claims.request(target)))),
-            Note::FailedToSeal(target) => self.more(Some(Mark::SealFail(claims.request(target)))),
-            Note::FailedFile => self.more(Some(Mark::FileFail)),
+            } => self.more_unless(
+                claims.is_fault_decided(own),
+                Mark::GiveUp(worker_state.request),
+            ),
+            StepLabel::SealedIt(target) => self.more(Some(Mark::Seal(claims.request(target)))),
+            StepLabel::FailedToSeal(target) => self.more(Some(Mark::SealFail(claims.request(
+                target,
+            )))),
+            StepLabel::FailedFile => self.more(Some(Mark::FileFail)),
             _ => {}
         }
     }
 
-    // A mark more, unless the reply was decided for its request before.
-    fn more_unless(&mut self, is_spoiled: bool, mark: Mark)
+    // Appends a mark, unless FAULT was decided for its request before.
+    fn more_unless(&mut self, is_fault_decided: bool, mark: Mark)
         requires { HasRoomForLine self.old }
         ensures closed { self.new.closed ≡ self.old.closed }
-        ensures lines { self.new.lines.items ≡ more_unless is_spoiled self.old.lines.items mark }
+        ensures lines { self.new.lines.items ≡ more_unless is_fault_decided self.old.lines.items mark }
     {
-        if !is_spoiled {
+        if !is_fault_decided {
             self.more(Some(mark));
         }
     }
 
-    // A mark at the place that was kept for it, unless the reply was decided for its request before.
-    fn late_unless(&mut self, is_spoiled: bool, kept: usize, mark: Mark)
+    // Puts a mark at its reserved place, unless FAULT was decided for its request before.
+    fn late_unless(&mut self, is_fault_decided: bool, kept: usize, mark: Mark)
         ensures closed { self.new.closed ≡ self.old.closed }
-        ensures lines { self.new.lines.items ≡ late_unless is_spoiled self.old.lines.items kept mark }
+        ensures lines { self.new.lines.items ≡ late_unless is_fault_decided self.old.lines.items kept mark }
     {
-        if !is_spoiled {
+        if !is_fault_decided {
             self.late(kept, mark);
         }
     }
 
-    // A mark at the place that was kept for it. Past the last line there is no place.
+    // Puts a mark at its reserved place. After the last line there is no place, and nothing changes.
     fn late(&mut self, kept: usize, mark: Mark)
         ensures closed { self.new.closed ≡ self.old.closed }
         ensures lines { self.new.lines.items ≡ slice_set self.old.lines.items kept (Some mark) }
@@ -120,7 +130,7 @@ impl Lines {
         }
     }
 
-    /// The marks up to and with the last start.
+    /// Returns the marks up to and including the last start. The only error is that memory is out.
     pub fn closed(&self, alloc: Global) -> Result<Vec<Mark>, AllocError>
         ensures { IfOk result (λ closed. closed.items ≡ self.now.closed.items) }
     {
@@ -129,7 +139,7 @@ impl Lines {
         Ok(closed)
     }
 
-    /// The marks so far.
+    /// Returns all marks so far. The only error is that memory is out.
     pub fn marks(&self, alloc: Global) -> Result<Vec<Mark>, AllocError>
         ensures { IfOk result (λ marks. marks.items ≡ self.now.closed.items ++ marks_in self.now.lines.items) }
     {
@@ -139,8 +149,9 @@ impl Lines {
         Ok(marks)
     }
 
-    /// Lines whose closed marks are those since the last start, and this one; they have no others. Either these
-    /// lines have room for those closed marks too, or those lines have it for the closed marks of these.
+    /// Makes lines whose closed marks are the marks since the last start, and then `last`; they have no others.
+    /// Either these lines have room for those closed marks too, or the new lines have room for the closed marks
+    /// of these. The only error is that memory is out.
     pub fn since(&self, alloc: Global, last: Mark) -> Result<Lines, AllocError>
         ensures closed { IfOk result (λ since. since.closed.items ≡ marks_in self.now.lines.items ++ last ∷ []) }
         ensures lines { IfOk result (λ since. since.lines.items ≡ []) }
@@ -158,8 +169,8 @@ impl Lines {
         })
     }
 
-    /// Takes over the closed marks of these lines, in front of its own. One of the two has room for all, so that
-    /// it can't fail.
+    /// Takes over the closed marks of these lines and puts them before its own. One of the two has room for
+    /// all, so this can't fail.
     pub fn follow(&mut self, before: &mut Lines)
         requires { OneHasRoom before.old self.old }
         ensures closed { self.new.closed.items ≡ before.old.closed.items ++ self.old.closed.items }
@@ -175,7 +186,7 @@ impl Lines {
         }
     }
 
-    // Whether there is room for so many closed marks more.
+    // Whether there is room for `count` more closed marks.
     fn has_room(&self, count: usize) -> bool
         ensures { result ≡ has_room_for self.now count }
     {
@@ -183,7 +194,7 @@ impl Lines {
     }
 }
 
-// Adds copies of these marks.
+// Appends copies of these marks.
 fn copy_closed(closed: &[Mark], marks: &mut Vec<Mark>) -> Result<(), AllocError>
     ensures { OnOk result (marks.new.items ≡ marks.old.items ++ closed.now) }
 {
@@ -193,7 +204,7 @@ fn copy_closed(closed: &[Mark], marks: &mut Vec<Mark>) -> Result<(), AllocError>
     Ok(())
 }
 
-// Adds copies of the marks among these lines.
+// Appends copies of the marks among these lines.
 fn copy_lines(lines: &[Option<Mark>], marks: &mut Vec<Mark>) -> Result<(), AllocError>
     ensures { OnOk result (marks.new.items ≡ marks.old.items ++ marks_in lines.now) }
 {
@@ -205,7 +216,7 @@ fn copy_lines(lines: &[Option<Mark>], marks: &mut Vec<Mark>) -> Result<(), Alloc
     Ok(())
 }
 
-// An equal mark.
+// Returns an equal mark.
 fn copy(mark: &Mark) -> Mark
     ensures { result ≡ mark.now }
 {

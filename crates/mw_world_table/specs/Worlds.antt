@@ -1,20 +1,22 @@
 -- What a table begins with that is made of a world in memory.
+-- Used by: the contracts of src/copies.rt and src/of_world.rt, mw_table_tests. A change here changes what these
+-- contracts say.
 use Rattle.std.specs.Prelude.{map, Option}
-use Rattle.mw_actor.specs.Acting.{Acting}
+use Rattle.mw_actor.specs.ActorState.{ActorState}
 use Rattle.mw_world_file.specs.Books.{places_of_file}
-use Rattle.mw_simulator.specs.FromMemory.{Account, Seat, seat_of}
+use Rattle.mw_simulator.specs.FromMemory.{TenantState, WorkerState, worker_state_of}
 use Rattle.mw_simulator.specs.declared.world.World.{World}
-use Rattle.mw_table.specs.Beginning.{Basis}
+use Rattle.mw_table.specs.Basis.{Basis}
 use Rattle.mw_table.specs.Runs.{LastStart, basis_of_run}
 
--- what a tenant tells of its last start
-abbrev pub last_start_of : Account → LastStart
-last_start_of account = record { quota = account.quota; places = places_of_file account.book; closed = account.lines.closed.items }
+-- what a table takes of a tenant's last start: its quota, its places, and its marks up to and including that start
+abbrev pub last_start_of : TenantState → LastStart
+last_start_of tenant_state = record { quota = tenant_state.quota; places = places_of_file tenant_state.book; closed = tenant_state.lines.closed.items }
 
 -- a worker's request, if it has one
-abbrev pub actor_of : Seat → Option Acting
-actor_of seat = seat.actor
+abbrev pub actor_of : WorkerState → Option ActorState
+actor_of worker_state = worker_state.actor
 
--- What a table of the world begins with. It gives no right to a file, and a world in memory doesn't tell which run led to it.
+-- What a table of the world begins with. It gives no file pass. A world in memory doesn't say which run led to it.
 abbrev pub basis_of_world : World → Basis
-basis_of_world world = basis_of_run world.config (map last_start_of world.accounts.items) (map seat_of world.seats.items)
+basis_of_world world = basis_of_run world.config (map last_start_of world.tenant_states.items) (map worker_state_of world.worker_states.items)

@@ -1,11 +1,13 @@
-//! A table of a world in memory: play a world to its point, and go on with threads.
+//! A table of a world in memory. Play a world to some point, and go on with threads.
 //!
-//! [`of_world`] copies out of the world how far its tenants and its workers are, and its shared words, and makes
-//! the table of them. `specs/Worlds` says what such a table begins with.
+//! [`of_world`] copies the tenants, the workers and the shared words out of the world, and makes the table of
+//! them. `specs/Worlds` says what such a table begins with.
+//!
+//! Used by: mw_table_tests, for tests.
 #![tactic(auto)]
 
 mod copies;
-mod making;
+mod of_world;
 mod words;
 
-pub use making::of_world;
+pub use of_world::of_world;

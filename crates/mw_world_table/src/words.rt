@@ -1,9 +1,11 @@
-//! The shared words of a world in memory, as they stand in a table.
+//! The shared words of a world in memory, in the order of a table.
+//!
+//! Used by: `of_world`.
 ghost use Rattle.std.specs.Prelude.{◌≡◌, ◌<◌, IfOk, length};
 ghost use Rattle.mw_world.specs.Definition.State.{State};
 ghost use Rattle.mw_rule.specs.Layout as layout;
 ghost use Rattle.mw_rule.specs.Rule.{Ties};
-ghost use Rattle.mw_simulator.specs.Shows.{Shows};
+ghost use Rattle.mw_simulator.specs.Representation.{Represents};
 ghost use Rattle.mw_table.specs.Places.{IsAt};
 
 use mw_rule::index_of;
@@ -12,10 +14,10 @@ use mw_table::{has_place, place_at};
 use mw_words::At;
 use std::alloc::{AllocError, Global};
 
-/// The bits of the table's words, by index.
+/// Copies the bits of the table's words, by index. The only error is that memory is out.
 pub(crate) fn words_of(alloc: Global, world: &World) -> Result<Vec<u64>, AllocError>
     ensures long { IfOk result (λ words. length words.items ≡ layout.words_of world.now.config) }
-    ensures ties { IfOk result (λ words. (state : State) → Shows world.now state → Ties world.now.config state.cells words.items) }
+    ensures ties { IfOk result (λ words. (state : State) → Represents world.now state → Ties world.now.config state.cells words.items) }
 {
     let config = world.config();
     let past = At::Data {
@@ -30,10 +32,10 @@ pub(crate) fn words_of(alloc: Global, world: &World) -> Result<Vec<u64>, AllocEr
     Ok(words)
 }
 
-/// The bits at an index. Where no shared word stands they are 0.
+/// Returns the bits at an index; 0 if no shared word is there.
 fn bits_at(world: &World, index: usize) -> u64
     requires { index < layout.words_of world.now.config }
-    ensures { (state : State) → Shows world.now state → IsAt world.now.config state.cells index result }
+    ensures { (state : State) → Represents world.now state → IsAt world.now.config state.cells index result }
 {
     let at = place_at(world.config().pool, index);
     if has_place(world.config(), at) {

@@ -1,4 +1,6 @@
-//! Random choices.
+//! Makes random choices.
+//!
+//! Used by: `jobs`, `trial`, and the larger runs.
 ghost use Rattle.std.specs.Prelude.{◌<◌, ◌≤◌};
 
 use rand_core::{Rng, SeedableRng};
@@ -11,14 +13,14 @@ pub struct Dice {
 }
 
 impl Dice {
-    /// The choices of this seed.
+    /// Makes the choices of this seed.
     pub fn new(seed: u64) -> Dice {
         Dice {
             rng: Xoshiro256PlusPlus::seed_from_u64(seed),
         }
     }
 
-    /// A number below `sides`, of which there is at least one.
+    /// Gives a number below `sides`, which is at least 1.
     pub fn below(&mut self, sides: u64) -> u64
         requires { 1 ≤ sides }
         ensures { result < sides }
@@ -26,7 +28,7 @@ impl Dice {
         self.rng.next_u64() % sides
     }
 
-    /// A number below `sides`, of which there is at least one.
+    /// Gives a number below `sides`, which is at least 1.
     pub fn small(&mut self, sides: u8) -> u8
         requires { 1 ≤ sides }
         ensures { result < sides }
@@ -34,7 +36,7 @@ impl Dice {
         (self.rng.next_u64() % u64::from(sides)) as u8
     }
 
-    /// Yes, once in so many times.
+    /// Gives true once in so many times.
     pub fn once_in(&mut self, times: u64) -> bool
         requires { 1 ≤ times }
     {

@@ -1,5 +1,5 @@
-//! The marks of the example runs, which `ComeOut` states, are taken one by one by the store alone, and
-//! hand out the same replies.
+//! Gives the marks of the example runs, which `ComeOut` states, one by one to the store alone, which hands
+//! out the same replies.
 
 use mw_line::{Request, Say, behind, field, read_line, value_at};
 use mw_lone::{Lone, Mark};
@@ -7,7 +7,7 @@ use mw_words::{Job, Reply};
 use std::process::Abort;
 use std::test::Fail;
 
-/// The mark that a line tells: what happens, the request that it happens to, and what goes with it.
+/// Reads the mark of a line: what happens, the request to which it happens, and what goes with it.
 fn mark_of(line: &[u8]) -> Option<Mark> {
     if let Some(found) = behind(b"restart ", line) {
         return restart_of(found);
@@ -20,8 +20,8 @@ fn mark_of(line: &[u8]) -> Option<Mark> {
     }
 }
 
-/// All stops and starts again with a quota, and the file opens: the change in doubt is found, or the change
-/// of this request was under way and is lost.
+/// Reads a start with a quota, in which the file opens. The change in doubt is found, or the change of this
+/// request was under way and is lost.
 fn restart_of(found: &[u8]) -> Option<Mark> {
     let (quota, found) = value_at(found)?;
     let interrupted = match behind(b" lost ", found) {
@@ -57,7 +57,7 @@ fn short_mark(word: &[u8], request: u64) -> Option<Mark> {
     }
 }
 
-/// The index of an entry.
+/// Reads the index of an entry.
 fn entry_of(text: &[u8]) -> Option<u8> {
     let (index, _) = value_at(text)?;
     u8::try_from(index).ok()
@@ -70,13 +70,13 @@ fn job_of(line: &[u8]) -> Option<Job> {
     }
 }
 
-/// The text of the reply that stands behind a mark.
+/// Gives the text of the reply after a mark.
 fn reply_in(line: &[u8]) -> Option<&[u8]> {
     let (_, reply) = field(b' ', behind(b"reply ", line)?)?;
     Some(reply)
 }
 
-/// Whether a reply has the text that stands behind a mark.
+/// Tells whether a reply has the text after a mark.
 fn is_reply(reply: Reply, line: &[u8]) -> bool {
     match reply_in(line) {
         Some(text) => matches!(behind(text, &Say::Store(reply).text()), Some(b"\n")),
@@ -84,7 +84,7 @@ fn is_reply(reply: Reply, line: &[u8]) -> bool {
     }
 }
 
-/// Whether the store takes a mark, and hands out the reply that stands behind it, or none.
+/// Tells whether the store takes a mark, and hands out the reply after it, or none.
 fn takes_mark(lone: &mut Lone, line: &[u8]) -> bool {
     let Some(mark) = mark_of(line) else {
         return false;
@@ -96,7 +96,7 @@ fn takes_mark(lone: &mut Lone, line: &[u8]) -> bool {
     }
 }
 
-/// A new store takes these marks, a line each, and hands out the replies that stand behind them.
+/// A new store takes these marks, a line each, and hands out the replies after them.
 fn takes<R: Abort + AllocGlobal>(
     rt: &R,
     words: &[u64],

@@ -1,4 +1,6 @@
-//! Random jobs, stops and worlds.
+//! Makes random jobs, stops and worlds.
+//!
+//! Used by: `trial`, and the larger runs.
 ghost use Rattle.std.specs.Prelude.{◌≡◌, ◌≤◌, None, IsTrue};
 ghost use Rattle.mw_world.specs.Definition.State.{IsConfig, may_be_old};
 
@@ -8,10 +10,11 @@ use mw_words::{Entries, Entry, Job, Name, is_change};
 use mw_world::{Config, Interrupted, OLD_ENTRIES, OLD_PLACES, Stop, Tenant};
 use std::alloc::{AllocError, Global};
 
-/// The values that words have.
+/// How many values words have.
 const VALUES: u64 = 3;
 
-/// A small world: two to four workers, one or two tenants of one to three words, some with an old file.
+/// Makes a small world: two to four workers, one or two tenants of one to three words, some with an old
+/// file.
 pub fn small_world(dice: &mut Dice) -> Config
     ensures { IsConfig result }
 {
@@ -31,7 +34,8 @@ pub fn small_world(dice: &mut Dice) -> Config
     }
 }
 
-/// A larger world: four workers, and three tenants of one to three words which may use two or three slots.
+/// Makes a larger world: four workers, and three tenants of one to three words that may use two or three
+/// slots.
 pub fn large_world(dice: &mut Dice) -> Config
     ensures { IsConfig result }
 {
@@ -79,7 +83,7 @@ fn small_tenant(dice: &mut Dice) -> Tenant
     }
 }
 
-/// The change in an old file, now and then none.
+/// Makes the change in an old file, sometimes none.
 fn old_change(dice: &mut Dice, words: u16, quota: u8) -> Option<Entries>
     ensures { IsTrue (may_be_old words quota result) }
 {
@@ -92,7 +96,7 @@ fn old_change(dice: &mut Dice, words: u16, quota: u8) -> Option<Entries>
     }
 }
 
-/// A read or a change of a tenant's words.
+/// Makes a read or a change of a tenant's words.
 pub fn job(dice: &mut Dice, words: u16) -> Job
     requires { 1 ≤ words }
 {
@@ -102,7 +106,7 @@ pub fn job(dice: &mut Dice, words: u16) -> Job
     Job::Cas(entries(dice, words))
 }
 
-/// Entries of some words; now and then none.
+/// Makes entries of some words, sometimes none.
 fn entries(dice: &mut Dice, words: u16) -> Entries {
     let mut entries = Entries::new();
     for addr in 0..words {
@@ -117,7 +121,7 @@ fn entries(dice: &mut Dice, words: u16) -> Entries {
     entries
 }
 
-/// A way to stop each tenant's file, and to open it again, with quotas that may not fit.
+/// Makes a way to stop each tenant's file, and to open it again, with quotas that may not fit.
 pub fn stops(alloc: Global, dice: &mut Dice, config: &Config) -> Result<Vec<Stop>, AllocError>
     requires { 1 ≤ config.now.workers }
 {
@@ -128,7 +132,7 @@ pub fn stops(alloc: Global, dice: &mut Dice, config: &Config) -> Result<Vec<Stop
     Ok(stops)
 }
 
-/// A way to stop a tenant's file, and to open it again.
+/// Makes a way to stop a tenant's file, and to open it again.
 fn stop(alloc: Global, dice: &mut Dice, tenant: u8, workers: u8) -> Result<Stop, AllocError>
     requires { 1 ≤ workers }
 {
@@ -145,7 +149,7 @@ fn stop(alloc: Global, dice: &mut Dice, tenant: u8, workers: u8) -> Result<Stop,
     })
 }
 
-/// A quota, or none that is told. Now and then it is one that no tenant can have.
+/// Gives a quota, or none. Sometimes it is one that no tenant can have.
 fn told(dice: &mut Dice) -> Option<u8> {
     match dice.small(12) {
         0..=5 => None,
@@ -155,7 +159,7 @@ fn told(dice: &mut Dice) -> Option<u8> {
     }
 }
 
-/// A byte that opens a gate, one that shuts it, and one that does neither by itself.
+/// Gives a byte that sets a commit byte, one that clears it, or one that does neither by itself.
 fn torn_byte(dice: &mut Dice) -> u8 {
     match dice.small(3) {
         0 => 0xa5,

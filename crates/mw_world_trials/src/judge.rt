@@ -1,4 +1,6 @@
-//! A tenant's store alone, given the tenant's marks.
+//! Gives a tenant's marks to a store alone, and compares.
+//!
+//! Used by: `trial`, `stale_helper_tests`.
 ghost use Rattle.std.specs.Prelude.{◌<◌, length};
 
 use mw_lone::{Lone, LoneFault, Mark};
@@ -7,36 +9,36 @@ use mw_words::{At, Entries, Job, Reply, Word};
 use mw_world::Tenant;
 use std::alloc::{AllocError, Global};
 
-/// How a world and a store alone disagree.
+/// Says how a world and a store alone disagree.
 #[derive(Clone, Copy, Debug, PartialEq, Eq)]
 pub enum Disagreement {
     /// A worker's next step was refused.
     Stuck,
     /// The store refuses a mark.
     Mark,
-    /// A reply is another one.
+    /// A reply differs.
     Reply,
     /// More replies were handed out, or fewer.
     Replies,
     /// A word has another value after a start.
     Word,
-    /// A quota is another one.
+    /// A quota differs.
     Quota,
-    /// Quotas that don't fit were taken, or left something changed.
+    /// Quotas that don't fit were taken, or they changed something.
     Taken,
 }
 
-/// Why a trial came to no good end.
+/// Says why a trial failed.
 #[derive(Clone, Copy, Debug, PartialEq, Eq)]
 pub enum TrialFault {
-    /// Want of memory.
+    /// Memory is out.
     Memory,
     /// The world and a store alone disagree.
     Disagreement(Disagreement),
 }
 
 impl TrialFault {
-    /// What went wrong.
+    /// Gives a text for what went wrong.
     pub(crate) fn told(self) -> &'static str {
         match self {
             TrialFault::Memory => "memory",
@@ -85,7 +87,7 @@ struct Alone {
     quota: u8,
 }
 
-/// Gives a tenant's marks to a new store of its words alone, which has to take them, and to hand out what
+/// Gives a tenant's marks to a new store alone with its words. The store must take them, and hand out what
 /// the tenant was handed out. The last start gave the tenant this quota.
 pub(crate) fn judge(
     alloc: Global,
@@ -100,7 +102,7 @@ pub(crate) fn judge(
     Ok(())
 }
 
-/// The same, and the words that the world has are those of the store.
+/// Does the same, and checks that the world's words are those of the store.
 pub(crate) fn judge_start(
     alloc: Global,
     world: &World,
@@ -140,7 +142,7 @@ fn after_marks(
     }
 }
 
-/// These replies are those that the tenant was handed out.
+/// Checks that these replies are those that the tenant was handed out.
 fn compare(replies: &[Reply], tenant: u8, handed: &[Handed]) -> Result<(), TrialFault> {
     let mut others = handed.iter().filter(|handed| handed.tenant == tenant);
     for reply in replies {
@@ -157,8 +159,8 @@ fn compare(replies: &[Reply], tenant: u8, handed: &[Handed]) -> Result<(), Trial
 }
 
 impl Alone {
-    /// The store alone of a tenant, with the words of its first file. It begins faulted where that is an old
-    /// one.
+    /// Makes the store alone of a tenant, with the words of its first file. It begins faulted if that is an
+    /// old file.
     fn new(alloc: Global, tenant: &Tenant) -> Result<Alone, TrialFault> {
         let words = first_words(alloc, tenant)?;
         Ok(Alone {
@@ -168,7 +170,7 @@ impl Alone {
         })
     }
 
-    /// What it hands out at these marks.
+    /// Gives the marks to the store. Gives the replies that it hands out.
     fn replies(&mut self, alloc: Global, marks: Vec<Mark>) -> Result<Vec<Reply>, TrialFault> {
         let mut replies = Vec::new(alloc);
         for mark in marks {
@@ -192,7 +194,7 @@ impl Alone {
         Ok(self.lone.mark(mark)?)
     }
 
-    /// The store's word at an address, as a read of it tells.
+    /// Gives the store's word at an address, as a read of it tells.
     fn value(&mut self, address: u16) -> Result<u64, TrialFault> {
         let request = self.asked;
         self.mark(Mark::Ask(request, Job::Get(address)))?;
@@ -204,7 +206,7 @@ impl Alone {
     }
 }
 
-/// The words of a tenant's first file.
+/// Gives the words of a tenant's first file.
 fn first_words(alloc: Global, tenant: &Tenant) -> Result<Vec<u64>, AllocError> {
     let mut words = zeros(alloc, tenant.words)?;
     if let Some(change) = &tenant.old {
@@ -213,7 +215,7 @@ fn first_words(alloc: Global, tenant: &Tenant) -> Result<Vec<u64>, AllocError> {
     Ok(words)
 }
 
-/// Puts a change over words.
+/// Writes a change's new values into words.
 fn put(words: &mut Vec<u64>, change: &Entries) {
     for entry in change {
         let place = usize::from(entry.addr);

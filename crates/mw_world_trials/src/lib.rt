@@ -1,10 +1,12 @@
-//! Random runs of worlds, and which schedules a player takes.
+//! Tests random runs of worlds, and which schedules a player takes.
 //!
 //! In a trial of a small world workers take turns in any order, device calls fail, and all stops and starts
-//! again, with other quotas too. Then each tenant's marks are given to a new store of its words alone: it has to
-//! take each of them, hand out the replies that the world handed out, and have the words that the world has after
-//! each start. Some tenants begin with an old file. Quotas that don't fit are refused.
-//! Larger worlds are played too: in these all that is to hold of a world is looked at after every event.
+//! again, also with other quotas. Then each tenant's marks are given to a new store alone with its words.
+//! The store must take each mark, hand out the replies that the world handed out, and have the words that
+//! the world has after each start. Some tenants begin with an old file. Quotas that don't fit must be
+//! refused.
+//!
+//! Larger worlds are played too. After every event, all that must hold of a world is checked.
 #![tactic(auto)]
 
 #[cfg(test)]
@@ -18,13 +20,13 @@ mod judge;
 #[cfg(test)]
 mod larger;
 #[cfg(test)]
-mod late_finisher_tests;
-#[cfg(test)]
 mod same;
 #[cfg(test)]
 mod schedule_tests;
 #[cfg(test)]
 mod shares;
+#[cfg(test)]
+mod stale_helper_tests;
 #[cfg(test)]
 mod tests;
 #[cfg(test)]

@@ -1,4 +1,4 @@
-//! Which texts are schedules, and what they tell.
+//! Tests which texts are schedules, and what they say.
 use crate::same::{same, same_at};
 use mw_look::{Call, Kind};
 use mw_schedule::*;
@@ -8,18 +8,18 @@ use std::alloc::{AllocError, Global};
 use std::process::Abort;
 use std::test::Fail;
 
-/// The first lines of some schedules below. The line behind them is the sixth.
+/// The first lines of some schedules below. The line after them is the sixth.
 const HEAD: &[u8] = b"pool 33\nworkers 2\nseq 7\ntenant t 2 1\ntenant u-1 4096 32\n";
 
 const SIXTEEN: &[u8] =
     b"pool 17\nworkers 1\ntenant a 1 1\ntenant b 1 1\ntenant c 1 1\ntenant d 1 1\ntenant e 1 1\ntenant f 1 1\ntenant g 1 1\ntenant h 1 1\ntenant i 1 1\ntenant j 1 1\ntenant k 1 1\ntenant l 1 1\ntenant m 1 1\ntenant n 1 1\ntenant o 1 1\ntenant p 1 1\n";
 
-/// What is wrong with a text, if anything is.
+/// Gives what is wrong with a text, if anything is.
 fn fault_of(alloc: Global, text: &[u8]) -> Option<ScheduleFault> {
     read_schedule(alloc, text).err()
 }
 
-/// What is wrong with a text behind another one, if anything is.
+/// Gives what is wrong with a text after another one, if anything is.
 fn fault_behind(
     alloc: Global,
     head: &[u8],
@@ -31,14 +31,14 @@ fn fault_behind(
     Ok(fault_of(alloc, &whole))
 }
 
-/// What is wrong with a line behind the first lines, if anything is.
+/// Gives what is wrong with a line after the first lines, if anything is.
 fn line_fault(alloc: Global, line: &[u8]) -> Result<Option<ScheduleFault>, AllocError> {
     let mut whole = line.to_vec(alloc)?;
     whole.push(b'\n')?;
     fault_behind(alloc, HEAD, &whole)
 }
 
-/// Lines that are right behind [`HEAD`].
+/// Lines that are right after [`HEAD`].
 const RIGHT_LINES: &str = "\
 come 0 t GET 0
 come 63 t GET 1
@@ -81,7 +81,7 @@ fn lines_that_are_right(rt: HostRuntime) -> Result<(), Fail> {
     Ok(())
 }
 
-/// Lines that are wrong behind [`HEAD`].
+/// Lines that are wrong after [`HEAD`].
 const WRONG_LINES: &str = "\
 step 0\r
 
@@ -183,8 +183,8 @@ fn lines_that_are_wrong(rt: HostRuntime) -> Result<(), Fail> {
     Ok(())
 }
 
-/// The number of a line, and texts of which this is the first wrong line. A text stands in a line; `/` is
-/// where one of its own lines ends.
+/// The number of a line, and texts of which this is the first wrong line. A text is one line here; `/` ends
+/// each of its own lines.
 const WRONG_TEXTS: [(u64, &str); 5] = [
     (
         1,
@@ -252,7 +252,7 @@ pool 1/workers 1/tenant t 1 1/step 0/step 64/step/",
     ),
 ];
 
-/// A text whose lines end where `/` stands.
+/// Gives a text with a line feed for each `/`.
 fn with_line_ends(alloc: Global, text: &str) -> Result<Vec<u8>, AllocError> {
     let mut bytes = text.as_bytes().to_vec(alloc)?;
     for byte in bytes.iter_mut() {
@@ -353,7 +353,7 @@ fn kinds_that_change_nothing(rt: HostRuntime) {
     }
 }
 
-/// The schedule of this text.
+/// Reads the schedule of this text.
 fn schedule_of<R: Abort + AllocGlobal>(rt: &R, text: &[u8]) -> Schedule {
     read_schedule(rt.alloc(), text).expect(rt, "a schedule")
 }
@@ -362,7 +362,7 @@ fn is_tenant(tenant: &Tenant, name: &[u8], words: u16, quota: u8) -> bool {
     tenant.name.as_slice() == name && (tenant.words, tenant.quota) == (words, quota)
 }
 
-/// Whether these tenants are those of [`HEAD`].
+/// Tells whether these tenants are those of [`HEAD`].
 fn are_tenants(tenants: &[Tenant]) -> bool {
     match tenants {
         [first, second] => is_tenant(first, b"t", 2, 1) && is_tenant(second, b"u-1", 4096, 32),
@@ -387,7 +387,7 @@ fn a_world_without_a_first_number(rt: HostRuntime) {
 const COMMANDS: &[u8] =
     b"pool 2\nworkers 1\ntenant t 1 1\ntenant u 9 1\ncome 3 u GET 8\nstep 4\nfile 5 good\nfile 6 7\nbefore 8 plant\nto 9 seal\nend 10\n";
 
-/// Whether a command of [`COMMANDS`] is the one that stands in the line with this number.
+/// Tells whether a command of [`COMMANDS`] is the one in the line with this number.
 fn is_command(number: u64, command: &Command) -> bool {
     match command {
         Command::Come(worker, tenant, job) => {
@@ -427,7 +427,7 @@ fn what_is_to_happen(rt: HostRuntime) {
     }
 }
 
-/// Whether a stop is that of this tenant, cut off there, with these torn bytes, an opening that fails
+/// Tells whether a stop is that of this tenant, cut off there, with these torn bytes, an opening that fails
 /// there, and this quota.
 fn is_stop(
     stop: &Stop,
@@ -440,11 +440,11 @@ fn is_stop(
     is_cut && stop.torn.as_slice() == torn && (stop.fails_at, stop.quota) == start
 }
 
-/// A stop that is cut off, and one that isn't. The second one's quota is the greatest that a stop tells.
+/// A stop that is cut off, and one that isn't. The second one's quota is the greatest that a stop says.
 const STOPS: &[u8] =
     b"pool 2\nworkers 1\ntenant t 1 1\ntenant u 9 1\nrestart u=3,4,00a5ff,6,q2 t=-,-,,q300\n";
 
-/// Whether these stops are those of [`STOPS`].
+/// Tells whether these stops are those of [`STOPS`].
 fn are_stops(stops: &[Stop]) -> bool {
     let interrupted = Some(Interrupted { worker: 3, made: 4 });
     match stops {
@@ -456,7 +456,7 @@ fn are_stops(stops: &[Stop]) -> bool {
     }
 }
 
-/// Whether a schedule's first line has the stops of [`STOPS`].
+/// Tells whether a schedule's first line has the stops of [`STOPS`].
 fn stops_first(schedule: &Schedule) -> bool {
     match schedule.lines.first() {
         Some(line) => match &line.command {
@@ -473,7 +473,8 @@ fn how_all_stops(rt: HostRuntime) {
     assert!(rt; stops_first(&schedule));
 }
 
-/// Whether a schedule has one line, a call of worker 0 in which a device call fails that never comes.
+/// Tells whether a schedule has one line: a call of worker 0 with a failure of a device call that never
+/// comes.
 fn fails_never(schedule: &Schedule) -> bool {
     match schedule.lines.as_slice() {
         [line] => match &line.command {

@@ -1,4 +1,6 @@
 //! How many slots the tenants of a world may use at a time, and which quotas a start can give them.
+//!
+//! Used by: `trial`, and the larger runs.
 
 use mw_words::{MAX_PLACES, MAX_QUOTA};
 use mw_world::{Config, Stop};
@@ -13,8 +15,8 @@ pub(crate) struct Share {
     pub(crate) places: u16,
 }
 
-/// What the tenants of a new world may use: a file has twice as many places as the first quota, but no more
-/// than a file can have.
+/// Gives what the tenants of a new world may use. A file has twice as many places as the first quota, but
+/// no more than a file can have.
 pub(crate) fn first_shares(alloc: Global, config: &Config) -> Result<Vec<Share>, AllocError> {
     let mut shares = Vec::new(alloc);
     for tenant in &config.tenants {
@@ -26,7 +28,7 @@ pub(crate) fn first_shares(alloc: Global, config: &Config) -> Result<Vec<Share>,
     Ok(shares)
 }
 
-/// What they may use after a start, or `None` where it can't give the quotas that are told.
+/// Gives what they may use after a start, or `None` if the start can't give the quotas of its stops.
 pub(crate) fn shares_after(
     alloc: Global,
     shares: &[Share],
@@ -47,7 +49,7 @@ pub(crate) fn shares_after(
     }
 }
 
-/// The quota that is told of a tenant.
+/// Gives the quota that the stops say for a tenant.
 fn told(stops: &[Stop], tenant: usize) -> Option<u8> {
     for stop in stops {
         if usize::from(stop.tenant) == tenant {
@@ -57,7 +59,7 @@ fn told(stops: &[Stop], tenant: usize) -> Option<u8> {
     None
 }
 
-/// Whether tenants can have these quotas, of a pool of so many slots.
+/// Tells whether tenants can have these quotas, from a pool of so many slots.
 pub(crate) fn can_be(shares: &[Share], pool: u16) -> bool {
     let mut together: u64 = 0;
     for share in shares {
@@ -69,7 +71,7 @@ pub(crate) fn can_be(shares: &[Share], pool: u16) -> bool {
     together <= u64::from(pool)
 }
 
-/// Stops that tell the same quotas, and nothing else.
+/// Gives stops with the same quotas, and nothing else.
 pub(crate) fn quotas_alone(alloc: Global, stops: &[Stop]) -> Result<Vec<Stop>, AllocError> {
     let mut alone = Vec::new(alloc);
     for stop in stops {

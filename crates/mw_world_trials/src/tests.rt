@@ -1,4 +1,4 @@
-//! Twenty thousand trials, and some that are longer.
+//! Plays twenty thousand trials, and some that are longer.
 
 use crate::trial::{Tally, play};
 use std::process::Abort;
@@ -13,7 +13,7 @@ const LONG_TRIALS: u64 = 200;
 
 const MANY_EVENTS: u64 = 5_000;
 
-/// What happened in so many trials of so many events, which all go well.
+/// Gives what happened in so many trials of so many events. All of them must succeed.
 fn play_all<R: Abort + AllocGlobal>(rt: &R, trials: u64, events: u64) -> Tally {
     let mut sum = Tally::default();
     for seed in 0..trials {
@@ -28,7 +28,7 @@ fn play_all<R: Abort + AllocGlobal>(rt: &R, trials: u64, events: u64) -> Tally {
     sum
 }
 
-/// Much happened in each of so many trials.
+/// In so many trials there were many interruptions, failures, refusals and gifts.
 fn has_much<R: Abort>(rt: &R, sum: &Tally, trials: u64) {
     assert!(rt; sum.interruptions > trials / 4);
     assert!(rt; sum.failures > trials / 8);

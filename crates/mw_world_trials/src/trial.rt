@@ -1,4 +1,6 @@
-//! One trial.
+//! Plays one trial.
+//!
+//! Used by: `tests`.
 ghost use Rattle.std.specs.Prelude.{◌<◌, ◌≤◌, length};
 ghost use Rattle.mw_world.specs.Definition.State.{IsConfig};
 
@@ -17,16 +19,16 @@ use std::alloc::{AllocError, Global};
 pub struct Tally {
     /// How many device calls failed.
     pub failures: u64,
-    /// How often all stopped as the dice wanted it.
+    /// How many times all stopped as the dice chose.
     pub interruptions: u64,
-    /// How often a start was refused, since the quotas didn't fit.
+    /// How many times a start was refused, because the quotas didn't fit.
     pub refusals: u64,
-    /// How often a start gave quotas that were told.
+    /// How many times a start gave new quotas.
     pub gifts: u64,
 }
 
 impl Tally {
-    /// Counts what happened in another trial too.
+    /// Adds what happened in another trial.
     pub fn add(&mut self, other: &Tally) {
         self.failures = self.failures.saturating_add(other.failures);
         self.interruptions = self.interruptions.saturating_add(other.interruptions);
@@ -46,24 +48,24 @@ struct Trial {
     ghost configured: { IsConfig world.config },
 }
 
-/// What a worker can do next.
+/// Says what a worker can do next.
 #[derive(Clone, Copy)]
 enum Next {
     /// It has no request.
     Ask,
-    /// A step.
+    /// It makes a step.
     Step,
-    /// A call on a file.
+    /// It makes a call on a file.
     Call,
     /// It hands out this reply to this tenant.
     Hand(Handed),
 }
 
-/// Plays so many events that this seed chooses, and compares.
+/// Plays so many events that this seed chooses, and compares the world with a store alone.
 ///
 /// # Errors
 ///
-/// [`TrialFault`] says what differed, or that memory was wanting.
+/// [`TrialFault`] says what differed, or that memory is out.
 pub fn play(alloc: Global, seed: u64, events: u64) -> Result<Tally, TrialFault> {
     let mut dice = Dice::new(seed);
     let config = small_world(&mut dice);
@@ -83,7 +85,7 @@ pub fn play(alloc: Global, seed: u64, events: u64) -> Result<Tally, TrialFault> 
 }
 
 impl Trial {
-    /// One event, of a worker or of all.
+    /// Makes one event, of a worker or of all.
     fn go_on(&mut self, dice: &mut Dice) -> Result<(), TrialFault> {
         if dice.once_in(120) {
             return self.restart(dice);
@@ -115,7 +117,7 @@ impl Trial {
         }
     }
 
-    /// A request, which may be one that is refused.
+    /// Makes a request come, which may be refused.
     fn ask(&mut self, worker: u8, dice: &mut Dice) -> Result<(), TrialFault> {
         let tenants = &self.world.config().tenants;
         let tenant = dice.small(tenants.len() as u8);
@@ -124,7 +126,7 @@ impl Trial {
         Ok(())
     }
 
-    /// A call on a file, in which a device call may fail.
+    /// Makes a call on a file, in which a device call may fail.
     fn call(&mut self, worker: u8, dice: &mut Dice) -> Result<(), TrialFault> {
         if dice.once_in(12) && self.may(Event::File(worker, Outcome::Fail(1 + dice.below(6))))? {
             count(&mut self.tally.failures);
@@ -140,7 +142,8 @@ impl Trial {
         self.must(Event::Hand(worker))
     }
 
-    /// All stops and starts again, as the dice want it if that can be. Quotas that don't fit are refused.
+    /// Stops and starts all again, as the dice choose if that can be. Quotas that don't fit must be
+    /// refused.
     fn restart(&mut self, dice: &mut Dice) -> Result<(), TrialFault> {
         let stops = stops(self.alloc, dice, self.world.config())?;
         let pool = self.world.config().pool;
@@ -154,7 +157,7 @@ impl Trial {
         }
     }
 
-    /// All stops and starts again with these quotas, which fit, and as the dice want it if that can be.
+    /// Stops and starts all again with these quotas, which fit, and as the dice choose if that can be.
     fn start(&mut self, stops: Vec<Stop>) -> Result<(), TrialFault> {
         let quotas = quotas_alone(self.alloc, &stops)?;
         if quotas.iter().any(|stop| stop.quota.is_some()) {
@@ -167,37 +170,37 @@ impl Trial {
         self.must(Event::Restart(quotas))
     }
 
-    /// Quotas that don't fit are refused, whatever else is told, and the world stays as it is.
+    /// Checks that quotas that don't fit are refused, whatever else is given, and the world is unchanged.
     fn refuse(&mut self, stops: Vec<Stop>) -> Result<(), TrialFault> {
         let quotas = quotas_alone(self.alloc, &stops)?;
-        let before = self.glance()?;
+        let before = self.fingerprint()?;
         if self.may(Event::Restart(stops))? || self.may(Event::Restart(quotas))? {
             return Err(TrialFault::Disagreement(Disagreement::Taken));
         }
-        if self.glance()? != before {
+        if self.fingerprint()? != before {
             return Err(TrialFault::Disagreement(Disagreement::Taken));
         }
         count(&mut self.tally.refusals);
         Ok(())
     }
 
-    /// A number that tells how many marks there are, what the doors are and who has a request. A start would
-    /// make it another one.
-    fn glance(&self) -> Result<u64, TrialFault> {
-        let mut glance: u64 = 0;
+    /// Gives a number for how many marks there are, what the doors are and who has a request. A start would
+    /// change it.
+    fn fingerprint(&self) -> Result<u64, TrialFault> {
+        let mut fingerprint: u64 = 0;
         for tenant in 0..self.world.config().tenants.len() {
             let tenant = tenant as u8;
             let marks = self.world.marks(tenant)?;
-            glance = mixed(glance, marks.len() as u64);
-            glance = mixed(glance, self.world.word(At::Door(tenant)));
+            fingerprint = mixed(fingerprint, marks.len() as u64);
+            fingerprint = mixed(fingerprint, self.world.word(At::Door(tenant)));
         }
         for worker in 0..self.world.config().workers {
-            glance = mixed(glance, u64::from(self.world.actor(worker).is_some()));
+            fingerprint = mixed(fingerprint, u64::from(self.world.actor(worker).is_some()));
         }
-        Ok(glance)
+        Ok(fingerprint)
     }
 
-    /// An event that can happen.
+    /// Makes an event that must be possible.
     fn must(&mut self, event: Event) -> Result<(), TrialFault> {
         if self.may(event)? {
             Ok(())
@@ -206,7 +209,7 @@ impl Trial {
         }
     }
 
-    /// Whether an event can happen; then it does.
+    /// Makes an event if it is possible. Tells whether it is.
     fn may(&mut self, event: Event) -> Result<bool, TrialFault> {
         match self.world.step(event) {
             Ok(()) => Ok(true),
@@ -229,7 +232,7 @@ impl Trial {
         Ok(())
     }
 
-    /// Compares after a start: the words too, of each tenant whose file opened.
+    /// Compares after a start, also the words of each tenant whose file opened.
     fn judge_start(&self) -> Result<(), TrialFault> {
         for tenant in 0..self.world.config().tenants.len() {
             let tenant = tenant as u8;
@@ -253,7 +256,7 @@ impl Trial {
         Ok(())
     }
 
-    /// The quota that the last start gave a tenant.
+    /// Gives the quota that the last start gave a tenant.
     fn quota(&self, tenant: u8) -> u8 {
         match self.shares.get(usize::from(tenant)) {
             Some(share) => share.quota,
@@ -262,12 +265,12 @@ impl Trial {
     }
 }
 
-/// A number more, after others.
+/// Mixes a number into others.
 fn mixed(others: u64, number: u64) -> u64 {
     others.wrapping_mul(31).wrapping_add(number)
 }
 
-/// One more. A count stays at its last number.
+/// Counts one more. A count stays at its greatest number.
 fn count(number: &mut u64) {
     *number = number.saturating_add(1);
 }

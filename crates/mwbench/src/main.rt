@@ -1,5 +1,7 @@
 //! `mwbench --connect ADDR --tenant NAME --clients N --words K --seconds S` loads a server and measures how
 //! long its replies take.
+//!
+//! mw_load does the work (`load`). Here are only the program's name, and what it says if it can't begin.
 #![tactic(auto)]
 
 use mw_load::load;

@@ -1,4 +1,6 @@
 //! `mwinit PATH WORDS PLACES` makes a tenant's file.
+//!
+//! mw_programs does the work (`init`). Here are only the program's name, and what it says if it can't begin.
 #![tactic(auto)]
 
 use mw_main::{Program, run};

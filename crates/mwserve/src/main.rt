@@ -1,5 +1,8 @@
 //! `mwserve --tenants FILE` serves tenants' words: to the clients that connect with `--listen ADDR`, or to
 //! one session that it reads from a file with `--script FILE`.
+//!
+//! mw_programs does the work (`serve`), and documents the command line. Here are only the program's name, and
+//! what it says if it can't begin.
 #![tactic(auto)]
 
 use mw_main::{Program, run};

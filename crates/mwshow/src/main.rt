@@ -1,4 +1,6 @@
 //! `mwshow [--words] FILE` shows what a tenant's file says.
+//!
+//! mw_show does the work (`show_args`). Here are only the program's name, and what it says if it can't begin.
 #![tactic(auto)]
 
 use mw_main::{Program, run};

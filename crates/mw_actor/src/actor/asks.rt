@@ -1,4 +1,7 @@
-//! What a request asks for at each of its points.
+//! The step for which a request asks at each of its points.
+//!
+//! It has `Actor::ask`, which mw_core and mw_simulator call before each step. A new point needs a case here, in
+//! `specs/Asks` and in `specs/Parts`.
 ghost use Rattle.std.specs.Prelude.{IfSome, ◌≡◌, ◌<◌};
 ghost use Rattle.mw_words.specs.declared.limits.TheConstants.{WORN_NUMBER};
 ghost use Rattle.mw_words.specs.declared.places.At.TheVariants.{Door as AtDoor, Gate as AtGate, Status as AtStatus, Count, Addr, Expected, New};
@@ -9,7 +12,7 @@ ghost use Rattle.mw_look.specs.Steps.{Change, StepFits, op_of, place};
 ghost use Rattle.mw_look.specs.Program.{freed};
 ghost use Rattle.mw_look.specs.declared.steps.Kind.TheVariants.{Fill as FillKind, Resolve as ResolveKind};
 ghost use Rattle.mw_look.specs.declared.steps.Op.TheVariants.{Change as ChangeBits, File as FileCall};
-ghost use Rattle.mw_actor.specs.Acting.{entry_of, planted};
+ghost use Rattle.mw_actor.specs.ActorState.{entry_of, planted};
 ghost use Rattle.mw_actor.specs.Asks.{asks, released, resolved, row_of, word_place};
 ghost use Rattle.mw_actor.specs.Parts.{Admitting, Deciding, Helping, Holding, Leaving, Sweeping, step_in};
 ghost use Rattle.mw_actor.specs.Ranges.{IsAttemptInRange};
@@ -20,7 +23,7 @@ use mw_look::{Call, Kind, Op};
 use mw_words::{At, Gate, Row, Status, Word};
 
 impl Actor {
-    /// The next step. What it expects at its place, and what it leaves there, is in range.
+    /// Returns the next step. What it expects at its place and what it leaves there is in range.
     pub fn ask(&self) -> Op
         ensures is { result ≡ op_of (asks self.now) }
         ensures fits { StepFits (asks self.now) }
@@ -50,7 +53,8 @@ impl Actor {
         unreachable!()
     }
 
-    // The next step while a slot is found and written. None in the other parts of the program.
+    // Returns the next step while the request finds a slot and writes its change into it. None at all other
+    // points.
     fn step_admitting(&self) -> Option<Op>
         ensures is { result ≡ step_in Admitting self.now }
         ensures fits { IfSome result (λ step. StepFits (asks self.now)) }
@@ -79,8 +83,8 @@ impl Actor {
         Some(step)
     }
 
-    // The next step while the words of an open change are looked at and held. None in the other parts
-    // of the program.
+    // Returns the next step while the request looks at the words of an open change and holds them. None at all
+    // other points.
     fn step_holding(&self) -> Option<Op>
         ensures is { result ≡ step_in Holding self.now }
         ensures fits { IfSome result (λ step. StepFits (asks self.now)) }
@@ -121,8 +125,8 @@ impl Actor {
         Some(step)
     }
 
-    // The next step while a change goes on by its status and its file. None in the other parts of the
-    // program.
+    // Returns the next step while the request takes a change on by its status and its file. None at all other
+    // points.
     fn step_deciding(&self) -> Option<Op>
         ensures is { result ≡ step_in Deciding self.now }
         ensures fits { IfSome result (λ step. StepFits (asks self.now)) }
@@ -141,7 +145,7 @@ impl Actor {
         Some(step)
     }
 
-    // The next step while another's change is pinned and read. None in the other parts of the program.
+    // Returns the next step while the request pins another's change and reads it. None at all other points.
     fn step_helping(&self) -> Option<Op>
         ensures is { result ≡ step_in Helping self.now }
         ensures fits { IfSome result (λ step. StepFits (asks self.now)) }
@@ -164,8 +168,7 @@ impl Actor {
         Some(step)
     }
 
-    // The next step while the words of a decided change are let go. None in the other parts of the
-    // program.
+    // Returns the next step while the request sweeps the words of a decided change. None at all other points.
     fn step_sweeping(&self) -> Option<Op>
         ensures is { result ≡ step_in Sweeping self.now }
         ensures fits { IfSome result (λ step. StepFits (asks self.now)) }
@@ -200,7 +203,7 @@ impl Actor {
         Some(step)
     }
 
-    // The next step while a slot is let go and the request ends. None in the other parts of the program.
+    // Returns the next step while the request gives back a slot and ends. None at all other points.
     fn step_leaving(&self) -> Option<Op>
         ensures is { result ≡ step_in Leaving self.now }
         ensures fits { IfSome result (λ step. StepFits (asks self.now)) }
@@ -227,7 +230,7 @@ impl Actor {
         At::Door(self.tenant)
     }
 
-    // An exchange of the word of an entry, of the change that is worked on. Both words are in range.
+    // An exchange of the word of an entry of the target. Both words are in range.
     fn exchange(&self, kind: Kind, task: Task, entry: u8, from: Word, to: Word) -> Op
         requires from { IsWordInRange from }
         requires to { IsWordInRange to }
@@ -236,7 +239,7 @@ impl Actor {
         change(kind, self.word_place(task, entry), from.pack(), to.pack())
     }
 
-    // The exchange of an attempt for what it becomes. Both are in range.
+    // The exchange of an attempt for this word. Both are in range.
     fn resolve(&self, task: Task, entry: u8, attempt: Attempt, to: Word) -> Op
         requires from { IsAttemptInRange attempt }
         requires to { IsWordInRange to }
@@ -245,7 +248,7 @@ impl Actor {
         self.exchange(Kind::Resolve, task, entry, attempt.word(), to)
     }
 
-    // The place of an entry's word, of the change that is worked on.
+    // The place of the word of an entry of the target.
     fn word_place(&self, task: Task, entry: u8) -> At
         ensures { result ≡ word_place self.now task entry }
     {
@@ -255,7 +258,7 @@ impl Actor {
         }
     }
 
-    // The word that has the value that an entry expects.
+    // The plain word with the value that an entry expects.
     fn expected(&self, task: Task, entry: u8) -> Word
         ensures is { result ≡ Plain (entry_of self.now task entry).expected }
         ensures in_range { IsWordInRange result }
@@ -263,7 +266,7 @@ impl Actor {
         Word::Plain(self.entry(task, entry).expected)
     }
 
-    // What an attempt becomes.
+    // The word for which an attempt is exchanged.
     fn resolved(&self, was_open: bool, task: Task, entry: u8) -> Word
         requires { task.target.seq < WORN_NUMBER }
         ensures is { result ≡ resolved was_open task.target (entry_of self.now task entry) }
@@ -276,7 +279,7 @@ impl Actor {
         }
     }
 
-    // What a held word becomes.
+    // The word for which a held word is exchanged.
     fn released(&self, sweep: Sweep, task: Task, entry: u8) -> Word
         ensures is { result ≡ released sweep task.target (entry_of self.now task entry) }
         ensures in_range { IsWordInRange result }
@@ -330,7 +333,7 @@ impl Slot {
         }
     }
 
-    // The place of the value that an entry is to write.
+    // The place of the value that an entry writes.
     fn new_place(self, entry: u8) -> At
         ensures { result ≡ New self.slot entry }
     {
@@ -348,21 +351,21 @@ fn change(kind: Kind, at: At, from: u64, to: u64) -> Op
     Op::Change { kind, at, from, to }
 }
 
-// A change that leaves this at a place, whatever stands there.
+// A change that stores this at a place, whatever the place has.
 fn store(kind: Kind, at: At, to: u64) -> Op
     ensures { result ≡ ChangeBits kind at 0 to }
 {
     change(kind, at, 0, to)
 }
 
-// A word of one's own slot that is written.
+// A store to a word of the request's own slot.
 fn fill(at: At, to: u64) -> Op
     ensures { result ≡ ChangeBits FillKind at 0 to }
 {
     store(Kind::Fill, at, to)
 }
 
-// The exchange of the open status of the change that is worked on. The new status is in range.
+// The exchange of the target's status Open for this status, which is in range.
 fn decide(kind: Kind, task: Task, to: Status) -> Op
     requires { IsStatusInRange to }
     ensures { result ≡ op_of (Change kind (AtStatus task.target.slot) Open to) }
@@ -396,7 +399,7 @@ fn row(target: Slot, entry: u8) -> Row
     }
 }
 
-// The gate of a slot that nobody has taken since it was used under this number.
+// The free gate of a slot after it was used with this number.
 fn free_gate(slot: Slot) -> Gate
     requires { slot.seq < WORN_NUMBER }
     ensures { result ≡ freed slot.seq }

@@ -1,38 +1,41 @@
 //! Where a change goes from each of its points, by what it is told there.
+//!
+//! Only `actor.rt` calls it. A new point needs a case here and in `specs/Program`, or in the page of it that the
+//! point belongs to.
 ghost use Rattle.std.specs.Prelude.{◌≡◌, ℕ};
 ghost use Rattle.mw_words.specs.Patterns.{IsGateInRange};
-ghost use Rattle.mw_look.specs.News.{IsNewsInRange};
-ghost use Rattle.mw_look.specs.declared.news.News.TheVariants.{SawDoor, SawGate, SawWord, SawStatus, SawRow, SawNumber, Won, Lost, Filed};
+ghost use Rattle.mw_look.specs.Observations.{IsObservationInRange};
+ghost use Rattle.mw_look.specs.declared.observations.Observation.TheVariants.{SawDoor, SawGate, SawWord, SawStatus, SawRow, SawNumber, Won, Lost, Filed};
 ghost use Rattle.mw_actor.specs.Program.{changes};
-ghost use Rattle.mw_actor.specs.Admitting as admitting;
-ghost use Rattle.mw_actor.specs.Finishing as finishing;
-ghost use Rattle.mw_actor.specs.Helping as helping;
-ghost use Rattle.mw_actor.specs.Inspecting as inspecting;
-ghost use Rattle.mw_actor.specs.Sweeping as sweeping;
+ghost use Rattle.mw_actor.specs.Admission as admitting;
+ghost use Rattle.mw_actor.specs.RequestEnds as finishing;
+ghost use Rattle.mw_actor.specs.Help as helping;
+ghost use Rattle.mw_actor.specs.Inspection as inspecting;
+ghost use Rattle.mw_actor.specs.ReleasePhase as sweeping;
 
 use crate::actor::Actor;
 use crate::points::{After, Attempt, Point, Slot, Sweep, Task};
-use mw_look::News;
+use mw_look::Observation;
 use mw_pool::{Admission, admit, claim};
 use mw_words::{Door, Gate, MAX_VALUE, Reply, Row, Status, WORN_NUMBER, Word};
 
 impl Actor {
-    // The point of a change after these news.
-    pub(crate) fn next(&self, news: News, next: u64) -> Point
-        requires { IsNewsInRange news }
-        ensures { result ≡ changes self.now next self.now.point news }
+    // Returns the point of a change after this observation.
+    pub(crate) fn next(&self, observation: Observation, next: u64) -> Point
+        requires { IsObservationInRange observation }
+        ensures { result ≡ changes self.now next self.now.point observation }
     {
-        match news {
-            News::SawDoor(door) => self.saw_door(door, next),
-            News::SawGate(gate) => self.saw_gate(gate),
-            News::SawWord(word) => self.saw_word(word, next),
-            News::SawStatus(status) => self.saw_status(status),
-            News::SawRow(row) => self.saw_row(row),
-            News::SawNumber(number) => self.saw_number(number),
-            News::Won => self.won(),
-            News::Lost => self.lost(),
-            News::Filed(went_well) => self.filed(went_well),
-            News::Junk => self.point,
+        match observation {
+            Observation::SawDoor(door) => self.saw_door(door, next),
+            Observation::SawGate(gate) => self.saw_gate(gate),
+            Observation::SawWord(word) => self.saw_word(word, next),
+            Observation::SawStatus(status) => self.saw_status(status),
+            Observation::SawRow(row) => self.saw_row(row),
+            Observation::SawNumber(number) => self.saw_number(number),
+            Observation::Won => self.won(),
+            Observation::Lost => self.lost(),
+            Observation::Filed(went_well) => self.filed(went_well),
+            Observation::Junk => self.point,
         }
     }
 
@@ -261,7 +264,7 @@ impl Actor {
         }
     }
 
-    // The point after a gate that was not claimed: the pool's next one, or the round is over.
+    // The point after a gate that wasn't claimed: the pool's next gate, or the end of the round.
     fn next_gate(&self, slot: u8, saw_worn: bool) -> Point
         ensures { result ≡ admitting.next_gate self.now slot saw_worn }
     {
@@ -280,7 +283,7 @@ impl Actor {
         }
     }
 
-    // The point after an entry is written: the next one, or the file is called.
+    // The point after an entry was written: the next entry, or the call on the file.
     fn next_fill(&self, own: Slot, entry: u8) -> Point
         ensures { result ≡ admitting.next_fill self.now own entry }
     {
@@ -319,7 +322,7 @@ impl Actor {
         }
     }
 
-    // The point after a word that is held: the next entry, or the decision, or help for another.
+    // The point after a held word: the next entry, or the decision, or help for another change.
     fn held_seen(&self, task: Task, entry: u8, other: Slot) -> Point
         ensures { result ≡ inspecting.held_seen self.now task entry other }
     {
@@ -335,7 +338,7 @@ impl Actor {
         }
     }
 
-    // The point after an entry of another's change is read: the next one, or its status.
+    // The point after an entry of another's change was read: its next entry, or its status.
     fn next_read(&self, task: Task, count: u8) -> Point
         ensures { result ≡ helping.next_read self.now task count }
     {
@@ -364,7 +367,7 @@ impl Actor {
         }
     }
 
-    // A held word is released if it is held for the target, until the change is made and done with.
+    // Releases a word that is held for the target, unless the target is made and done.
     fn held_swept(&self, task: Task, sweep: Sweep, entry: u8, slot: Slot) -> Point
         ensures { result ≡ sweeping.held_swept self.now task sweep entry slot }
     {
@@ -375,7 +378,7 @@ impl Actor {
         }
     }
 
-    // A dirty word that names the target's slot is cleaned once the change is made and done with.
+    // Cleans a dirty word that names the target's slot, if the target is made and done.
     fn dirty_swept(&self, task: Task, sweep: Sweep, entry: u8, slot: u8, value: u64) -> Point
         ensures { result ≡ sweeping.dirty_swept self.now task sweep entry slot value }
     {
@@ -385,7 +388,7 @@ impl Actor {
         }
     }
 
-    // An attempt is looked into, unless the change is made and not done with.
+    // Looks into an attempt, unless the target is made and not done yet.
     fn attempt_swept(&self, task: Task, sweep: Sweep, entry: u8, attempt: Attempt) -> Point
         ensures { result ≡ sweeping.attempt_swept self.now task sweep entry attempt }
     {
@@ -400,7 +403,7 @@ impl Actor {
         }
     }
 
-    // The point after a word of a decided change was loaded again, which was an attempt.
+    // The point after a sweep has loaded again a word that had an attempt.
     fn sweep_confirmed(
         &self,
         task: Task,
@@ -424,7 +427,7 @@ impl Actor {
         }
     }
 
-    // The point after a word was let go: the next one, or the round is over.
+    // The point after the sweep of a word: the next word, or the end of the sweep.
     fn next_sweep(&self, task: Task, sweep: Sweep, entry: u8) -> Point
         ensures { result ≡ sweeping.next_sweep self.now task sweep entry }
     {
@@ -470,7 +473,7 @@ impl Actor {
     }
 }
 
-// Whether the gate is not taken, and its number is worn.
+// Tells whether the gate isn't taken and its number is worn.
 fn is_worn(gate: Gate) -> bool
     ensures { result ≡ admitting.is_worn gate }
 {

@@ -80,7 +80,7 @@ gives 0 OK ADMIN;|tenant t: damage 6;DIR/script;",
     )
 }
 
-/// Tenants files of whose second line the form is wrong.
+/// Tenants files with a wrong form in the second line are refused.
 #[test]
 fn rules_of_the_form(rt: HostRuntime) -> Result<(), Fail> {
     play(
@@ -114,7 +114,7 @@ gives 2 |mwserve: refused 5 quota line 1;DIR/tenants;",
     )
 }
 
-/// Where a local socket can't be, and what stands there stays.
+/// A local socket can't be made at these places, and the file there stays.
 #[test]
 fn sockets_that_have_no_place(rt: HostRuntime) -> Result<(), Fail> {
     play(

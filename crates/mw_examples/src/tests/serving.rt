@@ -13,10 +13,10 @@ use std::thread::Threads;
 use std::time::Clock;
 use std::{io, thread};
 
-/// What `mwinit` is asked for.
+/// The command line of `mwinit`.
 const MAKING: &str = "mwinit DIR/t.mw 2 1";
 
-/// What `mwserve` is asked for.
+/// The command line of `mwserve`.
 const SERVING: &str = "mwserve --tenants DIR/tenants --script DIR/script";
 
 /// Files for `mwserve`.
@@ -24,7 +24,7 @@ const ONE_CHANGE: &str = "\
 write tenants t 2 1 DIR/t.mw;
 write script TENANT t;CAS 0:0:1;";
 
-/// True if `mwinit` makes a file, and has it locked when it tells so.
+/// Gives true if `mwinit` makes a file, and has it locked when it says so.
 fn is_locked_when_made(rt: &HostRuntime, folder: &str, path: &str) -> Result<bool, Fail> {
     let args = command_line(rt.alloc(), folder, MAKING)?;
     let mut out = LockWatch::new(rt, path);
@@ -32,7 +32,7 @@ fn is_locked_when_made(rt: &HostRuntime, folder: &str, path: &str) -> Result<boo
     Ok(init(rt, &args, &mut out, &mut err) == 0 && out.was_locked())
 }
 
-/// True if `mwserve` serves a script, and has the tenant's file locked when it answers.
+/// Gives true if `mwserve` serves a script, and has the tenant's file locked when it answers.
 fn is_locked_when_served<R>(rt: &R, folder: &str, path: &str) -> Result<bool, Fail>
 where
     R: Files<File = File>
@@ -81,8 +81,8 @@ where
     Ok(serve(rt, &args, &mut notice, &mut err))
 }
 
-/// Two clients of the server, of whom the second begins once the first has ended. True if they hear
-/// what they should.
+/// Two clients of the server, of which the second begins after the first has ended. Gives true if they hear
+/// what they must.
 fn call_in_turn<R: Net<Listener = TcpListener, Stream = TcpStream> + Clock>(
     rt: &R,
     port: u16,
@@ -136,8 +136,8 @@ fn two_clients(rt: HostRuntime) -> Result<(), Fail> {
     remove_folder(&rt, folder.as_str())
 }
 
-/// A client has the one worker and is silent. The administrator is told the report all the same, and then
-/// the client is sent away.
+/// A client has the one worker and is silent. The administrator still gets the report, and then the client
+/// is sent away.
 fn call_both<R: Net<Listener = TcpListener, Stream = TcpStream> + Clock>(
     rt: &R,
     ports: &Ports,

@@ -1,2 +1,3 @@
-pub mod Calling
-pub mod Guarding
+-- The proofs about what a request needs for a call on its tenant's file, and what it knows after it.
+pub mod AfterCalls
+pub mod CallGuards

@@ -1,7 +1,8 @@
+-- The proofs that the preconditions of the moves of a request's step hold.
 pub mod Attempts
-pub mod Doing
+pub mod UpdateGuards
 pub mod Gates
-pub mod Looking
+pub mod ReadGuards
 pub mod Memory
-pub mod Posing
+pub mod IntentGuards
 pub mod Words

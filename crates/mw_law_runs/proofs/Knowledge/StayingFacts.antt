@@ -1,4 +1,6 @@
--- Each fact that a request may know stays so while another worker moves.
+-- Each fact that a request may know stays true while a worker moves that keeps the request's own.
+-- Used by: Knowledge/Stability, Knowledge/Updates/Acquisition, KnowledgeOverSteps, Knowledge/Updates/Releases,
+-- Knowledge/Updates/Unpins.
 use Rattle.std.specs.Prelude.{ℕ, ◌≡◌, ◌≢◌, ◌≤◌, ◌⊎◌, List, length, is_some}
 use Rattle.std.proofs.Common.{refl, sym, ap, subst, ◌∙◌, inl, inr, arith}
 use Rattle.mw_words.specs.declared.replies.Reply.{Reply}
@@ -15,14 +17,14 @@ use Rattle.mw_actor.specs.declared.points.Slot.{Slot}
 use Rattle.mw_actor.specs.declared.points.Sweep.{Sweep}
 use Rattle.mw_actor.specs.declared.points.Sweep.TheVariants.{Yes as SweepYes, DoneYes as SweepDoneYes, No as SweepNo, DoneNo as SweepDoneNo}
 use Rattle.mw_actor.specs.declared.points.Task.{Task}
-use Rattle.mw_actor.specs.Acting.{Acting, own_entries, entry_at}
+use Rattle.mw_actor.specs.ActorState.{ActorState, own_entries, entry_at}
 use Rattle.mw_world.specs.Definition.History.{entry_for}
 use Rattle.mw_world.specs.Claim.Invariant.{IsEntryOf, IsRefused}
-use Rattle.mw_world.specs.Claim.Owing.{IsEntryAt}
+use Rattle.mw_world.specs.Claim.Obligations.{IsEntryAt}
 use Rattle.mw_world.specs.Definition.State.{State}
 use Rattle.mw_law_moves.specs.Guards.{IsLive}
-use Rattle.mw_law_moves.specs.Relying.{Later, SameSlot}
-use Rattle.mw_law_runs.specs.Knowledge.Keeping.{KeepsOwn, KeepsPins}
+use Rattle.mw_law_moves.specs.Rely.{Rely, SameSlot}
+use Rattle.mw_law_runs.specs.Knowledge.OwnKnowledge.{KeepsOwn, KeepsPins}
 use Rattle.mw_law_runs.specs.Knowledge.Facts.{IsKnown, MayBeMet, IsOwn, IsDrafted, IsReadied, IsWritten, IsWriting, IsAtWork, WorksOn, AtEntry, AreFirstOf, HasRead, HoldsUpTo, AreHeldNoMore, IsDecidedAs, IsSweptUpTo, Sweeps, IsOver, IsGiven, IsAnothers, IsForChange, HasRow, CameBy, Follows, EndsWith}
 
 -- a refused change stays refused
@@ -40,13 +42,13 @@ refused_as (No entry value) other goes stays is = either (goes entry value refl)
     either (inr e) = subst IsRefused (sym e) tt
 refused_as (DoneNo entry value) other goes stays is = subst IsRefused (sym (stays entry value refl)) tt
 
--- what is a draft was one, where what was none is none
+-- a draft was one before, if nothing becomes a draft that was none
 draft_as : (one other : Status) → (one ≢ Draft → other ≢ Draft) → other ≡ Draft → one ≡ Draft
 draft_as Draft other goes is = refl
 draft_as one other goes is = absurd (goes (λ e. cc) is)
 
 -- the reply of a change that is done with stays its reply
-over_as : (actor : Acting) (one other : Status) (reply : Reply) → (one ≡ DoneYes → other ≡ DoneYes) → ((entry value : ℕ) → one ≡ DoneNo entry value → other ≡ DoneNo entry value)
+over_as : (actor : ActorState) (one other : Status) (reply : Reply) → (one ≡ DoneYes → other ≡ DoneYes) → ((entry value : ℕ) → one ≡ DoneNo entry value → other ≡ DoneNo entry value)
     → IsOver actor one reply → IsOver actor other reply
 over_as actor Draft other reply done canceled is = absurd is
 over_as actor Open other reply done canceled is = absurd is
@@ -56,11 +58,11 @@ over_as actor (No entry value) other reply done canceled is = absurd is
 over_as actor DoneYes other reply done canceled is = subst (λ (fate : Status). IsOver actor fate reply) (sym (done refl)) is
 over_as actor (DoneNo entry value) other reply done canceled is = subst (λ (fate : Status). IsOver actor fate reply) (sym (canceled entry value refl)) is
 
-module _ (by : ℕ) (old new : State) (later : Later by old new) where
+module _ (by : ℕ) (old new : State) (later : Rely by old new) where
   pub known_stays : (tenant : ℕ) (change : Slot) → IsKnown old tenant change → IsKnown new tenant change
   known_stays tenant change known =
-      let birth = later.births change.slot change.seq known.is_born in
-      record { is_born = birth.is_born; same_tenant = birth.tenant ∙ known.same_tenant; ready = later.ready change.slot change.seq known.ready }
+      let birth = later.births change.slot change.seq known.is_claimed in
+      record { is_claimed = birth.is_claimed; same_tenant = birth.tenant ∙ known.same_tenant; ready = later.ready change.slot change.seq known.ready }
 
   pub met_stays : (tenant : ℕ) (other : Slot) → MayBeMet old tenant other → MayBeMet new tenant other
   met_stays tenant other met = record {
@@ -71,21 +73,21 @@ module _ (by : ℕ) (old new : State) (later : Later by old new) where
   pub reached_stays : (other : Slot) → other.seq ≤ (old.cells.gates other.slot).seq → other.seq ≤ (new.cells.gates other.slot).seq
   reached_stays other reached = omega (arith, reached, later.seqs other.slot)
 
-  -- the change of an entry stays, and so does what is said of its words
+  -- the change of an entry stays, and so does what is known of its words
   same_change : (tenant : ℕ) (target : Slot) → IsKnown old tenant target → new.history.change target.slot target.seq ≡ old.history.change target.slot target.seq
-  same_change tenant target known = (later.births target.slot target.seq known.is_born).change
+  same_change tenant target known = (later.births target.slot target.seq known.is_claimed).change
 
   pub holds_stay : (tenant : ℕ) (target : Slot) (entries : ℕ) → IsKnown old tenant target → HoldsUpTo old target entries → HoldsUpTo new target entries
   holds_stay tenant target entries known holds is_open index within =
       let addr = (entry_at (old.history.change target.slot target.seq) index).addr in
       ap (λ (change : List Entry). new.history.phase target.slot target.seq (entry_at change index).addr) (same_change tenant target known)
-      ∙ later.keeping target.slot target.seq addr known.ready is_open (holds (later.was_open target.slot target.seq known.ready is_open) index within)
+      ∙ later.acquired target.slot target.seq addr known.ready is_open (holds (later.was_open target.slot target.seq known.ready is_open) index within)
 
   pub let_go_stays : (tenant : ℕ) (target : Slot) (entries : ℕ) → IsKnown old tenant target → AreHeldNoMore old target entries → AreHeldNoMore new target entries
   let_go_stays tenant target entries known were = record {
     touched = λ index within is. later.touched target.slot target.seq (entry_at (old.history.change target.slot target.seq) index).addr (were.touched index within) (sym (there index) ∙ is);
     held_no_more = λ index within is. were.held_no_more index within
-        (later.was_keeping target.slot target.seq (entry_at (old.history.change target.slot target.seq) index).addr (were.touched index within) (sym (there index) ∙ is));
+        (later.was_acquired target.slot target.seq (entry_at (old.history.change target.slot target.seq) index).addr (were.touched index within) (sym (there index) ∙ is));
   }
     where
       there : (index : ℕ) → new.history.phase target.slot target.seq (entry_at (new.history.change target.slot target.seq) index).addr
@@ -106,7 +108,7 @@ module _ (by : ℕ) (old new : State) (later : Later by old new) where
   swept_stays tenant target SweepNo entry known swept = tt
   swept_stays tenant target (SweepDoneNo index value) entry known swept = tt
 
-  pub over_stays : (actor : Acting) (slot : Slot) (reply : Reply) → IsOver actor (old.history.fate slot.slot slot.seq) reply → IsOver actor (new.history.fate slot.slot slot.seq) reply
+  pub over_stays : (actor : ActorState) (slot : Slot) (reply : Reply) → IsOver actor (old.history.fate slot.slot slot.seq) reply → IsOver actor (new.history.fate slot.slot slot.seq) reply
   over_stays actor slot reply is =
       over_as actor (old.history.fate slot.slot slot.seq) (new.history.fate slot.slot slot.seq) reply (later.done slot.slot slot.seq) (later.canceled slot.slot slot.seq) is
 
@@ -140,13 +142,13 @@ module _ (by : ℕ) (old new : State) (later : Later by old new) where
     row = row_stays tenant address worker number row came.row;
   }
 
-  -- a request's own change, and what it works on
-  module _ (actor : Acting) (pins : KeepsPins old new actor) where
+  -- a request's own change, and its target
+  module _ (actor : ActorState) (pins : KeepsPins old new actor) where
     pub own_stays : (own : Slot) → IsOwn old actor own → IsOwn new actor own
     own_stays own is =
-        let birth = later.births own.slot own.seq is.is_born in
+        let birth = later.births own.slot own.seq is.is_claimed in
         record {
-          is_born = birth.is_born;
+          is_claimed = birth.is_claimed;
           same_tenant = birth.tenant ∙ is.same_tenant;
           same_worker = birth.owner ∙ is.same_worker;
           same_entries = birth.change ∙ is.same_entries;
@@ -200,12 +202,12 @@ module _ (by : ℕ) (old new : State) (later : Later by old new) where
     ends_stays slot (ThenGiveUp own undecided) is = tt
     ends_stays slot (ThenReply reply) is = (readied_stays slot is.0, over_stays actor slot reply is.1)
 
-  -- a request's draft, and what stands in its slot
-  module _ (actor : Acting) (keeps : KeepsOwn old new actor) where
+  -- a request's draft, and the contents of its slot
+  module _ (actor : ActorState) (keeps : KeepsOwn old new actor) where
     pub drafted_stays : (own : Slot) → IsDrafted old actor own → IsDrafted new actor own
     drafted_stays own is = record { own = own_stays actor keeps.pins own is.own; draft = keeps.drafts own is }
 
-    -- a draft's slot tells that it is one, if it told it before
+    -- a draft's slot says that it is a draft, if it said so before
     pub draft_told : (own : Slot) → IsOwn old actor own → IsLive old own → IsLive new own → (old.history.fate own.slot own.seq ≡ Draft → old.cells.statuses own.slot ≡ Draft)
         → new.history.fate own.slot own.seq ≡ Draft → new.cells.statuses own.slot ≡ Draft
     draft_told own is live stays told draft =
@@ -213,7 +215,7 @@ module _ (by : ℕ) (old new : State) (later : Later by old new) where
         (keeps.filled own (record { own = is; draft = was }) live stays).status ∙ told was
 
     entry_same : (slot index : ℕ) (entry : Entry) → SameSlot old new slot → IsEntryOf old.cells slot index entry → IsEntryOf new.cells slot index entry
-    entry_same slot index entry same is = record { addr = same.addrs index ∙ is.addr; expected = same.expecteds index ∙ is.expected; new = same.news index ∙ is.new }
+    entry_same slot index entry same is = record { addr = same.addrs index ∙ is.addr; expected = same.expecteds index ∙ is.expected; new = same.new_values index ∙ is.new }
 
     pub written_stays : (own : Slot) (entries : ℕ) → IsLive old own → IsLive new own → IsWritten old actor own entries → IsWritten new actor own entries
     written_stays own entries live stays is =

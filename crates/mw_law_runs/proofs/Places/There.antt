@@ -1,4 +1,4 @@
--- The next step of a request is at a place that is there.
+-- The next step of a request is at a place that exists. Used by: Places/PlaceInvariant.
 use Rattle.std.specs.Prelude.{ℕ, zero, suc, ◌≡◌, ◌≤◌, ◌<◌, ◌&&◌, Bool, true, false, nat_lt, List, [], ◌∷◌, length, Some, None}
 use Rattle.std.specs.List.{list_all}
 use Rattle.std.proofs.Common.{refl, sym, ap, subst, ◌∙◌, arith}
@@ -17,7 +17,7 @@ use Rattle.mw_look.specs.Program.{Reading, slot_of, asks_at as read_asks_at}
 use Rattle.mw_actor.specs.declared.points.Point.{Point}
 use Rattle.mw_actor.specs.declared.points.Point.TheVariants.{Read, ReadDoor, Admit, ScanGate, Claim, FillStatus, FillCount, FillAddr, FillExpected, FillNew, Prepare, ReadTargetStatus, Inspect, AnnounceRow, Plant, ReadOtherRow, ConfirmAttempt, ReadDirtyGate, ConfirmDirty, DecideYes, DecideNo, CheckThenResolve, Resolve, ReadOtherGate, PinOther, ReadCount, ReadAddr, ReadExpected, ReadNew, Seal, SweepWord, Release, Clean, SweepRow, SweepConfirm, SweepResolve, Settle, Cancel, Unpin, FreeSlot, LowerDoor, GiveUp, Replied}
 use Rattle.mw_actor.specs.declared.points.Task.{Task}
-use Rattle.mw_actor.specs.Acting.{Acting, entries_of, entry_at, entry_of}
+use Rattle.mw_actor.specs.ActorState.{ActorState, entries_of, entry_at, entry_of}
 use Rattle.mw_actor.specs.Asks.{asks, asks_at, word_place}
 use Rattle.mw_world.specs.declared.config.Config.{Config}
 use Rattle.mw_world.specs.Definition.Calls.{called_at}
@@ -29,7 +29,7 @@ use Rattle.mw_law_runs.specs.Knowledge.Facts.{AtEntry, CameBy}
 use Rattle.mw_law_runs.specs.Knowledge.Informed.{IsInformed, IsPointFor}
 use Rattle.mw_law_runs.specs.Knowledge.Points.{ReadKnows, without_point}
 use Rattle.mw_law_runs.specs.Places.{IsWithin, ReadIsWithin}
-use Rattle.mw_law_runs.proofs.Places.Going.{few_entries}
+use Rattle.mw_law_runs.proofs.Places.NextPoints.{few_entries}
 
 low : (n m : ℕ) → n < m → nat_lt n m ≡ true
 low n m is = grind (arith, nat_tests, is)
@@ -56,29 +56,29 @@ read_word : (words : ℕ) (look : Reading) (job : Job) → IsPointFor job (Read 
 read_word words look (Get address) for_job formed = ap (λ (n : ℕ). nat_lt n words) for_job ∙ formed
 read_word words look (Cas entries) for_job formed = absurd for_job
 
-module _ (config : Config) (state : State) (past : (worker : ℕ) → config.workers ≤ worker → (state.seats worker).attempt ≡ 0) where
-  -- a worker whose attempt's number was given out is there
-  given_there : (worker number : ℕ) → number < (state.seats worker).attempt → nat_lt worker config.workers ≡ true
+module _ (config : Config) (state : State) (past : (worker : ℕ) → config.workers ≤ worker → (state.worker_states worker).attempt ≡ 0) where
+  -- a worker whose attempt's number was given out is one of the world's
+  given_there : (worker number : ℕ) → number < (state.worker_states worker).attempt → nat_lt worker config.workers ≡ true
   given_there worker number given = by_test (nat_lt worker config.workers) refl
     where
       by_test : (test : Bool) → nat_lt worker config.workers ≡ test → test ≡ true
       by_test true is = refl
       by_test false is = let beyond : config.workers ≤ worker = grind (arith, nat_tests, is) in absurd (omega (arith, past worker beyond, given))
 
-  module _ (actor : Acting) where
+  module _ (actor : ActorState) where
     came_there : (point : ReadPoint) (look : Reading) (tenant address : ℕ) (trail : Trail) → IsInformed config state (record actor { point = Read look }) → CameBy state tenant address trail → slot_of trail < config.pool
-    came_there point look tenant address (ByHeld slot seq) informed came = informed.memory.claims.born slot seq came.known.is_born
-    came_there point look tenant address (ByPlanted worker attempt row) informed came = informed.memory.claims.born row.slot row.seq came.known.is_born
+    came_there point look tenant address (ByHeld slot seq) informed came = informed.memory.claims.of_pool slot seq came.known.is_claimed
+    came_there point look tenant address (ByPlanted worker attempt row) informed came = informed.memory.claims.of_pool row.slot row.seq came.known.is_claimed
 
     read_there : (look : Reading) (point : ReadPoint) → let me = record actor { point = Read look } in IsInformed config state me → ReadKnows state look.tenant look.address point → ReadIsWithin point
         → may_make config (read_asks_at look.tenant look.address point) ≡ true
     read_there look point informed knows within = by_point point knows within
       where
         door : nat_lt look.tenant (tenants_of config) ≡ true
-        door = ap (λ (n : ℕ). nat_lt n (tenants_of config)) informed.ready.0 ∙ low actor.tenant (tenants_of config) informed.seat.tenant
+        door = ap (λ (n : ℕ). nat_lt n (tenants_of config)) informed.ready.0 ∙ low actor.tenant (tenants_of config) informed.worker_state.tenant
 
         word : has_place config (Data look.tenant look.address) ≡ true
-        word = ap (λ (n : ℕ). nat_lt look.address (tenant_at config n).words) informed.ready.0 ∙ read_word (tenant_at config actor.tenant).words look actor.job informed.for_job informed.seat.job
+        word = ap (λ (n : ℕ). nat_lt look.address (tenant_at config n).words) informed.ready.0 ∙ read_word (tenant_at config actor.tenant).words look actor.job informed.for_job informed.worker_state.job
 
         slot : (trail : Trail) → CameBy state look.tenant look.address trail → nat_lt (slot_of trail) config.pool ≡ true
         slot trail came = low (slot_of trail) config.pool (came_there look.point look look.tenant look.address trail informed came)
@@ -95,14 +95,14 @@ module _ (config : Config) (state : State) (past : (worker : ℕ) → config.wor
         by_point (read.ReadExpected trail status entry) knows within = both (nat_lt (slot_of trail) config.pool) (nat_lt entry MAX_ENTRIES) (slot trail knows) (low entry MAX_ENTRIES within)
         by_point (read.ReadNew trail status entry expected) knows within = both (nat_lt (slot_of trail) config.pool) (nat_lt entry MAX_ENTRIES) (slot trail knows) (low entry MAX_ENTRIES within)
         by_point (read.RecheckWord trail status expected new) knows within = word
-        by_point (read.Unpin given seq after) knows within = low given config.pool (informed.memory.claims.born given seq knows.is_born)
-        by_point (read.FreeSlot given seq after) knows within = low given config.pool (informed.memory.claims.born given seq knows.is_born)
+        by_point (read.Unpin given seq after) knows within = low given config.pool (informed.memory.claims.of_pool given seq knows.is_claimed)
+        by_point (read.FreeSlot given seq after) knows within = low given config.pool (informed.memory.claims.of_pool given seq knows.is_claimed)
         by_point (read.LowerDoor after) knows within = door
         by_point (read.Replied reply) knows within = door
 
     module _ (point : Point) (informed : IsInformed config state (record actor { point = point })) where
       door_there : nat_lt actor.tenant (tenants_of config) ≡ true
-      door_there = low actor.tenant (tenants_of config) informed.seat.tenant
+      door_there = low actor.tenant (tenants_of config) informed.worker_state.tenant
 
       -- the slot of a live change
       live_there : (slot seq : ℕ) → (state.cells.gates slot).taken ≡ true → nat_lt slot config.pool ≡ true
@@ -111,14 +111,14 @@ module _ (config : Config) (state : State) (past : (worker : ℕ) → config.wor
       entry_there : (slot entry : ℕ) → (state.cells.gates slot).taken ≡ true → entry < MAX_ENTRIES → (nat_lt slot config.pool && nat_lt entry MAX_ENTRIES) ≡ true
       entry_there slot entry taken few = both (nat_lt slot config.pool) (nat_lt entry MAX_ENTRIES) (live_there slot 0 taken) (low entry MAX_ENTRIES few)
 
-      -- the word of an entry of the change that is worked on
+      -- the word of an entry of the target
       word_there : (task : Task) (entry : ℕ) → AtEntry state (without_point actor) task entry → has_place config (Data actor.tenant (entry_of actor task entry).addr) ≡ true
       word_there task entry at =
           let target = task.target in
           let known = at.works.at_work.target in
           let change = state.history.change target.slot target.seq in
           let same : entries_of actor task ≡ change = at.works.entries in
-          let formed = (informed.memory.claims.formed target.slot target.seq known.is_born).1 in
+          let formed = (informed.memory.claims.formed target.slot target.seq known.is_claimed).1 in
           let words : ℕ = (tenant_at config (state.history.tenant target.slot target.seq)).words in
           let here : nat_lt (entry_at change entry).addr words ≡ true = all_low words change entry (all_in words change formed) (subst (λ (es : List Entry). entry < length es) same at.within) in
           subst (λ (es : List Entry). nat_lt (entry_at es entry).addr (tenant_at config actor.tenant).words ≡ true) (sym same)
@@ -138,7 +138,7 @@ module _ (config : Config) (state : State) (past : (worker : ℕ) → config.wor
     at_point (Prepare own) informed within no_call = absurd (none_some _ no_call)
     at_point (ReadTargetStatus task) informed within no_call = live_there (ReadTargetStatus task) informed task.target.slot 0 informed.live.1.taken
     at_point (Inspect task entry) informed within no_call = word_there (Inspect task entry) informed task entry informed.knows.0
-    at_point (AnnounceRow task entry number) informed within no_call = low actor.worker config.workers informed.seat.there
+    at_point (AnnounceRow task entry number) informed within no_call = low actor.worker config.workers informed.worker_state.there
     at_point (Plant task entry number) informed within no_call = word_there (Plant task entry number) informed task entry informed.knows.0
     at_point (ReadOtherRow task entry attempt) informed within no_call = given_there attempt.worker attempt.number informed.knows.1.given
     at_point (ConfirmAttempt task entry attempt other) informed within no_call = word_there (ConfirmAttempt task entry attempt other) informed task entry informed.knows.0
@@ -172,7 +172,7 @@ module _ (config : Config) (state : State) (past : (worker : ℕ) → config.wor
     at_point (GiveUp own undecided) informed within no_call = live_there (GiveUp own undecided) informed own.slot 0 informed.live.taken
     at_point (Replied reply) informed within no_call = door_there (Replied reply) informed
 
--- The place of a request's next step is there, if past the last worker no attempt was made.
-pub place_there : (config : Config) (state : State) (actor : Acting) → ((worker : ℕ) → config.workers ≤ worker → (state.seats worker).attempt ≡ 0) → IsInformed config state actor
+-- The place of a request's next step exists, if no worker past the last one has made an attempt.
+pub place_there : (config : Config) (state : State) (actor : ActorState) → ((worker : ℕ) → config.workers ≤ worker → (state.worker_states worker).attempt ≡ 0) → IsInformed config state actor
     → IsWithin config.pool actor.point → called_at actor.point ≡ None → may_make config (asks actor) ≡ true
 place_there config state actor past informed within no_call = at_point config state past actor actor.point informed within no_call

@@ -1,7 +1,10 @@
--- The slots of which a request holds a pin, and the one that it is to free, are taken under the numbers by which it knows them.
+-- The slots that are live for a request: each is taken under the number by which the request knows it. They are those of which it holds a pin and the
+-- one that it will free.
+-- Used by: specs/Knowledge/Informed, specs/Knowledge/Laws, specs/Knowledge/NextState, mw_law_store. Contracts use it through these: a change here changes what
+-- they say.
 use Rattle.std.specs.Prelude.{Option, Some, None}
-use Rattle.mw_look.specs.declared.news.News.{News}
-use Rattle.mw_look.specs.declared.news.News.TheVariants.{Won}
+use Rattle.mw_look.specs.declared.observations.Observation.{Observation}
+use Rattle.mw_look.specs.declared.observations.Observation.TheVariants.{Won}
 use Rattle.mw_look.specs.Runs.{Hold, holds_at}
 use Rattle.mw_look.specs.declared.points.Point.{Point as ReadPoint}
 use Rattle.mw_look.specs.declared.points.Point.TheVariants.{Pin as PinOfRead, FreeSlot as FreeOfRead}
@@ -18,13 +21,13 @@ use Rattle.mw_law_moves.specs.Guards.{IsLive}
 abbrev pub IsLiveTask : State → Task → Type 0
 IsLiveTask state task = IsLive state task.own × IsLive state task.target
 
--- so are those of which a pin is held where this follows
+-- the slots of which a pin is held when this follows are live
 abbrev pub AreLiveAfter : State → After → Type 0
 AreLiveAfter state (Work task) = IsLiveTask state task
 AreLiveAfter state (ThenGiveUp own undecided) = IsLive state own
 AreLiveAfter state (ThenReply reply) = Unit {0}
 
--- those of a change at a stage are live; a read has a case of its own below, and never comes here
+-- the slots of a change at a stage are live; a read has its own case below, and never comes here
 abbrev pub AreLiveAt : State → Stage → Type 0
 AreLiveAt state (Reading tenant) = ⊥
 AreLiveAt state (WritingStatus own) = IsLive state own
@@ -47,33 +50,33 @@ AreLiveAt state (Freeing slot onward) = IsLive state slot × AreLiveAfter state 
 AreLiveAt state (Lowering onward) = AreLiveAfter state onward
 AreLiveAt state now = Unit {0}
 
--- the one of which a read holds a pin is live
+-- the slot of which a read holds a pin is live, if there is one
 abbrev pub IsLiveHold : State → Option Hold → Type 0
 IsLiveHold state None = Unit {0}
 IsLiveHold state (Some hold) = IsLive state (record { slot = hold.slot; seq = hold.seq })
 
--- that one, or the one that a read is to free, is live
+-- the slot of which a read holds a pin, or that it will free, is live
 abbrev pub AreLiveInRead : State → ReadPoint → Type 0
 AreLiveInRead state (FreeOfRead slot seq after) = IsLive state (record { slot = slot; seq = seq })
 AreLiveInRead state point = IsLiveHold state (holds_at point)
 
--- those of a read or a change are live
+-- the slots of a request at this point are live
 abbrev pub AreLive : State → Point → Type 0
 AreLive state (Read look) = AreLiveInRead state look.point
 AreLive state point = AreLiveAt state (stage point)
 
 -- The step takes no pin: it claims no slot, and pins none.
-abbrev pub TakesNoPinAt : Stage → News → Type 0
+abbrev pub TakesNoPinAt : Stage → Observation → Type 0
 TakesNoPinAt (Claiming slot from to) Won = ⊥
 TakesNoPinAt (Pinning task other from to) Won = ⊥
-TakesNoPinAt now news = Unit {0}
+TakesNoPinAt now observation = Unit {0}
 
 -- the same of a read
-abbrev pub TakesNoPinInRead : ReadPoint → News → Type 0
+abbrev pub TakesNoPinInRead : ReadPoint → Observation → Type 0
 TakesNoPinInRead (PinOfRead trail from to) Won = ⊥
-TakesNoPinInRead point news = Unit {0}
+TakesNoPinInRead point observation = Unit {0}
 
 -- the same of a read or a change
-abbrev pub TakesNoPin : Point → News → Type 0
-TakesNoPin (Read look) news = TakesNoPinInRead look.point news
-TakesNoPin point news = TakesNoPinAt (stage point) news
+abbrev pub TakesNoPin : Point → Observation → Type 0
+TakesNoPin (Read look) observation = TakesNoPinInRead look.point observation
+TakesNoPin point observation = TakesNoPinAt (stage point) observation

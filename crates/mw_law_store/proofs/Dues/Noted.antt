@@ -1,4 +1,5 @@
--- How a step ends where it means this; what a request is told; and how a call on a file ends.
+-- Each step, and each call on a file, ends as its label says. Used by: SimulationSteps/Called, SimulationSteps/Turned,
+-- ReachedPoints.
 use Rattle.std.specs.Prelude.{ℕ, ◌≡◌, Bool, true, false, Some}
 use Rattle.std.proofs.Common.{refl, subst, inl, inr}
 use Rattle.mw_words.specs.declared.jobs.Job.{Job}
@@ -7,39 +8,39 @@ use Rattle.mw_words.specs.declared.replies.Reply.{Reply}
 use Rattle.mw_words.specs.declared.replies.Reply.TheVariants.{Val, Yes as SaysYes, No as SaysNo, Busy as SaysBusy, Fault as SaysFault, Worn as SaysWorn}
 use Rattle.mw_lone.specs.Store.{is_cas}
 use Rattle.mw_look.proofs.RangeLaws.{either_way}
-use Rattle.mw_look.specs.declared.news.News.{News}
-use Rattle.mw_look.specs.declared.news.News.TheVariants.{Filed}
+use Rattle.mw_look.specs.declared.observations.Observation.{Observation}
+use Rattle.mw_look.specs.declared.observations.Observation.TheVariants.{Filed}
 use Rattle.mw_look.specs.declared.points.Point.{Point as ReadPoint}
 use Rattle.mw_look.specs.declared.points.Point.TheVariants as look
 use Rattle.mw_look.specs.Program.{asks_at as asks_in_read}
 use Rattle.mw_actor.specs.declared.points.After.TheVariants.{Work, GiveUp as ThenGiveUp, Reply as ThenReply}
 use Rattle.mw_actor.specs.declared.points.Point.{Point}
 use Rattle.mw_actor.specs.declared.points.Point.TheVariants.{Read, Prepare, Seal, Settle, Cancel, Unpin, FreeSlot, LowerDoor, GiveUp}
-use Rattle.mw_actor.specs.Acting.{Acting, is_alone}
+use Rattle.mw_actor.specs.ActorState.{ActorState, is_alone}
 use Rattle.mw_actor.specs.Asks.{asks_at}
 use Rattle.mw_actor.specs.Program.{goes}
-use Rattle.mw_world.specs.declared.notes.Note.{Note}
+use Rattle.mw_world.specs.declared.step_labels.StepLabel.{StepLabel}
 use Rattle.mw_world.specs.Definition.Calls.{Called, called_at}
 use Rattle.mw_world.specs.Definition.Cells.{Cells}
 use Rattle.mw_look.specs.declared.steps.Shape.TheVariants.{Exchange, Store, Fetch}
-use Rattle.mw_world.specs.Definition.Notes.{note_of}
+use Rattle.mw_world.specs.Definition.StepLabels.{label_of}
 use Rattle.mw_law_runs.specs.Knowledge.Informed.{IsPointFor}
-use Rattle.mw_law_runs.proofs.Ending.{Ends}
-use Rattle.mw_law_runs.proofs.Owed.Pins.{none_some}
-use Rattle.mw_law_store.proofs.Dues.Ending.{IsToldInRead, IsToldAt, EndOf, elsewhere}
-use Rattle.mw_law_store.proofs.Dues.Stepping.{step_ends}
+use Rattle.mw_law_runs.proofs.StepEnds.{Ends}
+use Rattle.mw_law_runs.proofs.Obligations.Pins.{none_some}
+use Rattle.mw_law_store.proofs.Dues.StepEnds.{IsToldInRead, IsToldAt, EndOf, elsewhere}
+use Rattle.mw_law_store.proofs.Dues.Steps.{step_ends}
 use Rattle.mw_law_store.proofs.Ends.{EndsBy, Same}
-use Rattle.mw_law_store.proofs.Meant.{is_meant}
+use Rattle.mw_law_store.proofs.ReachablePoints.{is_reachable}
 use Rattle.mw_law_store.specs.Due.{due, due_reply, waits}
 
-module _ (actor : Acting) (next : ℕ) (point : Point) (news : News) (meant : is_meant point ≡ true) (told : IsToldAt point news) where
-  -- A step that means this ends so.
-  pub ends_as : (note : Note) → note_of actor point news (goes actor next point news) ≡ note → EndOf note point (goes actor next point news)
-  ends_as note is = subst (λ (one : Note). EndOf one point (goes actor next point news)) is (step_ends actor next point news meant told).0
+module _ (actor : ActorState) (next : ℕ) (point : Point) (observation : Observation) (meant : is_reachable point ≡ true) (told : IsToldAt point observation) where
+  -- A step with this label ends so.
+  pub ends_as : (label : StepLabel) → label_of actor point observation (goes actor next point observation) ≡ label → EndOf label point (goes actor next point observation)
+  ends_as label is = subst (λ (one : StepLabel). EndOf one point (goes actor next point observation)) is (step_ends actor next point observation meant told).0
 
-  -- It leaves the request at a point where it comes to be.
-  pub meant_goes : is_meant (goes actor next point news) ≡ true
-  meant_goes = (step_ends actor next point news meant told).1
+  -- It leaves the request at a point that a request can reach.
+  pub meant_goes : is_reachable (goes actor next point observation) ≡ true
+  meant_goes = (step_ends actor next point observation meant told).1
 
 -- What a request is told is what memory gives.
 no_exchange : Store ≡ Exchange → ⊥
@@ -48,28 +49,28 @@ no_exchange e = cc
 no_fetch : Fetch ≡ Exchange → ⊥
 no_fetch e = cc
 
-told_in_read : (cells : Cells) (tenant address : ℕ) (point : ReadPoint) (news : News) → Ends cells (asks_in_read tenant address point) news → IsToldInRead point news
-told_in_read cells tenant address (look.FreeSlot slot seq after) news (inl quiet) = absurd (no_exchange quiet.0)
-told_in_read cells tenant address (look.FreeSlot slot seq after) news (inr changes) = changes
-told_in_read cells tenant address (look.LowerDoor after) news (inl quiet) = absurd (no_fetch quiet.0)
-told_in_read cells tenant address (look.LowerDoor after) news (inr changes) = (cells.doors tenant, changes)
-told_in_read cells tenant address point news ends = tt
+told_in_read : (cells : Cells) (tenant address : ℕ) (point : ReadPoint) (observation : Observation) → Ends cells (asks_in_read tenant address point) observation → IsToldInRead point observation
+told_in_read cells tenant address (look.FreeSlot slot seq after) observation (inl quiet) = absurd (no_exchange quiet.0)
+told_in_read cells tenant address (look.FreeSlot slot seq after) observation (inr changes) = changes
+told_in_read cells tenant address (look.LowerDoor after) observation (inl quiet) = absurd (no_fetch quiet.0)
+told_in_read cells tenant address (look.LowerDoor after) observation (inr changes) = (cells.doors tenant, changes)
+told_in_read cells tenant address point observation ends = tt
 
-pub told_at : (cells : Cells) (actor : Acting) (point : Point) (news : News) → Ends cells (asks_at actor point) news → IsToldAt point news
-told_at cells actor (Read reading) news ends = told_in_read cells reading.tenant reading.address reading.point news ends
-told_at cells actor (FreeSlot slot onward) news (inl quiet) = absurd (no_exchange quiet.0)
-told_at cells actor (FreeSlot slot onward) news (inr changes) = changes
-told_at cells actor (LowerDoor onward) news (inl quiet) = absurd (no_fetch quiet.0)
-told_at cells actor (LowerDoor onward) news (inr changes) = (cells.doors actor.tenant, changes)
-told_at cells actor (GiveUp own undecided) news (inl quiet) = (cells.statuses own.slot, quiet)
-told_at cells actor (GiveUp own undecided) news (inr changes) = absurd changes
-told_at cells actor point news ends = tt
+pub told_at : (cells : Cells) (actor : ActorState) (point : Point) (observation : Observation) → Ends cells (asks_at actor point) observation → IsToldAt point observation
+told_at cells actor (Read reading) observation ends = told_in_read cells reading.tenant reading.address reading.point observation ends
+told_at cells actor (FreeSlot slot onward) observation (inl quiet) = absurd (no_exchange quiet.0)
+told_at cells actor (FreeSlot slot onward) observation (inr changes) = changes
+told_at cells actor (LowerDoor onward) observation (inl quiet) = absurd (no_fetch quiet.0)
+told_at cells actor (LowerDoor onward) observation (inr changes) = (cells.doors actor.tenant, changes)
+told_at cells actor (GiveUp own undecided) observation (inl quiet) = (cells.statuses own.slot, quiet)
+told_at cells actor (GiveUp own undecided) observation (inr changes) = absurd changes
+told_at cells actor point observation ends = tt
 
--- After a call on its file a request goes on as it was, however the call ended.
+-- After a call on its file a request goes on as before, however the call ended.
 abbrev IsSame : Point → Point → Type 0
-IsSame point after = EndsBy Same point after × (is_meant after ≡ true)
+IsSame point after = EndsBy Same point after × (is_reachable after ≡ true)
 
-pub call_keeps : (actor : Acting) (next : ℕ) (point : Point) (called : Called) (went_well : Bool) → called_at point ≡ Some called → IsSame point (goes actor next point (Filed went_well))
+pub call_keeps : (actor : ActorState) (next : ℕ) (point : Point) (called : Called) (went_well : Bool) → called_at point ≡ Some called → IsSame point (goes actor next point (Filed went_well))
 call_keeps actor next (Prepare own) called true is = ((refl, (λ mine has. has), elsewhere), refl)
 call_keeps actor next (Prepare own) called false is = ((refl, (λ mine has. has), elsewhere), refl)
 call_keeps actor next (Seal task) called true is = ((refl, (λ mine has. has), elsewhere), refl)
@@ -81,7 +82,7 @@ call_keeps actor next (Settle task) called false is =
 call_keeps actor next (Cancel task) called went_well is = ((refl, (λ mine has. has), elsewhere), refl)
 call_keeps actor next point called went_well is = absurd (none_some called is)
 
--- A point at which a slot is freed.
+-- At this point a slot is freed.
 abbrev pub FreesAt : Point → Type 0
 FreesAt (Read reading) = Unit {0}
 FreesAt (FreeSlot slot onward) = Unit {0}

@@ -1,4 +1,4 @@
--- Changes that are decided to be made, and not done with, share no word.
+-- Changes that are decided to be made, and not done with, share no word. Used by: Files/Tenants, Files/CallsCanBeMade.
 use Rattle.std.specs.Prelude.{ℕ, ◌≡◌, ◌≢◌, ◌⊎◌, ◌==◌, Bool, true, false, List, [], ◌∷◌, is_some}
 use Rattle.std.specs.List.{list_any}
 use Rattle.std.proofs.Common.{refl, sym, subst, inl, inr, arith}
@@ -10,8 +10,8 @@ use Rattle.mw_words.specs.declared.words.Word.{Word}
 use Rattle.mw_words.specs.declared.words.Word.TheVariants.{Held, Dirty}
 use Rattle.mw_world_file.specs.Files.{share_a_word}
 use Rattle.mw_world.specs.declared.config.Config.{Config}
-use Rattle.mw_world.specs.declared.notes.Phase.{Phase}
-use Rattle.mw_world.specs.declared.notes.Phase.TheVariants.{Fresh, Keeping, Inked, Gone}
+use Rattle.mw_world.specs.declared.step_labels.Phase.{Phase}
+use Rattle.mw_world.specs.declared.step_labels.Phase.TheVariants.{Fresh, Acquired, Written, Released}
 use Rattle.mw_world.specs.Claim.Invariant.{MayBe}
 use Rattle.mw_world.specs.Definition.History.{entry_for, has, new}
 use Rattle.mw_world.specs.Definition.State.{State}
@@ -39,7 +39,7 @@ none_shared (one ∷ these) those apart =
     both : list_any (λ (other : Entry). other.addr == one.addr) those ≡ false → share_a_word these those ≡ false → share_a_word (one ∷ these) those ≡ false
     both here there = grind (arith, here, there)
 
--- the change was decided to be made, and isn't done with
+-- the change is decided to be made, and is not done with
 abbrev pub IsUnderway : Status → Type 0
 IsUnderway status = (status ≡ YesDirty) ⊎ (status ≡ Yes)
 
@@ -47,31 +47,31 @@ IsUnderway status = (status ≡ YesDirty) ⊎ (status ≡ Yes)
 abbrev Names : Word → ℕ → ℕ → ℕ → Type 0
 Names word slot seq value = (word ≡ Held slot seq) ⊎ (word ≡ Dirty slot value)
 
-in_midst : (status : Status) (phase : Phase) → IsUnderway status → MayBe status phase → (phase ≡ Keeping) ⊎ (phase ≡ Inked)
+in_midst : (status : Status) (phase : Phase) → IsUnderway status → MayBe status phase → (phase ≡ Acquired) ⊎ (phase ≡ Written)
 in_midst status phase (inl is) may = dirty phase (subst (λ (one : Status). MayBe one phase) is may)
   where
-    dirty : (phase : Phase) → MayBe YesDirty phase → (phase ≡ Keeping) ⊎ (phase ≡ Inked)
-    dirty Keeping may = inl refl
+    dirty : (phase : Phase) → MayBe YesDirty phase → (phase ≡ Acquired) ⊎ (phase ≡ Written)
+    dirty Acquired may = inl refl
     dirty Fresh may = absurd may
-    dirty Inked may = absurd may
-    dirty Gone may = absurd may
+    dirty Written may = absurd may
+    dirty Released may = absurd may
 in_midst status phase (inr is) may = made phase (subst (λ (one : Status). MayBe one phase) is may)
   where
-    made : (phase : Phase) → MayBe Yes phase → (phase ≡ Keeping) ⊎ (phase ≡ Inked)
-    made Keeping may = inl refl
-    made Inked may = inr refl
+    made : (phase : Phase) → MayBe Yes phase → (phase ≡ Acquired) ⊎ (phase ≡ Written)
+    made Acquired may = inl refl
+    made Written may = inr refl
     made Fresh may = absurd may
-    made Gone may = absurd may
+    made Released may = absurd may
 
 module _ (config : Config) (state : State) (memory : Memory config state) where
   named : (slot seq address : ℕ) → IsUnderway (state.history.fate slot seq) → has state.history slot seq address ≡ true
       → Names (state.cells.words (state.history.tenant slot seq) address) slot seq (new state.history slot seq address)
   named slot seq address is entry = by_phase (in_midst (state.history.fate slot seq) (state.history.phase slot seq address) is (memory.words.allowed slot seq address entry))
     where
-      by_phase : (state.history.phase slot seq address ≡ Keeping) ⊎ (state.history.phase slot seq address ≡ Inked)
+      by_phase : (state.history.phase slot seq address ≡ Acquired) ⊎ (state.history.phase slot seq address ≡ Written)
           → Names (state.cells.words (state.history.tenant slot seq) address) slot seq (new state.history slot seq address)
-      by_phase (inl keeping) = inl (memory.words.keeping slot seq address keeping)
-      by_phase (inr inked) = inr (memory.words.inked slot seq address inked)
+      by_phase (inl acquired) = inl (memory.words.acquired slot seq address acquired)
+      by_phase (inr was_written) = inr (memory.words.was_written slot seq address was_written)
 
   same_slot : (word : Word) (slot seq value other number written : ℕ) → Names word slot seq value → Names word other number written → slot ≡ other
   same_slot word slot seq value other number written (inl one) (inl two) = grind (arith, one, two)

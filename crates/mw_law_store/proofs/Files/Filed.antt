@@ -1,4 +1,5 @@
--- A tenant's file after a call on it, told by what each slot is due there.
+-- The file of a tenant after a call on it: its places by what is due to each slot, and its values. Used by: Files/CallFiles,
+-- Files/SuccessfulCalls, Files/Room, mw_law_calls.
 use Rattle.std.specs.Prelude.{ℕ, zero, suc, ◌≡◌, ◌≢◌, ◌<◌, ◌+◌, ◌==◌, Bool, true, false, if◌then◌else◌, List, [], ◌∷◌, length, set, Option, Some, None}
 use Rattle.std.specs.Option.{option_map_or}
 use Rattle.std.proofs.Common.{refl, sym, ap, subst, ◌∙◌, arith}
@@ -13,10 +14,10 @@ use Rattle.mw_world_file.specs.Files.{File, Place, is_empty, empty_from, entries
 use Rattle.mw_world_file.specs.Maps.{upd, upd_two}
 use Rattle.mw_world.specs.Claim.Invariant.{placed}
 use Rattle.mw_world.specs.Definition.History.{entry_for}
-use Rattle.mw_law_store.proofs.Files.Placing.{ArePlaced}
+use Rattle.mw_law_store.proofs.Files.PlacesBySlot.{ArePlaced}
 use Rattle.mw_law_store.proofs.Files.Tenants.{Agrees, due_of}
 
--- a slot's change has another status, in the file of its tenant, and in that of another one
+-- a slot's change gets another status, in the file of its tenant, and in that of another one
 module _ (gates : ℕ → Gate) (owners : ℕ → ℕ → ℕ) (fates : ℕ → ℕ → Status) (entries : ℕ → ℕ → List Entry) (tenant slot seq : ℕ) (to : Status) (one : ℕ) where
   pub due_set : (gates slot).taken ≡ true → (gates slot).seq ≡ seq → owners slot seq ≡ tenant
       → due_of (gates one) (owners one (gates one).seq) (upd_two fates slot seq to one (gates one).seq) (entries one (gates one).seq) tenant
@@ -28,7 +29,7 @@ module _ (gates : ℕ → Gate) (owners : ℕ → ℕ → ℕ) (fates : ℕ → 
       ≡ due_of (gates one) (owners one (gates one).seq) (fates one (gates one).seq) (entries one (gates one).seq) tenant
   due_kept others = grind (arith, nat_tests, others)
 
--- The lowest empty place of so many is empty.
+-- The lowest empty place of the first so many is empty.
 pub empty_there : (file : File) (first left : ℕ) → empty_from file first left < first + left → is_empty (file.places (empty_from file first left)) ≡ true
 empty_there file first zero low = absurd (omega (arith, low))
 empty_there file first (suc left) low = by_test (is_empty (file.places first)) refl (empty_there file (first + 1) left)
@@ -47,7 +48,7 @@ none_below : (entries : List Entry) (lowest address : ℕ) → rises_from lowest
 none_below [] lowest address rise low = refl
 none_below (entry ∷ entries) lowest address rise low = grind (arith, nat_tests, rise, low, none_below entries (entry.addr + 1) address)
 
--- the value that a word has once a change was put over it
+-- the value that a word has after a change is put over it
 pub put_at : (entries : List Entry) (lowest : ℕ) (words : List ℕ) (address : ℕ) → rises_from lowest entries ≡ true → address < length words
     → word_at (put words entries) address ≡ option_map_or (λ (entry : Entry). entry.new) (entry_for entries address) (word_at words address)
 put_at [] lowest words address rise low = refl
@@ -80,7 +81,7 @@ module _ (words : ℕ) (fault is_up : Bool) (values : ℕ → ℕ) (file : File)
   pub emptied_agrees : (place : ℕ) → Agrees words fault is_up values (emptied file place)
   emptied_agrees place = record { long = agrees.long; failed = agrees.failed; down = agrees.down; certain = agrees.certain; shown = agrees.shown }
 
-  -- the values that a change puts are shown
+  -- the values that a change puts agree with the file
   pub sealed_agrees : (place : ℕ) (after : ℕ → ℕ) → (is_up ≡ true → (address : ℕ) → address < words → values address ≡ word_at file.contents address → after address ≡ word_at (put file.contents (entries_at file place)) address)
       → Agrees words fault is_up after (sealed file place)
   sealed_agrees place after puts = record {

@@ -1,4 +1,5 @@
--- Where a slot is taken for a tenant whose file hasn't its change, a place of the file is empty.
+-- If a slot is taken for a tenant and its change is not in the tenant's file, a place of the file is empty. Used by:
+-- Files/CallsCanBeMade, the law outside_leaves_room.
 use Rattle.std.specs.Prelude.{ℕ, zero, suc, ◌≡◌, ◌<◌, ◌≤◌, ◌+◌, ◌⊎◌, ◌==◌, ◌&&◌, Bool, true, false, if◌then◌else◌}
 use Rattle.std.proofs.Common.{refl, ap, subst, inl, inr, arith}
 use Rattle.std.proofs.lemmas.Bool.Decides.{nat_tests}
@@ -6,9 +7,9 @@ use Rattle.mw_world_file.specs.Files.{File, is_empty, empty_from}
 use Rattle.mw_world_file.specs.Maps.{upd}
 use Rattle.mw_world.specs.declared.config.Config.{Config}
 use Rattle.mw_world.specs.Claim.Invariant.{placed}
-use Rattle.mw_world.specs.Definition.Counting.{slots_taken_for}
+use Rattle.mw_world.specs.Definition.Counts.{slots_taken_for}
 use Rattle.mw_world.specs.Definition.State.{State, tenants_of}
-use Rattle.mw_law_runs.specs.Sound.{IsSound}
+use Rattle.mw_law_runs.specs.RunInvariant.{IsSound}
 use Rattle.mw_law_store.specs.Files.Files.{places_of}
 use Rattle.mw_law_store.specs.Files.Room.{HasEmptyPlace, IsOutside, OutsideLeavesRoom}
 use Rattle.mw_law_store.proofs.Files.Filed.{empty_there}
@@ -23,7 +24,7 @@ count_above : (test : ℕ → Bool) (one n : ℕ) → n ≤ one → count (upd t
 count_above test one zero high = refl
 count_above test one (suc n) high = grind (arith, nat_tests, count_above test one n (omega (arith, high)), high)
 
--- one less without one of them
+-- the count is one less without one of them
 count_without : (test : ℕ → Bool) (one n : ℕ) → test one ≡ true → one < n → count (upd test one false) n + 1 ≡ count test n
 count_without test one zero is low = absurd (omega (arith, low))
 count_without test one (suc n) is low = by_test (one == n) refl (λ less. count_without test one n is less)
@@ -42,7 +43,7 @@ record IsAt (test : ℕ → Bool) (at : ℕ → ℕ) (n place : ℕ) : Type 0 wh
   pub passes : test one ≡ true
   pub is : at one ≡ place
 
--- places that are all in use are no more than the numbers that pass
+-- if all places are in use, they are no more than the numbers that pass
 no_more : (at : ℕ → ℕ) (n places : ℕ) (test : ℕ → Bool) → ((place : ℕ) → place < places → IsAt test at n place) → places ≤ count test n
 no_more at n zero test used = omega arith
 no_more at n (suc places) test used =
@@ -81,7 +82,7 @@ used_below file first (suc left) place low high = by_test (is_empty (file.places
     by_test false is true there on = subst (λ (at : ℕ). is_empty (file.places at) ≡ false) (grind (arith, nat_tests, there)) is
     by_test false is false there on = on (grind (arith, nat_tests, there, low)) (subst (λ (b : Bool). place < (if b then first else empty_from file (first + 1) left)) is high)
 
--- the lowest empty one of so many is that of more
+-- the lowest empty place of the first so many is also that of more
 of_more : (file : File) (first left most : ℕ) → empty_from file first left < first + left → left ≤ most → empty_from file first most ≡ empty_from file first left
 of_more file first zero most less many = absurd (omega (arith, less))
 of_more file first (suc left) zero less many = absurd (omega (arith, many))
@@ -106,7 +107,7 @@ module _ (config : Config) (state : State) (tenant own : ℕ) (sound : IsSound c
   counted (suc n) = ap (λ (sum : ℕ). sum + (if its n then 1 else 0)) (counted n)
 
   abbrev file : File
-  file = (state.accounts tenant).file
+  file = (state.tenant_states tenant).file
 
   used_by : (place : ℕ) → is_empty (file.places place) ≡ false → IsAt (upd its own false) (λ slot. file.place_of slot) config.pool place
   used_by place used =

@@ -1,4 +1,5 @@
--- Each tenant's file, told by what each slot is due there.
+-- What the shared words tell of each tenant's file, by what is due to each slot there. Used by: Files/Filed, Files/SuccessfulCalls,
+-- Files/StepsLeaveFiles, Files/ArrivalsAndStarts, Files/CallFiles, other pages.
 use Rattle.std.specs.Prelude.{ℕ, ◌≡◌, ◌<◌, ◌==◌, ◌&&◌, Bool, true, false, if◌then◌else◌, List, [], length}
 use Rattle.std.proofs.Common.{refl, sym, ap, subst, ◌∙◌, inr, arith}
 use Rattle.std.proofs.lemmas.Bool.Decides.{nat_tests}
@@ -15,9 +16,10 @@ use Rattle.mw_world.specs.Definition.State.{State, tenant_at, tenants_of}
 use Rattle.mw_law_moves.specs.Memory.{Memory}
 use Rattle.mw_law_store.specs.Files.Files.{HasFiles, places_of}
 use Rattle.mw_law_store.proofs.Files.Apart.{two_apart}
-use Rattle.mw_law_store.proofs.Files.Placing.{ArePlaced}
+use Rattle.mw_law_store.proofs.Files.PlacesBySlot.{ArePlaced}
 
--- what a tenant's file is to have of a slot, by the slot's gate, and the tenant, the status and the entries of the slot's change
+-- the place that is due to a slot in a tenant's file: by the slot's gate, and by the tenant, the status and the entries of the
+-- slot's change
 abbrev pub due_of : Gate → ℕ → Status → List Entry → ℕ → Place
 due_of gate owner fate change tenant = if gate.taken && (owner == tenant) then placed fate change else Empty
 
@@ -26,8 +28,8 @@ due state tenant slot =
     let seq = (state.cells.gates slot).seq in
     due_of (state.cells.gates slot) (state.history.tenant slot seq) (state.history.fate slot seq) (state.history.change slot seq) tenant
 
--- A file has so many words, has failed where the door has the fault or where it didn't open, has nothing in doubt until then, and has these values if
--- it opened.
+-- A file has so many words. It has failed exactly if the door has the fault, and always if it didn't open. It has nothing in
+-- doubt until it fails. If it opened, its words have these values.
 pub record Agrees (words : ℕ) (fault is_up : Bool) (values : ℕ → ℕ) (file : File) : Type 0 where
   pub long : length file.contents ≡ words
   pub failed : file.has_failed ≡ fault
@@ -35,12 +37,12 @@ pub record Agrees (words : ℕ) (fault is_up : Bool) (values : ℕ → ℕ) (fil
   pub certain : file.has_failed ≡ false → file.doubt ≡ []
   pub shown : is_up ≡ true → (address : ℕ) → address < words → values address ≡ word_at file.contents address
 
--- A tenant's file is so, and each of its changes has its place.
+-- A tenant's file agrees with the shared words, and each of its changes has its place.
 pub record IsFiled (config : Config) (state : State) (tenant : ℕ) : Type 0 where
-  pub agrees : Agrees (tenant_at config tenant).words (state.cells.doors tenant).fault (state.accounts tenant).is_up (logical state.cells tenant) (state.accounts tenant).file
-  pub places : ArePlaced (places_of config state tenant) (due state tenant) (state.accounts tenant).file
+  pub agrees : Agrees (tenant_at config tenant).words (state.cells.doors tenant).fault (state.tenant_states tenant).is_up (logical state.cells tenant) (state.tenant_states tenant).file
+  pub places : ArePlaced (places_of config state tenant) (due state tenant) (state.tenant_states tenant).file
 
--- So is each tenant's.
+-- That holds of each tenant's file.
 abbrev pub AreFiled : Config → State → Type 0
 AreFiled config state = (tenant : ℕ) → tenant < tenants_of config → IsFiled config state tenant
 
@@ -67,9 +69,9 @@ are_filed config state has tenant low =
       };
     }
 
--- where each tenant's file is so
+-- if that holds of each tenant's file
 pub files_if : (config : Config) (state : State) → ((tenant slot : ℕ) → IsInFile state tenant slot → tenant < tenants_of config)
-    → ((tenant : ℕ) → tenant < tenants_of config → AreApart (state.accounts tenant).file) → AreFiled config state → HasFiles config state
+    → ((tenant : ℕ) → tenant < tenants_of config → AreApart (state.tenant_states tenant).file) → AreFiled config state → HasFiles config state
 files_if config state there_is aparts filed = record {
   told = λ tenant low.
       let agrees = (filed tenant low).agrees in
@@ -84,7 +86,7 @@ files_if config state there_is aparts filed = record {
   };
 }
 
--- sealed changes
+-- a sealed place is that of a change whose status is Yes
 sealed_as : (status : Status) (entries : List Entry) → is_sealed (placed status entries) ≡ true → status ≡ Yes
 sealed_as Yes entries is = refl
 sealed_as Draft entries is = cc
@@ -100,17 +102,17 @@ sealed_some (Prepared entries) is = refl
 sealed_some (Sealed entries) is = refl
 
 module _ (config : Config) (state : State) (memory : Memory config state) where
-  -- a sealed place is that of a change which is made
+  -- A sealed place is that of a slot whose change is made.
   pub record IsMadeAt (tenant place : ℕ) : Type 0 where
     pub slot : ℕ
-    pub at : (state.accounts tenant).file.place_of slot ≡ place
+    pub at : (state.tenant_states tenant).file.place_of slot ≡ place
     pub same_tenant : state.history.tenant slot (state.cells.gates slot).seq ≡ tenant
     pub is_made : state.history.fate slot (state.cells.gates slot).seq ≡ Yes
-    pub entries : entries_at (state.accounts tenant).file place ≡ state.history.change slot (state.cells.gates slot).seq
+    pub entries : entries_at (state.tenant_states tenant).file place ≡ state.history.change slot (state.cells.gates slot).seq
 
-  pub made_at : (tenant place : ℕ) → IsFiled config state tenant → is_sealed ((state.accounts tenant).file.places place) ≡ true → IsMadeAt tenant place
+  pub made_at : (tenant place : ℕ) → IsFiled config state tenant → is_sealed ((state.tenant_states tenant).file.places place) ≡ true → IsMadeAt tenant place
   made_at tenant place filed is =
-      let file = (state.accounts tenant).file in
+      let file = (state.tenant_states tenant).file in
       let at = filed.places.in_use place (sealed_some (file.places place) is) in
       let its = in_file state tenant at.slot at.due_some in
       let seq = (state.cells.gates at.slot).seq in
@@ -125,9 +127,9 @@ module _ (config : Config) (state : State) (memory : Memory config state) where
         entries = ap entries_in stands ∙ ap (λ (status : Status). entries_in (placed status (state.history.change at.slot seq))) made;
       }
 
-  apart : (tenant : ℕ) → IsFiled config state tenant → AreApart (state.accounts tenant).file
+  apart : (tenant : ℕ) → IsFiled config state tenant → AreApart (state.tenant_states tenant).file
   apart tenant filed place other differ here there =
-      let file = (state.accounts tenant).file in
+      let file = (state.tenant_states tenant).file in
       let one = made_at tenant place filed here in
       let two = made_at tenant other filed there in
       subst (λ (entries : List Entry). share_a_word entries (entries_at file other) ≡ false) (sym one.entries)

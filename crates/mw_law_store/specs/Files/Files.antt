@@ -1,27 +1,30 @@
--- What holds of the tenants' files and of their places for changes.
+-- The facts about the tenants' files and their places for changes.
+-- Used by: specs/Files/Enabled, specs/Files/Laws, specs/Files/Room, specs/Laws, mw_law_calls. Contracts use it through
+-- these: a change here changes what they say.
 use Rattle.std.specs.Prelude.{ℕ, ◌≡◌, List, length, is_none, Option}
 use Rattle.mw_world_file.specs.Restarts.{opened_file}
 use Rattle.mw_world.specs.declared.config.Config.{Config}
-use Rattle.mw_world.specs.Claim.Invariant.{FilesAreTold, ChangesHavePlaces}
-use Rattle.mw_world.specs.Definition.State.{State, Account, tenant_at}
+use Rattle.mw_world.specs.Claim.Invariant.{FilesMatch, ChangesHavePlaces}
+use Rattle.mw_world.specs.Definition.State.{State, TenantState, tenant_at}
 
--- how many places of the file of this account of a tenant may be used; and of a tenant's file in a world
-abbrev pub places_in : Config → ℕ → Account → ℕ
-places_in config tenant account = account.quota
+-- how many places of its file a tenant in this state may use: its quota
+abbrev pub places_in : Config → ℕ → TenantState → ℕ
+places_in config tenant tenant_state = tenant_state.quota
 
+-- how many places of its file a tenant of a world may use
 abbrev pub places_of : Config → State → ℕ → ℕ
-places_of config state tenant = places_in config tenant (state.accounts tenant)
+places_of config state tenant = places_in config tenant (state.tenant_states tenant)
 
--- Each tenant's file is told by the shared words, and each change that is in its tenant's file is in a place of its own there.
+-- The shared words agree with each tenant's file, and each change that is in its tenant's file has a place of its own there.
 pub record HasFiles (config : Config) (state : State) : Type 0 where
-  pub told : FilesAreTold config state
+  pub told : FilesMatch config state
   pub places : ChangesHavePlaces config state
 
--- A tenant's file was just opened: it stands for the words that were found, as many as the tenant has, and has failed if a device call of the
--- opening did.
-pub record IsOpened (config : Config) (tenant : ℕ) (account : Account) : Type 0 where
+-- A tenant's file was just opened: it has the words that were found, as many as the tenant has. It has failed, and the tenant is
+-- down, if a device call of the opening failed.
+pub record IsOpened (config : Config) (tenant : ℕ) (tenant_state : TenantState) : Type 0 where
   pub found : List ℕ
   pub fails_at : Option ℕ
-  pub file : account.file ≡ opened_file found fails_at
-  pub is_up : account.is_up ≡ is_none fails_at
+  pub file : tenant_state.file ≡ opened_file found fails_at
+  pub is_up : tenant_state.is_up ≡ is_none fails_at
   pub long : length found ≡ (tenant_at config tenant).words

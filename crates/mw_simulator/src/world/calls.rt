@@ -1,22 +1,25 @@
 //! Calls on a tenant's file.
+//!
+//! `World::step` calls it for an event that is a call on a file (`events.rt`). `stopped_calls.rt` uses the
+//! tests here.
 ghost use Rattle.std.specs.Option.{option_map};
 ghost use Rattle.std.specs.Prelude.{◌≡◌, ◌≢◌, ◌<◌, ℕ, true, false, if◌then◌else◌, IfSome, IsTrue, OnErr, OnOk, Option, Some, None, length, slice_get};
 ghost use Rattle.mw_words.specs.Change.{is_change};
 ghost use Rattle.mw_words.specs.Patterns.{IsStatusInRange};
-ghost use Rattle.mw_look.specs.declared.news.News.TheVariants.{Filed};
-ghost use Rattle.mw_actor.specs.Acting.{entries_of_job};
+ghost use Rattle.mw_look.specs.declared.observations.Observation.TheVariants.{Filed};
+ghost use Rattle.mw_actor.specs.ActorState.{entries_of_job};
 ghost use Rattle.mw_world_file.specs.Files.{File};
 ghost use Rattle.mw_world_file.specs.SoundBooks.{HasSound};
 ghost use Rattle.mw_world.specs.declared.events.Event.TheVariants.{File as FileEvent};
 ghost use Rattle.mw_world.specs.Definition.Calls as calls;
 ghost use Rattle.mw_world.specs.Definition.Extent.{has_slot};
 ghost use Rattle.mw_world.specs.Definition.State.{State, tenant_at};
-ghost use Rattle.mw_world_memory.specs.declared.accounts.Account.{Account};
+ghost use Rattle.mw_world_memory.specs.declared.tenants.TenantState.{TenantState};
 ghost use Rattle.mw_simulator.specs.Crashes.{CrashesDoNoHarm};
-ghost use Rattle.mw_simulator.specs.Ending as ending;
-ghost use Rattle.mw_simulator.specs.Shows.{Ends, Shows};
-ghost use Rattle.mw_simulator.specs.Staying.{IsUnchanged, SameBooks, SameBooksBut, book_at, served_by};
-ghost use Rattle.mw_simulator.specs.Stepping as stepping;
+ghost use Rattle.mw_simulator.specs.CallEnds as ending;
+ghost use Rattle.mw_simulator.specs.Representation.{Ends, Represents};
+ghost use Rattle.mw_simulator.specs.UnchangedParts.{IsUnchanged, SameBooks, SameBooksBut, book_at, served_by};
+ghost use Rattle.mw_simulator.specs.StepParts as stepping;
 
 use crate::faults::WorldFault;
 use crate::world::World;
@@ -24,36 +27,36 @@ use crate::world::turns::next_attempt;
 use mw_actor::{Actor, Point, Slot};
 use mw_look::{Call, Got, Kind, Op, Told};
 use mw_words::{At, Entries, Job, Status, copy_of, is_change};
-use mw_world::{Note, Outcome, starts_from, status_after};
-use mw_world_file::{Book, BookFault};
+use mw_world::{Outcome, StepLabel, starts_from, status_after};
+use mw_world_file::{BookFault, SimulatedFile};
 
 /// A call on a tenant's file, for a change.
 #[derive(Clone, Copy)]
 pub(crate) struct Called {
-    /// The call.
+    /// Which call it is.
     pub(crate) call: Call,
-    /// The change.
+    /// The change that it is for.
     pub(crate) change: Slot,
 }
 
 /// How a call on a tenant's file ended.
 #[derive(Clone, Copy)]
 pub(crate) struct Ended {
-    /// Whether it went well.
+    /// It went well.
     went_well: bool,
-    /// What it means.
-    note: Note,
+    /// The label of its step.
+    label: StepLabel,
 }
 
 impl World {
-    /// The next step of a worker's request, a call on its tenant's file.
+    /// Makes the next step of a worker's request, if it is a call on its tenant's file.
     pub(crate) fn call(&mut self, worker: u8, outcome: Outcome) -> Result<(), WorldFault>
         ensures config { self.new.config ≡ self.old.config }
-        ensures ends { (state : State) → Shows self.old state
-            → Ends self.new state (calls.call self.old.config state worker (state.seats worker).actor outcome) result }
+        ensures ends { (state : State) → Represents self.old state
+            → Ends self.new state (calls.call self.old.config state worker (state.worker_states worker).actor outcome) result }
         ensures unchanged { OnErr result (IsUnchanged self.old self.new) }
         ensures files { (tenant : ℕ) → served_by self.old worker ≢ Some tenant → book_at self.new tenant ≡ book_at self.old tenant }
-        ensures moments { (state : State) → Shows self.old state → CrashesDoNoHarm self.old self.new state (FileEvent worker outcome) result }
+        ensures moments { (state : State) → Represents self.old state → CrashesDoNoHarm self.old self.new state (FileEvent worker outcome) result }
     {
         let Some(actor) = self.actor_of(worker) else {
             return Err(WorldFault::NotEnabled);
@@ -76,10 +79,10 @@ impl World {
         }
     }
 
-    /// The status of a slot, or `None` where there is no such slot.
+    /// Returns the status of a slot. `None`: there is no such slot.
     pub(crate) fn status(&self, slot: u8) -> Option<Status>
         ensures in_range { IfSome result IsStatusInRange }
-        ensures shown { (state : State) → Shows self.now state
+        ensures shown { (state : State) → Represents self.now state
             → result ≡ (if has_slot self.now.config slot then Some (state.cells.statuses slot) else None) }
     {
         match self.cells.get(At::Status(slot)) {
@@ -88,27 +91,27 @@ impl World {
         }
     }
 
-    /// A worker's request goes on from a call on its file that ended so. There is room for it.
+    /// Tells a worker's request how its call on the file ended. There is room for the label.
     fn tell_file(&mut self, worker: u8, actor: &Actor, ended: Ended)
-        requires worker { worker < length self.old.seats.items }
-        requires tenant { actor.now.tenant < length self.old.accounts.items }
-        requires room { stepping.HasRoom self.old.claims self.old.accounts.items actor.now.tenant }
+        requires worker { worker < length self.old.worker_states.items }
+        requires tenant { actor.now.tenant < length self.old.tenant_states.items }
+        requires room { stepping.HasRoom self.old.claims self.old.tenant_states.items actor.now.tenant }
         ensures config { self.new.config ≡ self.old.config }
-        ensures shows { (state : State) → Shows self.old state
-            → Shows self.new (stepping.told state worker actor.now (Filed ended.went_well) ended.note) }
+        ensures shows { (state : State) → Represents self.old state
+            → Represents self.new (stepping.told state worker actor.now (Filed ended.went_well) ended.label) }
         ensures files { SameBooks self.old self.new }
     {
-        let attempt = next_attempt(actor, self.seats[usize::from(worker)].attempt);
+        let attempt = next_attempt(actor, self.worker_states[usize::from(worker)].attempt);
         let mut next = actor.copy();
         next.tell(Told {
             got: Got::File(ended.went_well),
             next: attempt,
         });
-        self.enter(worker, ended.note, next, attempt);
+        self.enter(worker, ended.label, next, attempt);
     }
 
-    /// Makes a call on a tenant's file, which does nothing where the status isn't the one that it starts
-    /// from, and fails where the file failed before.
+    /// Makes a call on a tenant's file. The call does nothing if the status isn't one that it starts from, and
+    /// fails if the file failed before.
     fn end(
         &mut self,
         actor: &Actor,
@@ -116,13 +119,13 @@ impl World {
         status: Status,
         outcome: Outcome,
     ) -> Result<Ended, BookFault>
-        requires tenant { actor.now.tenant < length self.old.accounts.items }
+        requires tenant { actor.now.tenant < length self.old.tenant_states.items }
         requires in_range { IsStatusInRange status }
         ensures rest { ending.SameButFiles self.old self.new }
         ensures unchanged { OnErr result (self.new ≡ self.old) }
         ensures files { SameBooksBut actor.now.tenant self.old self.new }
         ensures moments { OnOk result (ending.TouchesFile self.old self.new actor.now.tenant (ending.called_of called) status) }
-        ensures ends { (state : State) → Shows self.old state → state.cells.statuses called.change.slot ≡ status
+        ensures ends { (state : State) → Represents self.old state → state.cells.statuses called.change.slot ≡ status
             → ending.Closes self.new state actor.now.tenant (calls.calling self.old.config state actor.now (ending.called_of called) outcome) result }
     {
         if !starts_from(called.call, status) {
@@ -130,22 +133,24 @@ impl World {
         }
         if fails_on(
             called.call,
-            self.accounts[usize::from(actor.tenant())].book.has_failed(),
+            self.tenant_states[usize::from(actor.tenant())]
+                .book
+                .has_failed(),
         ) {
             return self.refuse(actor.tenant(), outcome);
         }
         self.work(actor, called, status, outcome)
     }
 
-    /// A call on a file that failed before, so that none of its device calls can fail.
+    /// Ends a call on a file that failed before. It makes no device call, so none can fail.
     fn refuse(&mut self, tenant: u8, outcome: Outcome) -> Result<Ended, BookFault>
-        requires tenant { tenant < length self.old.accounts.items }
+        requires tenant { tenant < length self.old.tenant_states.items }
         ensures rest { ending.SameButFiles self.old self.new }
         ensures is { result ≡ ending.makes_none ending.refused outcome }
         ensures files { SameBooks self.old self.new }
         ensures unchanged { OnErr result (self.new ≡ self.old) }
-        ensures good { outcome ≡ Outcome.Good → (state : State) → Shows self.old state
-            → Shows self.new (stepping.with_cells state (ending.faulted state.cells tenant)) }
+        ensures good { outcome ≡ Outcome.Good → (state : State) → Represents self.old state
+            → Represents self.new (stepping.with_cells state (ending.faulted state.cells tenant)) }
         ensures other { (outcome ≡ Outcome.Good → ⊥) → self.new ≡ self.old }
     {
         match outcome {
@@ -153,14 +158,14 @@ impl World {
                 self.fault(tenant);
                 Ok(Ended {
                     went_well: false,
-                    note: Note::Nothing,
+                    label: StepLabel::Nothing,
                 })
             }
             Outcome::Fail(_) => Err(BookFault::NotEnabled),
         }
     }
 
-    /// Makes a call on a tenant's file that starts, on one that hasn't failed unless the call can't fail.
+    /// Makes a call that starts. The file hasn't failed, unless the call can't fail.
     fn work(
         &mut self,
         actor: &Actor,
@@ -168,23 +173,27 @@ impl World {
         status: Status,
         outcome: Outcome,
     ) -> Result<Ended, BookFault>
-        requires tenant { actor.now.tenant < length self.old.accounts.items }
+        requires tenant { actor.now.tenant < length self.old.tenant_states.items }
         requires in_range { IsStatusInRange status }
-        requires sound { (called.call ≡ Call.Cancel → ⊥) → (account : Account) → slice_get self.old.accounts.items actor.now.tenant ≡ Some account → account.book.has_failed ≡ false }
+        requires sound { (called.call ≡ Call.Cancel → ⊥) → (tenant_state : TenantState) → slice_get self.old.tenant_states.items actor.now.tenant ≡ Some tenant_state → tenant_state.book.has_failed ≡ false }
         ensures rest { ending.SameButFiles self.old self.new }
         ensures unchanged { OnErr result (self.new ≡ self.old) }
         ensures files { SameBooksBut actor.now.tenant self.old self.new }
         ensures moments { OnOk result (ending.IsWorked self.old self.new actor.now.tenant called.call called.change.slot) }
-        ensures ends { (state : State) → Shows self.old state → state.cells.statuses called.change.slot ≡ status
-            → calls.starts_from called.call status ≡ true → calls.fails_on called.call (state.accounts actor.now.tenant).file ≡ false
+        ensures ends { (state : State) → Represents self.old state → state.cells.statuses called.change.slot ≡ status
+            → calls.starts_from called.call status ≡ true → calls.fails_on called.call (state.tenant_states actor.now.tenant).file ≡ false
             → ending.Closes self.new state actor.now.tenant (calls.calling self.old.config state actor.now (ending.called_of called) outcome) result }
     {
         let tenant = usize::from(actor.tenant());
         let entries = entries_of(actor.job());
-        if !is_formed(called.call, self.accounts[tenant].book.words(), &entries) {
+        if !is_formed(
+            called.call,
+            self.tenant_states[tenant].book.words(),
+            &entries,
+        ) {
             return Err(BookFault::NotEnabled);
         }
-        let book = match self.accounts[tenant].book.work(
+        let book = match self.tenant_states[tenant].book.work(
             self.alloc,
             called.call,
             called.change.slot,
@@ -198,28 +207,28 @@ impl World {
         Ok(self.close(actor.tenant(), called, status, outcome))
     }
 
-    /// A tenant's file is the one of this book from now on.
-    fn file(&mut self, tenant: u8, book: Book)
-        requires tenant { tenant < length self.old.accounts.items }
+    /// Replaces a tenant's book.
+    fn file(&mut self, tenant: u8, book: SimulatedFile)
+        requires tenant { tenant < length self.old.tenant_states.items }
         requires sound { HasSound (tenant_at self.old.config tenant).words book }
         ensures rest { ending.SameButFiles self.old self.new }
         ensures others { SameBooksBut tenant self.old self.new }
         ensures is { book_at self.new tenant ≡ Some book }
-        ensures shows { (state : State) (file : File) → Shows self.old state → ending.IsBookOf self.old.config state tenant book file
-            → Shows self.new (stepping.with_file state tenant file) }
+        ensures shows { (state : State) (file : File) → Represents self.old state → ending.IsBookOf self.old.config state tenant book file
+            → Represents self.new (stepping.with_file state tenant file) }
     {
-        self.accounts[usize::from(tenant)].book = book;
+        self.tenant_states[usize::from(tenant)].book = book;
     }
 
-    /// The end of a call on a tenant's file that was made, by what the device did.
+    /// Ends a call that was made on a tenant's file, by what the device did.
     fn close(&mut self, tenant: u8, called: Called, status: Status, outcome: Outcome) -> Ended
-        requires tenant { tenant < length self.old.accounts.items }
+        requires tenant { tenant < length self.old.tenant_states.items }
         requires in_range { IsStatusInRange status }
         ensures rest { ending.SameButFiles self.old self.new }
         ensures is { result ≡ ending.ended called.call called.change status outcome }
         ensures files { SameBooks self.old self.new }
-        ensures shows { (state : State) → Shows self.old state → state.cells.statuses called.change.slot ≡ status
-            → Shows self.new (stepping.with_cells state (ending.cells_closed state.cells tenant called.call called.change.slot status outcome)) }
+        ensures shows { (state : State) → Represents self.old state → state.cells.statuses called.change.slot ≡ status
+            → Represents self.new (stepping.with_cells state (ending.cells_closed state.cells tenant called.call called.change.slot status outcome)) }
     {
         match outcome {
             Outcome::Good => {
@@ -227,27 +236,27 @@ impl World {
                 self.cells.put(At::Status(called.change.slot), after.pack());
                 Ended {
                     went_well: true,
-                    note: good_note(called, after),
+                    label: good_label(called, after),
                 }
             }
             Outcome::Fail(_) => {
                 self.fault(tenant);
                 Ended {
                     went_well: false,
-                    note: fault_note(called),
+                    label: fault_label(called),
                 }
             }
         }
     }
 
-    /// A tenant's door has the fault.
+    /// Gives a tenant's door the fault.
     fn fault(&mut self, tenant: u8)
-        requires tenant { tenant < length self.old.accounts.items }
+        requires tenant { tenant < length self.old.tenant_states.items }
         ensures config { self.new.config ≡ self.old.config }
-        ensures seats { self.new.seats ≡ self.old.seats }
-        ensures accounts { self.new.accounts ≡ self.old.accounts }
+        ensures worker_states { self.new.worker_states ≡ self.old.worker_states }
+        ensures tenant_states { self.new.tenant_states ≡ self.old.tenant_states }
         ensures claims { self.new.claims ≡ self.old.claims }
-        ensures shows { (state : State) → Shows self.old state → Shows self.new (stepping.with_cells state (ending.faulted state.cells tenant)) }
+        ensures shows { (state : State) → Represents self.old state → Represents self.new (stepping.with_cells state (ending.faulted state.cells tenant)) }
     {
         self.cells.make(Op::Change {
             kind: Kind::Fault,
@@ -258,7 +267,7 @@ impl World {
     }
 }
 
-/// The call on a file that a request comes to at a point.
+/// Returns the call on a file that a request makes at a point, if it makes one.
 pub(crate) fn called_at(point: Point) -> Option<Called>
     ensures { option_map ending.called_of result ≡ calls.called_at point }
 {
@@ -272,7 +281,7 @@ pub(crate) fn called_at(point: Point) -> Option<Called>
     Some(Called { call, change })
 }
 
-/// Whether a call fails on a file because the file failed before, if it did.
+/// Whether a call fails on a file because the file failed before; `has_failed` says if it did.
 fn fails_on(call: Call, has_failed: bool) -> bool
     ensures is { (file : File) → file.has_failed ≡ has_failed → result ≡ calls.fails_on call file }
     ensures unless { result ≡ false → (call ≡ Call.Cancel → ⊥) → has_failed ≡ false }
@@ -293,7 +302,7 @@ pub(crate) fn entries_of(job: &Job) -> Entries
     }
 }
 
-/// Whether what a call writes down is a well-formed change of a file with so many words. Only one call
+/// Whether the change that a call writes down is well formed for a file with `words` words. Only a prepare
 /// writes a change down.
 pub(crate) fn is_formed(call: Call, words: usize, entries: &Entries) -> bool
     ensures is { (file : File) → length file.contents ≡ words → result ≡ calls.is_formed call file entries.now.items }
@@ -305,38 +314,38 @@ pub(crate) fn is_formed(call: Call, words: usize, entries: &Entries) -> bool
     }
 }
 
-/// A call that does nothing, and so no device call.
+/// Ends a call that does nothing, and so makes no device call.
 fn skipped(outcome: Outcome) -> Result<Ended, BookFault>
     ensures { result ≡ ending.makes_none ending.skipped outcome }
 {
     match outcome {
         Outcome::Good => Ok(Ended {
             went_well: true,
-            note: Note::Nothing,
+            label: StepLabel::Nothing,
         }),
         Outcome::Fail(_) => Err(BookFault::NotEnabled),
     }
 }
 
-/// What a call means that went well, and left this status.
-fn good_note(called: Called, status: Status) -> Note
-    ensures { result ≡ calls.good_note called.call called.change status }
+/// The label of a call that went well and left this status.
+fn good_label(called: Called, status: Status) -> StepLabel
+    ensures { result ≡ calls.good_label called.call called.change status }
 {
     match called.call {
-        Call::Seal => Note::SealedIt(called.change),
-        _ => Note::Decided {
+        Call::Seal => StepLabel::SealedIt(called.change),
+        _ => StepLabel::Decided {
             target: called.change,
             status,
         },
     }
 }
 
-/// What a call means in which the device failed.
-fn fault_note(called: Called) -> Note
-    ensures { result ≡ calls.fault_note called.call called.change }
+/// The label of a call in which a device call failed.
+fn fault_label(called: Called) -> StepLabel
+    ensures { result ≡ calls.fault_label called.call called.change }
 {
     match called.call {
-        Call::Seal => Note::FailedToSeal(called.change),
-        _ => Note::FailedFile,
+        Call::Seal => StepLabel::FailedToSeal(called.change),
+        _ => StepLabel::FailedFile,
     }
 }

@@ -1,4 +1,5 @@
--- Runs of a world by short schedules, and what comes of them.
+-- States what comes of some runs of a world by short schedules.
+-- Used by: the laws of src/laws.rt. A change here changes what these laws say.
 use Rattle.std.specs.Prelude.{ℕ, ◌≡◌, true, false, List, [], ◌∷◌, is_none, Option, Some, None}
 use Rattle.std.specs.Option.{option_map}
 use Rattle.mw_words.specs.declared.jobs.Entry.{Entry}
@@ -14,30 +15,33 @@ use Rattle.mw_world_file.specs.declared.outcomes.Outcome.TheVariants.{Fail}
 use Rattle.mw_world.specs.declared.config.Config.{Config}
 use Rattle.mw_world.specs.declared.config.Tenant.{Tenant}
 use Rattle.mw_world.specs.declared.events.Interrupted.{Interrupted}
-use Rattle.mw_world.specs.Definition.Happenings.{Found, Happening, Come, Step, File, Hand, Restart}
+use Rattle.mw_world.specs.Definition.Events.{Found, WorldEvent, Come, Step, File, Hand, Restart}
 use Rattle.mw_world.specs.Definition.Logical.{logical}
 use Rattle.mw_world.specs.Definition.State.{new_world, marks_of}
 use Rattle.mw_world.specs.Definition.World.{step, replies_to}
 use Rattle.mw_world.specs.Claim.Schedules.{Comes, Before, To, End, Fails, Stops, Played, played, events_of, Plants, Resolves, DecidesNo, Pins, Kind, PreparesFile, SealsFile, SettlesFile}
 
--- a tenant of so many words and such a quota
+-- a tenant with so many words and this quota
 abbrev pub tenant : ℕ → ℕ → Tenant
 tenant words quota = record { name = record { items = [] }; words = words; quota = quota; old = None }
 
+-- a world with so many slots and workers, and these tenants
 abbrev pub config : ℕ → ℕ → List Tenant → Config
 config pool workers tenants = record { pool = pool; workers = workers; seq = 0; tenants = record { items = tenants } }
 
+-- an entry with this address, expected value and new value
 abbrev pub entry : ℕ → ℕ → ℕ → Entry
 entry address expected new = record { addr = address; expected = expected; new = new }
 
+-- a change with these entries
 abbrev pub cas : List Entry → Job
 cas entries = Cas (record { items = entries })
 
--- Replies with their requests' numbers.
+-- Replies, each with its request's number.
 abbrev pub Replies : Type 0
 Replies = List (ℕ × Reply)
 
--- what a run hands out to a tenant
+-- the replies that a run hands out to a tenant
 abbrev pub handed : Config → ℕ → Option Played → Option Replies
 handed config tenant run = option_map (λ p. replies_to config tenant (new_world config) (events_of p)) run
 
@@ -45,40 +49,46 @@ handed config tenant run = option_map (λ p. replies_to config tenant (new_world
 abbrev pub word : ℕ → ℕ → Option Played → Option Word
 word tenant address run = option_map (λ p. p.state.cells.words tenant address) run
 
--- A change of the only word, by the only worker.
+-- The only worker changes the only word.
 abbrev pub smallest : Config
 smallest = config 1 1 (tenant 1 1 ∷ [])
 
+-- the run of this example
 abbrev pub one_change : Option Played
 one_change = played smallest (Comes 0 0 (cas (entry 0 0 7 ∷ [])) ∷ End 0 ∷ []) (new_world smallest)
 
--- A worker was to resolve its attempt when others made its change, and another change of the same word waits.
+-- A worker is about to resolve its attempt when others make its change. Another change of the same word waits, and
+-- plants its own attempt.
 abbrev pub three_workers : Config
 three_workers = config 3 3 (tenant 2 3 ∷ [])
 
+-- the run of this example
 abbrev pub late_finisher : Option Played
 late_finisher = played three_workers
     (Comes 0 0 (cas (entry 0 0 1 ∷ entry 1 0 1 ∷ [])) ∷ To 0 Resolves ∷ Comes 2 0 (cas (entry 0 0 9 ∷ [])) ∷ Before 2 Plants ∷ Before 0 Resolves
     ∷ Comes 1 0 (cas (entry 1 1 0 ∷ [])) ∷ End 1 ∷ To 2 Plants ∷ End 0 ∷ End 2 ∷ Comes 1 0 (Get 1) ∷ End 1 ∷ [])
     (new_world three_workers)
 
--- A word that refuses a change is changed to the expected value before the refusal is decided.
+-- A word refuses a change, and gets the expected value before the refusal is decided.
 abbrev pub two_workers : Config
 two_workers = config 2 2 (tenant 1 2 ∷ [])
 
+-- the run of this example
 abbrev pub stale_refusal : Option Played
 stale_refusal = played two_workers
     (Comes 0 0 (cas (entry 0 5 6 ∷ [])) ∷ Before 0 DecidesNo ∷ Comes 1 0 (cas (entry 0 0 5 ∷ [])) ∷ End 1 ∷ End 0 ∷ [])
     (new_world two_workers)
 
--- The file fails while a change is sealed, which a start then finds or doesn't. A neighbour notices nothing of it.
+-- The file fails in a seal. A start then finds the change or doesn't. The neighbour's replies are as if nothing
+-- happened.
 abbrev pub two_tenants : Config
 two_tenants = config 2 1 (tenant 1 1 ∷ tenant 1 1 ∷ [])
 
+-- what is found if this call was under way: these words, so many device calls of the opening, and the one that fails
 abbrev pub found : Option Interrupted → List ℕ → ℕ → Option ℕ → Found
 found interrupted words calls fails_at = record { interrupted = interrupted; words = words; opening_calls = calls; fails_at = fails_at; quota = None }
 
--- a file with all places shut, which no call was on
+-- what is found of a file with no open record, when no call was under way
 abbrev pub shut : List ℕ → Found
 shut words = found None words 2 None
 
@@ -86,72 +96,80 @@ shut words = found None words 2 None
 abbrev pub given : ℕ → List ℕ → Found
 given quota words = record (shut words) { quota = Some quota }
 
+-- a worker's call that was interrupted after so many device calls
 abbrev pub under_way : ℕ → ℕ → Option Interrupted
 under_way worker made = Some (record { worker = worker; made = made })
 
+-- the run of this example, by what the start finds of the file that failed
 abbrev pub failed_seal : Found → Option Played
 failed_seal left = played two_tenants
     (Comes 0 0 (cas (entry 0 0 1 ∷ [])) ∷ Before 0 SealsFile ∷ Fails 0 2 ∷ End 0 ∷ Comes 0 0 (Get 0) ∷ End 0 ∷ Comes 0 1 (cas (entry 0 0 1 ∷ [])) ∷ End 0
     ∷ Stops (left ∷ shut (1 ∷ []) ∷ []) ∷ Comes 0 0 (Get 0) ∷ End 0 ∷ Comes 0 1 (Get 0) ∷ End 0 ∷ [])
     (new_world two_tenants)
 
--- The device fails while a change is written down, or while it is settled.
+-- The device fails in the prepare of a change, or in its settle.
 abbrev pub failed_at : Kind → Option Played
 failed_at kind = played smallest (Comes 0 0 (cas (entry 0 0 7 ∷ [])) ∷ Before 0 kind ∷ Fails 0 1 ∷ End 0 ∷ Comes 0 0 (Get 0) ∷ End 0 ∷ []) (new_world smallest)
 
--- The last number of the only slot is used, and then it is worn.
+-- The last number of the only slot is used. Then the slot is worn.
 abbrev pub nearly_worn : Config
 nearly_worn = record smallest { seq = 281474976710654 }
 
+-- the run of this example
 abbrev pub worn : Option Played
 worn = played nearly_worn (Comes 0 0 (cas (entry 0 0 1 ∷ [])) ∷ End 0 ∷ Comes 0 0 (cas (entry 0 1 2 ∷ [])) ∷ End 0 ∷ Comes 0 0 (Get 0) ∷ End 0 ∷ []) (new_world nearly_worn)
 
--- All stops while a change is sealed; or while it is settled, and then the opening fails, and then all stops once more.
+-- The server stops in a seal. Or it stops in a settle, then the opening fails, and then the server stops again.
 abbrev pub two_words : Config
 two_words = config 1 1 (tenant 2 1 ∷ [])
 
+-- the run in which the server stops in the seal, by what the start finds
 abbrev pub torn_gate : Found → Option Played
 torn_gate left = played two_words
     (Comes 0 0 (cas (entry 0 0 1 ∷ entry 1 0 2 ∷ [])) ∷ Before 0 SealsFile ∷ Stops (left ∷ [])
     ∷ Comes 0 0 (Get 0) ∷ End 0 ∷ Comes 0 0 (Get 1) ∷ End 0 ∷ [])
     (new_world two_words)
 
+-- the run in which the server stops in the settle
 abbrev pub failed_opening : Option Played
 failed_opening = played two_words
     (Comes 0 0 (cas (entry 0 0 1 ∷ entry 1 0 2 ∷ [])) ∷ Before 0 SettlesFile ∷ Stops (found (under_way 0 2) (1 ∷ 2 ∷ []) 7 (Some 4) ∷ [])
     ∷ Comes 0 0 (Get 0) ∷ End 0 ∷ Stops (found None (1 ∷ 2 ∷ []) 7 None ∷ []) ∷ Comes 0 0 (Get 0) ∷ End 0 ∷ Comes 0 0 (Get 1) ∷ End 0 ∷ [])
     (new_world two_words)
 
--- A quota is used up by the tenant's own changes alone.
+-- Only the tenant's own changes use up its quota.
 abbrev pub two_of_one : Config
 two_of_one = config 2 3 (tenant 2 1 ∷ tenant 2 1 ∷ [])
 
+-- the run of this example
 abbrev pub used_up : Option Played
 used_up = played two_of_one
     (Comes 2 1 (cas (entry 0 0 1 ∷ [])) ∷ To 2 Plants ∷ Comes 0 0 (cas (entry 0 0 1 ∷ [])) ∷ To 0 Plants ∷ Comes 1 0 (cas (entry 1 0 1 ∷ [])) ∷ End 1 ∷ End 0
     ∷ Comes 1 0 (cas (entry 1 0 1 ∷ [])) ∷ End 1 ∷ End 2 ∷ [])
     (new_world two_of_one)
 
--- A start gives a tenant a slot more.
+-- A start gives a tenant one slot more.
 abbrev pub three_slots : Config
 three_slots = config 3 2 (tenant 2 1 ∷ [])
 
+-- the run of this example, by what the start finds and gives
 abbrev pub quota_at_start : Found → Option Played
 quota_at_start left = played three_slots
     (Comes 0 0 (cas (entry 0 0 1 ∷ [])) ∷ To 0 Plants ∷ Comes 1 0 (cas (entry 1 0 1 ∷ [])) ∷ End 1 ∷ Stops (left ∷ [])
     ∷ Comes 0 0 (cas (entry 0 0 1 ∷ [])) ∷ To 0 Plants ∷ Comes 1 0 (cas (entry 1 0 1 ∷ [])) ∷ End 1 ∷ End 0 ∷ [])
     (new_world three_slots)
 
--- A start takes a slot from a tenant.
+-- A start takes one slot from a tenant.
 abbrev pub two_for_one : Config
 two_for_one = config 2 2 (tenant 2 2 ∷ [])
 
+-- the run of this example
 abbrev pub quota_lowered : Option Played
 quota_lowered = played two_for_one
     (Stops (given 1 (0 ∷ 0 ∷ []) ∷ []) ∷ Comes 0 0 (cas (entry 0 0 1 ∷ [])) ∷ To 0 Plants ∷ Comes 1 0 (cas (entry 1 0 1 ∷ [])) ∷ End 1 ∷ End 0 ∷ [])
     (new_world two_for_one)
 
--- A start gives a quota, though its opening fails; the next one tells none.
+-- A start gives a quota, though its opening fails. The next start gives none.
 abbrev pub quota_of_failed_start : Option Played
 quota_of_failed_start = played three_slots (Stops (record (given 2 (0 ∷ 0 ∷ [])) { fails_at = Some 1 } ∷ []) ∷ Stops (shut (0 ∷ 0 ∷ []) ∷ []) ∷ []) (new_world three_slots)
 
@@ -159,41 +177,43 @@ quota_of_failed_start = played three_slots (Stops (record (given 2 (0 ∷ 0 ∷ 
 abbrev pub old_tenant : Config
 old_tenant = config 2 1 (record (tenant 1 1) { old = Some (record { items = entry 0 0 5 ∷ [] }) } ∷ [])
 
--- A worker was to pin a slot that was freed and used by a neighbour since.
+-- A worker is about to pin a slot. The slot is freed, and a neighbour uses it.
 abbrev pub stale_reference : Option Played
 stale_reference = played (config 2 2 (tenant 1 1 ∷ tenant 1 1 ∷ []))
     (Comes 0 0 (cas (entry 0 0 1 ∷ [])) ∷ To 0 Resolves ∷ Comes 1 0 (Get 0) ∷ Before 1 Pins ∷ End 0 ∷ Comes 0 1 (cas (entry 0 0 7 ∷ [])) ∷ To 0 Resolves
     ∷ To 1 Pins ∷ End 0 ∷ Comes 0 1 (cas (entry 0 7 8 ∷ [])) ∷ End 0 ∷ End 1 ∷ [])
     (new_world (config 2 2 (tenant 1 1 ∷ tenant 1 1 ∷ [])))
 
--- One word of a change is held, an attempt stands in the other, and nobody has decided yet.
+-- One word of a change is held, an attempt is in the other, and nothing is decided.
 abbrev pub half_way : Option Played
 half_way = played three_workers (Comes 0 0 (cas (entry 0 0 1 ∷ entry 1 0 2 ∷ [])) ∷ To 0 Resolves ∷ To 0 Plants ∷ []) (new_world three_workers)
 
--- the value for which a word stands
+-- the value that a tenant's word represents at the end of a run
 abbrev pub value : ℕ → ℕ → Option Played → Option ℕ
 value tenant address run = option_map (λ p. logical p.state.cells tenant address) run
 
--- an event can't happen at the end of a run
-abbrev pub IsRefused : Config → Option Played → Happening → Type 0
+-- the event can't happen at the end of the run
+abbrev pub IsRefused : Config → Option Played → WorldEvent → Type 0
 IsRefused config run event = option_map (λ p. is_none (step config p.state event)) run ≡ Some true
 
--- an event can happen at the end of a run
-abbrev pub IsTaken : Config → Option Played → Happening → Type 0
+-- the event can happen at the end of the run
+abbrev pub IsTaken : Config → Option Played → WorldEvent → Type 0
 IsTaken config run event = option_map (λ p. is_none (step config p.state event)) run ≡ Some false
 
--- a run of no event
+-- a run without events
 abbrev pub at_first : Config → Option Played
 at_first config = Some (record { state = new_world config; events = [] })
 
--- a worker's next step is to seal its change
+-- a run after which the worker's next step is to seal its change
 abbrev pub before_seal : Option Played
 before_seal = played smallest (Comes 0 0 (cas (entry 0 0 7 ∷ [])) ∷ Before 0 SealsFile ∷ []) (new_world smallest)
 
--- Events that can't happen there: a request for a worker that has one; a step, and a device call too many, of the call on the file;
--- a reply that doesn't stand; a stop after more device calls than there are, or of no worker's call; an opening that makes fewer; words that nobody wrote, or
--- that were not being sealed; words without a change that was sealed to the end; a start without a tenant; a quota of no slot, one above the places of the
--- file, one above the pool, and one that is above the pool together with a neighbour's.
+-- Events that can't happen there. Requests: one for a busy worker, one for a tenant, a worker or a word that doesn't
+-- exist. Steps: a step in place of a call, device calls that the call doesn't make, and a reply that isn't there.
+-- Stops: after more device calls than there are, or in a call of an idle worker. Openings: a failure of a device call
+-- that they don't make. Words: those that nobody wrote, those of a seal that hadn't begun, and those without a change
+-- that was sealed to the end. Starts: one that leaves out a tenant. Quotas: 0, above the file's places, above the
+-- pool, and above the pool together with a neighbour's.
 pub record AreRefused : Type 0 where
   pub busy_worker : IsRefused smallest before_seal (Come 0 0 (Get 0))
   pub step_of_a_call : IsRefused smallest before_seal (Step 0)
@@ -216,7 +236,8 @@ pub record AreRefused : Type 0 where
   pub no_such_tenant : IsRefused smallest one_change (Come 0 1 (Get 0))
   pub no_such_worker : IsRefused smallest one_change (Come 1 0 (Get 0))
 
--- Starts that can be there: with the quota as it is; with twice the quota of the first start, of an old file too; and with the greatest quota.
+-- Starts that can happen: with the same quota; with twice the first quota, also of an old file; and with the greatest
+-- quota.
 pub record AreTaken : Type 0 where
   pub same_quota : IsTaken smallest before_seal (Restart (given 1 (0 ∷ []) ∷ []))
   pub twice : IsTaken three_slots (at_first three_slots) (Restart (given 2 (0 ∷ 0 ∷ []) ∷ []))
@@ -227,6 +248,7 @@ pub record AreTaken : Type 0 where
 abbrev pub marks : ℕ → Option Played → Option (List Mark)
 marks tenant run = option_map (λ p. marks_of p.state tenant) run
 
+-- What comes of the runs above: events refused and allowed, words, replies and marks.
 pub record ComeOut : Type 0 where
   pub refused : AreRefused
   pub taken : AreTaken

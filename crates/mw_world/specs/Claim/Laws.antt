@@ -1,23 +1,24 @@
--- Laws of the definitions: what a place holds after a write, and what a run is with one event more.
+-- States laws of the definitions: what a place holds after a write, and what one event more does to a run.
+-- Used by: the laws of src/laws.rt. A change here changes what these laws say.
 use Rattle.std.specs.Prelude.{◌≡◌, ◌≢◌, List, [], ◌∷◌, ◌++◌}
 use Rattle.std.specs.Option.{option_and_then}
 use Rattle.mw_words.specs.declared.places.At.{At}
 use Rattle.mw_look.specs.Places.{Val}
 use Rattle.mw_world.specs.declared.config.Config.{Config}
 use Rattle.mw_world.specs.Definition.Cells.{Cells, read, write}
-use Rattle.mw_world.specs.Definition.Happenings.{Happening}
+use Rattle.mw_world.specs.Definition.Events.{WorldEvent}
 use Rattle.mw_world.specs.Definition.State.{State}
 use Rattle.mw_world.specs.Definition.World.{step, run}
 
--- what was written at a place is read there
+-- a read of a place gives what was last written there
 abbrev pub ReadSame : Type 0
 ReadSame = (cells : Cells) (at : At) (x : Val at) → read (write cells at x) at ≡ x
 
--- at each other place stands what stood there
+-- a write to one place changes no other
 abbrev pub ReadOther : Type 0
 ReadOther = (cells : Cells) (at other : At) (x : Val at) → other ≢ at → read (write cells at x) other ≡ read cells other
 
--- The world after a list of events and one more is what that one makes of the world after the list.
+-- The world after a list of events and one more is the world after the list, with the step of that event.
 abbrev pub RunExtends : Type 0
-RunExtends = (config : Config) (state : State) (events : List Happening) (event : Happening) →
+RunExtends = (config : Config) (state : State) (events : List WorldEvent) (event : WorldEvent) →
     run config state (events ++ event ∷ []) ≡ option_and_then (λ next. step config next event) (run config state events)

@@ -1,4 +1,6 @@
--- Which shared words a world has.
+-- Defines which shared words a world has.
+-- Used by: specs/Claim/Headline, specs/Definition/Calls, specs/Definition/Restarts, specs/Definition/Turns, many crates
+-- above (mostly mw_law_store and mw_rule). A change here changes what contracts there say.
 use Rattle.std.specs.Prelude.{ℕ, ◌&&◌, Bool, nat_lt}
 use Rattle.mw_words.specs.declared.limits.TheConstants.{MAX_ENTRIES}
 use Rattle.mw_words.specs.declared.places.At.{At}
@@ -6,14 +8,15 @@ use Rattle.mw_words.specs.declared.places.At.TheVariants.{Door as AtDoor, Gate a
 use Rattle.mw_world.specs.declared.config.Config.{Config}
 use Rattle.mw_world.specs.Definition.State.{tenant_at, tenants_of}
 
--- there is a slot, and an entry of a slot, of this number
+-- the pool has a slot of this number
 abbrev pub has_slot : Config → ℕ → Bool
 has_slot config slot = nat_lt slot config.pool
 
+-- the pool has this slot, and a slot has an entry of this index
 abbrev pub has_entry : Config → ℕ → ℕ → Bool
 has_entry config slot entry = has_slot config slot && nat_lt entry MAX_ENTRIES
 
--- there is a shared word at this place
+-- the world has a shared word at this place
 abbrev pub has_place : Config → At → Bool
 has_place config (AtDoor tenant) = nat_lt tenant (tenants_of config)
 has_place config (AtGate slot) = has_slot config slot

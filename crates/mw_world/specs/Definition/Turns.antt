@@ -1,10 +1,12 @@
--- One step of a worker's request, which is no call on a file.
+-- Defines one step of a worker's request that is no call on a file.
+-- Used by: specs/Claim/BitExactness, specs/Claim/Headline, specs/Definition/Calls, specs/Definition/World, many crates
+-- above (mostly mw_law_store and mw_law_runs). A change here changes what contracts there say.
 use Rattle.std.specs.Prelude.{ℕ, ◌+◌, ◌&&◌, Bool, false, not, Option, Some, None, is_some, if◌then◌else◌}
-use Rattle.mw_look.specs.declared.news.News.{News}
+use Rattle.mw_look.specs.declared.observations.Observation.{Observation}
 use Rattle.mw_look.specs.Steps.{Step, Load, Change, File as FileStep}
 use Rattle.mw_actor.specs.declared.points.Point.{Point}
 use Rattle.mw_actor.specs.declared.points.Point.TheVariants.{Plant}
-use Rattle.mw_actor.specs.Acting.{Acting}
+use Rattle.mw_actor.specs.ActorState.{ActorState}
 use Rattle.mw_actor.specs.Asks.{asks}
 use Rattle.mw_actor.specs.Program.{tells, replied}
 use Rattle.mw_world_file.specs.Maps.{upd}
@@ -13,67 +15,68 @@ use Rattle.mw_world.specs.declared.config.Config.{Config}
 use Rattle.mw_world.specs.Definition.Cells.{Cells}
 use Rattle.mw_world.specs.Definition.Changes.{done}
 use Rattle.mw_world.specs.Definition.Extent.{has_place}
-use Rattle.mw_world.specs.declared.notes.Note.{Note}
-use Rattle.mw_world.specs.Definition.Notes.{note_of}
-use Rattle.mw_world.specs.Definition.Noting.{noted, marked, seated, poised}
-use Rattle.mw_world.specs.Definition.State.{State, Seat, Account}
+use Rattle.mw_world.specs.declared.step_labels.StepLabel.{StepLabel}
+use Rattle.mw_world.specs.Definition.StepLabels.{label_of}
+use Rattle.mw_world.specs.Definition.LabelEffects.{with_label, marked, with_labels, with_intent}
+use Rattle.mw_world.specs.Definition.State.{State, WorkerState, TenantState}
 
--- the number of a worker's next attempt: one more than the last, once the exchange that was to make it is made, won or lost
+-- the number of the worker's next attempt: an exchange that plants an attempt uses up a number, also if it loses
 abbrev pub next_attempt : Point → ℕ → ℕ
 next_attempt (Plant task entry number) attempt = number + 1
 next_attempt point attempt = attempt
 
--- the worker goes on with this request, and its next attempt has this number
-abbrev pub goes_on : Seat → Acting → ℕ → Seat
-goes_on seat actor attempt = record seat { actor = Some actor; attempt = attempt }
+-- the worker's state when it goes on with this request, and with this number for its next attempt
+abbrev pub goes_on : WorkerState → ActorState → ℕ → WorkerState
+goes_on worker_state actor attempt = record worker_state { actor = Some actor; attempt = attempt }
 
--- What a step made and found: the shared words and the tenant's file after it, what the request is told, and what it means.
+-- What a step left and found: the shared words and the tenant's file after it, what the request observes, and the
+-- label.
 pub record Made : Type 0 where
   pub cells : Cells
   pub file : File
-  pub news : News
-  pub note : Note
+  pub observation : Observation
+  pub label : StepLabel
 
--- the account after a step
-abbrev pub accounted : Account → Seat → Made → State → Account
-accounted account seat made state = record account { file = made.file; lines = marked made.note seat state.history account.lines }
+-- the tenant state after a step
+abbrev pub tenant_state_after : TenantState → WorkerState → Made → State → TenantState
+tenant_state_after tenant_state worker_state made state = record tenant_state { file = made.file; lines = marked made.label worker_state state.history tenant_state.lines }
 
--- the world after a step of a worker's request, which goes on as this
-abbrev pub moved_to : State → ℕ → Acting → Acting → Made → State
+-- the world after a step of a worker's request, which goes on in this state
+abbrev pub moved_to : State → ℕ → ActorState → ActorState → Made → State
 moved_to state worker actor next made =
-    let seat = state.seats worker in
-    let account = state.accounts actor.tenant in
+    let worker_state = state.worker_states worker in
+    let tenant_state = state.tenant_states actor.tenant in
     record {
       cells = made.cells;
-      seats = upd state.seats worker (goes_on (seated made.note state.history account.lines seat) next (next_attempt actor.point seat.attempt));
-      accounts = upd state.accounts actor.tenant (accounted account seat made state);
-      history = poised (noted made.note worker actor seat.request state.history) worker next;
+      worker_states = upd state.worker_states worker (goes_on (with_labels made.label state.history tenant_state.lines worker_state) next (next_attempt actor.point worker_state.attempt));
+      tenant_states = upd state.tenant_states actor.tenant (tenant_state_after tenant_state worker_state made state);
+      history = with_intent (with_label made.label worker actor worker_state.request state.history) worker next;
     }
 
 -- the world after a step of a worker's request
-abbrev pub moved : State → ℕ → Acting → Made → State
-moved state worker actor made = moved_to state worker actor (tells actor made.news (next_attempt actor.point (state.seats worker).attempt)) made
+abbrev pub moved : State → ℕ → ActorState → Made → State
+moved state worker actor made = moved_to state worker actor (tells actor made.observation (next_attempt actor.point (state.worker_states worker).attempt)) made
 
--- what a request's step made, which left these shared words and is told so
-abbrev pub made_of : State → ℕ → Acting → Cells → News → Made
-made_of state worker actor cells news = record {
+-- the result of a step that left these shared words and gave this observation
+abbrev pub made_of : State → ℕ → ActorState → Cells → Observation → Made
+made_of state worker actor cells observation = record {
   cells = cells;
-  file = (state.accounts actor.tenant).file;
-  news = news;
-  note = note_of actor actor.point news (tells actor news (next_attempt actor.point (state.seats worker).attempt)).point;
+  file = (state.tenant_states actor.tenant).file;
+  observation = observation;
+  label = label_of actor actor.point observation (tells actor observation (next_attempt actor.point (state.worker_states worker).attempt)).point;
 }
 
 -- the world after the step that a worker's request asks for
-abbrev pub turned : State → ℕ → Acting → State
-turned state worker actor = done (asks actor) state.cells (λ cells news. moved state worker actor (made_of state worker actor cells news))
+abbrev pub turned : State → ℕ → ActorState → State
+turned state worker actor = done (asks actor) state.cells (λ cells observation. moved state worker actor (made_of state worker actor cells observation))
 
--- the step is no call on a file, and its word is one that the world has
+-- the step is no call on a file, and the world has its word
 abbrev pub may_make : Config → Step → Bool
 may_make config (Load at) = has_place config at
 may_make config (Change kind at from to) = has_place config at
 may_make config (FileStep call slot) = false
 
--- One step of a worker that has a request without a reply, which is no call on a file.
-abbrev pub turn : Config → State → ℕ → Option Acting → Option State
+-- One step of a worker that has a request without a reply. The step is no call on a file.
+abbrev pub turn : Config → State → ℕ → Option ActorState → Option State
 turn config state worker None = None
 turn config state worker (Some actor) = if not (is_some (replied actor)) && may_make config (asks actor) then Some (turned state worker actor) else None

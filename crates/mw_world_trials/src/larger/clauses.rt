@@ -1,4 +1,6 @@
-//! What is to hold of the world at every moment, by its groups, as far as what is seen tells it.
+//! What must hold of the world at every moment, by groups, as far as what is seen shows it.
+//!
+//! Used by: `larger/planted_faults`, `larger/tests`, `larger/watch`.
 
 use crate::larger::seen::Seen;
 
@@ -8,7 +10,7 @@ mod files;
 mod references;
 mod words;
 
-/// A group of what is to hold.
+/// A group of what must hold.
 #[derive(Clone, Copy)]
 pub(crate) enum Group {
     Bits,
@@ -19,14 +21,14 @@ pub(crate) enum Group {
     Attempts,
     Words,
     Late,
-    Owed,
+    Releaser,
     Files,
     Places,
     Counts,
     Limits,
 }
 
-/// All of them.
+/// All groups.
 pub(crate) const GROUPS: [Group; 13] = [
     Group::Bits,
     Group::Requests,
@@ -36,7 +38,7 @@ pub(crate) const GROUPS: [Group; 13] = [
     Group::Attempts,
     Group::Words,
     Group::Late,
-    Group::Owed,
+    Group::Releaser,
     Group::Files,
     Group::Places,
     Group::Counts,
@@ -54,7 +56,7 @@ impl Group {
             Group::Attempts => "attempts",
             Group::Words => "words",
             Group::Late => "late",
-            Group::Owed => "owed",
+            Group::Releaser => "owed",
             Group::Files => "files",
             Group::Places => "places",
             Group::Counts => "counts",
@@ -63,7 +65,7 @@ impl Group {
     }
 }
 
-/// The first group that doesn't hold.
+/// Gives the first group that doesn't hold.
 pub(crate) fn broken(seen: &Seen) -> Option<Group> {
     for group in GROUPS {
         if !holds(seen, group) {
@@ -73,7 +75,7 @@ pub(crate) fn broken(seen: &Seen) -> Option<Group> {
     None
 }
 
-/// Whether a group holds.
+/// Tells whether a group holds.
 pub(crate) fn holds(seen: &Seen, group: Group) -> bool {
     match group {
         Group::Bits => !seen.is_junk,
@@ -84,7 +86,7 @@ pub(crate) fn holds(seen: &Seen, group: Group) -> bool {
         Group::Attempts => references::attempts(seen),
         Group::Words => words::words(seen),
         Group::Late => words::late(seen),
-        Group::Owed => words::owed(seen),
+        Group::Releaser => words::have_releasers(seen),
         Group::Files => files::files(seen),
         Group::Places => files::places(seen),
         Group::Counts => counts::counts(seen),

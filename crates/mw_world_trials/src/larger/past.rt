@@ -1,4 +1,7 @@
-//! What has happened to each change since the last start, as the steps of requests tell it.
+//! What has happened to each change since the last start, by the steps of requests.
+//!
+//! Used by: `larger/clauses/changes`, `larger/clauses/counts`, `larger/clauses/files`,
+//! `larger/clauses/references`, `larger/clauses/words`, `larger/seen`, `larger/tests`, other modules.
 ghost use Rattle.std.specs.Prelude.{◌<◌, IfSome, length};
 
 use crate::larger::seen::{Datum, Seen};
@@ -42,7 +45,7 @@ pub(crate) struct Change {
 pub(crate) struct Past {
     pub(crate) changes: Vec<Change>,
     pub(crate) contents: Vec<Content>,
-    /// A step was of a change that never claimed its slot, or of a word of which it has no entry.
+    /// A step was of a change that never claimed its slot, or of a word for which the change has no entry.
     pub(crate) is_stray: bool,
 }
 
@@ -56,7 +59,7 @@ pub(crate) struct Content {
 
 /// What a step does to a change, if its exchange or its call is made.
 #[derive(Clone, Copy)]
-pub(crate) enum Deed {
+pub(crate) enum ChangeUpdate {
     Nothing,
     Claims(Slot),
     Becomes(Slot, Status),
@@ -65,7 +68,7 @@ pub(crate) enum Deed {
 }
 
 impl Past {
-    /// Nothing has happened.
+    /// Makes a past in which nothing has happened.
     pub(crate) fn new(alloc: Global) -> Past {
         Past {
             changes: Vec::new(alloc),
@@ -74,12 +77,12 @@ impl Past {
         }
     }
 
-    /// A change by its slot and number.
+    /// Gives a change by its slot and number.
     pub(crate) fn find(&self, slot: Slot) -> Option<&Change> {
         self.changes.get(self.index_of(slot)?)
     }
 
-    /// Where a change stands among those of which this tells.
+    /// Gives the index of a change among those that are kept here.
     fn index_of(&self, slot: Slot) -> Option<usize>
         ensures { IfSome result (λ index. index < length self.now.changes.items) }
     {
@@ -91,7 +94,7 @@ impl Past {
         None
     }
 
-    /// The status of a change; that of one which never claimed its slot is a draft's.
+    /// Gives the status of a change. A change that never claimed its slot has that of a draft.
     pub(crate) fn fate(&self, slot: Slot) -> Status {
         match self.find(slot) {
             Some(change) => change.fate,
@@ -99,7 +102,7 @@ impl Past {
         }
     }
 
-    /// The value of a word in the tenant's file.
+    /// Gives the value of a word in the tenant's file.
     pub(crate) fn content(&self, tenant: u8, address: u16) -> Option<u64> {
         for content in &self.contents {
             if content.tenant == tenant && content.address == address {
@@ -109,14 +112,14 @@ impl Past {
         None
     }
 
-    /// The deed of a step of this request.
-    pub(crate) fn keep(&mut self, deed: Deed, actor: &Actor) -> Result<(), AllocError> {
+    /// Records what a step of this request did to a change.
+    pub(crate) fn keep(&mut self, deed: ChangeUpdate, actor: &Actor) -> Result<(), AllocError> {
         match deed {
-            Deed::Nothing => {}
-            Deed::Claims(slot) => self.changes.push(born(slot, actor))?,
-            Deed::Becomes(slot, status) => self.turns_to(slot, status),
-            Deed::Moves(slot, address, phase) => self.move_word(slot, address, phase),
-            Deed::Leaves(slot) => self.leave(slot),
+            ChangeUpdate::Nothing => {}
+            ChangeUpdate::Claims(slot) => self.changes.push(born(slot, actor))?,
+            ChangeUpdate::Becomes(slot, status) => self.turns_to(slot, status),
+            ChangeUpdate::Moves(slot, address, phase) => self.move_word(slot, address, phase),
+            ChangeUpdate::Leaves(slot) => self.leave(slot),
         }
         Ok(())
     }
@@ -156,7 +159,7 @@ impl Past {
         self.is_stray = self.is_stray || !is_found;
     }
 
-    /// A sealed change's words are in the file.
+    /// Writes a sealed change's words into the file.
     fn write(&mut self, slot: Slot) {
         let Some(index) = self.index_of(slot) else {
             return;
@@ -169,7 +172,7 @@ impl Past {
         }
     }
 
-    /// All starts again, with these words.
+    /// Starts all again, with these words.
     pub(crate) fn start(&mut self, seen: &[Datum]) -> Result<(), AllocError> {
         self.changes.clear();
         self.contents.clear();
@@ -180,7 +183,7 @@ impl Past {
     }
 }
 
-/// A word of a file whose word is seen so after a start.
+/// Gives the word of a file whose word is seen so after a start.
 fn content_of(datum: &Datum) -> Content {
     let value = match datum.word {
         Word::Plain(value) => value,
@@ -214,7 +217,7 @@ fn born(slot: Slot, actor: &Actor) -> Change {
 }
 
 impl Change {
-    /// Makes something of a word; answers whether the change has an entry of it.
+    /// Sets the phase of a word. Tells whether the change has an entry of it.
     fn move_word(&mut self, address: u16, phase: Phase) -> bool {
         let mut is_found = false;
         for held in &mut self.words {
@@ -233,14 +236,14 @@ impl Change {
         }
     }
 
-    /// Makes all its words written, whatever it came to.
-    pub(crate) fn ink(&mut self) {
+    /// Makes all its words written, whatever its status.
+    pub(crate) fn set_all_written(&mut self) {
         for held in &mut self.words {
-            held.phase = Phase::Inked;
+            held.phase = Phase::Written;
         }
     }
 
-    /// The change's entry of a word.
+    /// Gives the change's entry of a word.
     pub(crate) fn entry_of(&self, address: u16) -> Option<Held> {
         for held in &self.words {
             if held.entry.addr == address {
@@ -251,8 +254,9 @@ impl Change {
     }
 }
 
-/// What the next step of a request does, which is no call on a file, where the world is as it is seen.
-pub(crate) fn step_deed(seen: &Seen, actor: &Actor) -> Deed {
+/// Gives what the next step of a request does to a change, if the world is as it is seen. The step is no
+/// call on a file.
+pub(crate) fn step_update(seen: &Seen, actor: &Actor) -> ChangeUpdate {
     match actor.ask() {
         Op::Change {
             at: At::Data { tenant, address },
@@ -266,35 +270,35 @@ pub(crate) fn step_deed(seen: &Seen, actor: &Actor) -> Deed {
     }
 }
 
-fn word_deed(point: Point, address: u16, to: Option<Word>) -> Deed {
+fn word_deed(point: Point, address: u16, to: Option<Word>) -> ChangeUpdate {
     match (point, to) {
         (Point::Resolve { task, .. }, Some(Word::Held { .. })) => {
-            Deed::Moves(task.target, address, Phase::Keeping)
+            ChangeUpdate::Moves(task.target, address, Phase::Acquired)
         }
         (Point::Release { task, .. }, Some(Word::Dirty { .. })) => {
-            Deed::Moves(task.target, address, Phase::Inked)
+            ChangeUpdate::Moves(task.target, address, Phase::Written)
         }
         (Point::Release { task, .. } | Point::Clean { task, .. }, _) => {
-            Deed::Moves(task.target, address, Phase::Gone)
+            ChangeUpdate::Moves(task.target, address, Phase::Released)
         }
-        _ => Deed::Nothing,
+        _ => ChangeUpdate::Nothing,
     }
 }
 
-fn slot_deed(seen: &Seen, point: Point) -> Deed {
+fn slot_deed(seen: &Seen, point: Point) -> ChangeUpdate {
     match point {
-        Point::Claim { slot, from, .. } if seen.gate(slot) == from => Deed::Claims(Slot {
+        Point::Claim { slot, from, .. } if seen.gate(slot) == from => ChangeUpdate::Claims(Slot {
             slot,
             seq: from.seq,
         }),
         Point::DecideYes(task) if is_open(seen, task.target) => {
-            Deed::Becomes(task.target, Status::YesDirty)
+            ChangeUpdate::Becomes(task.target, Status::YesDirty)
         }
         Point::DecideNo { task, entry, value } if is_open(seen, task.target) => {
-            Deed::Becomes(task.target, Status::No { entry, value })
+            ChangeUpdate::Becomes(task.target, Status::No { entry, value })
         }
-        Point::GiveUp { own, .. } => Deed::Leaves(own),
-        _ => Deed::Nothing,
+        Point::GiveUp { own, .. } => ChangeUpdate::Leaves(own),
+        _ => ChangeUpdate::Nothing,
     }
 }
 
@@ -302,26 +306,26 @@ fn is_open(seen: &Seen, change: Slot) -> bool {
     matches!(seen.status(change.slot), Status::Open)
 }
 
-/// What a call on a file does in which no device call fails.
-pub(crate) fn call_deed(seen: &Seen, actor: &Actor) -> Deed {
+/// Gives what a call on a file does to a change, if no device call fails.
+pub(crate) fn call_update(seen: &Seen, actor: &Actor) -> ChangeUpdate {
     let has_failed = seen.has_failed(actor.tenant());
     match actor.point() {
         Point::Prepare(own) if !has_failed => after_call(seen, own, Call::Prepare),
         Point::Seal(task) if !has_failed => after_call(seen, task.target, Call::Seal),
         Point::Settle(task) if !has_failed => after_call(seen, task.target, Call::Settle),
         Point::Cancel(task) => after_call(seen, task.target, Call::Cancel),
-        _ => Deed::Nothing,
+        _ => ChangeUpdate::Nothing,
     }
 }
 
-fn after_call(seen: &Seen, change: Slot, call: Call) -> Deed {
+fn after_call(seen: &Seen, change: Slot, call: Call) -> ChangeUpdate {
     match (call, seen.status(change.slot)) {
-        (Call::Prepare, Status::Draft) => Deed::Becomes(change, Status::Open),
-        (Call::Seal, Status::YesDirty) => Deed::Becomes(change, Status::Yes),
-        (Call::Settle, Status::Yes) => Deed::Becomes(change, Status::DoneYes),
+        (Call::Prepare, Status::Draft) => ChangeUpdate::Becomes(change, Status::Open),
+        (Call::Seal, Status::YesDirty) => ChangeUpdate::Becomes(change, Status::Yes),
+        (Call::Settle, Status::Yes) => ChangeUpdate::Becomes(change, Status::DoneYes),
         (Call::Cancel, Status::No { entry, value }) => {
-            Deed::Becomes(change, Status::DoneNo { entry, value })
+            ChangeUpdate::Becomes(change, Status::DoneNo { entry, value })
         }
-        _ => Deed::Nothing,
+        _ => ChangeUpdate::Nothing,
     }
 }

@@ -1,12 +1,14 @@
-//! What a request holds at its point, and what it owes.
+//! What a request holds at its point, and what it will release.
+//!
+//! Used by: `larger/clauses/counts`, `larger/clauses/words`.
 ghost use Rattle.std.specs.Prelude.{◌≤◌};
 
-use crate::larger::seen::{Seat, Seen};
+use crate::larger::seen::{Seen, WorkerState};
 use mw_actor::{Actor, After, Point, Slot, Sweep, Task};
 use mw_look::{Look, Point as ReadPoint, Trail};
 use mw_words::MAX_ENTRIES;
 
-/// How many pins of a slot a request holds.
+/// Gives how many pins of a slot a request holds.
 pub(crate) fn pins_held(slot: u8, point: &Point) -> u16 {
     match point {
         Point::Read(look) => read_pins(slot, look),
@@ -75,7 +77,7 @@ fn slot_of(trail: Trail) -> u8 {
     }
 }
 
-/// The slot that a request writes down its own change in, or with which it gives up.
+/// Gives the slot into which a request writes its own change, or with which it gives up.
 fn own_slot(point: &Point) -> Option<Slot> {
     match point {
         Point::FillStatus(own)
@@ -89,7 +91,7 @@ fn own_slot(point: &Point) -> Option<Slot> {
     }
 }
 
-/// The changes of a request that works on one.
+/// Gives the changes on which a request works, if it works on one.
 pub(crate) fn task_of(point: &Point) -> Option<Task> {
     match point {
         Point::ReadTargetStatus(task)
@@ -129,7 +131,7 @@ fn later_task_of(point: &Point) -> Option<Task> {
     }
 }
 
-/// Whether a request is to free this slot.
+/// Tells whether a request will free this slot as its next step.
 pub(crate) fn frees(slot: u8, point: &Point) -> bool {
     match point {
         Point::Read(look) => match look.point() {
@@ -141,7 +143,7 @@ pub(crate) fn frees(slot: u8, point: &Point) -> bool {
     }
 }
 
-/// Whether the door counts a slot for a request which isn't taken.
+/// Tells whether the door counts a slot for a request that has not taken one, or has freed it.
 pub(crate) fn waits(point: &Point) -> bool {
     match point {
         Point::Read(look) => matches!(look.point(), ReadPoint::LowerDoor(_)),
@@ -150,7 +152,7 @@ pub(crate) fn waits(point: &Point) -> bool {
     }
 }
 
-/// A round over a change's words: the round, and the first entry that it has before it.
+/// Gives the round over a change's words in which a request is, and its next entry.
 fn round(point: &Point) -> Option<(Sweep, u8)> {
     match point {
         Point::SweepWord { sweep, entry, .. } | Point::Release { sweep, entry, .. } => {
@@ -163,8 +165,8 @@ fn round(point: &Point) -> Option<(Sweep, u8)> {
     }
 }
 
-/// Whether one of these entries, from the first one on, is of this word. Addresses rise, so that past the
-/// first entry one of address 0 stands for none.
+/// Tells whether one of these entries, from `first` on, is of this word. Addresses rise, so after the first
+/// entry an address of 0 means that there is no entry.
 fn comes_to(actor: &Actor, task: Task, first: u8, address: u16) -> bool {
     for index in first..MAX_ENTRIES as u8 {
         let entry = actor.entry(task, index);
@@ -175,8 +177,8 @@ fn comes_to(actor: &Actor, task: Task, first: u8, address: u16) -> bool {
     false
 }
 
-/// Whether a request that stands here will let go of a refused change's word.
-pub(crate) fn owes(actor: &Actor, change: Slot, address: u16) -> bool {
+/// Tells whether a request at its point will release a refused change's word.
+pub(crate) fn will_release(actor: &Actor, change: Slot, address: u16) -> bool {
     let point = actor.point();
     let Some(task) = task_of(&point) else {
         return false;
@@ -208,7 +210,7 @@ fn is_on_the_way(point: &Point) -> bool {
     )
 }
 
-/// Whether a change's own request that stands here will clean a word that the change has written.
+/// Tells whether a change's own request at its point will clean a word that the change has written.
 pub(crate) fn cleans(actor: &Actor, address: u16) -> bool {
     let point = actor.point();
     match &point {
@@ -224,7 +226,7 @@ pub(crate) fn cleans(actor: &Actor, address: u16) -> bool {
     }
 }
 
-/// The changes of a request in the round that cleans, and the first entry that it has before it.
+/// Gives the changes of a request in the round that cleans, and its next entry.
 fn cleaning(point: &Point) -> Option<(Task, u8)> {
     if let Point::Clean { task, entry, .. } = point {
         return Some((*task, *entry));
@@ -235,12 +237,12 @@ fn cleaning(point: &Point) -> Option<(Task, u8)> {
     }
 }
 
-/// Whether some request of this tenant that holds a pin of the change's slot owes the word to it.
-pub(crate) fn is_owed(seen: &Seen, tenant: u8, change: Slot, address: u16) -> bool {
-    for seat in &seen.seats {
-        if let Some(actor) = &seat.actor {
+/// Tells whether some request of this tenant that holds a pin of the change's slot will release the word.
+pub(crate) fn is_releaser(seen: &Seen, tenant: u8, change: Slot, address: u16) -> bool {
+    for worker_state in &seen.worker_states {
+        if let Some(actor) = &worker_state.actor {
             let is_of = actor.tenant() == tenant && pins_held(change.slot, &actor.point()) >= 1;
-            if is_of && owes(actor, change, address) {
+            if is_of && will_release(actor, change, address) {
                 return true;
             }
         }
@@ -248,10 +250,10 @@ pub(crate) fn is_owed(seen: &Seen, tenant: u8, change: Slot, address: u16) -> bo
     false
 }
 
-/// The request of the worker that claimed the slot, if it holds a pin of it.
+/// Gives the request of the worker that claimed the slot, if it holds a pin of it.
 pub(crate) fn owner_of<'a>(seen: &'a Seen, owner: u8, slot: u8) -> Option<&'a Actor> {
-    let seat: &Seat = seen.seats.get(usize::from(owner))?;
-    match &seat.actor {
+    let worker_state: &WorkerState = seen.worker_states.get(usize::from(owner))?;
+    match &worker_state.actor {
         Some(actor) if pins_held(slot, &actor.point()) >= 1 => Some(actor),
         _ => None,
     }

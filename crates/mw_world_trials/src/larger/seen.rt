@@ -1,4 +1,7 @@
 //! What can be seen of a world between two events.
+//!
+//! Used by: `larger/clauses`, `larger/clauses/changes`, `larger/clauses/counts`, `larger/clauses/files`,
+//! `larger/clauses/references`, `larger/clauses/words`, `larger/past`, other modules.
 ghost use Rattle.std.specs.Prelude.{◌<◌, ◌≤◌};
 
 use crate::larger::past::Past;
@@ -19,7 +22,7 @@ pub(crate) struct Datum {
     pub(crate) word: Word,
 }
 
-/// What stands in a slot.
+/// What a slot has.
 #[derive(Clone, Copy)]
 pub(crate) struct Written {
     pub(crate) gate: Gate,
@@ -30,13 +33,13 @@ pub(crate) struct Written {
 
 /// A worker.
 #[derive(Drop)]
-pub(crate) struct Seat {
+pub(crate) struct WorkerState {
     pub(crate) actor: Option<Actor>,
     pub(crate) attempt: u64,
     pub(crate) row: Row,
 }
 
-/// What the readers of a world show, and its past as far as its events have told it.
+/// What the readers of a world show, and its past as its events have shown it.
 #[derive(Drop)]
 pub(crate) struct Seen {
     /// By tenant: how many words it has, what it may use since the last start, and its door.
@@ -44,7 +47,7 @@ pub(crate) struct Seen {
     pub(crate) shares: Vec<Share>,
     pub(crate) doors: Vec<Door>,
     pub(crate) slots: Vec<Written>,
-    pub(crate) seats: Vec<Seat>,
+    pub(crate) worker_states: Vec<WorkerState>,
     pub(crate) data: Vec<Datum>,
     pub(crate) past: Past,
     /// A shared word has bits that no word of its kind has.
@@ -52,14 +55,14 @@ pub(crate) struct Seen {
 }
 
 impl Seen {
-    /// Nothing is seen yet.
+    /// Makes one in which nothing is seen yet.
     pub(crate) fn new(alloc: Global) -> Seen {
         Seen {
             words: Vec::new(alloc),
             shares: Vec::new(alloc),
             doors: Vec::new(alloc),
             slots: Vec::new(alloc),
-            seats: Vec::new(alloc),
+            worker_states: Vec::new(alloc),
             data: Vec::new(alloc),
             past: Past::new(alloc),
             is_junk: false,
@@ -73,7 +76,7 @@ impl Seen {
         self.past.start(&self.data)
     }
 
-    /// All has started, with the words that are seen, and with the quotas that the marks tell.
+    /// Records a start, with the words that are seen and the quotas that the marks say.
     pub(crate) fn start(&mut self, world: &World) -> Result<(), AllocError> {
         for tenant in 0..MAX_TENANTS {
             self.look_at_share(world, tenant)?;
@@ -164,20 +167,20 @@ impl Seen {
     }
 
     fn look_at_workers(&mut self, world: &World) -> Result<(), AllocError> {
-        self.seats.clear();
+        self.worker_states.clear();
         for worker in 0..MAX_WORKERS {
             if worker >= world.config().workers {
                 return Ok(());
             }
-            match seat_of(world, worker) {
-                Some(seat) => self.seats.push(seat)?,
+            match worker_state_of(world, worker) {
+                Some(worker_state) => self.worker_states.push(worker_state)?,
                 None => self.is_junk = true,
             }
         }
         Ok(())
     }
 
-    /// The gate of a slot; of one that isn't there one that isn't taken.
+    /// Gives the gate of a slot. For a slot that isn't there it is a gate that isn't taken.
     pub(crate) fn gate(&self, slot: u8) -> Gate {
         match self.slots.get(usize::from(slot)) {
             Some(written) => written.gate,
@@ -189,7 +192,7 @@ impl Seen {
         }
     }
 
-    /// The status of a slot.
+    /// Gives the status of a slot.
     pub(crate) fn status(&self, slot: u8) -> Status {
         match self.slots.get(usize::from(slot)) {
             Some(written) => written.status,
@@ -197,7 +200,7 @@ impl Seen {
         }
     }
 
-    /// Whether a tenant's door tells that its file has failed.
+    /// Tells whether a tenant's door says that its file has failed.
     pub(crate) fn has_failed(&self, tenant: u8) -> bool {
         match self.doors.get(usize::from(tenant)) {
             Some(door) => door.fault,
@@ -205,18 +208,18 @@ impl Seen {
         }
     }
 
-    /// A copy of a worker's request.
+    /// Copies a worker's request.
     pub(crate) fn actor(&self, worker: u8) -> Option<Actor> {
-        let seat = self.seats.get(usize::from(worker))?;
-        copied(seat.actor.as_ref())
+        let worker_state = self.worker_states.get(usize::from(worker))?;
+        copied(worker_state.actor.as_ref())
     }
 
-    /// The row of a worker.
+    /// Gives the row of a worker.
     pub(crate) fn row(&self, worker: u8) -> Option<Row> {
-        Some(self.seats.get(usize::from(worker))?.row)
+        Some(self.worker_states.get(usize::from(worker))?.row)
     }
 
-    /// A word of a tenant.
+    /// Gives a word of a tenant.
     pub(crate) fn word(&self, tenant: u8, address: u16) -> Option<Word> {
         for datum in &self.data {
             if datum.tenant == tenant && datum.address == address {
@@ -226,7 +229,7 @@ impl Seen {
         None
     }
 
-    /// Whether the slot is taken and pinned, under this number.
+    /// Tells whether the slot is taken and pinned, under this number.
     pub(crate) fn is_pinned(&self, change: Slot) -> bool {
         let gate = self.gate(change.slot);
         gate.taken && gate.pins >= 1 && gate.seq == change.seq
@@ -240,19 +243,19 @@ fn copied(actor: Option<&Actor>) -> Option<Actor> {
     }
 }
 
-/// What is seen of a worker; nothing where its row has bits that no row has.
-fn seat_of(world: &World, worker: u8) -> Option<Seat>
+/// Gives what is seen of a worker, and nothing if its row has bits that no row has.
+fn worker_state_of(world: &World, worker: u8) -> Option<WorkerState>
     requires { worker < world.now.config.workers }
 {
     let row = Row::unpack(bits(world, At::Row(worker)))?;
-    Some(Seat {
+    Some(WorkerState {
         actor: copied(world.actor(worker)),
         attempt: world.attempt(worker),
         row,
     })
 }
 
-/// How many words a tenant has.
+/// Gives how many words a tenant has.
 fn words_of(world: &World, tenant: u8) -> Option<u16> {
     match world.config().tenants.get(usize::from(tenant)) {
         Some(its) => Some(its.words),
@@ -260,7 +263,7 @@ fn words_of(world: &World, tenant: u8) -> Option<u16> {
     }
 }
 
-/// The quota that the last start gave, as the marks tell it.
+/// Gives the quota of the last start, by the marks.
 fn last_quota(marks: &[Mark]) -> Option<u8> {
     let mut last = None;
     for mark in marks {
@@ -271,7 +274,7 @@ fn last_quota(marks: &[Mark]) -> Option<u8> {
     last
 }
 
-/// The bits of a shared word; zeros for one that the world hasn't got.
+/// Gives the bits of a shared word, and zeros if the world doesn't have it.
 fn bits(world: &World, at: At) -> u64 {
     match at {
         At::Door(tenant) if usize::from(tenant) < world.config().tenants.len() => {
@@ -297,7 +300,7 @@ fn data_bits(world: &World, tenant: u8, address: u16) -> u64 {
     world.word(At::Data { tenant, address })
 }
 
-/// The entries that stand in a slot.
+/// Gives the entries in a slot.
 fn entries(world: &World, slot: u8) -> [Entry; MAX_ENTRIES] {
     let mut entries = [Entry::default(); MAX_ENTRIES];
     if u16::from(slot) >= world.config().pool {

@@ -1,18 +1,21 @@
-//! Random runs of larger worlds, in which all that is to hold of a world is looked at after every event, as
-//! far as the readers of a world tell it.
+//! Random runs of larger worlds. After every event, all that must hold of a world is checked, as far as the
+//! readers of a world show it.
 //!
-//! What a change has come to is told by the steps that the events make: see `past`. Of the invariant of
-//! mw_world this leaves out what no reader shows: a request's quota and pool; that the worker's attempt and
-//! what it may still do in the history are those of its point, from which they are taken here; whether a
-//! file has failed but for what its door tells, what is in doubt in it, and how long it is; and in which
-//! place of its file a change is, of which it is only looked at that there are as many places as changes.
+//! The steps of the events tell what a change has come to: see `past`. These tests leave out what no reader
+//! shows of the invariant of mw_world:
+//! - a request's quota and pool;
+//! - that the worker's attempt, and what it may still do in the history, are those of its point; here they
+//!   are taken from the point;
+//! - whether a file has failed, except by its door, what is in doubt in it, and how long it is;
+//! - in which place of its file a change is; the tests only check that there are as many places as changes.
+//!
 //! The words of a file are those with which the tenant started and what was sealed since.
 
 use crate::dice::Dice;
 use crate::larger::clauses::{GROUPS, Group, broken, holds};
 use crate::larger::past::Change;
+use crate::larger::planted_faults::spoil;
 use crate::larger::seen::{Datum, Seen};
-use crate::larger::spoiling::spoil;
 use crate::larger::watch::{RunFault, Watch};
 use mw_words::{Door, Status, Word};
 use mw_world::Phase;
@@ -23,7 +26,7 @@ const RUNS: u64 = 2_000;
 
 const EVENTS: u64 = 250;
 
-/// What was come across in runs: words held, written and planted, refusals, and failed files.
+/// What happened in runs: words held, written and planted, refusals, and failed files.
 #[derive(Clone, Copy, Default)]
 struct Tally {
     held: u64,
@@ -68,7 +71,7 @@ impl Tally {
     }
 }
 
-/// A run that this seed chooses, in which all that is to hold is looked at after each event.
+/// Plays a run that this seed chooses. After each event it checks all that must hold.
 fn play(alloc: Global, seed: u64, tally: &mut Tally) -> Result<(), RunFault> {
     let mut dice = Dice::new(seed);
     let mut watch = Watch::new(alloc, &mut dice)?;
@@ -103,7 +106,7 @@ fn the_invariant_holds_of_larger_worlds(rt: HostRuntime) {
     assert!(rt; tally.failed > RUNS);
 }
 
-/// Whether a change is open, of which no word is held yet.
+/// Tells whether a change is open, with no word held yet.
 fn has_just_opened(change: &Change) -> bool {
     let mut is_fresh = change.fate == Status::Open;
     for held in &change.words {
@@ -112,7 +115,7 @@ fn has_just_opened(change: &Change) -> bool {
     is_fresh
 }
 
-/// Whether there is some such change.
+/// Tells whether there is some such change.
 fn has_opened(seen: &Seen) -> bool {
     for change in &seen.past.changes {
         if has_just_opened(change) {
@@ -122,7 +125,7 @@ fn has_opened(seen: &Seen) -> bool {
     false
 }
 
-/// Goes on until a change has just opened.
+/// Makes events until a change has just opened.
 fn open(watch: &mut Watch, dice: &mut Dice) -> Result<(), RunFault> {
     watch.begin()?;
     for _ in 0..EVENTS {
@@ -134,14 +137,14 @@ fn open(watch: &mut Watch, dice: &mut Dice) -> Result<(), RunFault> {
     Err(RunFault::Stuck)
 }
 
-/// Whether a group holds until it is spoilt.
+/// Tells whether a group holds until something is made wrong.
 fn is_noticed(seen: &mut Seen, group: Group) -> bool {
     let held = holds(seen, group);
     spoil(seen, group);
     held && !holds(seen, group)
 }
 
-/// The same in a run in which a change has just opened.
+/// Does the same in a run in which a change has just opened.
 fn is_noticed_in_a_run(alloc: Global, group: Group) -> Result<bool, RunFault> {
     let mut dice = Dice::new(1);
     let mut watch = Watch::new(alloc, &mut dice)?;

@@ -1,11 +1,13 @@
-//! A larger world that random events happen to, and what is seen of it.
+//! A larger world to which random events happen, and what is seen of it.
+//!
+//! Used by: `larger/tests`.
 ghost use Rattle.std.specs.Prelude.{◌≡◌, ◌<◌, ◌≤◌};
 ghost use Rattle.mw_world.specs.Definition.State.{IsConfig};
 
 use crate::dice::Dice;
 use crate::jobs::{job, large_world, stops};
 use crate::larger::clauses::Group;
-use crate::larger::past::{call_deed, step_deed};
+use crate::larger::past::{call_update, step_update};
 use crate::larger::seen::Seen;
 use crate::shares::{Share, quotas_alone, shares_after};
 use mw_look::Op;
@@ -13,21 +15,21 @@ use mw_simulator::{World, WorldFault};
 use mw_world::{Event, Outcome, Stop};
 use std::alloc::{AllocError, Global};
 
-/// Why a run ended before its last event.
+/// Says why a run ended before its last event.
 #[derive(Clone, Copy)]
 pub(crate) enum RunFault {
-    /// Want of memory.
+    /// Memory is out.
     Memory,
     /// A worker's next step was refused.
     Stuck,
-    /// Quotas that don't fit were taken, or a start gave others than were told.
+    /// Quotas that don't fit were taken, or a start gave others than it was given.
     Quotas,
     /// A group doesn't hold after this event.
     Broken(Group, u64),
 }
 
 impl RunFault {
-    /// What went wrong, and after which event, where that is known.
+    /// Gives a text for what went wrong, and after which event, if that is known.
     pub(crate) fn told(self) -> (&'static str, u64) {
         match self {
             RunFault::Memory => ("memory", 0),
@@ -54,7 +56,7 @@ pub(crate) struct Watch {
 }
 
 impl Watch {
-    /// A larger world, as the dice want it, at which nobody has looked yet.
+    /// Makes a larger world, as the dice choose. Nothing is seen of it yet.
     pub(crate) fn new(alloc: Global, dice: &mut Dice) -> Result<Watch, AllocError> {
         Ok(Watch {
             alloc,
@@ -63,12 +65,12 @@ impl Watch {
         })
     }
 
-    /// Looks at the world, to which nothing has happened yet.
+    /// Looks at the world before its first event.
     pub(crate) fn begin(&mut self) -> Result<(), AllocError> {
         self.seen.begin(self.alloc, &self.world)
     }
 
-    /// One event, of a worker or of all.
+    /// Makes one event, of a worker or of all.
     pub(crate) fn go_on(&mut self, dice: &mut Dice) -> Result<(), RunFault> {
         if dice.once_in(150) {
             return self.restart(dice);
@@ -86,7 +88,7 @@ impl Watch {
         }
     }
 
-    /// A request, which may be one that is refused.
+    /// Makes a request come, which may be refused.
     fn ask(&mut self, worker: u8, dice: &mut Dice) -> Result<(), RunFault> {
         let tenants = &self.world.config().tenants;
         let tenant = dice.small(tenants.len() as u8);
@@ -99,12 +101,12 @@ impl Watch {
         let Some(actor) = self.seen.actor(worker) else {
             return Err(RunFault::Stuck);
         };
-        let deed = step_deed(&self.seen, &actor);
+        let deed = step_update(&self.seen, &actor);
         self.seen.past.keep(deed, &actor)?;
         self.must(Event::Step(worker))
     }
 
-    /// A call on a file, in which a device call may fail.
+    /// Makes a call on a file, in which a device call may fail.
     fn call(&mut self, worker: u8, dice: &mut Dice) -> Result<(), RunFault> {
         if dice.once_in(15) && self.may(Event::File(worker, Outcome::Fail(1 + dice.below(6))))? {
             return Ok(());
@@ -112,13 +114,13 @@ impl Watch {
         let Some(actor) = self.seen.actor(worker) else {
             return Err(RunFault::Stuck);
         };
-        let deed = call_deed(&self.seen, &actor);
+        let deed = call_update(&self.seen, &actor);
         self.seen.past.keep(deed, &actor)?;
         self.must(Event::File(worker, Outcome::Good))
     }
 
-    /// All stops and starts again, as the dice want it if that can be. Quotas that don't fit are refused, and
-    /// what is to hold is looked at then too, of a world to which nothing has happened.
+    /// Stops and starts all again, as the dice choose if that can be. Quotas that don't fit must be
+    /// refused. Then what must hold is checked too, of a world to which nothing has happened.
     fn restart(&mut self, dice: &mut Dice) -> Result<(), RunFault> {
         let stops = stops(self.alloc, dice, self.world.config())?;
         let pool = self.world.config().pool;
@@ -128,7 +130,7 @@ impl Watch {
         }
     }
 
-    /// All stops and starts again with quotas that fit, and as the dice want it if that can be.
+    /// Stops and starts all again with quotas that fit, and as the dice choose if that can be.
     fn start(&mut self, stops: Vec<Stop>, shares: &[Share]) -> Result<(), RunFault> {
         let quotas = quotas_alone(self.alloc, &stops)?;
         if !self.may(Event::Restart(stops))? {
@@ -157,7 +159,7 @@ impl Watch {
         }
     }
 
-    /// Whether an event can happen; then it does, and is looked at.
+    /// Makes an event if it is possible, and checks the world after it. Tells whether it is possible.
     fn may(&mut self, event: Event) -> Result<bool, RunFault> {
         match self.world.step(event) {
             Ok(()) => {
@@ -170,7 +172,7 @@ impl Watch {
     }
 }
 
-/// Whether as many slots may be used by each tenant.
+/// Tells whether each tenant may use the same in both.
 fn are_same(wanted: &[Share], found: &[Share]) -> bool {
     for (tenant, share) in wanted.iter().enumerate() {
         match found.get(tenant) {

@@ -1,3 +1,4 @@
+-- The proof of the law calls_that_can_be_made (src/laws.rt). It may change freely as long as the crate checks.
 use Rattle.mw_book.proofs.PermittedCalls.{permits}
 use Rattle.mw_book.proofs.laws.calls_that_can_be_made.Goals as goal
 

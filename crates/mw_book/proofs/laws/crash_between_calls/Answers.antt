@@ -1,4 +1,5 @@
-use Rattle.mw_book.proofs.ShownFiles.{untouched}
+-- The proof of the law crash_between_calls (src/laws.rt). It may change freely as long as the crate checks.
+use Rattle.mw_book.proofs.RepresentedFiles.{untouched}
 use Rattle.mw_book.proofs.laws.crash_between_calls.Goals as goal
 
 pub returns : goal.returns

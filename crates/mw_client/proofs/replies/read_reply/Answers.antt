@@ -1,8 +1,8 @@
 use Rattle.std.proofs.Common.{◌≡◌, List, ℕ, Option, Some, None, refl, ◌∙◌}
 use Rattle.std.specs.Prelude.{IfSome}
 use Rattle.mw_line.specs.declared.replies.Say.{Say}
-use Rattle.mw_client.specs.Reading.{Says, reading}
-use Rattle.mw_client.proofs.Replying.{is_found, reading_again}
+use Rattle.mw_client.specs.ReplyGrammar.{Says, reading}
+use Rattle.mw_client.proofs.ReplyTexts.{is_found, reading_again}
 use Rattle.mw_client.proofs.replies.read_reply.Goals as goal
 
 found : (line : List ℕ) (r : Option Say) → r ≡ reading line → IfSome r (λ s. Says s line)

@@ -1,8 +1,8 @@
 use Rattle.std.specs.Prelude.{◌≤◌, length, true}
-use Rattle.mw_client.specs.Talking.{GoesOn}
+use Rattle.mw_client.specs.Exchanges.{GoesOn}
 use Rattle.mw_client.proofs.report.put_line.Given as goal
 
--- what was put behind the text so far was read
+-- what was appended to the text so far was read
 abbrev pub invariant-loop : goal.invariant-loop
 invariant-loop g l = record {
   read : GoesOn true (g.R.Read.remaining l.initial.reader) (g.R.Read.remaining l.reader) l.initial.text.items l.text.items;

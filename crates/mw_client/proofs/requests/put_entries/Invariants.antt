@@ -3,7 +3,7 @@ use Rattle.mw_line.specs.Grammar.{spaced}
 use Rattle.mw_client.specs.declared.requests.TheConstants.{COMMAND, MAX_ENTRY}
 use Rattle.mw_client.proofs.requests.put_entries.Given as goal
 
--- the entries so far and those that are left are all, behind what was there
+-- the text so far and the entries that are left make the text from before and all entries
 abbrev pub invariant-loop-entry : goal.invariant-loop-entry
 invariant-loop-entry l = record {
   entries : l.text.items ++ flat_map spaced (drop l.entry-index l.entries) ≡ l.initial.text.items ++ flat_map spaced l.entries;

@@ -1,3 +1,4 @@
+-- The proof of the law one_answer (src/laws.rt). It may change freely as long as the crate checks.
 use Rattle.mw_config.proofs.OneAnswer.{one_answer_is}
 use Rattle.mw_config.proofs.laws.one_answer.Goals as goal
 

@@ -1,9 +1,10 @@
+-- Answers to goals of read_path (src/lines.rt). They may change freely as long as the crate checks.
 use Rattle.std.proofs.Common.{sym}
 use Rattle.std.specs.List.{list_all}
 use Rattle.std.proofs.lemmas.Str.{IsUtf8-from_ascii}
-use Rattle.mw_config.specs.Spelling.{is_path_byte}
-use Rattle.mw_config.proofs.Spelled.{both_true}
-use Rattle.mw_config.proofs.Taken.{path_is_ascii}
+use Rattle.mw_config.specs.LineTexts.{is_path_byte}
+use Rattle.mw_config.proofs.LineTextLaws.{both_true}
+use Rattle.mw_config.proofs.FirstLines.{path_is_ascii}
 use Rattle.mw_config.proofs.lines.read_path.Goals as goal
 
 pub returns-in_default : goal.returns-in_default

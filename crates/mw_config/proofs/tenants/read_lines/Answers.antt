@@ -1,8 +1,9 @@
+-- Answers to goals of read_lines (src/tenants.rt). They may change freely as long as the crate checks.
 use Rattle.std.proofs.Common.{◌≡◌, List, subst, rules}
 use Rattle.mw_config.specs.declared.lines.TenantLine.{TenantLine}
-use Rattle.mw_config.specs.Spelling.{line_of, lines_of}
-use Rattle.mw_config.specs.Reading.{Continues}
-use Rattle.mw_config.proofs.Taken.{tenants_more}
+use Rattle.mw_config.specs.LineTexts.{line_of, lines_of}
+use Rattle.mw_config.specs.LineReader.{Continues}
+use Rattle.mw_config.proofs.FirstLines.{tenants_more}
 use Rattle.mw_config.proofs.tenants.read_lines.Goals as goal
 
 pub loop-rest-preserved : goal.loop-rest-preserved

@@ -1,9 +1,10 @@
+-- The invariants of the loops of read_lines (src/tenants.rt). They may change freely as long as the crate checks.
 use Rattle.std.proofs.Common.{length}
-use Rattle.mw_config.specs.Spelling.{lines_of}
-use Rattle.mw_config.specs.Judging.{Reaches}
+use Rattle.mw_config.specs.LineTexts.{lines_of}
+use Rattle.mw_config.specs.Refusals.{Reaches}
 use Rattle.mw_config.proofs.tenants.read_lines.Given as goal
 
--- the tenants so far are those of lines with which nothing is wrong, and the rest stands behind them
+-- the tenants so far are those of lines with which nothing is wrong, and the rest comes after them
 abbrev pub invariant-loop-rest : goal.invariant-loop-rest
 invariant-loop-rest l = Reaches (lines_of l.tenants.items) l.rest l.fn.text
 

@@ -1,5 +1,6 @@
+-- Answers to goals of read_tenants (src/tenants.rt). They may change freely as long as the crate checks.
 use Rattle.std.proofs.Common.{◌≤◌, length, sum_by, rules}
-use Rattle.mw_config.proofs.Taken.{file_of, permitted}
+use Rattle.mw_config.proofs.FirstLines.{file_of, permitted}
 use Rattle.mw_config.proofs.tenants.read_tenants.Goals as goal
 
 pub returns-clause-limits : goal.returns-clause-limits

@@ -1,4 +1,4 @@
-use Rattle.mw_core.proofs.Agreeing.{opened_books_agree, unopened_books_agree}
+use Rattle.mw_core.proofs.Agreement.{opened_books_agree, unopened_books_agree}
 use Rattle.mw_core.proofs.laws.new_books_agree.Goals as goal
 
 pub returns-clause-opened : goal.returns-clause-opened

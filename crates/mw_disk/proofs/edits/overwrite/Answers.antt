@@ -1,3 +1,4 @@
+-- Answers to goals of overwrite (src/edits.rt). They may change freely as long as the crate checks.
 use Rattle.std.proofs.Common.{◌≡◌, ℕ, ◌+◌, length, List, ap, ◌∙◌, arith}
 use Rattle.std.proofs.lemmas.List.{take_at}
 use Rattle.mw_disk.specs.Facts.{patched}

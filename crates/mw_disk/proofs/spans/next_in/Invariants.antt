@@ -1,3 +1,4 @@
+-- The invariants of the loops of next_in (src/spans.rt). They may change freely as long as the crate checks.
 use Rattle.std.proofs.Common.{take}
 use Rattle.mw_disk.specs.Crash.{IsNext}
 use Rattle.mw_disk.proofs.spans.next_in.Given as goal

@@ -1,6 +1,7 @@
+-- Answers to goals of tear (src/spans.rt). They may change freely as long as the crate checks.
 use Rattle.std.proofs.Common.{◌∙◌, ap, ℕ, refl, arith}
 use Rattle.mw_disk.specs.Crash.{count_within}
-use Rattle.mw_disk.proofs.Tearing.{tears_more, tears_all}
+use Rattle.mw_disk.proofs.TornBytes.{tears_more, tears_all}
 use Rattle.mw_disk.proofs.spans.tear.Goals as goal
 
 pub returns-in_default : goal.returns-in_default

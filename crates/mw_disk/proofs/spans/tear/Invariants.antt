@@ -1,3 +1,4 @@
+-- The invariants of the loops of tear (src/spans.rt). They may change freely as long as the crate checks.
 use Rattle.std.proofs.Common.{◌≡◌}
 use Rattle.mw_disk.specs.Crash.{Tears, count_within}
 use Rattle.mw_disk.proofs.spans.tear.Given as goal

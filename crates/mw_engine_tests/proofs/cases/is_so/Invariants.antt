@@ -1,4 +1,4 @@
-use Rattle.mw_engine.specs.Starting.{identity_of}
+use Rattle.mw_engine.specs.Parts.{identity_of}
 use Rattle.mw_engine_tests.proofs.cases.is_so.Given as goal
 
 abbrev pub ghosts-is_so_of : goal.ghosts-is_so_of

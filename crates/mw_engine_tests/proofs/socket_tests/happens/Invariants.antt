@@ -1,4 +1,4 @@
-use Rattle.mw_engine.specs.Starting.{identity_of}
+use Rattle.mw_engine.specs.Parts.{identity_of}
 use Rattle.mw_engine_tests.proofs.socket_tests.happens.Given as goal
 
 abbrev pub ghosts-happens_to : goal.ghosts-happens_to

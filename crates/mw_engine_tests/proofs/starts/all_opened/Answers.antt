@@ -1,6 +1,6 @@
 use Rattle.std.proofs.Common.{◌+◌, take, subst, sym}
-use Rattle.mw_engine.specs.Opened.{FitLines}
-use Rattle.mw_engine_tests.proofs.Fitting.{fit_next}
+use Rattle.mw_engine.specs.OpenedFiles.{FitLines}
+use Rattle.mw_engine_tests.proofs.FilesFitLines.{fit_next}
 use Rattle.mw_engine_tests.proofs.starts.all_opened.Goals as goal
 
 -- src/starts.rt

@@ -1,5 +1,5 @@
 use Rattle.std.proofs.Common.{take}
-use Rattle.mw_engine.specs.Opened.{FitLines}
+use Rattle.mw_engine.specs.OpenedFiles.{FitLines}
 use Rattle.mw_engine_tests.proofs.starts.all_opened.Given as goal
 
 -- the files so far are those of the lines so far

@@ -1,3 +1,4 @@
+-- The invariants of the loops of free_place (src/calls.rt). They may change freely as long as the crate checks.
 use Rattle.std.proofs.Common.{◌≡◌, drop}
 use Rattle.mw_file.specs.PlaceStates.{free_from, free_place}
 use Rattle.mw_file.proofs.calls.free_place.Given as goal

@@ -1,6 +1,7 @@
+-- Answers to goals of write_and_sync (src/calls.rt). They may change freely as long as the crate checks.
 use Rattle.std.proofs.Common.{length, true, false, arith}
 use Rattle.mw_disk.proofs.RunLaws.{good_call, bad_call, called_later, still_honest, touched_trans, touched_write, touched_quiet}
-use Rattle.mw_file.specs.Rolls.{InRange}
+use Rattle.mw_file.specs.RollForward.{InRange}
 use Rattle.mw_file.proofs.Ran.{stops}
 use Rattle.mw_file.proofs.calls.write_and_sync.Goals as goal
 

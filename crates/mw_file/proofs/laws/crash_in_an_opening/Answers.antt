@@ -1,3 +1,4 @@
+-- The proof of the law crash_in_an_opening (src/laws.rt). It may change freely as long as the crate checks.
 use Rattle.mw_file.proofs.Reopened.{same_trans, unchanged_of}
 use Rattle.mw_file.proofs.laws.crash_in_an_opening.Goals as goal
 

@@ -1,3 +1,4 @@
+-- The proof of the law crash_of_a_file (src/laws.rt). It may change freely as long as the crate checks.
 use Rattle.std.proofs.Common.{length}
 use Rattle.mw_file.specs.File.{states_of}
 use Rattle.mw_file.proofs.Reopened.{holds_again}

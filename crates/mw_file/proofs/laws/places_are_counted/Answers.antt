@@ -1,6 +1,7 @@
+-- The proof of the law places_are_counted (src/laws.rt). It may change freely as long as the crate checks.
 use Rattle.std.proofs.Common.{ap, ◌∙◌, ◌+◌}
 use Rattle.mw_file.specs.Taken.{taken, if_taken}
-use Rattle.mw_file.proofs.Taken.{has_free, taken_staged}
+use Rattle.mw_file.proofs.TakenCounts.{has_free, taken_staged}
 use Rattle.mw_file.proofs.laws.places_are_counted.Goals as goal
 
 pub returns-clause-free : goal.returns-clause-free

@@ -1,3 +1,4 @@
+-- The proof of the law the_device_fails_where_it_is_told (src/laws.rt). It may change freely as long as the crate checks.
 use Rattle.mw_file.specs.File.{disk_of}
 use Rattle.mw_file.proofs.Ran.{told_well, told_badly}
 use Rattle.mw_file.proofs.laws.the_device_fails_where_it_is_told.Goals as goal

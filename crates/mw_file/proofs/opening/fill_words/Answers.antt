@@ -1,12 +1,13 @@
+-- Answers to goals of fill_words (src/opening.rt). They may change freely as long as the crate checks.
 use Rattle.std.proofs.Common.{◌∙◌, ◌≤◌, ◌<◌, length, sym, arith}
 use Rattle.std.proofs.lemmas.List.{take_all}
 use Rattle.std.proofs.lemmas.List.FromFn.{length-map-range_with_len}
-use Rattle.mw_record.specs.Parts.{told_at}
+use Rattle.mw_record.specs.LayoutBytes.{told_at}
 use Rattle.mw_record.specs.Damages.{words_in, words_of, layout_of, part_of}
 use Rattle.mw_file.proofs.Recalled.{word_more}
 use Rattle.mw_file.proofs.opening.fill_words.Goals as goal
 
--- both lists are as long as the loop has come
+-- both lists have as many words as the loop has done
 pub returns : goal.returns
 returns c =
     let words = c.loop-addr.words.items in

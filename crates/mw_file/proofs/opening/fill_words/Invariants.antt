@@ -1,3 +1,4 @@
+-- The invariants of the loops of fill_words (src/opening.rt). They may change freely as long as the crate checks.
 use Rattle.std.proofs.Common.{◌≡◌, take, vec_len}
 use Rattle.mw_record.specs.Damages.{words_in, words_of}
 use Rattle.mw_file.proofs.opening.fill_words.Given as goal

@@ -1,8 +1,9 @@
+-- Answers to goals of finish (src/opening.rt). They may change freely as long as the crate checks.
 use Rattle.std.proofs.Common.{◌≤◌, ℕ, refl, subst}
 use Rattle.mw_disk.specs.Runs.{Touched, LeavesOnly}
-use Rattle.mw_record.specs.Stands.{HasSecond}
+use Rattle.mw_record.specs.Contents.{HasSecond}
 use Rattle.mw_file.specs.Run.{Ran}
-use Rattle.mw_file.proofs.Looping.{on_ok}
+use Rattle.mw_file.proofs.RollLoop.{on_ok}
 use Rattle.mw_file.proofs.Ready.{roll_as, second_as, rolled_as}
 use Rattle.mw_file.proofs.Recalled.{repair_is, roll_recalled, finish_durable}
 use Rattle.mw_file.proofs.opening.finish.Goals as goal

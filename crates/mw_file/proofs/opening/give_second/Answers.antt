@@ -1,10 +1,11 @@
+-- Answers to goals of give_second (src/opening.rt). They may change freely as long as the crate checks.
 use Rattle.std.proofs.Common.{◌*◌, ℕ, ap, ◌∙◌, subst}
 use Rattle.mw_record.specs.declared.layout.Layout.TheVariants.{First}
 use Rattle.mw_record.specs.declared.layout.TheConstants.{PLACES_GROW}
 use Rattle.mw_record.specs.Layout.{size, second_part}
 use Rattle.mw_record.specs.Damages.{words_of, found_places}
-use Rattle.mw_file.specs.Migrating.{InSwitch, Grown, given_second, IsMigrated}
-use Rattle.mw_file.proofs.Looping.{on_ok}
+use Rattle.mw_file.specs.Migration.{InSwitch, Grown, given_second, IsMigrated}
+use Rattle.mw_file.proofs.RollLoop.{on_ok}
 use Rattle.mw_file.proofs.Ready.{can_migrate}
 use Rattle.mw_file.proofs.opening.give_second.Goals as goal
 

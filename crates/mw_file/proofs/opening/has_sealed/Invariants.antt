@@ -1,3 +1,4 @@
+-- The invariants of the loops of has_sealed (src/opening.rt). They may change freely as long as the crate checks.
 use Rattle.std.proofs.Common.{◌≡◌, take}
 use Rattle.mw_file.specs.PlaceStates.{commit_writes}
 use Rattle.mw_file.proofs.opening.has_sealed.Given as goal

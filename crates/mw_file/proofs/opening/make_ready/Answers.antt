@@ -1,13 +1,14 @@
+-- Answers to goals of make_ready (src/opening.rt). They may change freely as long as the crate checks.
 use Rattle.std.proofs.Common.{ℕ, sym, ap, ◌∙◌, subst}
 use Rattle.std.proofs.lemmas.Bool.{both_ways}
 use Rattle.mw_record.specs.declared.layout.Layout.TheVariants.{First}
 use Rattle.mw_record.specs.Layout.{size, second_part}
 use Rattle.mw_record.specs.Damages.{is_switched, at_of, words_of, found_places, places_of}
-use Rattle.mw_file.specs.Keeps.{IsFile}
-use Rattle.mw_file.specs.Migrating.{InSwitch, Grown, given_second}
+use Rattle.mw_file.specs.RecoveryInvariant.{IsFile}
+use Rattle.mw_file.specs.Migration.{InSwitch, Grown, given_second}
 use Rattle.mw_file.specs.Stores.{IsDurable}
 use Rattle.mw_file.specs.Run.{Ran}
-use Rattle.mw_file.proofs.Looping.{on_ok}
+use Rattle.mw_file.proofs.RollLoop.{on_ok}
 use Rattle.mw_file.proofs.Ready.{is_unset, is_set, places_unset, places_set, begins_unset, begins_set, calls_unset, calls_set, can_grow, can_finish, migrated_durable, file_moments, second_moments}
 use Rattle.mw_file.proofs.Safety.{is_file}
 use Rattle.mw_file.proofs.opening.make_ready.Goals as goal

@@ -1,7 +1,8 @@
+-- Answers to goals of read_front (src/opening.rt). They may change freely as long as the crate checks.
 use Rattle.std.proofs.Common.{◌≡◌, length, min, arith, sym, ◌∙◌}
 use Rattle.std.proofs.lemmas.Bool.{eqb-false}
 use Rattle.mw_disk.proofs.RunLaws.{touched_none}
-use Rattle.mw_file.specs.Rolls.{Nowhere}
+use Rattle.mw_file.specs.RollForward.{Nowhere}
 use Rattle.mw_file.proofs.Ran.{ran_one}
 use Rattle.mw_file.proofs.opening.read_front.Goals as goal
 

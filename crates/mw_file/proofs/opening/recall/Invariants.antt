@@ -1,11 +1,12 @@
+-- The invariants of the loops of recall (src/opening.rt). They may change freely as long as the crate checks.
 use Rattle.std.proofs.Common.{ℕ, ◌≡◌, ◌≤◌, ◌<◌, length}
 use Rattle.mw_record.specs.Damages.{found_places, records_of}
 use Rattle.mw_file.specs.declared.place_states.Stage.TheVariants.{Prepared, Sealed}
 use Rattle.mw_file.specs.PlaceStates.{stage_of, writes_of_place}
-use Rattle.mw_file.specs.Rolls.{kept_of}
+use Rattle.mw_file.specs.RollForward.{kept_of}
 use Rattle.mw_file.proofs.opening.recall.Given as goal
 
--- the places so far are as the file tells them
+-- the places so far have the states that the file's records give
 abbrev pub invariant-loop-place : goal.invariant-loop-place
 invariant-loop-place l =
     (length l.states ≡ found_places l.image)

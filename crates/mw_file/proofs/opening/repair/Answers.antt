@@ -1,9 +1,10 @@
+-- Answers to goals of repair (src/opening.rt). They may change freely as long as the crate checks.
 use Rattle.std.proofs.Common.{◌⊎◌, ◌==◌, ◌≤◌, length, sym, ◌∙◌}
 use Rattle.std.proofs.lemmas.Bool.{eqb-true, not-false}
 use Rattle.mw_disk.proofs.RunLaws.{leaves_same, same_but_refl}
 use Rattle.mw_file.specs.PlaceStates.{commit_writes}
-use Rattle.mw_file.specs.Rolls.{Behind, InHomes, AtCommits}
-use Rattle.mw_file.proofs.Looping.{on_ok}
+use Rattle.mw_file.specs.RollForward.{Behind, InHomes, AtCommits}
+use Rattle.mw_file.proofs.RollLoop.{on_ok}
 use Rattle.mw_file.proofs.Recalled.{none_sealed}
 use Rattle.mw_file.proofs.Rolled.{at_rest_has}
 use Rattle.mw_disk.proofs.RunLaws.{touched_none}

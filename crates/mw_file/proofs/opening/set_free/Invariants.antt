@@ -1,3 +1,4 @@
+-- The invariants of the loops of set_free (src/opening.rt). They may change freely as long as the crate checks.
 use Rattle.std.proofs.Common.{◌≡◌, take, true}
 use Rattle.mw_file.specs.PlaceStates.{all_free}
 use Rattle.mw_file.proofs.opening.set_free.Given as goal

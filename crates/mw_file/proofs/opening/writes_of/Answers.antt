@@ -1,3 +1,4 @@
+-- Answers to goals of writes_of (src/opening.rt). They may change freely as long as the crate checks.
 use Rattle.mw_record.specs.Damages.{pairs_in}
 use Rattle.mw_file.proofs.Recalled.{pairs_more}
 use Rattle.mw_file.proofs.opening.writes_of.Goals as goal

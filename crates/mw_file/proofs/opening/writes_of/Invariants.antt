@@ -1,3 +1,4 @@
+-- The invariants of the loops of writes_of (src/opening.rt). They may change freely as long as the crate checks.
 use Rattle.std.proofs.Common.{◌≡◌, take}
 use Rattle.mw_record.specs.Damages.{pairs_in}
 use Rattle.mw_file.proofs.opening.writes_of.Given as goal

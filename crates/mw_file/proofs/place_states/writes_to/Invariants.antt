@@ -1,3 +1,4 @@
+-- The invariants of the loops of writes_to (src/place_states.rt). They may change freely as long as the crate checks.
 use Rattle.std.proofs.Common.{◌≡◌, take}
 use Rattle.mw_record.specs.Layout.{pairs_of}
 use Rattle.mw_file.proofs.place_states.writes_to.Given as goal

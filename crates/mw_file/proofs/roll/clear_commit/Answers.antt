@@ -1,6 +1,7 @@
+-- Answers to goals of clear_commit (src/roll.rt). They may change freely as long as the crate checks.
 use Rattle.std.proofs.Common.{arith}
 use Rattle.mw_disk.proofs.RunLaws.{touched_write}
-use Rattle.mw_file.specs.Rolls.{AtCommit}
+use Rattle.mw_file.specs.RollForward.{AtCommit}
 use Rattle.mw_file.proofs.roll.clear_commit.Goals as goal
 
 pub returns-in-Sealed-clause-touched : goal.returns-in-Sealed-clause-touched

@@ -1,3 +1,4 @@
+-- Answers to goals of clear_commits (src/roll.rt). They may change freely as long as the crate checks.
 use Rattle.std.proofs.Common.{◌<◌, ◌+◌, ◌∙◌, length, take, arith, ap, true, false}
 use Rattle.std.proofs.lemmas.List.{take_all}
 use Rattle.std.proofs.lemmas.List.Sums.{sum_by_more, sum_by_more_le}
@@ -5,9 +6,9 @@ use Rattle.mw_disk.proofs.RunLaws.{bad_call, later_trans, still_honest, touched_
 use Rattle.mw_record.specs.declared.layout.Layout.TheVariants.{Second}
 use Rattle.mw_record.specs.Layout.{place_at}
 use Rattle.mw_file.specs.PlaceStates.{commit_writes, commit_writes_of}
-use Rattle.mw_file.specs.Rolls.{Behind, AtCommits}
+use Rattle.mw_file.specs.RollForward.{Behind, AtCommits}
 use Rattle.mw_file.proofs.Ran.{goes_on, stops}
-use Rattle.mw_file.proofs.Looping.{item_at, commit_there, commits_more, shut_more}
+use Rattle.mw_file.proofs.RollLoop.{item_at, commit_there, commits_more, shut_more}
 use Rattle.mw_file.proofs.roll.clear_commits.Goals as goal
 
 pub returns-in_err-clear_commit-clause-touched : goal.returns-in_err-clear_commit-clause-touched

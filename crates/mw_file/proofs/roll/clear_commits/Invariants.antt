@@ -1,10 +1,11 @@
+-- The invariants of the loops of clear_commits (src/roll.rt). They may change freely as long as the crate checks.
 use Rattle.std.proofs.Common.{ℕ, ◌≡◌, ◌+◌, ◌<◌, length, drop, slice_index, IsTrue, take}
 use Rattle.mw_disk.specs.Runs.{Good, Later, Touched, Fits}
 use Rattle.mw_record.specs.declared.layout.Layout.TheVariants.{Second}
 use Rattle.mw_record.specs.Layout.{place_at}
 use Rattle.mw_file.specs.declared.place_states.Stage.TheVariants.{Sealed}
 use Rattle.mw_file.specs.PlaceStates.{commit_writes, stage_of}
-use Rattle.mw_file.specs.Rolls.{Behind, AtCommits}
+use Rattle.mw_file.specs.RollForward.{Behind, AtCommits}
 use Rattle.mw_file.proofs.roll.clear_commits.Given as goal
 
 -- each sealed place so far took a call that went well, and its commit byte is 0

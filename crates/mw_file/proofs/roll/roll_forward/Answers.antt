@@ -1,3 +1,4 @@
+-- Answers to goals of roll_forward (src/roll.rt). They may change freely as long as the crate checks.
 use Rattle.std.proofs.Common.{◌+◌, arith}
 use Rattle.mw_file.specs.PlaceStates.{home_writes, commit_writes, roll_calls}
 use Rattle.mw_disk.proofs.RunLaws.{still_honest}

@@ -1,8 +1,9 @@
+-- Answers to goals of write_home (src/roll.rt). They may change freely as long as the crate checks.
 use Rattle.std.proofs.Common.{◌∙◌, Option, drop, ap, sym, subst}
 use Rattle.mw_disk.specs.Runs.{Touched}
 use Rattle.mw_record.specs.Records.{Pairs, home, record_over}
-use Rattle.mw_file.specs.Rolls.{Behind, InRecord, IsBelow, if_open}
-use Rattle.mw_file.proofs.Looping.{on_ok}
+use Rattle.mw_file.specs.RollForward.{Behind, InRecord, IsBelow, if_open}
+use Rattle.mw_file.proofs.RollLoop.{on_ok}
 use Rattle.mw_file.proofs.roll.write_home.Goals as goal
 
 pub returns-in-Sealed-clause-touched : goal.returns-in-Sealed-clause-touched

@@ -1,9 +1,10 @@
+-- Answers to goals of write_homes (src/roll.rt). They may change freely as long as the crate checks.
 use Rattle.std.proofs.Common.{◌<◌, ◌+◌, length, take, arith, ap}
 use Rattle.std.proofs.lemmas.List.Sums.{sum_by_more, sum_by_more_le}
 use Rattle.mw_disk.proofs.RunLaws.{later_trans}
 use Rattle.mw_file.specs.PlaceStates.{home_writes, home_writes_of}
 use Rattle.mw_file.proofs.Ran.{goes_on, stops}
-use Rattle.mw_file.proofs.Looping.{item_at, below_item, homes_still_there, homes_more, values_more}
+use Rattle.mw_file.proofs.RollLoop.{item_at, below_item, homes_still_there, homes_more, values_more}
 use Rattle.mw_file.proofs.roll.write_homes.Goals as goal
 
 pub returns-in_err-write_home-clause-calls : goal.returns-in_err-write_home-clause-calls

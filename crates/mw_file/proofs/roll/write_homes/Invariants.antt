@@ -1,11 +1,12 @@
+-- The invariants of the loops of write_homes (src/roll.rt). They may change freely as long as the crate checks.
 use Rattle.std.proofs.Common.{ℕ, ◌≡◌, ◌<◌, take, drop}
 use Rattle.mw_disk.specs.Runs.{Good, Later, Touched}
 use Rattle.mw_record.specs.Records.{home, all_over}
 use Rattle.mw_file.specs.PlaceStates.{home_writes}
-use Rattle.mw_file.specs.Rolls.{Behind, InHomes, HasHomes, AreBelow, kept_of}
+use Rattle.mw_file.specs.RollForward.{Behind, InHomes, HasHomes, AreBelow, kept_of}
 use Rattle.mw_file.proofs.roll.write_homes.Given as goal
 
--- each value of the sealed places so far took a call that went well, and stands in its home word
+-- each value of the sealed places so far took a call that went well, and is in its home word
 abbrev pub invariant-loop-state : goal.invariant-loop-state
 invariant-loop-state g l =
     Good (home_writes (take l.state-index l.states)) (g.D.Disk.facts l.initial.disk) (g.D.Disk.facts l.disk)

@@ -1,12 +1,13 @@
+-- Answers to goals of write_values (src/roll.rt). They may change freely as long as the crate checks.
 use Rattle.std.proofs.Common.{◌≡◌, true, false, drop, ◌^◌, ℕ, ◌≤◌, ◌+◌, ◌<◌, length, take, get_or, ap, ◌∙◌, arith, subst}
 use Rattle.std.proofs.lemmas.List.{take_all}
 use Rattle.mw_disk.proofs.RunLaws.{good_call, called_later, later_trans, still_honest}
 use Rattle.mw_record.specs.declared.layout.TheConstants.{WORD_SIZE}
 use Rattle.mw_record.specs.Records.{Pairs, over, home}
 use Rattle.mw_record.specs.Layout.{home_at, number_bytes}
-use Rattle.mw_record.proofs.Reading.{length-number_bytes}
+use Rattle.mw_record.proofs.ReadBytes.{length-number_bytes}
 use Rattle.mw_file.proofs.Ran.{goes_on}
-use Rattle.mw_file.proofs.Writing.{next_touched, next_put}
+use Rattle.mw_file.proofs.OneWrite.{next_touched, next_put}
 use Rattle.mw_file.proofs.roll.write_values.Goals as goal
 
 pub returns-in_err-write_at-clause-touched : goal.returns-in_err-write_at-clause-touched

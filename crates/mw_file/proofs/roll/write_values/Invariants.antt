@@ -1,10 +1,11 @@
+-- The invariants of the loops of write_values (src/roll.rt). They may change freely as long as the crate checks.
 use Rattle.std.proofs.Common.{ℕ, take, Some}
 use Rattle.mw_disk.specs.Runs.{Good, Later}
-use Rattle.mw_file.specs.Rolls.{HasHomes, IsBelow}
-use Rattle.mw_file.proofs.Writing.{IsPut}
+use Rattle.mw_file.specs.RollForward.{HasHomes, IsBelow}
+use Rattle.mw_file.proofs.OneWrite.{IsPut}
 use Rattle.mw_file.proofs.roll.write_values.Given as goal
 
--- each value so far took a call that went well, and stands in its home word
+-- each value so far took a call that went well, and is in its home word
 abbrev pub invariant-loop-write : goal.invariant-loop-write
 invariant-loop-write g l =
     Good l.write-index (g.D.Disk.facts l.initial.disk) (g.D.Disk.facts l.disk)

@@ -1,3 +1,4 @@
+-- The proof of the law call_by_call (src/laws.rt). It may change freely as long as the crate checks.
 use Rattle.mw_frame.proofs.GivenLines.{given-at-first, given-then-fed, given-then-more, none-left}
 use Rattle.mw_frame.proofs.laws.call_by_call.Goals as goal
 

@@ -1,3 +1,4 @@
+-- The proof of the law however_cut (src/laws.rt). It may change freely as long as the crate checks.
 use Rattle.mw_frame.proofs.GivenLines.{however-cut, same-lines}
 use Rattle.mw_frame.proofs.laws.however_cut.Goals as goal
 

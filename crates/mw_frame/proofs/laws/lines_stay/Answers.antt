@@ -1,3 +1,4 @@
+-- The proof of the law lines_stay (src/laws.rt). It may change freely as long as the crate checks.
 use Rattle.mw_frame.proofs.CutTexts.{lines-stay}
 use Rattle.mw_frame.proofs.laws.lines_stay.Goals as goal
 

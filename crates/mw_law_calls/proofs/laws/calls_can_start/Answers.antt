@@ -1,4 +1,4 @@
-use Rattle.mw_law_calls.proofs.Starting.{calls_can_start}
+use Rattle.mw_law_calls.proofs.CallStartLaws.{calls_can_start}
 use Rattle.mw_law_calls.proofs.laws.calls_can_start.Goals as goal
 
 pub returns : goal.returns

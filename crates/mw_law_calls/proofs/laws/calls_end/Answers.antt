@@ -1,4 +1,4 @@
-use Rattle.mw_law_calls.proofs.Ending.{calls_end_well, calls_find_faults, calls_meet_faults, calls_skip}
+use Rattle.mw_law_calls.proofs.CallEndLaws.{calls_end_well, calls_find_faults, calls_meet_faults, calls_skip}
 use Rattle.mw_law_calls.proofs.laws.calls_end.Goals as goal
 
 pub returns : goal.returns

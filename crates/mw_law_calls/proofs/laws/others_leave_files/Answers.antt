@@ -1,5 +1,5 @@
 use Rattle.mw_law_store.proofs.Quotas.{events_tell_quotas}
-use Rattle.mw_law_calls.proofs.Beside.{others_leave_files, others_leave_files_long}
+use Rattle.mw_law_calls.proofs.OtherEventLaws.{others_leave_files, others_leave_files_long}
 use Rattle.mw_law_calls.proofs.laws.others_leave_files.Goals as goal
 
 pub returns : goal.returns

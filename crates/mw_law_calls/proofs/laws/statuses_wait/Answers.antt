@@ -1,4 +1,4 @@
-use Rattle.mw_law_calls.proofs.Waiting.{statuses_wait, statuses_wait_long}
+use Rattle.mw_law_calls.proofs.StableStatusLaws.{statuses_wait, statuses_wait_long}
 use Rattle.mw_law_calls.proofs.laws.statuses_wait.Goals as goal
 
 pub returns : goal.returns

@@ -1,4 +1,4 @@
-use Rattle.mw_law_counts.proofs.Keeping.{run_keeps, run_leaves_room}
+use Rattle.mw_law_counts.proofs.RunsKeepCounts.{run_keeps, run_leaves_room}
 use Rattle.mw_law_counts.proofs.laws.runs_keep_counts.Goals as goal
 
 pub returns : goal.returns

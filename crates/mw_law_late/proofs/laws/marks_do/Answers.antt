@@ -1,4 +1,4 @@
-use Rattle.mw_law_late.proofs.Deciding.{marks-do, doing-marks}
+use Rattle.mw_law_late.proofs.MarkEffectLaws.{marks-do, doing-marks}
 use Rattle.mw_law_late.proofs.laws.marks_do.Goals as goal
 
 pub returns : goal.returns

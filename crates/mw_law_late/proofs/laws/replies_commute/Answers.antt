@@ -1,4 +1,4 @@
-use Rattle.mw_law_late.proofs.Naming.{replies-commute, others-left}
+use Rattle.mw_law_late.proofs.RequestsOfMarks.{replies-commute, others-left}
 use Rattle.mw_law_late.proofs.laws.replies_commute.Goals as goal
 
 pub returns : goal.returns

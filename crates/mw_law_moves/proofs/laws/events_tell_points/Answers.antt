@@ -1,4 +1,4 @@
-use Rattle.mw_law_moves.proofs.Telling.{events_tell_points}
+use Rattle.mw_law_moves.proofs.WorkerPermissions.{events_tell_points}
 use Rattle.mw_law_moves.proofs.laws.events_tell_points.Goals as goal
 
 pub returns : goal.returns

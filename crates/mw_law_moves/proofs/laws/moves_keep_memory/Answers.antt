@@ -1,4 +1,4 @@
-use Rattle.mw_law_moves.proofs.Keeping.{move_keeps, moves_keep}
+use Rattle.mw_law_moves.proofs.MovesKeepMemory.{move_keeps, moves_keep}
 use Rattle.mw_law_moves.proofs.laws.moves_keep_memory.Goals as goal
 
 pub returns-clause-one : goal.returns-clause-one

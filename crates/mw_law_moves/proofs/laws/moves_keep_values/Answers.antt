@@ -1,6 +1,6 @@
-use Rattle.mw_law_moves.proofs.Unsealed.{turns_keep_values}
-use Rattle.mw_law_moves.proofs.Revalued.{moves_keep_values, seals_put_values}
-use Rattle.mw_law_moves.proofs.Valued.{words_tell}
+use Rattle.mw_law_moves.proofs.ValuesOverTurns.{turns_keep_values}
+use Rattle.mw_law_moves.proofs.ValuesOverMoves.{moves_keep_values, seals_put_values}
+use Rattle.mw_law_moves.proofs.ValuesFromHistory.{words_tell}
 use Rattle.mw_law_moves.proofs.laws.moves_keep_values.Goals as goal
 
 pub returns-clause-told : goal.returns-clause-told

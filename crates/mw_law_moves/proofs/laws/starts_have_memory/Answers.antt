@@ -1,4 +1,4 @@
-use Rattle.mw_law_moves.proofs.Starting.{starts_have_memory}
+use Rattle.mw_law_moves.proofs.MemoryAtStart.{starts_have_memory}
 use Rattle.mw_law_moves.proofs.laws.starts_have_memory.Goals as goal
 
 pub returns : goal.returns

@@ -1,6 +1,6 @@
-use Rattle.mw_law_moves.proofs.Called.{calls_are_moves}
-use Rattle.mw_law_moves.proofs.Stepping.{comes_leave, hands_leave}
-use Rattle.mw_law_moves.proofs.Turned.{turns_are_moves}
+use Rattle.mw_law_moves.proofs.CallMoves.{calls_are_moves}
+use Rattle.mw_law_moves.proofs.StepsKeepMemory.{comes_leave, hands_leave}
+use Rattle.mw_law_moves.proofs.TurnMoves.{turns_are_moves}
 use Rattle.mw_law_moves.proofs.laws.steps_are_moves.Goals as goal
 
 pub returns-clause-turns : goal.returns-clause-turns

@@ -1,4 +1,4 @@
-use Rattle.mw_law_moves.proofs.Stepping.{calls_keep, restarts_have, turns_keep}
+use Rattle.mw_law_moves.proofs.StepsKeepMemory.{calls_keep, restarts_have, turns_keep}
 use Rattle.mw_law_moves.proofs.laws.steps_keep_memory.Goals as goal
 
 pub returns-clause-turns : goal.returns-clause-turns

@@ -1,4 +1,4 @@
--- What is asked for where a door or a gate is changed.
+-- The preconditions of the moves on a door or a gate hold. Used by: Knowledge/Guards/UpdateGuards.
 use Rattle.std.specs.Prelude.{ℕ, ◌≡◌, ◌<◌, ◌≤◌, ◌+◌, ◌-◌, Bool, true, false, cond, List}
 use Rattle.std.proofs.Common.{refl, sym, ap, subst, ◌∙◌, arith}
 use Rattle.std.proofs.lemmas.Bool.Decides.{nat_tests}
@@ -16,13 +16,13 @@ use Rattle.mw_look.specs.Runs.{if_same}
 use Rattle.mw_actor.specs.declared.points.Point.TheVariants.{Claim}
 use Rattle.mw_actor.specs.declared.points.Slot.{Slot}
 use Rattle.mw_actor.specs.declared.points.Task.{Task}
-use Rattle.mw_actor.specs.Acting.{entries_of_job, is_alone}
+use Rattle.mw_actor.specs.ActorState.{entries_of_job, is_alone}
 use Rattle.mw_actor.specs.Balance.{task_pins}
 use Rattle.mw_law_requests.proofs.StageLaws.{both_same}
 use Rattle.mw_world.specs.declared.config.Config.{Config}
 use Rattle.mw_world.specs.Definition.State.{State, tenant_at, tenants_of}
 use Rattle.mw_law_moves.specs.Guards.{IsLive, MaySetDoor, MayClaim, MayPin, MayFree}
-use Rattle.mw_law_moves.specs.Stepped.{lowered}
+use Rattle.mw_law_moves.specs.StepMoves.{lowered}
 use Rattle.mw_law_runs.specs.Knowledge.Informed.{IsPointFor}
 
 true_false : {b : Bool} → b ≡ true → b ≡ false → ⊥
@@ -62,7 +62,7 @@ claim_guard config state slot tenant from to entries claims found fits there ten
   formed = formed;
 }
 
--- it is pinned
+-- a slot is pinned
 pub pin_guard : (state : State) (slot seq : ℕ) (from to : Gate) → Pins seq from to → state.cells.gates slot ≡ from → IsGateInRange to → MayPin state slot to
 pin_guard state slot seq from to pins found fits = record {
   pins = subst (λ (gate : Gate). Pins gate.seq gate to) (sym found) (record {
@@ -76,7 +76,7 @@ pin_guard state slot seq from to pins found fits = record {
   fits = fits;
 }
 
--- and freed
+-- a slot is freed
 next_fits : (seq : ℕ) → seq < WORN_NUMBER → seq + 1 ≤ WORN_NUMBER
 next_fits seq low = omega (arith, low)
 
@@ -92,7 +92,7 @@ free_guard state given live unpinned low = record {
   fits = (omega arith, next_fits given.seq low, λ free. refl);
 }
 
--- the pin of the change that is worked on is one of the request's
+-- the request holds a pin of the target
 pub same_pin : (own target : ℕ) → target ≡ own → if_same own target ≡ 1
 same_pin own target same = grind (arith, nat_tests, same)
 

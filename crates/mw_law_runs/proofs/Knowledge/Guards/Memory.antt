@@ -1,4 +1,5 @@
--- What memory and a request's facts tell of the change that it works on, of one of its entries, and of a slot of which it holds a pin.
+-- What follows from the invariant of the shared words and a request's facts, about its target, an entry of that, and a slot of which it holds a pin.
+-- Used by: Knowledge/Guards/UpdateGuards, Knowledge/Guards/Words, Knowledge/Guards/Attempts, mw_law_store.
 use Rattle.std.specs.Prelude.{ℕ, suc, ◌≡◌, ◌≢◌, ◌<◌, ◌≤◌, ◌==◌, Bool, true, false, if◌then◌else◌, List, [], ◌∷◌, length, Option, Some, is_some}
 use Rattle.std.specs.Option.{option_map_or}
 use Rattle.std.proofs.Common.{refl, sym, ap, subst, arith}
@@ -10,18 +11,18 @@ use Rattle.mw_words.specs.Change.{is_change, rises_from}
 use Rattle.mw_look.proofs.RangeLaws.{either_way}
 use Rattle.mw_actor.specs.declared.points.Slot.{Slot}
 use Rattle.mw_actor.specs.declared.points.Task.{Task}
-use Rattle.mw_actor.specs.Acting.{Acting, own_entries, entries_of, entry_at, entry_of, is_alone}
+use Rattle.mw_actor.specs.ActorState.{ActorState, own_entries, entries_of, entry_at, entry_of, is_alone}
 use Rattle.mw_actor.specs.Ranges.{IsEntryInRange, AreEntriesInRange, IsInRange}
 use Rattle.mw_world.specs.declared.config.Config.{Config}
-use Rattle.mw_world.specs.Definition.Counting.{pins_held}
+use Rattle.mw_world.specs.Definition.Counts.{pins_held}
 use Rattle.mw_world.specs.Definition.History.{has, new, expected, entry_for}
 use Rattle.mw_world.specs.Claim.Invariant.{HasWord}
-use Rattle.mw_world.specs.Claim.Owing.{IsEntryAt, IsFrom}
+use Rattle.mw_world.specs.Claim.Obligations.{IsEntryAt, IsFrom}
 use Rattle.mw_world.specs.Definition.State.{State, tenant_at}
 use Rattle.mw_law_moves.specs.Guards.{IsLive}
 use Rattle.mw_law_moves.specs.Memory.{Memory}
-use Rattle.mw_law_moves.proofs.Finding.{entry_found}
-use Rattle.mw_law_counts.specs.Standing.{CountsStand}
+use Rattle.mw_law_moves.proofs.EntryValues.{entry_found}
+use Rattle.mw_law_counts.specs.CountInvariant.{CountsStand}
 use Rattle.mw_law_counts.proofs.Sums.{over_at, of_actor}
 use Rattle.mw_law_runs.specs.Knowledge.Facts.{IsKnown, AtEntry}
 use Rattle.mw_law_runs.specs.Knowledge.Points.{without_point}
@@ -29,7 +30,7 @@ use Rattle.mw_law_runs.specs.Knowledge.Points.{without_point}
 addresses_rise : (words : ℕ) (entries : List Entry) → is_change words entries ≡ true → rises_from 0 entries ≡ true
 addresses_rise words entries is = grind (arith, nat_tests, is)
 
--- among entries that have one of a word, it has an index
+-- among entries that have one for a word, that one has an index
 first_or_later : (address : ℕ) (entry : Entry) (entries : List Entry) (test : Bool) → (entry.addr == address) ≡ test
     → (is_some (entry_for entries address) ≡ true → IsFrom entries 0 address) → is_some (if test then Some entry else entry_for entries address) ≡ true
     → IsFrom (entry ∷ entries) 0 address
@@ -50,7 +51,7 @@ index_of [] address found = absurd (none_there found)
 index_of (entry ∷ entries) address found = first_or_later address entry entries (entry.addr == address) refl (index_of entries address) found
 
 module _ (config : Config) (state : State) (memory : Memory config state) where
-  -- the status that stands in the slot of a live change that is known
+  -- the status in the slot of a live change that is known
   pub status_told : (tenant : ℕ) (target : Slot) → IsLive state target → IsKnown state tenant target → state.cells.statuses target.slot ≡ state.history.fate target.slot target.seq
   status_told tenant target live known =
       subst (λ (seq : ℕ). state.history.fate target.slot seq ≢ Draft → state.cells.statuses target.slot ≡ state.history.fate target.slot seq) live.seq
@@ -69,7 +70,7 @@ module _ (config : Config) (state : State) (memory : Memory config state) where
     found_at =
         entry_found (state.history.change target.slot target.seq) 0 index
         (addresses_rise (tenant_at config (state.history.tenant target.slot target.seq)).words (state.history.change target.slot target.seq)
-        (memory.claims.formed target.slot target.seq known.is_born).1) within
+        (memory.claims.formed target.slot target.seq known.is_claimed).1) within
 
     has_at : has state.history target.slot target.seq its_entry.addr ≡ true
     has_at = ap (λ (found : Option Entry). is_some found) found_at
@@ -80,8 +81,8 @@ module _ (config : Config) (state : State) (memory : Memory config state) where
     expected_at : expected state.history target.slot target.seq its_entry.addr ≡ its_entry.expected
     expected_at = ap (λ (found : Option Entry). option_map_or (λ (entry : Entry). entry.expected) found 0) found_at
 
-  -- the entry that a request has come to, of the change that it works on
-  module _ (actor : Acting) (task : Task) (entry : ℕ) (at : AtEntry state (without_point actor) task entry) where
+  -- the entry of the target to which a request has come
+  module _ (actor : ActorState) (task : Task) (entry : ℕ) (at : AtEntry state (without_point actor) task entry) where
     within_change : entry < length (state.history.change task.target.slot task.target.seq)
     within_change = subst (λ (entries : List Entry). entry < length entries) at.works.entries at.within
 
@@ -109,20 +110,20 @@ module _ (config : Config) (state : State) (memory : Memory config state) where
     pub word_here : HasWord state.history actor.tenant (entry_of actor task entry).addr task.target.slot task.target.seq
     word_here = record { ready = at.works.at_work.target.ready; same_tenant = at.works.at_work.target.same_tenant; entry = has_here }
 
--- an entry of the change that is worked on is in range
-pub entry_fits : (actor : Acting) (task : Task) (entry : ℕ) → IsInRange actor → entry < length (entries_of actor task) → IsEntryInRange (entry_of actor task entry)
+-- an entry of the target is in range
+pub entry_fits : (actor : ActorState) (task : Task) (entry : ℕ) → IsInRange actor → entry < length (entries_of actor task) → IsEntryInRange (entry_of actor task entry)
 entry_fits actor task entry fits within =
     (either_way AreEntriesInRange (is_alone task) (own_entries actor) actor.others (λ own. fits.job) (λ other. fits.others)).1 entry
     (record { addr = 0; expected = 0; new = 0 }) within
 
--- the pins that a worker's request holds are among those of the gate
-pub pinned_by : (config : Config) (state : State) (worker slot : ℕ) (actor : Acting) → CountsStand config state → (state.seats worker).actor ≡ Some actor
+-- the gate counts the pins that a worker's request holds
+pub pinned_by : (config : Config) (state : State) (worker slot : ℕ) (actor : ActorState) → CountsStand config state → (state.worker_states worker).actor ≡ Some actor
     → 1 ≤ pins_held slot actor.point → 1 ≤ (state.cells.gates slot).pins
 pinned_by config state worker slot actor stand is some =
     omega (
       arith,
       some,
       stand.counts.pins slot,
-      over_at (λ (a : Acting). pins_held slot a.point) state.seats worker config.workers (stand.seats worker actor is).there,
-      of_actor (λ (a : Acting). pins_held slot a.point) (state.seats worker) actor is,
+      over_at (λ (a : ActorState). pins_held slot a.point) state.worker_states worker config.workers (stand.worker_states worker actor is).there,
+      of_actor (λ (a : ActorState). pins_held slot a.point) (state.worker_states worker) actor is,
     )

@@ -1,4 +1,4 @@
--- What is asked for where a change is written down in its slot, where it is decided, and where a word is changed for it.
+-- The preconditions of moves that write a change into its slot, decide it, or change a word for it hold. Used by: Knowledge/Guards/UpdateGuards.
 use Rattle.std.specs.Prelude.{ℕ, ◌≡◌, ◌<◌, ◌≤◌, ◌^◌, true, List, length}
 use Rattle.std.proofs.Common.{sym, ap, subst, ◌∙◌, inl, inr, arith}
 use Rattle.mw_words.specs.declared.jobs.Entry.{Entry}
@@ -11,15 +11,15 @@ use Rattle.mw_actor.specs.declared.points.Attempt.{Attempt}
 use Rattle.mw_actor.specs.declared.points.Slot.{Slot}
 use Rattle.mw_actor.specs.declared.points.Sweep.TheVariants.{Yes as SweepYes}
 use Rattle.mw_actor.specs.declared.points.Task.{Task}
-use Rattle.mw_actor.specs.Acting.{Acting, entries_of, entry_of}
+use Rattle.mw_actor.specs.ActorState.{ActorState, entries_of, entry_of}
 use Rattle.mw_actor.specs.Asks.{row_of}
 use Rattle.mw_actor.specs.Ranges.{IsEntryInRange}
 use Rattle.mw_world.specs.declared.config.Config.{Config}
-use Rattle.mw_world.specs.declared.notes.Phase.TheVariants.{Keeping}
-use Rattle.mw_world.specs.Definition.History.{Resting, has, expected}
+use Rattle.mw_world.specs.declared.step_labels.Phase.TheVariants.{Acquired}
+use Rattle.mw_world.specs.Definition.History.{NoAttempt, has, expected}
 use Rattle.mw_world.specs.Claim.Invariant.{IsPinnedAs, IsRefused}
 use Rattle.mw_world.specs.Definition.State.{State}
-use Rattle.mw_law_moves.specs.Guards.{IsLive, IsDraftOf, MaySetRow, MaySayYes, MaySayNo, MayPlant, MayTakeBack, MayInk, MayLetGo, MayClean}
+use Rattle.mw_law_moves.specs.Guards.{IsLive, IsDraftOf, MaySetRow, MaySayYes, MaySayNo, MayPlant, MayTakeBack, MayWriteNew, MayLetGo, MayClean}
 use Rattle.mw_law_moves.specs.Memory.{Memory}
 use Rattle.mw_law_runs.specs.Knowledge.Facts.{IsDrafted, WorksOn, AtEntry, HoldsUpTo, IsDecidedAs, IsForChangeAt}
 use Rattle.mw_law_runs.specs.Knowledge.Points.{without_point}
@@ -39,14 +39,14 @@ pub at_most : (seq : ℕ) → seq < WORN_NUMBER → seq ≤ WORN_NUMBER
 at_most seq low = omega (arith, low)
 
 -- a draft is written by its own worker
-pub draft_guard : (state : State) (actor : Acting) (own : Slot) → IsLive state own → IsDrafted state (without_point actor) own → IsDraftOf state actor.worker own.slot
+pub draft_guard : (state : State) (actor : ActorState) (own : Slot) → IsLive state own → IsDrafted state (without_point actor) own → IsDraftOf state actor.worker own.slot
 draft_guard state actor own live drafted = record {
   draft = λ taken. subst (λ (seq : ℕ). state.history.fate own.slot seq ≡ Draft) (sym live.seq) drafted.draft;
   own = λ taken. subst (λ (seq : ℕ). state.history.owner own.slot seq ≡ actor.worker) (sym live.seq) drafted.own.same_worker;
 }
 
-module _ (config : Config) (state : State) (memory : Memory config state) (actor : Acting) (task : Task) where
-  -- each word of the change that is worked on is held for it
+module _ (config : Config) (state : State) (memory : Memory config state) (actor : ActorState) (task : Task) where
+  -- each word of the target is held for it
   pub yes_guard : IsLive state task.target → WorksOn state (without_point actor) task → HoldsUpTo state task.target (length (entries_of actor task))
       → state.cells.statuses task.target.slot ≡ Open → MaySayYes state task.target
   yes_guard live on holds found = record { live = live; is_open = is_open; keeps = keeps }
@@ -54,10 +54,10 @@ module _ (config : Config) (state : State) (memory : Memory config state) (actor
       is_open : state.history.fate task.target.slot task.target.seq ≡ Open
       is_open = sym (status_told config state memory actor.tenant task.target live on.at_work.target) ∙ found
 
-      keeps : (address : ℕ) → has state.history task.target.slot task.target.seq address ≡ true → state.history.phase task.target.slot task.target.seq address ≡ Keeping
+      keeps : (address : ℕ) → has state.history task.target.slot task.target.seq address ≡ true → state.history.phase task.target.slot task.target.seq address ≡ Acquired
       keeps address there =
           let at = index_of (state.history.change task.target.slot task.target.seq) address there in
-          subst (λ (word : ℕ). state.history.phase task.target.slot task.target.seq word ≡ Keeping) at.entry.same
+          subst (λ (word : ℕ). state.history.phase task.target.slot task.target.seq word ≡ Acquired) at.entry.same
           (holds is_open at.index (subst (λ (entries : List Entry). at.index < length entries) (sym on.entries) at.entry.within))
 
   pub no_guard : (entry value : ℕ) → IsLive state task.target → WorksOn state (without_point actor) task → state.cells.statuses task.target.slot ≡ Open → entry < MAX_ENTRIES
@@ -69,7 +69,7 @@ module _ (config : Config) (state : State) (memory : Memory config state) (actor
   }
 
   pub row_guard : (entry : ℕ) → IsLive state task.target → config.pool ≤ MAX_POOL → entry < MAX_ENTRIES → task.target.seq < WORN_NUMBER
-      → state.history.standing actor.worker ≡ Resting → MaySetRow config state actor.worker (row_of task.target entry)
+      → state.history.standing actor.worker ≡ NoAttempt → MaySetRow config state actor.worker (row_of task.target entry)
   row_guard entry live small few low rests = record { there = memory.claims.there task.target.slot live.taken; fits = (slot_there config state memory task.target live small, few, at_most task.target.seq low); rests = rests }
 
   -- the word of an entry
@@ -78,7 +78,7 @@ module _ (config : Config) (state : State) (memory : Memory config state) (actor
     word = (entry_of actor task entry).addr
 
     pub plant_guard : (number : ℕ) → state.cells.rows actor.worker ≡ row_of task.target entry → state.cells.words actor.tenant word ≡ Plain (entry_of actor task entry).expected
-        → IsPinnedAs task.target.seq (state.cells.gates task.target.slot) → state.history.standing actor.worker ≡ Resting → (state.seats actor.worker).attempt ≡ number
+        → IsPinnedAs task.target.seq (state.cells.gates task.target.slot) → state.history.standing actor.worker ≡ NoAttempt → (state.worker_states actor.worker).attempt ≡ number
         → actor.worker < MAX_WORKERS → number < WORN_NUMBER → MayPlant state actor.worker actor.tenant word number (state.cells.rows actor.worker)
     plant_guard number row found pinned rests next there low =
         subst (λ (one : Row). MayPlant state actor.worker actor.tenant word number one) (sym row) (record {
@@ -104,11 +104,11 @@ module _ (config : Config) (state : State) (memory : Memory config state) (actor
       fits = fits.1;
     }
 
-    -- a held word is let go: with its new value where the change is made, and else with its old one
-    pub ink_guard : IsDecidedAs (state.history.fate task.target.slot task.target.seq) SweepYes → IsLive state task.target → config.pool ≤ MAX_POOL
+    -- a held word is released: with its new value if the change is made, else with its old one
+    pub write_new_guard : IsDecidedAs (state.history.fate task.target.slot task.target.seq) SweepYes → IsLive state task.target → config.pool ≤ MAX_POOL
         → IsEntryInRange (entry_of actor task entry) → state.cells.words actor.tenant word ≡ Held task.target.slot task.target.seq
-        → MayInk state actor.tenant word task.target (entry_of actor task entry).new
-    ink_guard decided live small fits found = record {
+        → MayWriteNew state actor.tenant word task.target (entry_of actor task entry).new
+    write_new_guard decided live small fits found = record {
       word = found;
       is_made = elim decided [
         | inl is ↦ is

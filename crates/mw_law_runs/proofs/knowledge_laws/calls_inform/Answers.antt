@@ -1,5 +1,5 @@
-use Rattle.mw_law_runs.proofs.Knowledge.Calls.Calling.{calls_inform}
-use Rattle.mw_law_runs.proofs.Knowledge.Calls.Guarding.{calls_have_guards}
+use Rattle.mw_law_runs.proofs.Knowledge.Calls.AfterCalls.{calls_inform}
+use Rattle.mw_law_runs.proofs.Knowledge.Calls.CallGuards.{calls_have_guards}
 use Rattle.mw_law_runs.proofs.knowledge_laws.calls_inform.Goals as goal
 
 pub returns-clause-guards : goal.returns-clause-guards

@@ -1,4 +1,4 @@
-use Rattle.mw_law_runs.proofs.Filing.{calls_keep_sound}
+use Rattle.mw_law_runs.proofs.FileCalls.{calls_keep_sound}
 use Rattle.mw_law_runs.proofs.laws.calls_keep_sound.Goals as goal
 
 pub returns : goal.returns

@@ -1,4 +1,4 @@
-use Rattle.mw_law_runs.proofs.Beginning.{comes_keep_sound}
+use Rattle.mw_law_runs.proofs.ArrivalsAndStarts.{comes_keep_sound}
 use Rattle.mw_law_runs.proofs.laws.comes_keep_sound.Goals as goal
 
 pub returns : goal.returns

@@ -1,4 +1,4 @@
-use Rattle.mw_law_runs.proofs.Seating.{counts_have_rest}
+use Rattle.mw_law_runs.proofs.RequestsInWorlds.{counts_have_rest}
 use Rattle.mw_law_runs.proofs.laws.counts_have_rest.Goals as goal
 
 pub returns : goal.returns

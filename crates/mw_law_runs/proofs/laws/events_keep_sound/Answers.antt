@@ -1,4 +1,4 @@
-use Rattle.mw_law_runs.proofs.Running.{events_keep_sound}
+use Rattle.mw_law_runs.proofs.RunsAreSound.{events_keep_sound}
 use Rattle.mw_law_runs.proofs.laws.events_keep_sound.Goals as goal
 
 pub returns : goal.returns

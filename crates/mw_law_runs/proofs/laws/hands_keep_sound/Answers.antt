@@ -1,4 +1,4 @@
-use Rattle.mw_law_runs.proofs.Beginning.{hands_keep_sound}
+use Rattle.mw_law_runs.proofs.ArrivalsAndStarts.{hands_keep_sound}
 use Rattle.mw_law_runs.proofs.laws.hands_keep_sound.Goals as goal
 
 pub returns : goal.returns

@@ -1,4 +1,4 @@
-use Rattle.mw_law_runs.proofs.Owed.Leaving.{last_pins_are_free}
+use Rattle.mw_law_runs.proofs.Obligations.LastPins.{last_pins_are_free}
 use Rattle.mw_law_runs.proofs.laws.last_pins_are_free.Goals as goal
 
 pub returns : goal.returns

@@ -1,4 +1,4 @@
-use Rattle.mw_law_runs.proofs.Running.{room_is_left, runs_are_sound, sound_worlds_are_right}
+use Rattle.mw_law_runs.proofs.RunsAreSound.{room_is_left, runs_are_sound, sound_worlds_are_right}
 use Rattle.mw_law_runs.proofs.laws.runs_are_sound.Goals as goal
 
 pub returns-clause-runs : goal.returns-clause-runs

@@ -1,4 +1,4 @@
-use Rattle.mw_law_runs.proofs.Beginning.{restarts_keep_sound, starts_are_sound}
+use Rattle.mw_law_runs.proofs.ArrivalsAndStarts.{restarts_keep_sound, starts_are_sound}
 use Rattle.mw_law_runs.proofs.laws.starts_are_sound.Goals as goal
 
 pub returns-clause-first : goal.returns-clause-first

@@ -1,4 +1,4 @@
-use Rattle.mw_law_runs.proofs.Turning.{turns_keep_sound}
+use Rattle.mw_law_runs.proofs.StepsKeepInvariant.{turns_keep_sound}
 use Rattle.mw_law_runs.proofs.laws.turns_keep_sound.Goals as goal
 
 pub returns : goal.returns

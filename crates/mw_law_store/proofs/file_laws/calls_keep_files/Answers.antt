@@ -1,4 +1,4 @@
-use Rattle.mw_law_store.proofs.Files.Calling.{calls_keep_files}
+use Rattle.mw_law_store.proofs.Files.CallFiles.{calls_keep_files}
 use Rattle.mw_law_store.proofs.file_laws.calls_keep_files.Goals as goal
 
 pub returns : goal.returns

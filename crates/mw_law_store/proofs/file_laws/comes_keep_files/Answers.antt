@@ -1,4 +1,4 @@
-use Rattle.mw_law_store.proofs.Files.Beginning.{comes_keep_files}
+use Rattle.mw_law_store.proofs.Files.ArrivalsAndStarts.{comes_keep_files}
 use Rattle.mw_law_store.proofs.file_laws.comes_keep_files.Goals as goal
 
 pub returns : goal.returns

@@ -1,4 +1,4 @@
-use Rattle.mw_law_store.proofs.Files.Running.{events_keep_files}
+use Rattle.mw_law_store.proofs.Files.RunsKeepFiles.{events_keep_files}
 use Rattle.mw_law_store.proofs.file_laws.events_keep_files.Goals as goal
 
 pub returns : goal.returns

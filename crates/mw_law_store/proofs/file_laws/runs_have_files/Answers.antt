@@ -1,4 +1,4 @@
-use Rattle.mw_law_store.proofs.Files.Running.{runs_go_on, runs_have_files, worlds_are_right}
+use Rattle.mw_law_store.proofs.Files.RunsKeepFiles.{runs_go_on, runs_have_files, worlds_are_right}
 use Rattle.mw_law_store.proofs.file_laws.runs_have_files.Goals as goal
 
 pub returns-clause-goes_on : goal.returns-clause-goes_on

@@ -1,4 +1,4 @@
-use Rattle.mw_law_store.proofs.Files.Beginning.{first_starts_have_files, restarts_keep_files, starts_have_files}
+use Rattle.mw_law_store.proofs.Files.ArrivalsAndStarts.{first_starts_have_files, restarts_keep_files, starts_have_files}
 use Rattle.mw_law_store.proofs.file_laws.starts_have_files.Goals as goal
 
 pub returns-clause-start : goal.returns-clause-start

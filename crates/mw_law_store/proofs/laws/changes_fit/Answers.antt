@@ -1,4 +1,4 @@
-use Rattle.mw_law_store.proofs.Fitting.{decided_changes_fit}
+use Rattle.mw_law_store.proofs.DecidedChangesFit.{decided_changes_fit}
 use Rattle.mw_law_store.proofs.laws.changes_fit.Goals as goal
 
 pub returns : goal.returns

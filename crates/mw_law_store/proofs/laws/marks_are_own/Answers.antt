@@ -1,4 +1,4 @@
-use Rattle.mw_law_store.proofs.Owning as owning
+use Rattle.mw_law_store.proofs.MarksOfEvents as owning
 use Rattle.mw_law_store.proofs.laws.marks_are_own.Goals as goal
 
 pub returns-clause-own : goal.returns-clause-own

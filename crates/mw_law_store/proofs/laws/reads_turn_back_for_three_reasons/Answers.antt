@@ -1,4 +1,4 @@
-use Rattle.mw_law_store.proofs.TurningBack.{reads_find_their_way, reads_turn_back_for_three_reasons}
+use Rattle.mw_law_store.proofs.ReadRetryLaws.{reads_find_their_way, reads_turn_back_for_three_reasons}
 use Rattle.mw_law_store.proofs.laws.reads_turn_back_for_three_reasons.Goals as goal
 
 pub returns-clause-ways : goal.returns-clause-ways

@@ -1,4 +1,4 @@
-use Rattle.mw_law_store.proofs.OverCalls as calls
+use Rattle.mw_law_store.proofs.ReplyPlaceLaws as calls
 use Rattle.mw_law_store.proofs.laws.requests_have_begun.Goals as goal
 
 pub returns-clause-come : goal.returns-clause-come

@@ -1,4 +1,4 @@
-use Rattle.mw_law_store.proofs.OverCalls as calls
+use Rattle.mw_law_store.proofs.ReplyPlaceLaws as calls
 use Rattle.mw_law_store.proofs.laws.sealed_changes_go_on.Goals as goal
 
 pub returns-clause-begin : goal.returns-clause-begin

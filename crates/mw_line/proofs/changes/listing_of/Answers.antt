@@ -1,7 +1,8 @@
+-- Answers to goals of listing_of (src/changes.rt). They may change freely as long as the crate checks.
 use Rattle.std.proofs.Common.{◌≡◌, ◌<◌, ℕ, List, Bool, true, false, eqb, length, sym, ◌∙◌, arith}
 use Rattle.std.proofs.lemmas.Bool.{eqb-false, eqb-true}
-use Rattle.mw_line.specs.Reading.{narrow}
-use Rattle.mw_line.proofs.Gathering.{begins, goes_on, ends, shorter, stops_at_space, stops_at_entry}
+use Rattle.mw_line.specs.LineReader.{narrow}
+use Rattle.mw_line.proofs.ChangeReader.{begins, goes_on, ends, shorter, stops_at_space, stops_at_entry}
 use Rattle.mw_line.proofs.changes.listing_of.Goals as goal
 
 some_left : (rest : List ℕ) (b : Bool) → b ≡ false → b ≡ eqb (length rest) 0 → 0 < length rest

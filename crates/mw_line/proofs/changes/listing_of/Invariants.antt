@@ -1,5 +1,6 @@
+-- The invariants of the loops of listing_of (src/changes.rt). They may change freely as long as the crate checks.
 use Rattle.std.proofs.Common.{length}
-use Rattle.mw_line.proofs.Gathering.{GoesOn}
+use Rattle.mw_line.proofs.ChangeReader.{GoesOn}
 use Rattle.mw_line.proofs.changes.listing_of.Given as goal
 
 -- the entries so far are listed, and what is left goes on with them

@@ -1,3 +1,4 @@
+-- The proof of the law number_texts (src/laws.rt). It may change freely as long as the crate checks.
 use Rattle.mw_line.proofs.Numerals.{number_texts_are}
 use Rattle.mw_line.proofs.laws.number_texts.Goals as goal
 

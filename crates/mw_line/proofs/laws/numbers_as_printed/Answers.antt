@@ -1,3 +1,4 @@
+-- The proof of the law numbers_as_printed (src/laws.rt). It may change freely as long as the crate checks.
 use Rattle.mw_line.proofs.Numerals.{as_printed}
 use Rattle.mw_line.proofs.laws.numbers_as_printed.Goals as goal
 

@@ -1,3 +1,4 @@
+-- The proof of the law one_spelling (src/laws.rt). It may change freely as long as the crate checks.
 use Rattle.mw_line.proofs.Commands.{one_command}
 use Rattle.mw_line.proofs.laws.one_spelling.Goals as goal
 

@@ -1,3 +1,4 @@
+-- Answers to goals of address_at (src/numbers.rt). They may change freely as long as the crate checks.
 use Rattle.std.proofs.Common.{refl}
 use Rattle.mw_line.proofs.Numerals.{address_by_value, converted}
 use Rattle.mw_line.proofs.numbers.address_at.Goals as goal

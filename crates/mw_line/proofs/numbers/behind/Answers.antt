@@ -1,3 +1,4 @@
+-- Answers to goals of behind (src/numbers.rt). They may change freely as long as the crate checks.
 use Rattle.mw_line.proofs.Fronts.{gives_behind}
 use Rattle.mw_line.proofs.numbers.behind.Goals as goal
 

@@ -1,6 +1,7 @@
+-- Answers to goals of digits_at (src/numbers.rt). They may change freely as long as the crate checks.
 use Rattle.std.proofs.Common.{inl, inr, refl, sym, ◌∙◌, ◌≡◌, ◌+◌, ◌-◌, ◌*◌, get_or, arith}
 use Rattle.mw_line.proofs.Digits.{digit_in_front, capped_step, ended, no_digit_below, no_digit_above, seen_narrowly}
-use Rattle.mw_line.specs.Reading.{digits_at}
+use Rattle.mw_line.specs.LineReader.{digits_at}
 use Rattle.mw_line.proofs.numbers.digits_at.Goals as goal
 use Rattle.mw_line.proofs.numbers.digits_at.Goals.{in_default, in_default-2, in_default-3}
 

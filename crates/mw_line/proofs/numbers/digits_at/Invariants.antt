@@ -1,6 +1,7 @@
+-- The invariants of the loops of digits_at (src/numbers.rt). They may change freely as long as the crate checks.
 use Rattle.std.proofs.Common.{◌≡◌, ℕ, length}
-use Rattle.mw_line.specs.Reading as spec
-use Rattle.mw_line.specs.Reading.{narrow}
+use Rattle.mw_line.specs.LineReader as spec
+use Rattle.mw_line.specs.LineReader.{narrow}
 use Rattle.mw_line.proofs.numbers.digits_at.Given as goal
 
 -- the digits so far make a number, seen narrowly, and the digits that are left go on with it

@@ -1,3 +1,4 @@
+-- Answers to goals of field (src/numbers.rt). They may change freely as long as the crate checks.
 use Rattle.std.proofs.Common.{◌≡◌, ◌+◌, ◌-◌, ◌∙◌, ap, sym, List, ℕ, Some, length, take, drop, take_all, arith}
 use Rattle.std.proofs.lemmas.List.{length-drop}
 use Rattle.std.specs.Prelude.{option_map}

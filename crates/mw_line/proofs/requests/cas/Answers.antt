@@ -1,8 +1,9 @@
+-- Answers to goals of cas (src/requests.rt). They may change freely as long as the crate checks.
 use Rattle.std.proofs.Common.{◌≡◌, ℕ, List, Bool, false, eqb, length, ap, sym, ◌∙◌}
 use Rattle.std.proofs.lemmas.Bool.{eqb-false}
 use Rattle.std.proofs.lemmas.Result.{err_from_is_err_and}
 use Rattle.mw_line.specs.Grammar.{Cas}
-use Rattle.mw_line.proofs.Gathering.{cas_read}
+use Rattle.mw_line.proofs.ChangeReader.{cas_read}
 use Rattle.mw_line.proofs.requests.cas.Goals as goal
 
 not_empty : (text : List ℕ) (b : Bool) → b ≡ false → b ≡ eqb (length text) 0 → length text ≡ 0 → ⊥

@@ -1,7 +1,8 @@
+-- Answers to goals of one_word (src/requests.rt). They may change freely as long as the crate checks.
 use Rattle.std.proofs.Common.{◌≡◌, refl, arith}
 use Rattle.std.specs.Prelude.{codes}
 use Rattle.std.proofs.lemmas.Slice.Eq.{text_from_reads}
-use Rattle.mw_line.specs.Reading.{word_of}
+use Rattle.mw_line.specs.LineReader.{word_of}
 use Rattle.mw_line.proofs.requests.one_word.Goals as goal
 
 pub returns-in-REPORT : goal.returns-in-REPORT

@@ -1,3 +1,4 @@
+-- Answers to goals of read_line (src/requests.rt). They may change freely as long as the crate checks.
 use Rattle.mw_line.proofs.Faults.{is_answered, is_read, is_refused, job_fits}
 use Rattle.mw_line.proofs.requests.read_line.Goals as goal
 

@@ -1,3 +1,4 @@
+-- The proof of the law used_stays_within (src/laws.rt). It may change freely as long as the crate checks.
 use Rattle.mw_lone.proofs.KeptRuns.{used-stays-within}
 use Rattle.mw_lone.proofs.laws.used_stays_within.Goals as goal
 

@@ -1,3 +1,4 @@
+-- The proof of the law words_stay_words (src/laws.rt). It may change freely as long as the crate checks.
 use Rattle.mw_lone.proofs.KeptRuns.{words-stay-words}
 use Rattle.mw_lone.proofs.laws.words_stay_words.Goals as goal
 

@@ -1,9 +1,10 @@
+-- The invariants of the loops of fits (src/words.rt). They may change freely as long as the crate checks.
 use Rattle.std.proofs.Common.{◌≡◌, length, drop, IsTrue}
 use Rattle.std.specs.List.{list_all}
 use Rattle.mw_words.specs.Change.{is_in_range, fits}
 use Rattle.mw_lone.proofs.words.fits.Given as goal
 
--- what is left fits exactly where all of them do
+-- what is left fits just if all of them do
 abbrev pub invariant-loop-entry : goal.invariant-loop-entry
 invariant-loop-entry l =
     (fits l.words (drop l.entry-index l.entries) ≡ fits l.words l.entries)

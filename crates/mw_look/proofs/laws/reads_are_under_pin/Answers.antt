@@ -1,3 +1,4 @@
+-- The proof of the law reads_are_under_pin (src/laws.rt). It may change freely as long as the crate checks.
 use Rattle.mw_look.proofs.RunLaws.{reads-are-under-pin, pins-are-held-until-taken-back}
 use Rattle.mw_look.proofs.laws.reads_are_under_pin.Goals as goal
 

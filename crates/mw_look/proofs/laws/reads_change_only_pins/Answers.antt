@@ -1,3 +1,4 @@
+-- The proof of the law reads_change_only_pins (src/laws.rt). It may change freely as long as the crate checks.
 use Rattle.mw_look.proofs.RunLaws.{reads-change-only-pins}
 use Rattle.mw_look.proofs.laws.reads_change_only_pins.Goals as goal
 

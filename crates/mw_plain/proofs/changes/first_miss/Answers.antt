@@ -1,7 +1,8 @@
+-- Answers to goals of first_miss (src/changes.rt). They may change freely as long as the crate checks.
 use Rattle.std.proofs.Common.{arith}
 use Rattle.std.proofs.lemmas.Grind.{common_steps}
 use Rattle.std.proofs.lemmas.Option.{slice_get-get_or}
-use Rattle.mw_plain.proofs.Comparing.{one_more_fits}
+use Rattle.mw_plain.proofs.EntryComparison.{one_more_fits}
 use Rattle.mw_plain.proofs.changes.first_miss.Goals as goal
 
 pub returns-then-words-entry : goal.returns-then-words-entry

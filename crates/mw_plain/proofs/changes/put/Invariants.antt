@@ -1,3 +1,4 @@
+-- The invariants of the loops of put (src/changes.rt). They may change freely as long as the crate checks.
 use Rattle.std.proofs.Common.{◌≡◌, drop, length, IsTrue}
 use Rattle.std.specs.List.{list_all}
 use Rattle.mw_words.specs.Change.{is_in_range, put}

@@ -1,3 +1,4 @@
+-- The proof of the law marks_of_a_call (src/laws.rt). It may change freely as long as the crate checks.
 use Rattle.mw_plain.proofs.Joined.{runs-join, replies-join, one-more-fits}
 use Rattle.mw_plain.proofs.Runs.{started, finished, answered, all-go, may-stop}
 use Rattle.mw_plain.proofs.laws.marks_of_a_call.Goals as goal

@@ -1,6 +1,6 @@
 use Rattle.std.proofs.Common.{sym, subst, take}
 use Rattle.std.specs.Io.KnownBytes.{Appends}
-use Rattle.mw_player.proofs.Writing.{sending_starts, sending_more, write_takes}
+use Rattle.mw_player.proofs.WrittenText.{sending_starts, sending_more, write_takes}
 use Rattle.mw_player.proofs.lines.write_whole.Goals as goal
 
 pub loop-rest-init : goal.loop-rest-init

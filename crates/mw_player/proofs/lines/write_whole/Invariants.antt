@@ -1,8 +1,8 @@
 use Rattle.std.proofs.Common.{length}
-use Rattle.mw_player.proofs.Writing.{Sending}
+use Rattle.mw_player.proofs.WrittenText.{Sending}
 use Rattle.mw_player.proofs.lines.write_whole.Given as goal
 
--- what was sent of the text, and the rest
+-- the part of the text that was sent, and the rest
 abbrev pub invariant-loop-rest : goal.invariant-loop-rest
 invariant-loop-rest g l = Sending (g.W.Write.contents l.initial.out) (g.W.Write.contents l.out) l.text l.rest
 

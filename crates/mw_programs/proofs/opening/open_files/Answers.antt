@@ -1,6 +1,6 @@
 use Rattle.std.proofs.Common.{sym, arith}
 use Rattle.mw_disk.specs.Unknown.{unknown}
-use Rattle.mw_programs.proofs.Fitting.{fit_next, so_many}
+use Rattle.mw_programs.proofs.FilesFitLines.{fit_next, so_many}
 use Rattle.mw_programs.proofs.opening.open_files.Goals as goal
 
 pub of-requires : goal.of-requires

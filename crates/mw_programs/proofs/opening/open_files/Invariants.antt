@@ -1,6 +1,6 @@
 use Rattle.std.proofs.Common.{take}
 use Rattle.mw_disk.specs.Unknown.{unknown}
-use Rattle.mw_engine.specs.Opened.{FitLines}
+use Rattle.mw_engine.specs.OpenedFiles.{FitLines}
 use Rattle.mw_programs.proofs.opening.open_files.Given as goal
 
 abbrev pub invariant-loop-line : goal.invariant-loop-line

@@ -1,4 +1,4 @@
-use Rattle.mw_engine.specs.Starting.{identity_of}
+use Rattle.mw_engine.specs.Parts.{identity_of}
 use Rattle.mw_programs.proofs.serving.serve_files.Given as goal
 
 abbrev pub ghosts-serve_engine : goal.ghosts-serve_engine

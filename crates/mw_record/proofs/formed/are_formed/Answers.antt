@@ -1,6 +1,7 @@
+-- Answers to goals of are_formed (src/formed.rt). They may change freely as long as the crate checks.
 use Rattle.std.proofs.Common.{sym, ◌∙◌}
 use Rattle.mw_record.specs.Records.{record_at, is_formed}
-use Rattle.mw_record.proofs.Below.{each_fails}
+use Rattle.mw_record.proofs.TestsBelow.{each_fails}
 use Rattle.mw_record.proofs.formed.are_formed.Goals as goal
 
 pub returns-then-not-is_formed : goal.returns-then-not-is_formed

@@ -1,7 +1,8 @@
+-- Answers to goals of is_formed (src/formed.rt). They may change freely as long as the crate checks.
 use Rattle.std.proofs.Common.{◌≡◌, ◌&&◌, true, false, nat_le, length, ap, sym, ◌∙◌}
 use Rattle.mw_record.specs.Layout.{most_entries}
 use Rattle.mw_record.specs.Records.{Pairs, body_at, is_formed, rises_below}
-use Rattle.mw_record.proofs.Reading.{record_open, record_shut, length_body}
+use Rattle.mw_record.proofs.ReadBytes.{record_open, record_shut, length_body}
 use Rattle.mw_record.proofs.formed.is_formed.Goals as goal
 
 pub returns-then-bytes-at : goal.returns-then-bytes-at

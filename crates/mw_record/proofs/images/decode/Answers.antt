@@ -1,11 +1,12 @@
+-- Answers to goals of decode (src/images.rt). They may change freely as long as the crate checks.
 use Rattle.std.proofs.Common.{◌≡◌, ℕ, ◌-◌, List, None, true, length, take, drop, sym, ap, ◌∙◌, refl}
 use Rattle.std.proofs.lemmas.Bool.{le-leb, lt-leb, eq-eqb, ne_eqb}
 use Rattle.std.proofs.lemmas.List.{take_rest}
 use Rattle.mw_record.specs.declared.layout.Layout.TheVariants.{First, Second}
-use Rattle.mw_record.specs.Parts.{has_head, has_mark, words_told, places_told}
+use Rattle.mw_record.specs.LayoutBytes.{has_head, has_mark, words_told, places_told}
 use Rattle.mw_record.specs.Damages.{damage_of, second_tests, first_fault}
 use Rattle.mw_record.proofs.Faults.{part_fault, no_head, no_mark, first_damage, second_damage}
-use Rattle.mw_record.proofs.Decoding.{handed_on, switched_damage, found_first, found_second}
+use Rattle.mw_record.proofs.DecodedFiles.{handed_on, switched_damage, found_first, found_second}
 use Rattle.mw_record.proofs.images.decode.Goals as goal
 use Rattle.mw_record.proofs.images.decode.Goals.{Else-not-starts_with}
 
@@ -16,7 +17,7 @@ pub returns-then-not-starts_with : goal.returns-then-not-starts_with
 returns-then-not-starts_with c =
     no_mark c.args.bytes.now (le-leb _ _ c.if-bytes-lt-HEAD_SIZE.false) (sym c.starts_with.ensures.value ∙ c.if-not-starts_with.true)
 
--- what holds behind the magic bytes
+-- what holds of the bytes after the magic bytes
 head : (c : Else-not-starts_with) → has_head c.args.bytes.now ≡ true
 head c = le-leb _ _ c.if-bytes-lt-HEAD_SIZE.false
 

@@ -1,3 +1,4 @@
+-- The proof of the law body_is_read_again (src/laws.rt). It may change freely as long as the crate checks.
 use Rattle.mw_record.proofs.ReadAgain.{record_again}
 use Rattle.mw_record.proofs.laws.body_is_read_again.Goals as goal
 

@@ -1,3 +1,4 @@
+-- The proof of the law change_is_a_record (src/laws.rt). It may change freely as long as the crate checks.
 use Rattle.mw_record.proofs.ReadAgain.{record_of_change, values_of_change, numbers_of_change, put-put_pairs}
 use Rattle.mw_record.proofs.laws.change_is_a_record.Goals as goal
 

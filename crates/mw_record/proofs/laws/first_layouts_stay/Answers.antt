@@ -1,3 +1,4 @@
+-- The proof of the law first_layouts_stay (src/laws.rt). It may change freely as long as the crate checks.
 use Rattle.mw_record.proofs.ChangedBytes.{first_stays}
 use Rattle.mw_record.proofs.laws.first_layouts_stay.Goals as goal
 

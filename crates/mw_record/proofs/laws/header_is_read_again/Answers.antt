@@ -1,3 +1,4 @@
+-- The proof of the law header_is_read_again (src/laws.rt). It may change freely as long as the crate checks.
 use Rattle.mw_record.proofs.ReadAgain.{header_again}
 use Rattle.mw_record.proofs.laws.header_is_read_again.Goals as goal
 

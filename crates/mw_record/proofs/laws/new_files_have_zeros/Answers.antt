@@ -1,3 +1,4 @@
+-- The proof of the law new_files_have_zeros (src/laws.rt). It may change freely as long as the crate checks.
 use Rattle.mw_record.proofs.ClosedPlaces.{new_file_has, new_file_first, new_file_words}
 use Rattle.mw_record.proofs.laws.new_files_have_zeros.Goals as goal
 

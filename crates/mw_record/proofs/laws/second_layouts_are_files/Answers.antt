@@ -1,3 +1,4 @@
+-- The proof of the law second_layouts_are_files (src/laws.rt). It may change freely as long as the crate checks.
 use Rattle.mw_record.proofs.Sound.{second_file}
 use Rattle.mw_record.proofs.laws.second_layouts_are_files.Goals as goal
 

@@ -1,3 +1,4 @@
+-- The proof of the law second_layouts_have_their_words (src/laws.rt). It may change freely as long as the crate checks.
 use Rattle.mw_record.proofs.ClosedPlaces.{second_part_has, length-second_part}
 use Rattle.mw_record.proofs.laws.second_layouts_have_their_words.Goals as goal
 

@@ -1,11 +1,12 @@
+-- Answers to goals of body (src/written.rt). They may change freely as long as the crate checks.
 use Rattle.std.proofs.Common.{◌≡◌, ◌+◌, ◌*◌, ◌<◌, List, ◌∷◌, length, get_or, replicate, refl, ap, ◌∙◌, arith}
 use Rattle.mw_words.specs.declared.limits.TheConstants.{MAX_ENTRIES}
 use Rattle.mw_words.specs.declared.jobs.Entry.{Entry}
 use Rattle.mw_record.specs.Layout.{number_bytes, patched}
-use Rattle.mw_record.proofs.Writing.{written_more}
+use Rattle.mw_record.proofs.WrittenBytes.{written_more}
 use Rattle.mw_record.proofs.written.body.Goals as goal
 
--- the entry of this turn goes behind those that were written
+-- the entry of this turn goes after those that were written
 pub loop-i-preserved : goal.loop-i-preserved
 loop-i-preserved c =
     let es : List Entry = c.args.entries.now.items in

@@ -1,3 +1,4 @@
+-- The invariants of the loops of body (src/written.rt). They may change freely as long as the crate checks.
 use Rattle.std.proofs.Common.{◌≡◌, ◌-◌, ◌*◌, ◌∷◌, ◌++◌, length, take, replicate}
 use Rattle.std.specs.List.{flat_map}
 use Rattle.mw_words.specs.declared.limits.TheConstants.{MAX_ENTRIES}
@@ -5,7 +6,7 @@ use Rattle.mw_record.specs.declared.layout.TheConstants.{ENTRY_SIZE}
 use Rattle.mw_record.specs.Layout.{entry_bytes}
 use Rattle.mw_record.proofs.written.body.Given as goal
 
--- the entries so far stand behind their number and the zeros, and zeros stand behind them
+-- the entries so far are after their number and the six zeros, and zeros follow them
 abbrev pub invariant-loop-i : goal.invariant-loop-i
 invariant-loop-i l =
     l.body ≡ (length l.entries.items ∷ (replicate 6 0 ++ flat_map entry_bytes (take l.i l.entries.items))) ++ replicate (ENTRY_SIZE * (MAX_ENTRIES - l.i)) 0

@@ -1,3 +1,4 @@
+-- Answers to goals of write_head (src/written.rt). They may change freely as long as the crate checks.
 use Rattle.std.proofs.Common.{ap, sym, ◌∙◌, length}
 use Rattle.std.proofs.lemmas.List.{length-take-le}
 use Rattle.mw_record.specs.declared.layout.Layout.TheVariants.{Second}

@@ -1,8 +1,9 @@
+-- Answers to goals of write_second (src/written.rt). They may change freely as long as the crate checks.
 use Rattle.std.proofs.Common.{ℕ, ◌+◌, ◌-◌, ◌*◌, List, length, refl, ◌∙◌, arith}
 use Rattle.mw_record.specs.declared.layout.Layout.TheVariants.{Second}
 use Rattle.mw_record.specs.Layout.{header}
 use Rattle.mw_record.proofs.ReadAgain.{length-header}
-use Rattle.mw_record.proofs.Writing.{head_over_zeros, word_more, all_words}
+use Rattle.mw_record.proofs.WrittenBytes.{head_over_zeros, word_more, all_words}
 use Rattle.mw_record.proofs.written.write_second.Goals as goal
 
 -- the head goes over zeros
@@ -13,7 +14,7 @@ loop-addr-init c =
     c.write_head.ensures
     ∙ head_over_zeros c.clear.new.out (header Second n places) (8 * (n - 0) + 264 * places) (length c.args.out.now) c.clear.ensures (length-header Second n places) (omega (arith, c.requires.whole))
 
--- the word of this turn goes behind those that were written
+-- the word of this turn goes after those that were written
 pub loop-addr-preserved : goal.loop-addr-preserved
 loop-addr-preserved c =
     let ws : List ℕ = c.args.words.now in

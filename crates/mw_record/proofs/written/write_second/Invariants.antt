@@ -1,3 +1,4 @@
+-- The invariants of the loops of write_second (src/written.rt). They may change freely as long as the crate checks.
 use Rattle.std.proofs.Common.{◌≡◌, ◌+◌, ◌-◌, ◌*◌, ◌++◌, length, take, replicate}
 use Rattle.std.specs.List.{flat_map}
 use Rattle.mw_record.specs.declared.layout.Layout.TheVariants.{Second}
@@ -5,7 +6,7 @@ use Rattle.mw_record.specs.declared.layout.TheConstants.{WORD_SIZE}
 use Rattle.mw_record.specs.Layout.{header, number_bytes, place_size}
 use Rattle.mw_record.proofs.written.write_second.Given as goal
 
--- the words so far stand behind the head, and zeros stand behind them
+-- the words so far are after the head, and zeros follow them
 abbrev pub invariant-loop-addr : goal.invariant-loop-addr
 invariant-loop-addr l =
     l.out

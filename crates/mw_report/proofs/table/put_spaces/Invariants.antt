@@ -1,8 +1,9 @@
+-- The invariants of the loops of put_spaces (src/table.rt). They may change freely as long as the crate checks.
 use Rattle.std.proofs.Common.{◌≡◌, ◌+◌, ◌++◌, length}
 use Rattle.mw_report.specs.Table.{spaces}
 use Rattle.mw_report.proofs.table.put_spaces.Given as goal
 
--- so many spaces stand behind what was there
+-- so many spaces come after what was there
 abbrev pub invariant-loop : goal.invariant-loop
 invariant-loop l = record {
   put : l.text.items ≡ l.initial.text.items ++ spaces l.counter;

@@ -1,3 +1,4 @@
+-- The invariants of the loops of report_text (src/table.rt). They may change freely as long as the crate checks.
 use Rattle.std.proofs.Common.{◌≡◌, ◌≤◌, ◌*◌, ◌++◌, length, drop, flat_map}
 use Rattle.mw_report.specs.Table.{tenant_line}
 use Rattle.mw_report.proofs.table.report_text.Given as goal

@@ -1,4 +1,4 @@
-use Rattle.mw_rule.proofs.Calling.{calls_begin, calls_borrow, calls_dealt, calls_end, calls_file, calls_give_back, calls_go_on, calls_meet, calls_stand, calls_start}
+use Rattle.mw_rule.proofs.WholeCallLaws.{calls_begin, calls_take_files, calls_dealt, calls_end, calls_file, calls_give_back, calls_go_on, calls_meet, calls_stand, calls_start}
 use Rattle.mw_rule.proofs.laws.calls_are_noted.Goals as goal
 
 pub returns-clause-begin : goal.returns-clause-begin
@@ -7,8 +7,8 @@ returns-clause-begin c = calls_begin
 pub returns-clause-go_on : goal.returns-clause-go_on
 returns-clause-go_on c = calls_go_on
 
-pub returns-clause-borrow : goal.returns-clause-borrow
-returns-clause-borrow c = calls_borrow
+pub returns-clause-take_files : goal.returns-clause-take_files
+returns-clause-take_files c = calls_take_files
 
 pub returns-clause-start : goal.returns-clause-start
 returns-clause-start c = calls_start

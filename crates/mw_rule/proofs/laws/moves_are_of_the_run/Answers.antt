@@ -1,6 +1,6 @@
 use Rattle.mw_rule.proofs.AnyNumber.{any_number}
 use Rattle.mw_rule.proofs.Events.{first_steps_are_events, looks_are_no_events, steps_are_events}
-use Rattle.mw_rule.proofs.Moves.{moves_are_allowed, moves_change_words, moves_go_on}
+use Rattle.mw_rule.proofs.WordActionLaws.{moves_are_allowed, moves_change_words, moves_go_on}
 use Rattle.mw_rule.proofs.laws.moves_are_of_the_run.Goals as goal
 
 pub returns-clause-go_on : goal.returns-clause-go_on

@@ -1,5 +1,5 @@
-use Rattle.mw_rule.proofs.Moving.{first_steps_keep, steps_keep}
-use Rattle.mw_rule.proofs.Parting.{looks_keep}
+use Rattle.mw_rule.proofs.StepRule.{first_steps_keep, steps_keep}
+use Rattle.mw_rule.proofs.SplitLaws.{looks_keep}
 use Rattle.mw_rule.proofs.laws.steps_keep_the_rule.Goals as goal
 
 pub returns-clause-steps : goal.returns-clause-steps

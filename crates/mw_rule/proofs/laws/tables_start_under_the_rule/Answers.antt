@@ -1,4 +1,4 @@
-use Rattle.mw_rule.proofs.Parting.{starts}
+use Rattle.mw_rule.proofs.SplitLaws.{starts}
 use Rattle.mw_rule.proofs.laws.tables_start_under_the_rule.Goals as goal
 
 pub returns : goal.returns

@@ -1,5 +1,5 @@
 use Rattle.std.proofs.Common.{List, ℕ, refl, sym, subst, arith}
-use Rattle.mw_schedule.specs.Playing.{IsFree}
+use Rattle.mw_schedule.specs.Playable.{IsFree}
 use Rattle.mw_schedule.proofs.Tenants.{none_named}
 use Rattle.mw_schedule.proofs.config.read_tenant.Goals as goal
 

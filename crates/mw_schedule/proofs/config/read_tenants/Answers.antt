@@ -2,7 +2,7 @@ use Rattle.std.proofs.Common.{◌≡◌, List, [], ◌∷◌, length, ap, sym, s
 use Rattle.std.specs.Prelude.{sum_by}
 use Rattle.std.proofs.lemmas.List.{length-append}
 use Rattle.mw_world.specs.declared.config.Tenant.{Tenant}
-use Rattle.mw_schedule.specs.Playing.{AreTenants, IsNext}
+use Rattle.mw_schedule.specs.Playable.{AreTenants, IsNext}
 use Rattle.mw_schedule.proofs.Tenants.{sum_more, tenants_more}
 use Rattle.mw_schedule.proofs.config.read_tenants.Goals as goal
 

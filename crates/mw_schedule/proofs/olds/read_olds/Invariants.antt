@@ -1,5 +1,5 @@
 use Rattle.std.proofs.Common.{◌≡◌, length}
-use Rattle.mw_schedule.specs.Playing.{AreTenants}
+use Rattle.mw_schedule.specs.Playable.{AreTenants}
 use Rattle.mw_schedule.proofs.olds.read_olds.Given as goal
 
 -- the tenants are within their limits, and as many as there were

@@ -2,7 +2,7 @@ use Rattle.std.proofs.Common.{◌≡◌, ◌<◌, ◌==◌, ◌∙◌, ◌++◌,
 use Rattle.std.specs.List.{list_any}
 use Rattle.mw_world.specs.declared.events.Stop.{Stop}
 use Rattle.mw_world.specs.Definition.State.{tenants_of}
-use Rattle.mw_schedule.specs.Playing.{AreStops, IsOfWorker}
+use Rattle.mw_schedule.specs.Playable.{AreStops, IsOfWorker}
 use Rattle.mw_schedule.proofs.Stops.{stops_more}
 use Rattle.mw_schedule.proofs.restarts.read_stops.Goals as goal
 

@@ -1,10 +1,11 @@
+-- Answers to goals of perform (src/replies.rt). They may change freely as long as the crate checks.
 use Rattle.std.proofs.Common.{refl, sym, subst, ap, ◌∙◌}
 use Rattle.mw_report.specs.Table.{report}
 use Rattle.mw_session.specs.declared.steps.Bound.TheVariants.{Tenant, Admin}
 use Rattle.mw_session.specs.Talk.{Finds}
-use Rattle.mw_session.specs.Parts.{Performs, bytes_of}
-use Rattle.mw_session.specs.Serving.{AreAnswered}
-use Rattle.mw_session.proofs.Performing as done
+use Rattle.mw_session.specs.SessionParts.{Performs, bytes_of}
+use Rattle.mw_session.specs.ServiceCalls.{AreAnswered}
+use Rattle.mw_session.proofs.StepOutputs as done
 use Rattle.mw_session.proofs.replies.perform.Goals as goal
 
 pub returns-in-Refuse-clause-performs : goal.returns-in-Refuse-clause-performs

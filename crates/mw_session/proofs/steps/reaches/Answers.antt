@@ -1,3 +1,4 @@
+-- Answers to goals of reaches (src/steps.rt). They may change freely as long as the crate checks.
 use Rattle.std.proofs.Common.{◌≡◌, ◌-◌, length, Some, slice_get, subst}
 use Rattle.mw_session.proofs.Jobs.{last_tells}
 use Rattle.mw_session.proofs.steps.reaches.Goals as goal

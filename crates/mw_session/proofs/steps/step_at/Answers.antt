@@ -1,8 +1,9 @@
+-- Answers to goals of step_at (src/steps.rt). They may change freely as long as the crate checks.
 use Rattle.std.proofs.Common.{sym, ap, ◌∙◌}
 use Rattle.mw_session.specs.declared.steps.Step.TheVariants.{Refuse}
 use Rattle.mw_session.specs.Talk.{Said, step_at}
 use Rattle.mw_session.specs.Lines.{Says}
-use Rattle.mw_session.proofs.Judging.{judged}
+use Rattle.mw_session.proofs.LineJudgments.{judged}
 use Rattle.mw_session.proofs.steps.step_at.Goals as goal
 
 pub returns-in-Ok-clause-judges : goal.returns-in-Ok-clause-judges

@@ -5,7 +5,7 @@ use Rattle.mw_show.specs.Text.{layout_line, sizes_text, records_text, words_text
 use Rattle.mw_show.proofs.Written.{last_piece}
 use Rattle.mw_show.proofs.lines.show_image.Goals as goal
 
--- the four pieces stand one behind the other
+-- the four pieces follow each other
 pub returns : goal.returns
 returns g c =
     let W = g.O.Write.contents in

@@ -1,5 +1,5 @@
-use Rattle.mw_table.specs.Fresh.{world_given}
-use Rattle.mw_table.proofs.Placing.{bits_are}
+use Rattle.mw_table.specs.TableAtStart.{world_given}
+use Rattle.mw_table.proofs.PlacesAtIndexes.{bits_are}
 use Rattle.mw_table.proofs.at_start.bits_at.Goals as goal
 
 pub returns-then-has_place : goal.returns-then-has_place

@@ -4,8 +4,8 @@ use Rattle.mw_words.specs.declared.places.At.{At}
 use Rattle.mw_words.specs.Patterns.{packed_door}
 use Rattle.mw_look.specs.Places.{pack}
 use Rattle.mw_world.specs.Definition.Cells.{read}
-use Rattle.mw_table.specs.Fresh.{world_given}
-use Rattle.mw_table.proofs.Fresh.{opened_so, value_so}
+use Rattle.mw_table.specs.TableAtStart.{world_given}
+use Rattle.mw_table.proofs.TableAtStartLaws.{opened_so, value_so}
 use Rattle.mw_table.proofs.at_start.bits_of.Goals as goal
 
 pub returns-in-Door : goal.returns-in-Door

@@ -1,6 +1,6 @@
 use Rattle.std.proofs.Common.{arith}
-use Rattle.mw_table.specs.Fresh.{world_given}
-use Rattle.mw_table.proofs.Placing.{ties_so}
+use Rattle.mw_table.specs.TableAtStart.{world_given}
+use Rattle.mw_table.proofs.PlacesAtIndexes.{ties_so}
 use Rattle.mw_table.proofs.at_start.words_at_start.Goals as goal
 
 pub returns-clause-ties : goal.returns-clause-ties

@@ -1,5 +1,5 @@
 use Rattle.std.proofs.Common.{◌≡◌, ◌<◌, ℕ, length, slice_index}
-use Rattle.mw_table.specs.Fresh.{world_given}
+use Rattle.mw_table.specs.TableAtStart.{world_given}
 use Rattle.mw_table.specs.Places.{IsAt}
 use Rattle.mw_table.proofs.at_start.words_at_start.Given as goal
 

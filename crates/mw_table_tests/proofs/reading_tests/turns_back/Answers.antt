@@ -1,4 +1,4 @@
-use Rattle.mw_table_tests.proofs.Reading.{reads_on}
+use Rattle.mw_table_tests.proofs.ReadsStayReads.{reads_on}
 use Rattle.mw_table_tests.proofs.reading_tests.turns_back.Goals as goal
 
 pub is_at_first-requires : goal.is_at_first-requires

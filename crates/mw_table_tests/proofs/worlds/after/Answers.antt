@@ -1,4 +1,4 @@
-use Rattle.mw_table_tests.proofs.Dealing.{reached_on}
+use Rattle.mw_table_tests.proofs.NewPassesOfWorlds.{reached_on}
 use Rattle.mw_table_tests.proofs.worlds.after.Goals as goal
 
 pub returns-in-Ok-clause-reached : goal.returns-in-Ok-clause-reached

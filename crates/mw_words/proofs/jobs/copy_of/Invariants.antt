@@ -1,3 +1,4 @@
+-- The invariants of the loops of copy_of (src/jobs.rt). They may change freely as long as the crate checks.
 use Rattle.std.proofs.Common.{◌≡◌, take}
 use Rattle.mw_words.proofs.jobs.copy_of.Given as goal
 

@@ -1,3 +1,4 @@
+-- The invariants of the loops of rises (src/jobs.rt). They may change freely as long as the crate checks.
 use Rattle.std.proofs.Common.{◌≡◌, drop}
 use Rattle.mw_words.specs.Change.{rises, rises_from}
 use Rattle.mw_words.proofs.jobs.rises.Given as goal

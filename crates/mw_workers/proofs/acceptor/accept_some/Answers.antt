@@ -1,4 +1,5 @@
-use Rattle.mw_workers.proofs.Asking.{put_more}
+-- Answers to goals of accept_some (src/acceptor.rt). They may change freely as long as the crate checks.
+use Rattle.mw_workers.proofs.ListenerCallLaws.{put_more}
 use Rattle.mw_workers.proofs.acceptor.accept_some.Goals as goal
 
 pub loop-preserved : goal.loop-preserved

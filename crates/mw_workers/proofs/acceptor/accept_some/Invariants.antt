@@ -1,4 +1,5 @@
-use Rattle.mw_workers.specs.Asked.{ArePut}
+-- The invariants of the loops of accept_some (src/acceptor.rt). They may change freely as long as the crate checks.
+use Rattle.mw_workers.specs.ListenerCalls.{ArePut}
 use Rattle.mw_workers.proofs.acceptor.accept_some.Given as goal
 
 -- one answer a round

@@ -1,5 +1,6 @@
+-- Answers to goals of accept_while (src/desk.rt). They may change freely as long as the crate checks.
 use Rattle.std.proofs.Common.{◌+◌}
-use Rattle.mw_workers.proofs.Asking.{put_more}
+use Rattle.mw_workers.proofs.ListenerCallLaws.{put_more}
 use Rattle.mw_workers.proofs.desk.accept_while.Goals as goal
 
 pub loop-preserved : goal.loop-preserved

@@ -1,5 +1,6 @@
+-- The invariants of the loops of accept_while (src/desk.rt). They may change freely as long as the crate checks.
 use Rattle.std.proofs.Common.{ℕ}
-use Rattle.mw_workers.specs.Asked.{ArePut}
+use Rattle.mw_workers.specs.ListenerCalls.{ArePut}
 use Rattle.mw_workers.proofs.desk.accept_while.Given as goal
 
 -- so many answers so far

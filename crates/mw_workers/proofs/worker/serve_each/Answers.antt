@@ -1,5 +1,6 @@
-use Rattle.mw_session.specs.Serving.{AreAnswered}
-use Rattle.mw_session.proofs.Through.{goes_further}
+-- Answers to goals of serve_each (src/worker.rt). They may change freely as long as the crate checks.
+use Rattle.mw_session.specs.ServiceCalls.{AreAnswered}
+use Rattle.mw_session.proofs.TransitionLaws.{goes_further}
 use Rattle.mw_workers.specs.Sessions.{IsServed}
 use Rattle.mw_workers.proofs.worker.serve_each.Goals as goal
 

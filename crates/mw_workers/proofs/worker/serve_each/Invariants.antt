@@ -1,4 +1,5 @@
-use Rattle.mw_session.specs.Serving.{AreAnswered}
+-- The invariants of the loops of serve_each (src/worker.rt). They may change freely as long as the crate checks.
+use Rattle.mw_session.specs.ServiceCalls.{AreAnswered}
 use Rattle.mw_workers.specs.Sessions.{AreServed}
 use Rattle.mw_workers.proofs.worker.serve_each.Given as goal
 

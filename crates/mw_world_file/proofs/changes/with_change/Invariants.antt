@@ -2,6 +2,6 @@ use Rattle.std.proofs.Common.{◌≡◌, drop}
 use Rattle.mw_words.specs.Change.{put}
 use Rattle.mw_world_file.proofs.changes.with_change.Given as goal
 
--- what is left is to be put over what is there
+-- the words so far with the remaining entries put over them are the words to return
 abbrev pub invariant-loop-entry : goal.invariant-loop-entry
 invariant-loop-entry l = put l.changed.items (drop l.entry-index l.entries) ≡ put l.words l.entries

@@ -2,7 +2,7 @@ use Rattle.std.proofs.Common.{◌∙◌, ◌≤◌, ◌∷◌, ◌++◌, [], len
 use Rattle.std.proofs.lemmas.List.{take_all}
 use Rattle.std.proofs.lemmas.List.FromFn.{length-map-range_with_len}
 use Rattle.mw_record.specs.Damages.{words_in, words_of, layout_of, part_of}
-use Rattle.mw_record.specs.Parts.{told_at}
+use Rattle.mw_record.specs.LayoutBytes.{told_at}
 use Rattle.mw_world_file.proofs.OpenedFiles.{take_next}
 use Rattle.mw_world_file.proofs.opening.words_of.Goals as goal
 

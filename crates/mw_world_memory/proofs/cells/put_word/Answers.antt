@@ -1,5 +1,5 @@
 use Rattle.std.proofs.Common.{arith}
-use Rattle.mw_world_memory.proofs.Tying.{puts_word}
+use Rattle.mw_world_memory.proofs.BitsMatchLaws.{puts_word}
 use Rattle.mw_world_memory.proofs.cells.put_word.Goals as goal
 
 pub returns-then-tenant-len-clause-put : goal.returns-then-tenant-len-clause-put

@@ -3,5 +3,5 @@ use Rattle.mw_table.specs.Runs.{last_start}
 use Rattle.mw_world_table.specs.Worlds.{last_start_of}
 use Rattle.mw_world_table.proofs.copies.tenants_of.Given as goal
 
-abbrev pub invariant-loop-account : goal.invariant-loop-account
-invariant-loop-account l = map last_start l.tenants.items ≡ map last_start_of (take l.account-index l.accounts)
+abbrev pub invariant-loop-tenant_state : goal.invariant-loop-tenant_state
+invariant-loop-tenant_state l = map last_start l.tenants.items ≡ map last_start_of (take l.tenant_state-index l.tenant_states)

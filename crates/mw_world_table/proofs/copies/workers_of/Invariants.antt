@@ -1,7 +1,7 @@
 use Rattle.std.proofs.Common.{◌≡◌, map, take}
-use Rattle.mw_simulator.specs.FromMemory.{seat_of}
-use Rattle.mw_table.specs.Runs.{seat_so_far}
+use Rattle.mw_simulator.specs.FromMemory.{worker_state_of}
+use Rattle.mw_table.specs.Runs.{worker_state_so_far}
 use Rattle.mw_world_table.proofs.copies.workers_of.Given as goal
 
-abbrev pub invariant-loop-seat : goal.invariant-loop-seat
-invariant-loop-seat l = map seat_so_far l.workers.items ≡ map seat_of (take l.seat-index l.seats)
+abbrev pub invariant-loop-worker_state : goal.invariant-loop-worker_state
+invariant-loop-worker_state l = map worker_state_so_far l.workers.items ≡ map worker_state_of (take l.worker_state-index l.worker_states)

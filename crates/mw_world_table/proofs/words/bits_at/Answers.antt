@@ -2,7 +2,7 @@ use Rattle.std.proofs.Common.{ap, sym, ◌∙◌}
 use Rattle.mw_world.specs.declared.config.Config.{Config}
 use Rattle.mw_world.specs.Definition.Extent.{has_place}
 use Rattle.mw_table.specs.Places.{place_at}
-use Rattle.mw_table.proofs.Placing.{bits_are, none_is}
+use Rattle.mw_table.proofs.PlacesAtIndexes.{bits_are, none_is}
 use Rattle.mw_world_table.proofs.words.bits_at.Goals as goal
 
 pub returns-then-has_place : goal.returns-then-has_place

@@ -4,7 +4,7 @@ use Rattle.mw_world.specs.declared.config.Config.{Config}
 use Rattle.mw_world.specs.Definition.State.{IsConfig}
 use Rattle.mw_rule.specs.Rule.{Ties}
 use Rattle.mw_table.specs.Places.{IsAt}
-use Rattle.mw_table.proofs.Placing.{ties_so}
+use Rattle.mw_table.proofs.PlacesAtIndexes.{ties_so}
 use Rattle.mw_world_table.proofs.words.words_of.Goals as goal
 
 pub returns-clause-ties : goal.returns-clause-ties

@@ -1,11 +1,11 @@
 use Rattle.std.proofs.Common.{◌≡◌, ◌<◌, ℕ, length, slice_index}
 use Rattle.mw_world.specs.Definition.State.{State}
-use Rattle.mw_simulator.specs.Shows.{Shows}
+use Rattle.mw_simulator.specs.Representation.{Represents}
 use Rattle.mw_table.specs.Places.{IsAt}
 use Rattle.mw_world_table.proofs.words.words_of.Given as goal
 
 abbrev pub invariant-loop-index : goal.invariant-loop-index
 invariant-loop-index l = record {
   long : length l.words.items ≡ l.index;
-  placed : (state : State) → Shows l.world state → (k : ℕ) → k < l.index → IsAt l.world.config state.cells k (slice_index l.words.items k);
+  placed : (state : State) → Represents l.world state → (k : ℕ) → k < l.index → IsAt l.world.config state.cells k (slice_index l.words.items k);
 }

@@ -1,16 +1,20 @@
-//! What is to hold of requests, and of changes and their slots.
+//! What must hold at every moment of requests, and of changes and their slots.
+//!
+//! Called by `clauses.rt`, for its groups Requests, Claims and Slots. Tests of larger worlds ask after each event
+//! whether these hold; nothing is proved of them. They may be changed freely if they stay true of every run, and
+//! still refuse the planted faults of their groups (`planted_faults.rt`).
 
 use crate::larger::past::Change;
 use crate::larger::seen::Seen;
 use mw_actor::{Actor, Point, Slot};
 use mw_words::{Entry, Gate, Status};
 
-/// Each request is its worker's, of one of the tenants, and well formed; the change of a call on a file is
-/// one of its tenant, whose slot is taken and pinned.
+/// Each request is its worker's, is of one of the tenants, and is well formed. The change of a call on a
+/// file is one of its tenant, and its slot is taken and pinned.
 pub(super) fn requests(seen: &Seen) -> bool {
     let mut worker: u8 = 0;
-    for seat in &seen.seats {
-        if let Some(actor) = &seat.actor {
+    for worker_state in &seen.worker_states {
+        if let Some(actor) = &worker_state.actor {
             if actor.worker() != worker || !is_request(seen, actor) {
                 return false;
             }
@@ -56,8 +60,8 @@ fn is_of(seen: &Seen, change: Slot, tenant: u8) -> bool {
     }
 }
 
-/// A slot is taken for a change that claimed it, and earlier ones have lower numbers; no row names a slot
-/// that isn't there.
+/// A slot is taken for a change that claimed it, and earlier changes have lower numbers. No row names a
+/// slot that isn't there.
 pub(super) fn claims(seen: &Seen) -> bool {
     !seen.past.is_stray && are_claimed(seen) && are_latest(seen) && are_rows(seen)
 }
@@ -105,15 +109,15 @@ fn is_filled(seen: &Seen, change: &Change) -> bool {
 }
 
 fn are_rows(seen: &Seen) -> bool {
-    for seat in &seen.seats {
-        if usize::from(seat.row.slot) >= seen.slots.len() {
+    for worker_state in &seen.worker_states {
+        if usize::from(worker_state.row.slot) >= seen.slots.len() {
             return false;
         }
     }
     true
 }
 
-/// While a slot is taken and its change is no draft, it has the change's status and entries.
+/// While a slot is taken and its change is no draft, the slot has the change's status and entries.
 pub(super) fn slots(seen: &Seen) -> bool {
     for change in &seen.past.changes {
         if !is_told(seen, change) {

@@ -1,4 +1,4 @@
-//! What is to hold of pins, doors and quotas.
+//! What must hold of pins, doors and quotas.
 
 use crate::larger::past::Change;
 use crate::larger::pins::{frees, pins_held, waits};
@@ -7,15 +7,15 @@ use crate::shares::can_be;
 use mw_actor::Slot;
 use mw_words::{Gate, MAX_POOL};
 
-/// A gate counts the pins that are held or were left behind, and a slot that is taken and has no pin is to be
-/// freed by one request; a door counts the slots that are taken for its tenant and the requests that wait, no
-/// more than the quota.
+/// A gate counts the pins that are held or were left behind. If a slot is taken and has no pin, one request
+/// will free it. A door counts the slots that are taken for its tenant and the requests that wait, no more
+/// than the quota.
 pub(super) fn counts(seen: &Seen) -> bool {
     are_gates(seen) && are_doors(seen) && are_left(seen)
 }
 
-/// The quotas fit: each is within its limits and at most the places of its tenant's file, and together they
-/// are at most the pool.
+/// The quotas fit. Each is within its limits and at most the number of places of its tenant's file, and
+/// together they are at most the pool.
 pub(super) fn limits(seen: &Seen) -> bool {
     let slots = seen.slots.len();
     if slots > usize::from(MAX_POOL) {
@@ -55,8 +55,8 @@ fn stays(seen: &Seen, change: Slot) -> bool {
 
 fn all_pins(seen: &Seen, slot: u8) -> u16 {
     let mut pins: u16 = 0;
-    for seat in &seen.seats {
-        if let Some(actor) = &seat.actor {
+    for worker_state in &seen.worker_states {
+        if let Some(actor) = &worker_state.actor {
             pins = pins.saturating_add(pins_held(slot, &actor.point()));
         }
     }
@@ -65,8 +65,8 @@ fn all_pins(seen: &Seen, slot: u8) -> u16 {
 
 fn all_freeing(seen: &Seen, slot: u8) -> u16 {
     let mut freeing: u16 = 0;
-    for seat in &seen.seats {
-        if let Some(actor) = &seat.actor {
+    for worker_state in &seen.worker_states {
+        if let Some(actor) = &worker_state.actor {
             if frees(slot, &actor.point()) {
                 freeing = freeing.saturating_add(1);
             }
@@ -103,7 +103,7 @@ fn is_door(seen: &Seen, tenant: u8, quota: u8) -> bool {
     door.used == used && used <= u16::from(quota)
 }
 
-/// How many slots are taken for a tenant.
+/// Gives how many slots are taken for a tenant.
 fn taken(seen: &Seen, tenant: u8) -> u16 {
     let mut taken: u16 = 0;
     for change in &seen.past.changes {
@@ -114,11 +114,11 @@ fn taken(seen: &Seen, tenant: u8) -> u16 {
     taken
 }
 
-/// How many requests of a tenant wait, or are to lower its door.
+/// Gives how many requests of a tenant wait, or will lower its door.
 fn waiting(seen: &Seen, tenant: u8) -> u16 {
     let mut waiting: u16 = 0;
-    for seat in &seen.seats {
-        if let Some(actor) = &seat.actor {
+    for worker_state in &seen.worker_states {
+        if let Some(actor) = &worker_state.actor {
             if actor.tenant() == tenant && waits(&actor.point()) {
                 waiting = waiting.saturating_add(1);
             }

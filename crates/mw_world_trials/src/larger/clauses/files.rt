@@ -1,11 +1,11 @@
-//! What is to hold of the tenants' files.
+//! What must hold of the tenants' files.
 
 use crate::larger::past::Change;
 use crate::larger::seen::{Datum, Seen, Written};
 use mw_words::{Row, Status, Word};
 
-/// The values of the words are those of the file, where it opened; and no two sealed changes of a tenant
-/// write to one word.
+/// The values of the words are those of the file, if it opened. No two sealed changes of a tenant write to
+/// the same word.
 pub(super) fn files(seen: &Seen) -> bool {
     are_in_files(seen) && are_apart(seen)
 }
@@ -35,7 +35,7 @@ fn is_in_file(seen: &Seen, datum: &Datum) -> bool {
     }
 }
 
-/// The value that a word stands for.
+/// Gives the value that a word represents.
 fn value_of(seen: &Seen, datum: &Datum) -> Option<u64> {
     match datum.word {
         Word::Plain(value) | Word::Dirty { value, .. } => Some(value),
@@ -63,7 +63,7 @@ fn held_value(written: &Written, address: u16) -> Option<u64> {
     None
 }
 
-/// Whether no other sealed change of the tenant writes to a word of a sealed change.
+/// Tells whether no other sealed change of the tenant writes to a word of a sealed change.
 fn is_apart(seen: &Seen, change: &Change) -> bool {
     for other in &seen.past.changes {
         let are_two = other.slot != change.slot && other.tenant == change.tenant;
@@ -95,7 +95,7 @@ pub(super) fn places(seen: &Seen) -> bool {
     true
 }
 
-/// How many of a tenant's changes are in its file.
+/// Gives how many of a tenant's changes are in its file.
 fn placed(seen: &Seen, tenant: u8) -> u64 {
     let mut placed: u64 = 0;
     for change in &seen.past.changes {

@@ -1,12 +1,12 @@
-//! What is to hold of the references in words, and of the attempts that stand there.
+//! What must hold of the references in words, and of the attempts in words.
 
 use crate::larger::past::{Change, Held};
-use crate::larger::seen::{Datum, Seat, Seen};
+use crate::larger::seen::{Datum, Seen, WorkerState};
 use mw_actor::{Point, Slot};
 use mw_words::{Status, Word};
 use mw_world::Phase;
 
-/// Each reference in a word, and the row of each attempt that stands, names a slot that is taken and pinned,
+/// Each reference in a word, and the row of each attempt in a word, names a slot that is taken and pinned,
 /// and a change of this word that has left it so.
 pub(super) fn references(seen: &Seen) -> bool {
     for datum in &seen.data {
@@ -26,7 +26,7 @@ fn is_reference(seen: &Seen, datum: &Datum) -> bool {
     }
 }
 
-/// A change of this word that is no draft, and its entry of it.
+/// Gives a change of this word that is no draft, with its entry of the word.
 pub(super) fn change_of<'a>(
     seen: &'a Seen,
     datum: &Datum,
@@ -46,7 +46,7 @@ fn is_held(seen: &Seen, datum: &Datum, slot: Slot) -> bool {
     match change_of(seen, datum, slot) {
         Some((change, held)) => {
             seen.is_pinned(slot)
-                && matches!(held.phase, Phase::Keeping)
+                && matches!(held.phase, Phase::Acquired)
                 && change.fate != Status::DoneYes
         }
         None => false,
@@ -61,7 +61,7 @@ fn is_written(seen: &Seen, datum: &Datum, slot: u8, value: u64) -> bool {
     match change_of(seen, datum, slot) {
         Some((change, held)) => {
             seen.is_pinned(slot)
-                && matches!(held.phase, Phase::Inked)
+                && matches!(held.phase, Phase::Written)
                 && matches!(change.fate, Status::Yes | Status::DoneYes)
                 && held.entry.new == value
         }
@@ -70,29 +70,29 @@ fn is_written(seen: &Seen, datum: &Datum, slot: u8, value: u64) -> bool {
 }
 
 fn is_planted(seen: &Seen, datum: &Datum, worker: u8, attempt: u64) -> bool {
-    let Some(seat) = seen.seats.get(usize::from(worker)) else {
+    let Some(worker_state) = seen.worker_states.get(usize::from(worker)) else {
         return false;
     };
     let slot = Slot {
-        slot: seat.row.slot,
-        seq: seat.row.seq,
+        slot: worker_state.row.slot,
+        seq: worker_state.row.seq,
     };
     let Some((change, held)) = change_of(seen, datum, slot) else {
         return false;
     };
-    let named = match change.words.get(usize::from(seat.row.entry)) {
+    let named = match change.words.get(usize::from(worker_state.row.entry)) {
         Some(named) => named.entry.addr == held.entry.addr,
         None => false,
     };
     named
         && seen.is_pinned(slot)
-        && attempt < seat.attempt
-        && standing(seat) == Some((datum.tenant, datum.address, attempt))
+        && attempt < worker_state.attempt
+        && standing(worker_state) == Some((datum.tenant, datum.address, attempt))
 }
 
-/// The attempt of a worker that may stand: the word that it is for, and its number.
-fn standing(seat: &Seat) -> Option<(u8, u16, u64)> {
-    let actor = seat.actor.as_ref()?;
+/// Gives the attempt of a worker that may be in a word: the word that it is for, and its number.
+fn standing(worker_state: &WorkerState) -> Option<(u8, u16, u64)> {
+    let actor = worker_state.actor.as_ref()?;
     match actor.point() {
         Point::CheckThenResolve {
             task,
@@ -113,8 +113,8 @@ fn standing(seat: &Seat) -> Option<(u8, u16, u64)> {
     }
 }
 
-/// No attempt stands in two words, none that a worker knows of has the number of a later one, and none is
-/// for a draft.
+/// No attempt is in two words, no attempt of which a worker knows has the number of a later one, and none
+/// is for a draft.
 pub(super) fn attempts(seen: &Seen) -> bool {
     stand_once(seen) && are_ready(seen)
 }
@@ -128,7 +128,7 @@ fn stand_once(seen: &Seen) -> bool {
     true
 }
 
-/// In how many places this word stands.
+/// Gives in how many places this word is.
 fn times(seen: &Seen, word: Word) -> u64 {
     let mut times: u64 = 0;
     for datum in &seen.data {
@@ -140,22 +140,22 @@ fn times(seen: &Seen, word: Word) -> u64 {
 }
 
 fn are_ready(seen: &Seen) -> bool {
-    for seat in &seen.seats {
-        if !is_ready(seen, seat) {
+    for worker_state in &seen.worker_states {
+        if !is_ready(seen, worker_state) {
             return false;
         }
     }
     true
 }
 
-fn is_ready(seen: &Seen, seat: &Seat) -> bool {
-    match standing(seat) {
+fn is_ready(seen: &Seen, worker_state: &WorkerState) -> bool {
+    match standing(worker_state) {
         Some((_, _, number)) => {
             let slot = Slot {
-                slot: seat.row.slot,
-                seq: seat.row.seq,
+                slot: worker_state.row.slot,
+                seq: worker_state.row.seq,
             };
-            number < seat.attempt && seen.past.fate(slot) != Status::Draft
+            number < worker_state.attempt && seen.past.fate(slot) != Status::Draft
         }
         None => true,
     }

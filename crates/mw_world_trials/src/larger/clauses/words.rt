@@ -1,14 +1,15 @@
-//! What is to hold of a change's words, and why no late worker does harm to them.
+//! What must hold of a change's words, and why no stale helper does harm to them.
 
 use super::references::change_of;
 use crate::larger::past::{Change, Held};
-use crate::larger::pins::{cleans, is_owed, owner_of};
-use crate::larger::seen::{Datum, Seat, Seen};
+use crate::larger::pins::{cleans, is_releaser, owner_of};
+use crate::larger::seen::{Datum, Seen, WorkerState};
 use mw_actor::{Point, Slot};
 use mw_words::{Status, Word};
 use mw_world::Phase;
 
-/// Each word of a change is as the change's status allows, and one that it holds or has written names it.
+/// Each word of a change is as the change's status allows. A word that the change holds or has written
+/// names the change.
 pub(super) fn words(seen: &Seen) -> bool {
     for change in &seen.past.changes {
         if !are_allowed(seen, change) {
@@ -30,10 +31,10 @@ fn are_allowed(seen: &Seen, change: &Change) -> bool {
 fn may_be(fate: Status, phase: Phase) -> bool {
     match (fate, phase) {
         (Status::Draft | Status::Open, Phase::Fresh) => true,
-        (Status::Open | Status::YesDirty | Status::Yes, Phase::Keeping) => true,
-        (Status::Yes | Status::DoneYes, Phase::Inked) => true,
-        (Status::DoneYes, Phase::Gone) => true,
-        (Status::No { .. } | Status::DoneNo { .. }, phase) => !matches!(phase, Phase::Inked),
+        (Status::Open | Status::YesDirty | Status::Yes, Phase::Acquired) => true,
+        (Status::Yes | Status::DoneYes, Phase::Written) => true,
+        (Status::DoneYes, Phase::Released) => true,
+        (Status::No { .. } | Status::DoneNo { .. }, phase) => !matches!(phase, Phase::Written),
         _ => false,
     }
 }
@@ -42,19 +43,19 @@ fn is_named(seen: &Seen, change: &Change, held: &Held) -> bool {
     let word = seen.word(change.tenant, held.entry.addr);
     let Slot { slot, seq } = change.slot;
     match held.phase {
-        Phase::Keeping => word == Some(Word::Held { slot, seq }),
-        Phase::Inked => word
+        Phase::Acquired => word == Some(Word::Held { slot, seq }),
+        Phase::Written => word
             == Some(Word::Dirty {
                 slot,
                 value: held.entry.new,
             }),
-        Phase::Fresh | Phase::Gone => true,
+        Phase::Fresh | Phase::Released => true,
     }
 }
 
-/// Each word of a change that was decided to be made was held once. Whoever may still hold a word for a
-/// change, and finds its attempt there, finds a word that was never held for it, of a change that is not
-/// made; and the row names that change.
+/// Each word of a change that was decided to be made was held once. If a helper may still hold a word for a
+/// change, and finds the attempt there, then the word was never held for the change, the change is not
+/// made, and the row names that change.
 pub(super) fn late(seen: &Seen) -> bool {
     were_held(seen) && do_no_harm(seen)
 }
@@ -69,8 +70,8 @@ fn were_held(seen: &Seen) -> bool {
 }
 
 fn do_no_harm(seen: &Seen) -> bool {
-    for seat in &seen.seats {
-        if !does_no_harm(seen, seat) {
+    for worker_state in &seen.worker_states {
+        if !does_no_harm(seen, worker_state) {
             return false;
         }
     }
@@ -81,7 +82,7 @@ fn is_made(fate: Status) -> bool {
     matches!(fate, Status::YesDirty | Status::Yes | Status::DoneYes)
 }
 
-/// Whether some word was never held for a change.
+/// Tells whether some word was never held for a change.
 fn has_fresh(change: &Change) -> bool {
     for held in &change.words {
         if matches!(held.phase, Phase::Fresh) {
@@ -91,8 +92,8 @@ fn has_fresh(change: &Change) -> bool {
     false
 }
 
-fn does_no_harm(seen: &Seen, seat: &Seat) -> bool {
-    let Some(actor) = &seat.actor else {
+fn does_no_harm(seen: &Seen, worker_state: &WorkerState) -> bool {
+    let Some(actor) = &worker_state.actor else {
         return true;
     };
     match actor.point() {
@@ -101,7 +102,7 @@ fn does_no_harm(seen: &Seen, seat: &Seat) -> bool {
             entry,
             attempt,
             was_open: true,
-        } => is_armed(
+        } => is_permitted(
             seen,
             Datum {
                 tenant: actor.tenant(),
@@ -117,8 +118,8 @@ fn does_no_harm(seen: &Seen, seat: &Seat) -> bool {
     }
 }
 
-/// The same of this attempt, whose number was given out, for this change.
-fn is_armed(seen: &Seen, attempt: Datum, target: Slot) -> bool {
+/// Tells whether the same holds for this attempt, whose number was given out, and this change.
+fn is_permitted(seen: &Seen, attempt: Datum, target: Slot) -> bool {
     let Word::Planted {
         worker,
         attempt: number,
@@ -126,22 +127,23 @@ fn is_armed(seen: &Seen, attempt: Datum, target: Slot) -> bool {
     else {
         return false;
     };
-    let Some(seat) = seen.seats.get(usize::from(worker)) else {
+    let Some(worker_state) = seen.worker_states.get(usize::from(worker)) else {
         return false;
     };
     let Some((change, held)) = change_of(seen, &attempt, target) else {
         return false;
     };
     if seen.word(attempt.tenant, attempt.address) != Some(attempt.word) {
-        return number < seat.attempt;
+        return number < worker_state.attempt;
     }
-    let is_named = (seat.row.slot, seat.row.seq) == (target.slot, target.seq);
+    let is_named = (worker_state.row.slot, worker_state.row.seq) == (target.slot, target.seq);
     is_named && matches!(held.phase, Phase::Fresh) && !is_made(change.fate)
 }
 
-/// A word that is held for a refused change is owed. The owner of a change that is neither refused nor done
-/// with is there, or has left its pin; so is, for a word that a change has written, who cleans it.
-pub(super) fn owed(seen: &Seen) -> bool {
+/// A word that is held for a refused change will be released. The owner of a change that is neither refused
+/// nor done is there, or has left its pin. For a word that a change has written, the worker that cleans it
+/// is there, or has left its pin.
+pub(super) fn have_releasers(seen: &Seen) -> bool {
     are_let_go(seen) && have_owners(seen)
 }
 
@@ -169,7 +171,7 @@ fn is_let_go(seen: &Seen, datum: &Datum) -> bool {
             let change = Slot { slot, seq };
             match seen.past.fate(change) {
                 Status::No { .. } | Status::DoneNo { .. } => {
-                    is_owed(seen, datum.tenant, change, datum.address)
+                    is_releaser(seen, datum.tenant, change, datum.address)
                 }
                 _ => true,
             }

@@ -1,7 +1,8 @@
+-- Answers to goals of Actor::ask (src/actor/asks.rt). They may change freely as long as the crate checks.
 use Rattle.std.specs.Prelude.{◌≡◌, Bool, true, false, cond, Some, None}
 use Rattle.mw_look.specs.declared.steps.Op.{Op}
 use Rattle.mw_look.specs.Steps.{op_of}
-use Rattle.mw_actor.specs.Acting.{Acting}
+use Rattle.mw_actor.specs.ActorState.{ActorState}
 use Rattle.mw_actor.specs.Asks.{asks}
 use Rattle.mw_actor.specs.Parts.{Part, Admitting, Holding, Deciding, Helping, Sweeping, Leaving, part_of, same_part, step_in}
 use Rattle.mw_actor.proofs.actor.Actor.ask.Goals as goal
@@ -11,7 +12,7 @@ only_some true step op is = cc
 only_some false step op is = cc
 
 -- where there is a next step in a part, it is the request's next step
-step_is : (part : Part) (actor : Acting) (step : Op) → Some step ≡ step_in part actor → step ≡ op_of (asks actor)
+step_is : (part : Part) (actor : ActorState) (step : Op) → Some step ≡ step_in part actor → step ≡ op_of (asks actor)
 step_is part actor step is = only_some (same_part (part_of actor.point) part) step (op_of (asks actor)) is
 
 pub returns-in-Some : goal.returns-in-Some

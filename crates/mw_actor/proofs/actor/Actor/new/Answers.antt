@@ -1,3 +1,4 @@
+-- Answers to goals of Actor::new (src/actor.rt). They may change freely as long as the crate checks.
 use Rattle.mw_actor.proofs.JobLaws.{begins_in_range}
 use Rattle.mw_actor.proofs.actor.Actor.new.Goals as goal
 

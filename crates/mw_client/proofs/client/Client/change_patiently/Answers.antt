@@ -1,5 +1,5 @@
 use Rattle.std.proofs.Common.{◌∙◌, sym}
-use Rattle.mw_client.proofs.Asking.{once_more}
+use Rattle.mw_client.proofs.Retries.{once_more}
 use Rattle.mw_client.proofs.client.Client.change_patiently.Goals as goal
 
 pub loop-preserved : goal.loop-preserved

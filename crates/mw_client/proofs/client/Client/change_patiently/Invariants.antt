@@ -1,5 +1,5 @@
 use Rattle.std.proofs.Common.{◌≡◌}
-use Rattle.mw_client.proofs.Asking.{InVain}
+use Rattle.mw_client.proofs.Retries.{InVain}
 use Rattle.mw_client.proofs.client.Client.change_patiently.Given as goal
 
 -- the request was sent in vain so far

@@ -1,5 +1,5 @@
-use Rattle.mw_client.specs.Talking.{Exchanged}
-use Rattle.mw_client.proofs.Asking.{answered_yes}
+use Rattle.mw_client.specs.Exchanges.{Exchanged}
+use Rattle.mw_client.proofs.Retries.{answered_yes}
 use Rattle.mw_client.proofs.client.Client.confirm.Goals as goal
 
 pub returns : goal.returns

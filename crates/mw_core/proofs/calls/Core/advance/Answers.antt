@@ -2,8 +2,8 @@ use Rattle.std.specs.Prelude.{Bool, if◌then◌else◌, is_some}
 use Rattle.std.proofs.Common.{ap, sym, ◌∙◌}
 use Rattle.mw_actor.specs.Program.{replied}
 use Rattle.mw_core.specs.declared.calls.Advance.TheVariants.{NeedsFile}
-use Rattle.mw_core.specs.Advancing.{answer_of}
-use Rattle.mw_core.proofs.Driven.{advanced, runs_still}
+use Rattle.mw_core.specs.Steps.{answer_of}
+use Rattle.mw_core.proofs.StepEnds.{advanced, runs_still}
 use Rattle.mw_core.proofs.calls.Core.advance.Goals as goal
 
 pub returns-then-is_some-2-clause-advances : goal.returns-then-is_some-2-clause-advances

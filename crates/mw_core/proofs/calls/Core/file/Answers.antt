@@ -1,10 +1,10 @@
 use Rattle.std.specs.Prelude.{Option}
 use Rattle.std.proofs.Common.{ℕ, ap, subst, sym, ◌∙◌}
 use Rattle.mw_table.specs.declared.shared.Shared.{Shared}
-use Rattle.mw_table.specs.FromRule.{Course, IsOnFrom, View}
-use Rattle.mw_table.specs.Holding.{HasFile}
+use Rattle.mw_table.specs.FromRule.{KnownRun, ExtendsKnownRun, View}
+use Rattle.mw_table.specs.HeldFiles.{HasFile}
 use Rattle.mw_table.specs.Passes.{IsOf}
-use Rattle.mw_core.proofs.Lent.{agrees_back, agrees_taken, carried_back, carried_taken, files_once, has_taken, may_give_back}
+use Rattle.mw_core.proofs.CallWithItsFile.{agrees_back, agrees_taken, carried_back, carried_taken, files_once, has_taken, may_give_back}
 use Rattle.mw_core.proofs.calls.Core.file.Goals as goal
 
 pub make_call-went_well-requires-clause-carried : goal.make_call-went_well-requires-clause-carried
@@ -54,11 +54,11 @@ returns-clause-agrees g c =
     c.make_call-went_well.ensures.own (c.give_back.ensures.whose ∙ c.tenant-tenant.ensures) c.make_call-went_well.ensures.agrees
 
 pub returns-clause-known : goal.returns-clause-known
-returns-clause-known g c = ap (λ (view : View). view.course) c.give_back.ensures.is ∙ sym (ap (λ (view : View). view.course) c.give_back.ensures.left)
+returns-clause-known g c = ap (λ (view : View). view.known_run) c.give_back.ensures.is ∙ sym (ap (λ (view : View). view.known_run) c.give_back.ensures.left)
 
 pub returns-clause-follows : goal.returns-clause-follows
 returns-clause-follows g c =
     let last = c.make_call-went_well.new.pass.seat.me.0 in
     let told = c.make_call-went_well.ensures.made.follows in
-    subst (λ (known : Option Course). IsOnFrom c.args.right.seat.me.0.course known) (sym (ap (λ (view : View). view.course) c.give_back.ensures.is))
-    (subst (λ (view : View). IsOnFrom view.told_course last.course) c.take.ensures.took told)
+    subst (λ (known : Option KnownRun). ExtendsKnownRun c.args.right.seat.me.0.known_run known) (sym (ap (λ (view : View). view.known_run) c.give_back.ensures.is))
+    (subst (λ (view : View). ExtendsKnownRun view.learned_run last.known_run) c.take.ensures.took told)

@@ -1,5 +1,5 @@
 use Rattle.std.proofs.Common.{sym, ◌∙◌}
-use Rattle.mw_core.proofs.Walking.{first_came, first_stepped, is_first}
+use Rattle.mw_core.proofs.ReadRoundLaws.{first_came, first_stepped, is_first}
 use Rattle.mw_core.proofs.calls.Core.make_first.Goals as goal
 
 pub returns-then-idle-clause-made : goal.returns-then-idle-clause-made

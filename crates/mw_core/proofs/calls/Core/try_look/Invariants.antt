@@ -1,7 +1,7 @@
-use Rattle.mw_table.specs.Carried.{IsCarried}
+use Rattle.mw_table.specs.CarriedRequest.{IsCarried}
 use Rattle.mw_table.specs.Passes.{IsOf, IsOfSameWorker}
-use Rattle.mw_core.proofs.Turned.{left}
-use Rattle.mw_core.proofs.Walking.{IsUnder, look_at}
+use Rattle.mw_core.proofs.StepsLeft.{left}
+use Rattle.mw_core.proofs.ReadRoundLaws.{IsUnder, look_at}
 use Rattle.mw_core.proofs.calls.Core.try_look.Given as goal
 
 -- what was told since the first step, and why the read turned back, if it did

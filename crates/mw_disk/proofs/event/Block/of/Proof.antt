@@ -1,4 +1,5 @@
--- It has no bytes of its own, and for contracts it has those that were written.
+-- A block has no bytes at run time. Contracts see the bytes that were written.
+-- The proof of Block::of (src/event.rt). It may change freely as long as this crate checks.
 use Rattle.std.proofs.Common.{◌≡◌, [], ◌∷◌, refl}
 use base.Fml.{fsep, ftrue}
 use Rattle.std.proofs.raw_atomic.Walks.{proved}

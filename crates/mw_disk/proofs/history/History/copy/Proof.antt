@@ -1,4 +1,5 @@
--- The copy has no bytes, and what contracts see of it is the same.
+-- A copy has no bytes at run time. Contracts see that it is equal.
+-- The proof of History::copy (src/history.rt). It may change freely as long as this crate checks.
 use Rattle.std.proofs.Common.{[], ◌∷◌, refl}
 use Rattle.std.proofs.raw_atomic.Walks.{proved}
 use mir.Syntax.{named}

@@ -1,4 +1,5 @@
--- It has no bytes, and for contracts it begins with those of the disk.
+-- A history has no bytes at run time. Contracts see that it begins with the disk's bytes.
+-- The proof of History::new (src/history.rt). It may change freely as long as this crate checks.
 use Rattle.std.proofs.Common.{[], ◌∷◌, refl}
 use Rattle.std.proofs.raw_atomic.Walks.{proved}
 use mir.Syntax.{named}

@@ -1,4 +1,5 @@
--- The new one has no bytes, and for contracts it has the call too.
+-- The new history has no bytes at run time. Contracts see that it has the call too.
+-- The proof of History::with (src/history.rt). It may change freely as long as this crate checks.
 use Rattle.std.proofs.Common.{[], ◌∷◌, ◌++◌, refl}
 use Rattle.std.proofs.raw_atomic.Walks.{proved}
 use mir.Syntax.{named}

@@ -1,6 +1,7 @@
+-- Answers to goals of MemDisk::crash (src/memory.rt). They may change freely as long as the crate checks.
 use Rattle.std.proofs.Common.{rules}
 use Rattle.mw_disk.proofs.Remembered.{reads_left}
-use Rattle.mw_disk.proofs.Tearing.{tears_left}
+use Rattle.mw_disk.proofs.TornBytes.{tears_left}
 use Rattle.mw_disk.proofs.memory.MemDisk.crash.Goals as goal
 
 pub returns-clause-image : goal.returns-clause-image

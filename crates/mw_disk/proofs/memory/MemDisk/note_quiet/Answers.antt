@@ -1,3 +1,4 @@
+-- Answers to goals of MemDisk::note_quiet (src/memory.rt). They may change freely as long as the crate checks.
 use Rattle.std.proofs.Common.{refl}
 use Rattle.mw_disk.specs.declared.event.Call.TheVariants.{Quiet}
 use Rattle.mw_disk.proofs.Left.{goes_on}

@@ -1,3 +1,4 @@
+-- Answers to goals of MemDisk::put (src/memory.rt). They may change freely as long as the crate checks.
 use Rattle.std.proofs.Common.{ℕ, List, [], ◌∷◌, ◌++◌, ap, ◌∙◌}
 use Rattle.mw_disk.specs.declared.event.Call.TheVariants.{Wrote}
 use Rattle.mw_disk.specs.declared.history.History.{History}

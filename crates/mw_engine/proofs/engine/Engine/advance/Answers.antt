@@ -2,10 +2,10 @@ use Rattle.std.specs.Prelude.{is_some}
 use Rattle.std.proofs.Common.{ap, sym, ◌∙◌}
 use Rattle.mw_actor.specs.Program.{replied}
 use Rattle.mw_engine.proofs.Branded.{rested_of}
-use Rattle.mw_engine.proofs.Going.{at_call, same_request}
+use Rattle.mw_engine.proofs.RequestAfterStep.{at_call, same_request}
 use Rattle.mw_engine.proofs.Histories.{served_stands}
-use Rattle.mw_engine.proofs.Replying.{way_can}
-use Rattle.mw_engine.proofs.Resting.{rested_as, rested_stands, still_as}
+use Rattle.mw_engine.proofs.RepliesOfJobs.{way_can}
+use Rattle.mw_engine.proofs.IdlePasses.{rested_as, rested_stands, still_as}
 use Rattle.mw_engine.proofs.engine.Engine.advance.Goals as goal
 
 pub returns-then-is_some-clause-step : goal.returns-then-is_some-clause-step

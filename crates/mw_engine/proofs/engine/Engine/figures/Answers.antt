@@ -1,6 +1,6 @@
 use Rattle.std.specs.Prelude.{ℕ, List, map}
 use Rattle.std.proofs.Common.{subst}
-use Rattle.mw_engine.specs.Agreeing.{places_told}
+use Rattle.mw_engine.specs.LinesOfWorld.{places_told}
 use Rattle.mw_engine.specs.Figures.{TellAll}
 use Rattle.mw_engine.specs.Identity.{Line}
 use Rattle.mw_engine.specs.TenantWords.{lines_told, places_kept}

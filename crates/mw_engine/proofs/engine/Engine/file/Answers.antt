@@ -1,13 +1,13 @@
 use Rattle.std.specs.Prelude.{◌≢◌, None}
 use Rattle.std.proofs.Common.{sym, subst}
-use Rattle.mw_actor.specs.Acting.{Acting}
+use Rattle.mw_actor.specs.ActorState.{ActorState}
 use Rattle.mw_world.specs.Definition.Calls.{called_at}
 use Rattle.mw_core.specs.FromTable.{IsCarried, IsSamePass, Pass}
-use Rattle.mw_engine.specs.Filing.{FilesOne}
+use Rattle.mw_engine.specs.FileCalls.{FilesOne}
 use Rattle.mw_engine.specs.TenantWords.{HasPass}
 use Rattle.mw_engine.proofs.Branded.{in_words, of_engine}
-use Rattle.mw_engine.proofs.Replying.{file_way}
-use Rattle.mw_engine.proofs.Served.{file_same, file_serves}
+use Rattle.mw_engine.proofs.RepliesOfJobs.{file_way}
+use Rattle.mw_engine.proofs.RequestAfterFileCall.{file_same, file_serves}
 use Rattle.mw_engine.proofs.engine.Engine.file.Goals as goal
 
 pub file-requires-clause-own : goal.file-requires-clause-own
@@ -21,10 +21,10 @@ returns-then-is_of-clause-own g c = of_engine c.args.self.now.words g.J.EngineBr
 pub file-requires-clause-carried : goal.file-requires-clause-carried
 file-requires-clause-carried g c =
     subst (λ (pass : Pass). IsCarried pass c.loop.actor) (sym c.loop.invariant.pass_is)
-    (subst (λ (actor : Acting). IsCarried c.args.pass.now actor) (sym c.loop.invariant.actor_is) c.requires.carried)
+    (subst (λ (actor : ActorState). IsCarried c.args.pass.now actor) (sym c.loop.invariant.actor_is) c.requires.carried)
 
 pub file-requires-clause-call : goal.file-requires-clause-call
-file-requires-clause-call g c = subst (λ (actor : Acting). called_at actor.point ≢ None) (sym c.loop.invariant.actor_is) c.requires.call
+file-requires-clause-call g c = subst (λ (actor : ActorState). called_at actor.point ≢ None) (sym c.loop.invariant.actor_is) c.requires.call
 
 pub returns-then-is_of-clause-same : goal.returns-then-is_of-clause-same
 returns-then-is_of-clause-same g c = subst (λ (pass : Pass). IsSamePass pass c.file.new.pass) c.loop.invariant.pass_is c.file.ensures.same
@@ -32,7 +32,7 @@ returns-then-is_of-clause-same g c = subst (λ (pass : Pass). IsSamePass pass c.
 pub returns-then-is_of-clause-files : goal.returns-then-is_of-clause-files
 returns-then-is_of-clause-files g c =
     subst (λ (pass : Pass). FilesOne g.D.Disk.facts g.J.EngineBrand.identity pass c.file.new.pass c.args.actor.now c.file.new.actor) c.loop.invariant.pass_is
-    (subst (λ (actor : Acting). FilesOne g.D.Disk.facts g.J.EngineBrand.identity c.loop.pass c.file.new.pass actor c.file.new.actor) c.loop.invariant.actor_is c.file.ensures.files)
+    (subst (λ (actor : ActorState). FilesOne g.D.Disk.facts g.J.EngineBrand.identity c.loop.pass c.file.new.pass actor c.file.new.actor) c.loop.invariant.actor_is c.file.ensures.files)
 
 pub returns-then-is_of-clause-request : goal.returns-then-is_of-clause-request
 returns-then-is_of-clause-request g c =

@@ -6,7 +6,7 @@ use Rattle.mw_engine.specs.Identity.{HasNone, HasWords, IsFirst, Line}
 use Rattle.mw_engine.specs.Lines.{line_of}
 use Rattle.mw_engine.specs.TenantWords.{lines_told}
 use Rattle.mw_engine.proofs.Branded.{same_lines}
-use Rattle.mw_engine.proofs.Named.{has, is_first, none_at_all, none_yet}
+use Rattle.mw_engine.proofs.TenantSearch.{has, is_first, none_at_all, none_yet}
 use Rattle.mw_engine.proofs.engine.Engine.find.Goals as goal
 
 pub returns-then-eq-clause-first : goal.returns-then-eq-clause-first

@@ -1,6 +1,6 @@
 use Rattle.mw_engine.proofs.Branded.{still_of}
-use Rattle.mw_engine.proofs.Served.{same_on}
-use Rattle.mw_engine.proofs.Stepped.{stepped_files, stepped_same, stepped_serves, stepped_to, stepped_way}
+use Rattle.mw_engine.proofs.RequestAfterFileCall.{same_on}
+use Rattle.mw_engine.proofs.StepOrFileCall.{stepped_files, stepped_same, stepped_serves, stepped_to, stepped_way}
 use Rattle.mw_engine.proofs.engine.Engine.go_on.Goals as goal
 
 pub file-requires-clause-own : goal.file-requires-clause-own

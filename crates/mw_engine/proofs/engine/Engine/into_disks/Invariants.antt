@@ -1,6 +1,6 @@
 use Rattle.std.specs.Prelude.{◌≡◌, ◌+◌, length}
 use Rattle.std.specs.Vec.Iter.{into_iter_items}
-use Rattle.mw_engine.specs.Ending.{EachIsGiven}
+use Rattle.mw_engine.specs.DisksAtEnd.{EachIsGiven}
 use Rattle.mw_engine.proofs.engine.Engine.into_disks.Given as goal
 
 -- a disk, or none, for each tenant so far

@@ -1,11 +1,11 @@
 use Rattle.std.proofs.Common.{sym, ◌∙◌, subst}
 use Rattle.mw_core.specs.FromTable.{View}
-use Rattle.mw_engine.specs.History.{IsServed}
+use Rattle.mw_engine.specs.History.{IsInProgress}
 use Rattle.mw_engine.proofs.Histories.{advanced_serves, begun_serves, since_first, since_served}
 use Rattle.mw_engine.proofs.Branded.{in_words, still_of}
-use Rattle.mw_engine.proofs.Passing.{advanced_files}
-use Rattle.mw_engine.proofs.Replying.{advanced_way, begins_way}
-use Rattle.mw_engine.proofs.Requesting.{may_come}
+use Rattle.mw_engine.proofs.PassAfterCall.{advanced_files}
+use Rattle.mw_engine.proofs.RepliesOfJobs.{advanced_way, begins_way}
+use Rattle.mw_engine.proofs.RequestsMayCome.{may_come}
 use Rattle.mw_engine.proofs.engine.Engine.make_step.Goals as goal
 
 pub begin-requires-clause-own : goal.begin-requires-clause-own
@@ -27,7 +27,7 @@ returns-then-idle-clause-call g c =
     let next = c.begin.new.actor in
     let idle = sym c.idle.ensures.is ∙ c.if-idle.true in
     let may = may_come c.args.self.now.words g.J.EngineBrand.identity c.args.self.now.same old actor c.requires.own idle (c.requires.comes idle) in
-    λ first since. subst (λ (view : View). IsServed view new.seat.me.0 next) (sym (since_first old.idle first old.seat.me.0 actor idle since))
+    λ first since. subst (λ (view : View). IsInProgress view new.seat.me.0 next) (sym (since_first old.idle first old.seat.me.0 actor idle since))
     (begun_serves old new actor next may c.begin.ensures.begins)
 
 pub returns-clause-call : goal.returns-clause-call

@@ -1,11 +1,11 @@
 use Rattle.std.proofs.Common.{◌≡◌, ◌<◌, ℕ, [], get_or, ap, sym, subst, ◌∙◌}
 use Rattle.std.proofs.lemmas.List.{length-map}
-use Rattle.mw_actor.specs.Acting.{first}
+use Rattle.mw_actor.specs.ActorState.{first}
 use Rattle.mw_engine.specs.declared.listed.Listed.{Listed}
 use Rattle.mw_engine.specs.Lines.{line_of}
 use Rattle.mw_engine.proofs.Branded.{formed_there, same_request}
-use Rattle.mw_engine.proofs.Named.{quota_is}
-use Rattle.mw_engine.proofs.Requesting.{formed_so}
+use Rattle.mw_engine.proofs.TenantSearch.{quota_is}
+use Rattle.mw_engine.proofs.RequestsMayCome.{formed_so}
 use Rattle.mw_engine.proofs.engine.Engine.request.Goals as goal
 
 pub new-requires-clause-is_change : goal.new-requires-clause-is_change

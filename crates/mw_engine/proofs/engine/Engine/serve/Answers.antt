@@ -1,15 +1,15 @@
 use Rattle.std.specs.Prelude.{Option}
 use Rattle.std.proofs.Common.{sym, ap, subst, ◌∙◌}
 use Rattle.mw_words.specs.declared.replies.Reply.{Reply}
-use Rattle.mw_actor.specs.Acting.{Acting}
+use Rattle.mw_actor.specs.ActorState.{ActorState}
 use Rattle.mw_core.specs.FromTable.{View}
-use Rattle.mw_engine.specs.History.{IsAnswered, StandsAs}
+use Rattle.mw_engine.specs.History.{IsAnswered, OutcomeAs}
 use Rattle.mw_engine.specs.Replies.{IsOnItsWay}
 use Rattle.mw_engine.proofs.Branded.{still_of}
 use Rattle.mw_engine.proofs.Histories.{begun_serves, served_stands}
-use Rattle.mw_engine.proofs.Replying.{begins_way, first_way}
-use Rattle.mw_engine.proofs.Requesting.{made_may_come}
-use Rattle.mw_engine.proofs.Served.{answered_so}
+use Rattle.mw_engine.proofs.RepliesOfJobs.{begins_way, first_way}
+use Rattle.mw_engine.proofs.RequestsMayCome.{made_may_come}
+use Rattle.mw_engine.proofs.RequestAfterFileCall.{answered_so}
 use Rattle.mw_engine.proofs.engine.Engine.serve.Goals as goal
 
 pub begin-requires-clause-may : goal.begin-requires-clause-may
@@ -33,9 +33,9 @@ loop-init g c =
     record {
       own = still_of engine.words identity engine.same old new c.requires.own c.begin.ensures.own c.begin.ensures.worker begins.began.same_files;
       worker = c.begin.ensures.worker;
-      its = ap (λ (one : Acting). one.tenant) begins.told ∙ ap (λ (one : Acting). one.tenant) is;
-      same_job = ap (λ (one : Acting). one.job) begins.told ∙ (ap (λ (one : Acting). one.job) is ∙ c.copy.ensures);
-      way = begins_way old new actor next begins serves (subst (λ (one : Acting). IsOnItsWay one.job one.point) (sym is) (first_way c.args.tenant c.copy.result));
+      its = ap (λ (one : ActorState). one.tenant) begins.told ∙ ap (λ (one : ActorState). one.tenant) is;
+      same_job = ap (λ (one : ActorState). one.job) begins.told ∙ (ap (λ (one : ActorState). one.job) is ∙ c.copy.ensures);
+      way = begins_way old new actor next begins serves (subst (λ (one : ActorState). IsOnItsWay one.job one.point) (sym is) (first_way c.args.tenant c.copy.result));
       carried = c.begin.ensures.carried;
       call = serves;
     }
@@ -48,6 +48,6 @@ returns-in-Some-reply-clause-answered g c =
     let actor = c.loop.actor in
     let reply = c.in-Some-reply.reply in
     let answered : IsAnswered first pass.seat.me.0 actor.tenant actor.job reply =
-    subst (λ (one : Option Reply). StandsAs one first pass.seat.me.0 actor) (sym c.reply.ensures ∙ c.in-Some-reply.is) (served_stands first pass.seat.me.0 actor inv.call) in
+    subst (λ (one : Option Reply). OutcomeAs one first pass.seat.me.0 actor) (sym c.reply.ensures ∙ c.in-Some-reply.is) (served_stands first pass.seat.me.0 actor inv.call) in
     subst (λ (view : View). IsAnswered first view c.args.tenant c.args.job.now reply) (λ i. (sym c.rest.ensures.rested.same_seat i).me.0)
     (answered_so first pass.seat.me.0 actor c.args.tenant c.args.job.now reply inv.its inv.same_job answered)

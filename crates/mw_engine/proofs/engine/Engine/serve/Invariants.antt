@@ -1,6 +1,6 @@
 use Rattle.std.specs.Prelude.{◌≡◌}
 use Rattle.mw_core.specs.FromTable.{IsCarried, IsOfSameWorker}
-use Rattle.mw_engine.specs.History.{IsServed}
+use Rattle.mw_engine.specs.History.{IsInProgress}
 use Rattle.mw_engine.specs.Passes.{IsPassOf}
 use Rattle.mw_engine.specs.Replies.{IsOnItsWay}
 use Rattle.mw_engine.proofs.engine.Engine.serve.Given as goal
@@ -14,5 +14,5 @@ invariant-loop g l = record {
   same_job : l.actor.job ≡ l.job;
   way : IsOnItsWay l.actor.job l.actor.point;
   carried : IsCarried l.pass l.actor;
-  call : IsServed l.fn.pass.seat.me.0 l.pass.seat.me.0 l.actor;
+  call : IsInProgress l.fn.pass.seat.me.0 l.pass.seat.me.0 l.actor;
 }

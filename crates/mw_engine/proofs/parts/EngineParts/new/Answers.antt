@@ -2,12 +2,12 @@ use Rattle.std.specs.Prelude.{All, List, length, map}
 use Rattle.std.proofs.Common.{sym, ap, subst, ◌∙◌}
 use Rattle.std.proofs.lemmas.List.{length-map}
 use Rattle.mw_world.specs.declared.config.Tenant.{Tenant}
-use Rattle.mw_world.specs.Definition.State.{IsStart, Opening}
+use Rattle.mw_world.specs.Definition.State.{IsStart, TenantStart}
 use Rattle.mw_core.specs.FromTable.{AreOpened, IsDealt, Shared, basis_of, basis_of_start, opening_at, openings_given}
-use Rattle.mw_engine.specs.Opened.{HaveFewPlaces, places_found, tenant_read}
+use Rattle.mw_engine.specs.OpenedFiles.{HaveFewPlaces, places_found, tenant_read}
 use Rattle.mw_engine.proofs.Configured.{configured, starts_so, world_is}
-use Rattle.mw_engine.proofs.Parted.{a_book_each, a_right_each, books_agree, config_is, lines_agree, new_passes, openings_are, places_agree}
-use Rattle.mw_engine.proofs.Started.{few_all, files_are, given_all, made_counts}
+use Rattle.mw_engine.proofs.PartsAgree.{a_book_each, a_right_each, books_agree, config_is, lines_agree, new_passes, openings_are, places_agree}
+use Rattle.mw_engine.proofs.OpenedParts.{few_all, files_are, given_all, made_counts}
 use Rattle.mw_engine.proofs.parts.EngineParts.new.Goals as goal
 
 pub new-requires-clause-config : goal.new-requires-clause-config
@@ -31,7 +31,7 @@ new-requires-clause-start g c =
     let openings = c.in_ok-openings.openings.items in
     let given = ap (λ (all : List Tenant). openings_given all openings) config.ensures.tenants
     ∙ given_all g.D.Disk.facts lines files openings c.in_ok-openings.books.items c.in_ok-openings.ensures in
-    subst (λ (all : List Opening). IsStart config.result (opening_at all)) (sym given)
+    subst (λ (all : List TenantStart). IsStart config.result (opening_at all)) (sym given)
     (starts_so g.D.Disk.facts config.result lines files c.args.pool config.ensures.tenants config.ensures.pool c.requires.fit c.requires.permitted)
 
 pub listed-requires : goal.listed-requires
@@ -66,17 +66,17 @@ invariant_of-parts g c =
     let config = c.config_of-config in
     let openings = c.in_ok-openings.openings.items in
     let books = c.in_ok-openings.books.items in
-    let rights = c.in_ok-shared.rights.items in
+    let file_passes = c.in_ok-shared.file_passes.items in
     let shared = c.new-2.result.shared in
     let basis = ap (λ (one : Shared). basis_of one.table.shared.key) c.new-2.ensures ∙ c.in_ok-shared.ensures.table in
-    let opened = subst (λ (one : Shared). AreOpened one (basis_of_start config.result openings) rights) (sym c.new-2.ensures) c.in_ok-shared.ensures.rights in
+    let opened = subst (λ (one : Shared). AreOpened one (basis_of_start config.result openings) file_passes) (sym c.new-2.ensures) c.in_ok-shared.ensures.file_passes in
     record {
       kept = books_agree g.D.Disk.facts shared config.result lines c.args.files.items openings books c.listed.result.items c.args.pool basis config.ensures.tenants config.ensures.pool
-          c.requires.fit c.in_ok-openings.ensures c.listed.ensures.lines rights opened;
+          c.requires.fit c.in_ok-openings.ensures c.listed.ensures.lines file_passes opened;
       a_book_each = a_book_each g.D.Disk.facts shared config.result lines c.args.files.items openings books c.listed.result.items c.args.pool basis config.ensures.tenants config.ensures.pool
           c.requires.fit c.in_ok-openings.ensures c.listed.ensures.lines;
       a_right_each = a_right_each g.D.Disk.facts shared config.result lines c.args.files.items openings books c.listed.result.items c.args.pool basis config.ensures.tenants config.ensures.pool
-          c.requires.fit c.in_ok-openings.ensures c.listed.ensures.lines rights opened;
+          c.requires.fit c.in_ok-openings.ensures c.listed.ensures.lines file_passes opened;
     }
 
 pub returns-clause-start : goal.returns-clause-start

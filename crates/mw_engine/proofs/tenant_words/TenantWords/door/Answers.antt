@@ -2,8 +2,8 @@ use Rattle.std.proofs.Common.{subst, ◌∙◌}
 use Rattle.mw_core.specs.FromTable.{IsOf, Shared}
 use Rattle.mw_engine.specs.Identity.{quota_told}
 use Rattle.mw_engine.specs.TenantWords.{lines_told}
-use Rattle.mw_engine.proofs.Passing.{one_on}
-use Rattle.mw_engine.proofs.Standing.{door_stood, no_door, used_of}
+use Rattle.mw_engine.proofs.PassAfterCall.{one_on}
+use Rattle.mw_engine.proofs.FigureLoads.{door_stood, no_door, used_of}
 use Rattle.mw_engine.proofs.tenant_words.TenantWords.door.Goals as goal
 
 pub unreachable-requires : goal.unreachable-requires

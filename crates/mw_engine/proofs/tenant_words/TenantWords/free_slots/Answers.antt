@@ -1,7 +1,7 @@
 use Rattle.std.specs.Prelude.{◌≡◌, ◌+◌, cond}
 use Rattle.std.proofs.Common.{sym, ◌∙◌, arith}
 use Rattle.mw_engine.specs.Figures.{is_free}
-use Rattle.mw_engine.proofs.Shown.{counted, free_more, looked_on, no_slots, not_counted, not_looked}
+use Rattle.mw_engine.proofs.FiguresSoFar.{counted, free_more, looked_on, no_slots, not_counted, not_looked}
 use Rattle.mw_engine.proofs.tenant_words.TenantWords.free_slots.Goals.{then-is_free, else-is_free}
 use Rattle.mw_engine.proofs.tenant_words.TenantWords.free_slots.Goals as goal
 

@@ -1,7 +1,7 @@
 use Rattle.std.proofs.Common.{subst, ◌∙◌}
 use Rattle.mw_core.specs.FromTable.{IsOf, Shared}
-use Rattle.mw_engine.proofs.Passing.{one_on}
-use Rattle.mw_engine.proofs.Standing.{gate_stood, no_gate}
+use Rattle.mw_engine.proofs.PassAfterCall.{one_on}
+use Rattle.mw_engine.proofs.FigureLoads.{gate_stood, no_gate}
 use Rattle.mw_engine.proofs.tenant_words.TenantWords.gate.Goals as goal
 
 pub unreachable-requires : goal.unreachable-requires

@@ -1,3 +1,4 @@
+-- Answers to goals of TenantFile::copy (src/memory.rt). They may change freely as long as the crate checks.
 use Rattle.std.proofs.Common.{refl, ◌∙◌}
 use Rattle.mw_disk.specs.Memory.{memory_facts}
 use Rattle.mw_file.proofs.Safety.{keeps_copy}

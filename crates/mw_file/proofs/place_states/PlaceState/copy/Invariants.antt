@@ -1,3 +1,4 @@
+-- The invariants of the loops of PlaceState::copy (src/place_states.rt). They may change freely as long as the crate checks.
 use Rattle.std.proofs.Common.{◌≡◌, take}
 use Rattle.mw_file.proofs.place_states.PlaceState.copy.Given as goal
 

@@ -1,21 +1,22 @@
+-- Answers to goals of TenantFile::open (src/opening.rt). They may change freely as long as the crate checks.
 use Rattle.std.proofs.Common.{◌≡◌, ◌≤◌, ◌+◌, ℕ, List, length, min, take, arith, sym, ap, ◌∙◌, refl, Some, true, false, IsTrue, subst}
 use Rattle.std.proofs.lemmas.List.FromFn.{length-map-range_with_len}
-use Rattle.mw_disk.specs.Facts.{IsAtRest}
+use Rattle.mw_disk.specs.Facts.{IsSynced}
 use Rattle.mw_disk.specs.Runs.{Good, Bad, Touched}
 use Rattle.mw_disk.proofs.RunLaws.{good_call, bad_call, good_trans, then_bad, called_later, later_trans, still_honest, touched_trans, touched_quiet}
 use Rattle.mw_record.specs.declared.layout.TheConstants.{MAX_FILE}
 use Rattle.mw_record.specs.Layout.{second_part}
-use Rattle.mw_record.specs.Stands.{IsSwitched}
+use Rattle.mw_record.specs.Contents.{IsSwitched}
 use Rattle.mw_record.specs.Damages.{is_switched, at_of, words_in, words_of, places_of, layout_of, part_of}
 use Rattle.mw_file.specs.declared.place_states.PlaceState.{PlaceState}
 use Rattle.mw_file.specs.PlaceStates.{all_free}
-use Rattle.mw_record.specs.Parts.{told_at}
+use Rattle.mw_record.specs.LayoutBytes.{told_at}
 use Rattle.mw_file.proofs.Ended.{went_well}
 use Rattle.mw_file.proofs.Free.{first_free}
 use Rattle.mw_file.proofs.Ready.{open_file}
-use Rattle.mw_file.specs.Rolls.{Nowhere}
-use Rattle.mw_file.specs.Migrating.{InSwitch, Grown, given_second}
-use Rattle.mw_file.specs.Opening.{front, open_calls, ready_calls, begins_at, CanOpen, OpensSafely}
+use Rattle.mw_file.specs.RollForward.{Nowhere}
+use Rattle.mw_file.specs.Migration.{InSwitch, Grown, given_second}
+use Rattle.mw_file.specs.OpeningEnds.{front, open_calls, ready_calls, begins_at, CanOpen, OpensSafely}
 use Rattle.mw_file.proofs.Ran.{ran_well, ran_badly}
 use Rattle.mw_file.proofs.Opened.{whole, front_read, first_unwritten, first_spared, first_kept_unwritten, first_kept_on, second_told, second_given, untouched_trans, nothing_written, rest_stays, reads_stay, all_ready, can_open, whole_words, whole_damage, calls_sound, calls_damaged, calls_before}
 use Rattle.mw_file.proofs.Safety.{keeps_well, durable_as}
@@ -126,7 +127,7 @@ returns-then-is_err-2 g c =
     let later = later_trans f0 f2 f3 (later_trans f0 f1 f2 first c.read_front.ensures.later) c.make_ready.ensures.later in
     let words = c.deref-2.result.now in
     let filled : words ≡ words_in c.in-Ok-decode.image = c.deref-2.ensures.value ∙ c.fill_words.ensures in
-    let can : (honest : IsTrue f0.honest) (rest : IsAtRest f0) → CanOpen f2 c.in-Ok-decode.image words = λ honest rest.
+    let can : (honest : IsTrue f0.honest) (rest : IsSynced f0) → CanOpen f2 c.in-Ok-decode.image words = λ honest rest.
     let touched = quiet honest in
     subst (λ (ws : List ℕ). CanOpen f2 c.in-Ok-decode.image ws) (sym filled)
     (subst (λ (i : List ℕ). CanOpen f2 i (words_in i)) (sym same)
@@ -179,7 +180,7 @@ returns g c =
     let later = later_trans f0 f2 f3 (later_trans f0 f1 f2 first c.read_front.ensures.later) c.make_ready.ensures.later in
     let words = c.deref-2.result.now in
     let filled : words ≡ words_in c.in-Ok-decode.image = c.deref-2.ensures.value ∙ c.fill_words.ensures in
-    let can : (honest : IsTrue f0.honest) (rest : IsAtRest f0) → CanOpen f2 c.in-Ok-decode.image words = λ honest rest.
+    let can : (honest : IsTrue f0.honest) (rest : IsSynced f0) → CanOpen f2 c.in-Ok-decode.image words = λ honest rest.
     let touched = quiet honest in
     subst (λ (ws : List ℕ). CanOpen f2 c.in-Ok-decode.image ws) (sym filled)
     (subst (λ (i : List ℕ). CanOpen f2 i (words_in i)) (sym same)

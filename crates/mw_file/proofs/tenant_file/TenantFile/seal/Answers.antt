@@ -1,3 +1,4 @@
+-- Answers to goals of TenantFile::seal (src/calls.rt). They may change freely as long as the crate checks.
 use Rattle.std.proofs.Common.{◌∙◌, sym, refl, arith}
 use Rattle.mw_record.specs.declared.layout.Layout.TheVariants.{Second}
 use Rattle.mw_record.specs.Layout.{place_at}

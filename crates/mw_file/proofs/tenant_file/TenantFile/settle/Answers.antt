@@ -1,9 +1,10 @@
+-- Answers to goals of TenantFile::settle (src/calls.rt). They may change freely as long as the crate checks.
 use Rattle.std.proofs.Common.{List, [], inl, subst, arith, ◌+◌, ap, length, refl, ◌∙◌, sym}
 use Rattle.mw_disk.proofs.RunLaws.{leaves_wider}
 use Rattle.mw_file.specs.declared.place_states.PlaceState.{PlaceState}
 use Rattle.mw_file.specs.declared.place_states.Stage.TheVariants.{Sealed}
 use Rattle.mw_file.specs.PlaceStates.{roll_calls, writes_of_place}
-use Rattle.mw_file.specs.Rolls.{CanRoll, IsRolled}
+use Rattle.mw_file.specs.RollForward.{CanRoll, IsRolled}
 use Rattle.mw_file.proofs.Ended.{went_well}
 use Rattle.mw_file.proofs.Safety.{safe_failed, safe_well, safe_same, settle_can, settle_moments, settle_durable}
 use Rattle.mw_file.proofs.Places.{state_at, state_there, alone_calls, staged_as}

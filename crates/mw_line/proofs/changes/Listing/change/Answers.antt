@@ -1,12 +1,13 @@
+-- Answers to goals of Listing::change (src/changes.rt). They may change freely as long as the crate checks.
 use Rattle.std.proofs.Common.{◌≡◌, Bool, true, false, List, refl}
 use Rattle.std.specs.List.{list_all}
 use Rattle.mw_words.specs.declared.jobs.Entry.{Entry}
 use Rattle.mw_words.specs.Change.{rises}
 use Rattle.mw_line.specs.Limits.{addr_fits, values_fit}
-use Rattle.mw_line.proofs.Gathering.{all_kept}
+use Rattle.mw_line.proofs.ChangeReader.{all_kept}
 use Rattle.mw_line.proofs.changes.Listing.change.Goals as goal
 
--- what a test of the entries that are kept says of all entries, where they are the same
+-- if the kept entries are all entries, a test says the same of both
 told : (test : List Entry → Bool) (slice kept all : List Entry) (result answer : Bool) → slice ≡ kept → kept ≡ all → result ≡ test slice → result ≡ answer → test all ≡ answer
 told test slice kept all result answer s k t a = cc
 

@@ -1,8 +1,9 @@
+-- Answers to goals of Listing::note (src/changes.rt). They may change freely as long as the crate checks.
 use Rattle.std.proofs.Common.{◌≡◌, ◌∷◌, ◌++◌, [], true, Result, Ok, Err, ap, sym, ◌∙◌}
 use Rattle.std.specs.Prelude.{OnErr}
 use Rattle.std.specs.Result.{is_err}
 use Rattle.mw_words.specs.declared.limits.TheConstants.{MAX_ENTRIES}
-use Rattle.mw_line.proofs.Gathering.{full}
+use Rattle.mw_line.proofs.ChangeReader.{full}
 use Rattle.mw_line.proofs.changes.Listing.note.Goals as goal
 
 refused : {A B : Type 0} (r : Result A B) (P : Type 0) → is_err r ≡ true → OnErr r P → P

@@ -1,3 +1,4 @@
+-- Answers to goals of Requests::admit (src/asked.rt). They may change freely as long as the crate checks.
 use Rattle.std.proofs.Common.{◌-◌, true, arith}
 use Rattle.std.proofs.Math.ListN.{length-set}
 use Rattle.mw_lone.proofs.Numbered.{stands, if_found, written, slots-taken}

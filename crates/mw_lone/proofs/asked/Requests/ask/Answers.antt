@@ -1,3 +1,4 @@
+-- Answers to goals of Requests::ask (src/asked.rt). They may change freely as long as the crate checks.
 use Rattle.mw_lone.proofs.Numbered.{pushed}
 use Rattle.mw_lone.proofs.asked.Requests.ask.Goals as goal
 

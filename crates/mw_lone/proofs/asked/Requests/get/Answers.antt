@@ -1,3 +1,4 @@
+-- Answers to goals of Requests::get (src/asked.rt). They may change freely as long as the crate checks.
 use Rattle.std.proofs.Common.{sym}
 use Rattle.mw_lone.proofs.Numbered.{numbered-below, numbered-get, read-is}
 use Rattle.mw_lone.proofs.asked.Requests.get.Goals as goal

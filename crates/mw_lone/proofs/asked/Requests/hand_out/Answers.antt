@@ -1,3 +1,4 @@
+-- Answers to goals of Requests::hand_out (src/asked.rt). They may change freely as long as the crate checks.
 use Rattle.std.proofs.Common.{true, arith}
 use Rattle.mw_lone.proofs.Numbered.{stands_there, if_found, written}
 use Rattle.mw_lone.proofs.asked.Requests.hand_out.Goals as goal

@@ -1,3 +1,4 @@
+-- Answers to goals of Lone::ask (src/store.rt). They may change freely as long as the crate checks.
 use Rattle.std.proofs.Common.{◌≡◌, IsTrue, length, subst, sym, arith}
 use Rattle.mw_words.specs.Change.{is_well_formed}
 use Rattle.mw_lone.proofs.SoundStores.{sound-insert}

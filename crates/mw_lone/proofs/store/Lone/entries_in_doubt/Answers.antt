@@ -1,3 +1,4 @@
+-- Answers to goals of Lone::entries_in_doubt (src/store.rt). They may change freely as long as the crate checks.
 use Rattle.std.proofs.Common.{sym, length}
 use Rattle.mw_lone.proofs.SoundStores.{entries-fit}
 use Rattle.mw_lone.proofs.store.Lone.entries_in_doubt.Goals as goal

@@ -1,3 +1,4 @@
+-- Answers to goals of Lone::look (src/store.rt). They may change freely as long as the crate checks.
 use Rattle.std.proofs.Common.{sym, arith}
 use Rattle.std.proofs.lemmas.Bool.Decides.{nat_tests}
 use Rattle.mw_lone.proofs.Steps.{at_some}

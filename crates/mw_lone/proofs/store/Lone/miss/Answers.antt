@@ -1,3 +1,4 @@
+-- Answers to goals of Lone::miss (src/store.rt). They may change freely as long as the crate checks.
 use Rattle.std.proofs.Common.{sym, length}
 use Rattle.mw_lone.proofs.Steps.{at_some}
 use Rattle.mw_lone.proofs.SoundStores.{sound-insert, entries-fit, entry-fits}

@@ -1,3 +1,4 @@
+-- Answers to goals of Lone::new (src/store.rt). They may change freely as long as the crate checks.
 use Rattle.mw_lone.proofs.SoundStores.{sound-new_store}
 use Rattle.mw_lone.proofs.store.Lone.new.Goals as goal
 

@@ -1,3 +1,4 @@
+-- Answers to goals of Lone::seal (src/store.rt). They may change freely as long as the crate checks.
 use Rattle.std.proofs.Common.{sym, arith, length}
 use Rattle.mw_lone.proofs.Steps.{at_some, length-back}
 use Rattle.mw_lone.proofs.SoundStores.{sound-insert, sound-words, entries-fit}

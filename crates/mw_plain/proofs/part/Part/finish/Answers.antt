@@ -1,13 +1,14 @@
+-- Answers to goals of Part::finish (src/serving.rt). They may change freely as long as the crate checks.
 use Rattle.std.proofs.Common.{Option, Some, sym, ap, subst, ◌∙◌, arith}
-use Rattle.mw_plain.specs.declared.book.Book.{Book}
+use Rattle.mw_plain.specs.declared.book.LoadedFile.{LoadedFile}
 use Rattle.mw_plain.specs.Books.{used_in, words_in, places_in}
-use Rattle.mw_plain.specs.Serving.{FinishEnds}
+use Rattle.mw_plain.specs.CallEnds.{FinishEnds}
 use Rattle.mw_plain.proofs.part.Part.finish.Goals as goal
 
 pub returns-in-Some-clause-ends : goal.returns-in-Some-clause-ends
 returns-in-Some-clause-ends g c =
     let ends = c.finish.ensures.ends in
-    (ends.0, subst (λ (old : Option (Book g.row.D.Denot)). FinishEnds g.D.Disk.facts ends.0 old (Some c.finish.new.self) c.args.place.0 c.args.entries.now c.finish.result) (sym c.in-Some.is) ends.1)
+    (ends.0, subst (λ (old : Option (LoadedFile g.row.D.Denot)). FinishEnds g.D.Disk.facts ends.0 old (Some c.finish.new.self) c.args.place.0 c.args.entries.now c.finish.result) (sym c.in-Some.is) ends.1)
 
 pub invariant_of-self : goal.invariant_of-self
 invariant_of-self g c =

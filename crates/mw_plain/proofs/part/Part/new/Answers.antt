@@ -1,3 +1,4 @@
+-- Answers to goals of Part::new (src/opening.rt). They may change freely as long as the crate checks.
 use Rattle.std.proofs.Common.{Option, subst, ◌∙◌}
 use Rattle.std.specs.Prelude.{Vec, ℕ}
 use Rattle.std.specs.declared.alloc.Global.{Global}

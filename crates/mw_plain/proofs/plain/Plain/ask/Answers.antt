@@ -1,3 +1,4 @@
+-- Answers to goals of Plain::ask (src/tenants.rt). They may change freely as long as the crate checks.
 use Rattle.mw_plain.specs.Cases.{AtStart, AtFinish}
 use Rattle.mw_plain.proofs.Asks.{asks_done, asks_on}
 use Rattle.mw_plain.proofs.plain.Plain.ask.Goals as goal

@@ -1,3 +1,4 @@
+-- The invariants of the loops of Plain::each_figures (src/tenants.rt). They may change freely as long as the crate checks.
 use Rattle.std.proofs.Common.{◌≡◌, take, map}
 use Rattle.mw_plain.specs.Report.{figures_of}
 use Rattle.mw_plain.proofs.plain.Plain.each_figures.Given as goal

@@ -1,4 +1,5 @@
-use Rattle.mw_plain.proofs.Counting.{within_limits}
+-- Answers to goals of Plain::figures (src/tenants.rt). They may change freely as long as the crate checks.
+use Rattle.mw_plain.proofs.UsedSlots.{within_limits}
 use Rattle.mw_plain.proofs.plain.Plain.figures.Goals as goal
 
 pub returns-clause-within : goal.returns-clause-within

@@ -1,3 +1,4 @@
+-- Answers to goals of Plain::finish (src/tenants.rt). They may change freely as long as the crate checks.
 use Rattle.std.proofs.Common.{refl}
 use Rattle.mw_plain.proofs.Serves.{serves_one, part_here, finishes_as}
 use Rattle.mw_plain.proofs.plain.Plain.finish.Goals as goal

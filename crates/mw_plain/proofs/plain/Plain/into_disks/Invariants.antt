@@ -1,3 +1,4 @@
+-- The invariants of the loops of Plain::into_disks (src/opening.rt). They may change freely as long as the crate checks.
 use Rattle.std.proofs.Common.{◌≡◌, ◌++◌, map}
 use Rattle.std.specs.Vec.Iter.{into_iter_items}
 use Rattle.mw_plain.specs.Quotas.{disk_in}

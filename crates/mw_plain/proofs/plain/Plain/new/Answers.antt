@@ -1,9 +1,10 @@
+-- Answers to goals of Plain::new (src/opening.rt). They may change freely as long as the crate checks.
 use Rattle.std.proofs.Common.{◌≡◌, ◌≤◌, ◌+◌, length, drop, get_or, sym, ap, subst, ◌∙◌, arith, append-nil}
 use Rattle.std.proofs.lemmas.List.{nil_from_length}
 use Rattle.std.specs.Vec.Iter.{into_iter_items}
 use Rattle.mw_plain.specs.Lines.{FitLines, AreMadeOf, quotas_in}
 use Rattle.mw_plain.specs.Quotas.{quotas_of}
-use Rattle.mw_plain.proofs.Making.{next_of, made_more, shared_more, made_all, stands_new}
+use Rattle.mw_plain.proofs.NewStores.{next_of, made_more, shared_more, made_all, stands_new}
 use Rattle.mw_plain.proofs.plain.Plain.new.Goals as goal
 
 pub new-part-requires-clause-within : goal.new-part-requires-clause-within

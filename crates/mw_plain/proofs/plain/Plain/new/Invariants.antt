@@ -1,3 +1,4 @@
+-- The invariants of the loops of Plain::new (src/opening.rt). They may change freely as long as the crate checks.
 use Rattle.std.proofs.Common.{◌≤◌, ◌+◌, ◌++◌, List, length, drop}
 use Rattle.std.specs.Vec.Iter.{into_iter_items}
 use Rattle.mw_plain.specs.declared.part.Part.{Part}
@@ -5,7 +6,7 @@ use Rattle.mw_plain.specs.Quotas.{quotas_of}
 use Rattle.mw_plain.specs.Lines.{FitLines, AreMadeOf, quotas_in}
 use Rattle.mw_plain.proofs.plain.Plain.new.Given as goal
 
--- the lines and files that are left fit each other; tenants made of them, behind those made so far, are all
+-- the lines and files that are left fit each other; the tenants made so far, with those made of them, are all
 abbrev pub invariant-loop-file : goal.invariant-loop-file
 invariant-loop-file g l = record {
   fit : FitLines (drop (length l.parts.items) l.lines) (into_iter_items l.file-iterator);

@@ -1,8 +1,9 @@
+-- Answers to goals of Plain::run (src/tenants.rt). They may change freely as long as the crate checks.
 use Rattle.std.proofs.Common.{◌≡◌, ◌+◌, ◌++◌, ◌∷◌, [], length, ap, subst, ◌∙◌, arith}
 use Rattle.std.specs.Prelude.{if◌then◌else◌, is_ok}
 use Rattle.std.proofs.lemmas.List.{drop_all, length-append}
-use Rattle.mw_plain.specs.Running.{AreTasks, Asked}
-use Rattle.mw_plain.proofs.Asking.{next_task, tasks_stay, asked_more, asked_all, serves_all}
+use Rattle.mw_plain.specs.Tasks.{AreTasks, Asked}
+use Rattle.mw_plain.proofs.TaskLaws.{next_task, tasks_stay, asked_more, asked_all, serves_all}
 use Rattle.mw_plain.proofs.plain.Plain.run.Goals as goal
 
 pub loop-task-preserved : goal.loop-task-preserved

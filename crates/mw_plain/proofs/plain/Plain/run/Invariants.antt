@@ -1,11 +1,12 @@
+-- The invariants of the loops of Plain::run (src/tenants.rt). They may change freely as long as the crate checks.
 use Rattle.std.proofs.Common.{◌≡◌, ◌≤◌, ◌++◌, List, length, drop, vec_len}
 use Rattle.std.specs.Prelude.{vec_capacity}
 use Rattle.mw_words.specs.declared.replies.Reply.{Reply}
 use Rattle.mw_plain.specs.declared.plain.Plain.{Plain}
-use Rattle.mw_plain.specs.Running.{AreTasks, AskedAll}
+use Rattle.mw_plain.specs.Tasks.{AreTasks, AskedAll}
 use Rattle.mw_plain.proofs.plain.Plain.run.Given as goal
 
--- the tasks that are left are well formed; asked behind those so far they are all; there is room for their replies
+-- the tasks that are left are well formed; asked after those so far they are all; there is room for their replies
 abbrev pub invariant-loop-task : goal.invariant-loop-task
 invariant-loop-task g l = record {
   formed : AreTasks l.self (drop l.task-index l.tasks);

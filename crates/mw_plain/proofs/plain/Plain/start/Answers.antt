@@ -1,3 +1,4 @@
+-- Answers to goals of Plain::start (src/tenants.rt). They may change freely as long as the crate checks.
 use Rattle.std.proofs.Common.{refl, ap}
 use Rattle.mw_plain.proofs.Serves.{start_of, serves_one, part_here, starts_here}
 use Rattle.mw_plain.proofs.plain.Plain.start.Goals as goal

@@ -1,5 +1,6 @@
+-- Answers to goals of Plain::used (src/tenants.rt). They may change freely as long as the crate checks.
 use Rattle.std.proofs.Common.{arith}
-use Rattle.mw_plain.proofs.Counting.{used_first}
+use Rattle.mw_plain.proofs.UsedSlots.{used_first}
 use Rattle.mw_plain.proofs.plain.Plain.used.Goals as goal
 
 pub overflow_add-used : goal.overflow_add-used

@@ -1,3 +1,4 @@
+-- The invariants of the loops of Plain::used (src/tenants.rt). They may change freely as long as the crate checks.
 use Rattle.std.proofs.Common.{◌≡◌, take}
 use Rattle.mw_plain.specs.Quotas.{used_by}
 use Rattle.mw_plain.proofs.plain.Plain.used.Given as goal

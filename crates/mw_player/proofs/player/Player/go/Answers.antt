@@ -1,6 +1,6 @@
 use Rattle.std.proofs.Common.{refl, Err}
-use Rattle.mw_player.specs.Playing.{AreTurns}
-use Rattle.mw_player.proofs.GoingOn.{plays_call, plays_nothing, plays_step}
+use Rattle.mw_player.specs.PlayerSteps.{AreTurns}
+use Rattle.mw_player.proofs.PlayerStepLaws.{plays_call, plays_nothing, plays_step}
 use Rattle.mw_player.proofs.player.Player.go.Goals as goal
 
 pub returns-in-Ok-File-clause-plays : goal.returns-in-Ok-File-clause-plays

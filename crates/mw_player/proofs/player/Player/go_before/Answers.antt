@@ -1,7 +1,7 @@
 use Rattle.std.proofs.Common.{Ok, Err}
-use Rattle.mw_player.specs.declared.player.Halt.TheVariants.{DidNotArrive}
-use Rattle.mw_player.specs.Playing.{AreTurns}
-use Rattle.mw_player.proofs.GoingOn.{is_same, plays_ends, plays_nothing, plays_turns, same_then}
+use Rattle.mw_player.specs.declared.player.PlayFault.TheVariants.{DidNotArrive}
+use Rattle.mw_player.specs.PlayerSteps.{AreTurns}
+use Rattle.mw_player.proofs.PlayerStepLaws.{is_same, plays_ends, plays_nothing, plays_turns, same_then}
 use Rattle.mw_player.proofs.player.Player.go_before.Goals as goal
 
 pub loop-init : goal.loop-init

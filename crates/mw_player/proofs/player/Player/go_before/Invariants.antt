@@ -1,8 +1,8 @@
 use Rattle.std.proofs.Common.{Ok}
-use Rattle.mw_player.specs.Playing.{AreTurns, IsSame, Plays}
+use Rattle.mw_player.specs.PlayerSteps.{AreTurns, IsSame, Plays}
 use Rattle.mw_player.proofs.player.Player.go_before.Given as goal
 
--- the worker has made turns, and nothing else has happened
+-- the worker has made steps, and nothing else has happened
 abbrev pub invariant-loop : goal.invariant-loop
 invariant-loop g l = record {
   same : IsSame l.initial.self l.self;

@@ -1,4 +1,4 @@
-use Rattle.mw_player.proofs.GoingOn.{plays_turns}
+use Rattle.mw_player.proofs.PlayerStepLaws.{plays_turns}
 use Rattle.mw_player.proofs.player.Player.go_to.Goals as goal
 
 pub returns-in-Ok-clause-plays : goal.returns-in-Ok-clause-plays

@@ -1,6 +1,6 @@
 use Rattle.mw_schedule.specs.declared.schedule.Command.TheVariants.{End}
-use Rattle.mw_player.specs.Playing.{AreTurns, Obeys}
-use Rattle.mw_player.proofs.GoingOn.{plays_ended, plays_halts}
+use Rattle.mw_player.specs.PlayerSteps.{AreTurns, Obeys}
+use Rattle.mw_player.proofs.PlayerStepLaws.{plays_ended, plays_halts}
 use Rattle.mw_player.proofs.player.Player.go_to_end.Goals as goal
 
 pub returns-in-Ok-clause-plays : goal.returns-in-Ok-clause-plays

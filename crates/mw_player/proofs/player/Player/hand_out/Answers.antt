@@ -1,6 +1,6 @@
 use Rattle.std.proofs.Common.{◌≡◌, ◌∷◌, [], Err}
 use Rattle.mw_world.specs.declared.events.Event.TheVariants.{Hand}
-use Rattle.mw_player.proofs.GoingOn.{plays_nothing}
+use Rattle.mw_player.proofs.PlayerStepLaws.{plays_nothing}
 use Rattle.mw_player.proofs.player.Player.hand_out.Goals as goal
 
 pub returns-in-Err-clause-plays : goal.returns-in-Err-clause-plays

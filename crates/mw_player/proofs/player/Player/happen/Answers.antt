@@ -1,5 +1,5 @@
 use Rattle.std.proofs.Common.{◌≡◌, ◌∷◌, [], Err}
-use Rattle.mw_player.proofs.GoingOn.{goes_nowhere, goes_once}
+use Rattle.mw_player.proofs.PlayerStepLaws.{goes_nowhere, goes_once}
 use Rattle.mw_player.proofs.player.Player.happen.Goals as goal
 
 pub returns-in-Ok-clause-plays : goal.returns-in-Ok-clause-plays

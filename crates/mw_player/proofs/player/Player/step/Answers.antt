@@ -1,7 +1,7 @@
 use Rattle.std.proofs.Common.{◌≡◌, ◌∷◌, [], Err}
 use Rattle.mw_world.specs.declared.events.Event.TheVariants.{Step}
-use Rattle.mw_player.specs.declared.player.Halt.TheVariants.{Memory}
-use Rattle.mw_player.proofs.GoingOn.{plays_nothing}
+use Rattle.mw_player.specs.declared.player.PlayFault.TheVariants.{Memory}
+use Rattle.mw_player.proofs.PlayerStepLaws.{plays_nothing}
 use Rattle.mw_player.proofs.player.Player.step.Goals as goal
 
 pub returns-in-Err-clause-plays : goal.returns-in-Err-clause-plays

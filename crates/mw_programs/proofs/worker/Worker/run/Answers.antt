@@ -1,7 +1,7 @@
 use Rattle.mw_programs.specs.Served.{Answers}
 use Rattle.mw_programs.specs.declared.worker.Worker.{Worker}
 use Rattle.mw_programs.proofs.Sessions.{part_goes, told_otherwise}
-use Rattle.mw_session.specs.Through.{GoesThrough}
+use Rattle.mw_session.specs.Transitions.{GoesThrough}
 use Rattle.mw_programs.proofs.worker.Worker.run.Goals as goal
 
 pub returns : goal.returns

@@ -1,3 +1,4 @@
+-- The invariants of the loops of FormedFile::are_apart (src/formed.rt). They may change freely as long as the crate checks.
 use Rattle.std.proofs.Common.{◌≡◌, true}
 use Rattle.mw_record.specs.Records as spec
 use Rattle.mw_record.proofs.formed.FormedFile.are_apart.Given as goal

@@ -1,8 +1,9 @@
+-- Answers to goals of FormedFile::homes_fit (src/formed.rt). They may change freely as long as the crate checks.
 use Rattle.std.proofs.Common.{◌||◌, nat_le, sym, ap, ◌∙◌}
 use Rattle.std.proofs.lemmas.Bool.{or_from, lt-leb}
 use Rattle.mw_words.specs.declared.limits.TheConstants.{MAX_VALUE}
 use Rattle.mw_record.specs.Records.{record_at, home, is_covered}
-use Rattle.mw_record.proofs.Below.{each_fails}
+use Rattle.mw_record.proofs.TestsBelow.{each_fails}
 use Rattle.mw_record.proofs.formed.FormedFile.homes_fit.Goals as goal
 
 pub returns-then-not-is_covered : goal.returns-then-not-is_covered

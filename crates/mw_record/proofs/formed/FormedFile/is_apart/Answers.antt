@@ -1,3 +1,4 @@
+-- Answers to goals of FormedFile::is_apart (src/formed.rt). They may change freely as long as the crate checks.
 use Rattle.std.proofs.Common.{◌+◌, ◌&&◌, not, Bool, drop, sym, ap, ◌∙◌}
 use Rattle.mw_record.specs.Records.{Pairs, record_at, is_apart}
 use Rattle.mw_record.proofs.Turns.{turn}

@@ -1,6 +1,7 @@
+-- Answers to goals of FormedFile::is_covered (src/formed.rt). They may change freely as long as the crate checks.
 use Rattle.std.proofs.Common.{sym, ap, ◌∙◌}
 use Rattle.mw_record.specs.Records.{record_at}
-use Rattle.mw_record.proofs.Below.{has, covered_at}
+use Rattle.mw_record.proofs.TestsBelow.{has, covered_at}
 use Rattle.mw_record.proofs.formed.FormedFile.is_covered.Goals as goal
 
 pub returns-in-loop-place : goal.returns-in-loop-place

@@ -1,7 +1,8 @@
+-- The invariants of the loops of FormedFile::is_covered (src/formed.rt). They may change freely as long as the crate checks.
 use Rattle.std.proofs.Common.{◌≡◌, false}
 use Rattle.mw_record.specs.Records as spec
 use Rattle.mw_record.proofs.formed.FormedFile.is_covered.Given as goal
 
--- the places so far do not have the address
+-- no record of the places so far has the address
 abbrev pub invariant-loop-place : goal.invariant-loop-place
 invariant-loop-place l = spec.is_covered (spec.record_at l.self.layout l.self.bytes.now l.self.words) l.place l.addr ≡ false

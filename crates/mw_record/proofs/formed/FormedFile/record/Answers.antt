@@ -1,7 +1,8 @@
+-- Answers to goals of FormedFile::record (src/formed.rt). They may change freely as long as the crate checks.
 use Rattle.std.proofs.Common.{Some, ap, sym, ◌∙◌, arith}
 use Rattle.mw_record.specs.Records.{record_at, body_at}
-use Rattle.mw_record.proofs.Reading.{record_open, record_shut, length_body}
-use Rattle.mw_record.proofs.Below.{few_entries, formed_at}
+use Rattle.mw_record.proofs.ReadBytes.{record_open, record_shut, length_body}
+use Rattle.mw_record.proofs.TestsBelow.{few_entries, formed_at}
 use Rattle.mw_record.proofs.formed.FormedFile.record.Goals as goal
 
 pub new-requires-clause-few : goal.new-requires-clause-few

@@ -1,7 +1,8 @@
+-- Answers to goals of FormedFile::records_fit (src/formed.rt). They may change freely as long as the crate checks.
 use Rattle.std.proofs.Common.{true, sym, ap, ◌∙◌}
 use Rattle.std.specs.Option.{option_map_or}
 use Rattle.mw_record.specs.Records.{record_at, has_values}
-use Rattle.mw_record.proofs.Below.{each_fails}
+use Rattle.mw_record.proofs.TestsBelow.{each_fails}
 use Rattle.mw_record.proofs.formed.FormedFile.records_fit.Goals as goal
 
 pub returns-in-loop-place : goal.returns-in-loop-place

@@ -1,3 +1,4 @@
+-- The invariants of the loops of FormedFile::word (src/formed.rt). They may change freely as long as the crate checks.
 use Rattle.std.proofs.Common.{◌≡◌}
 use Rattle.mw_record.specs.Records as spec
 use Rattle.mw_record.proofs.formed.FormedFile.word.Given as goal

@@ -1,3 +1,4 @@
+-- Answers to goals of Image::at (src/images.rt). They may change freely as long as the crate checks.
 use Rattle.std.proofs.Common.{arith}
 use Rattle.mw_record.proofs.Undamaged.{at_fits}
 use Rattle.mw_record.proofs.images.Image.at.Goals as goal

@@ -1,7 +1,8 @@
+-- Answers to goals of Image::count (src/images.rt). They may change freely as long as the crate checks.
 use Rattle.std.proofs.Common.{◌≡◌, ◌<◌, ap, sym, ◌∙◌, arith}
 use Rattle.mw_record.specs.Records.{record_at}
 use Rattle.mw_record.specs.Damages.{found_places}
-use Rattle.mw_record.proofs.Below.{few_entries, some_entries, formed_at}
+use Rattle.mw_record.proofs.TestsBelow.{few_entries, some_entries, formed_at}
 use Rattle.mw_record.proofs.Layouts.{most_entries_fit}
 use Rattle.mw_record.proofs.images.Image.count.Goals as goal
 

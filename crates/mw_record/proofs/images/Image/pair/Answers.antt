@@ -1,8 +1,9 @@
+-- Answers to goals of Image::pair (src/images.rt). They may change freely as long as the crate checks.
 use Rattle.std.proofs.Common.{◌≡◌, ◌<◌, ap, sym, ◌∙◌, arith}
 use Rattle.mw_record.specs.Records.{record_at}
 use Rattle.mw_record.specs.Damages.{found_places}
 use Rattle.mw_record.proofs.Undamaged.{sizes}
-use Rattle.mw_record.proofs.Below.{address_below, formed_at}
+use Rattle.mw_record.proofs.TestsBelow.{address_below, formed_at}
 use Rattle.mw_record.proofs.images.Image.pair.Goals as goal
 
 pub overflow_cast-result : goal.overflow_cast-result

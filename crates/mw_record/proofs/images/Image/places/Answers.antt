@@ -1,3 +1,4 @@
+-- Answers to goals of Image::places (src/images.rt). They may change freely as long as the crate checks.
 use Rattle.std.proofs.Common.{ap, arith}
 use Rattle.mw_record.specs.Layout.{most_places}
 use Rattle.mw_record.specs.Damages.{layout_of}

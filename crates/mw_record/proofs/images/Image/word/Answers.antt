@@ -1,3 +1,4 @@
+-- Answers to goals of Image::word (src/images.rt). They may change freely as long as the crate checks.
 use Rattle.std.proofs.Common.{Some, ap, sym, ◌∙◌}
 use Rattle.mw_record.proofs.Undamaged.{read_word}
 use Rattle.mw_record.proofs.images.Image.word.Goals as goal

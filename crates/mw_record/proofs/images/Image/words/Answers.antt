@@ -1,3 +1,4 @@
+-- Answers to goals of Image::words (src/images.rt). They may change freely as long as the crate checks.
 use Rattle.std.proofs.Common.{arith}
 use Rattle.mw_record.proofs.Undamaged.{sizes}
 use Rattle.mw_record.proofs.images.Image.words.Goals as goal

@@ -1,8 +1,9 @@
+-- Answers to goals of Record::entry (src/records.rt). They may change freely as long as the crate checks.
 use Rattle.std.proofs.Common.{◌≡◌, ℕ, ◌+◌, ◌*◌, ◌<◌, Some, slice_get, ap, ◌∙◌, sym, length, arith, zero-add}
 use Rattle.std.proofs.lemmas.Option.{slice_get-get_or}
 use Rattle.mw_record.specs.Layout.{number_at}
 use Rattle.mw_record.specs.Records.{pairs_at}
-use Rattle.mw_record.proofs.Reading.{length_pairs, pair_at}
+use Rattle.mw_record.proofs.ReadBytes.{length_pairs, pair_at}
 use Rattle.mw_record.proofs.records.Record.entry.Goals as goal
 
 -- the two numbers of an entry

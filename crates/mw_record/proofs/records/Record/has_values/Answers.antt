@@ -1,3 +1,4 @@
+-- Answers to goals of Record::has_values (src/records.rt). They may change freely as long as the crate checks.
 use Rattle.std.proofs.Common.{◌≡◌, ◌+◌, ◌&&◌, true, false, nat_le, drop, sym, ap, ◌∙◌}
 use Rattle.std.proofs.lemmas.Bool.{le-leb, lt-leb}
 use Rattle.mw_words.specs.declared.limits.TheConstants.{MAX_VALUE}

@@ -1,3 +1,4 @@
+-- Answers to goals of Record::holds (src/records.rt). They may change freely as long as the crate checks.
 use Rattle.std.proofs.Common.{◌≡◌, ◌+◌, ◌==◌, ◌||◌, true, false, drop, sym, ap, ◌∙◌}
 use Rattle.std.proofs.lemmas.Bool.{eq-eqb, ne_eqb}
 use Rattle.mw_record.specs.Records.{Pairs, holds}

@@ -1,7 +1,8 @@
+-- The invariants of the loops of Record::holds (src/records.rt). They may change freely as long as the crate checks.
 use Rattle.std.proofs.Common.{◌≡◌, drop}
 use Rattle.mw_record.specs.Records as spec
 use Rattle.mw_record.proofs.records.Record.holds.Given as goal
 
--- what is left decides as the whole record does
+-- the rest of the record passes the test exactly if the whole record passes it
 abbrev pub invariant-loop-i : goal.invariant-loop-i
 invariant-loop-i l = spec.holds (drop l.i l.self) l.addr ≡ spec.holds l.self l.addr

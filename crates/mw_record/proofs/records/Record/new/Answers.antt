@@ -1,6 +1,7 @@
+-- Answers to goals of Record::new (src/records.rt). They may change freely as long as the crate checks.
 use Rattle.std.proofs.Common.{ℕ, ◌+◌, ◌-◌, length, slice_index, arith}
 use Rattle.mw_record.specs.Records.{body_at}
-use Rattle.mw_record.proofs.Reading.{pairs_in_part}
+use Rattle.mw_record.proofs.ReadBytes.{pairs_in_part}
 use Rattle.mw_record.proofs.records.Record.new.Goals as goal
 
 -- the entries in the part of the bytes that is kept are those of the place

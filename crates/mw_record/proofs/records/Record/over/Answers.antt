@@ -1,3 +1,4 @@
+-- Answers to goals of Record::over (src/records.rt). They may change freely as long as the crate checks.
 use Rattle.std.proofs.Common.{◌≡◌, ◌+◌, ◌==◌, if◌then◌else◌, drop, sym, ap, ◌∙◌, arith}
 use Rattle.std.proofs.lemmas.Bool.{eq-eqb, ne_eqb}
 use Rattle.mw_record.specs.Records.{Pairs, over}

@@ -1,3 +1,4 @@
+-- Answers to goals of Record::rises_below (src/records.rt). They may change freely as long as the crate checks.
 use Rattle.std.proofs.Common.{◌≡◌, ◌+◌, ◌&&◌, ℕ, Bool, false, nat_le, nat_lt, drop, sym, ap, ◌∙◌, arith}
 use Rattle.std.proofs.lemmas.Bool.{le-leb, lt-leb, lt-ltb, le-ltb}
 use Rattle.mw_record.specs.Records.{Pairs, rises_below}

@@ -1,7 +1,8 @@
+-- The invariants of the loops of Record::rises_below (src/records.rt). They may change freely as long as the crate checks.
 use Rattle.std.proofs.Common.{◌≡◌, drop}
 use Rattle.mw_record.specs.Records as spec
 use Rattle.mw_record.proofs.records.Record.rises_below.Given as goal
 
--- what is left rises from here on exactly where the whole record rises
+-- the rest of the record rises from here on exactly if the whole record rises
 abbrev pub invariant-loop-i : goal.invariant-loop-i
 invariant-loop-i l = spec.rises_below l.words l.lowest (drop l.i l.self) ≡ spec.rises_below l.words 0 l.self

@@ -1,8 +1,9 @@
+-- Answers to goals of Session::answer (src/session.rt). They may change freely as long as the crate checks.
 use Rattle.std.proofs.Common.{sym, subst, ◌∙◌}
-use Rattle.mw_session.specs.Parts.{Performs}
-use Rattle.mw_session.specs.Serving.{AreAnswered}
-use Rattle.mw_session.proofs.Judging.{wrote_all}
-use Rattle.mw_session.proofs.Turning.{line_breaks, line_ends, line_goes_on}
+use Rattle.mw_session.specs.SessionParts.{Performs}
+use Rattle.mw_session.specs.ServiceCalls.{AreAnswered}
+use Rattle.mw_session.proofs.LineJudgments.{wrote_all}
+use Rattle.mw_session.proofs.AnsweredLines.{line_breaks, line_ends, line_goes_on}
 use Rattle.mw_session.proofs.session.Session.answer.Goals as goal
 
 pub returns-then-is_err-clause-turned : goal.returns-then-is_err-clause-turned

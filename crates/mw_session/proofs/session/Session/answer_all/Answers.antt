@@ -1,9 +1,10 @@
+-- Answers to goals of Session::answer_all (src/session.rt). They may change freely as long as the crate checks.
 use Rattle.std.proofs.Common.{sym, subst, ◌∙◌, [], ◌∷◌, ◌++◌}
-use Rattle.mw_session.specs.Parts.{Gives}
-use Rattle.mw_session.specs.Serving.{AreAnswered}
-use Rattle.mw_session.proofs.Judging.{none_left, turned_ok}
-use Rattle.mw_session.proofs.Performing.{asked_nothing, asked_then}
-use Rattle.mw_session.proofs.Turning.{fewer_lines, gives_then, spoken_more, spoken_nothing, turned_then}
+use Rattle.mw_session.specs.SessionParts.{Gives}
+use Rattle.mw_session.specs.ServiceCalls.{AreAnswered}
+use Rattle.mw_session.proofs.LineJudgments.{none_left, turned_ok}
+use Rattle.mw_session.proofs.StepOutputs.{asked_nothing, asked_then}
+use Rattle.mw_session.proofs.AnsweredLines.{fewer_lines, gives_then, spoken_more, spoken_nothing, turned_then}
 use Rattle.mw_session.proofs.session.Session.answer_all.Goals as goal
 
 pub loop-line-init : goal.loop-line-init

@@ -1,7 +1,8 @@
+-- The invariants of the loops of Session::answer_all (src/session.rt). They may change freely as long as the crate checks.
 use Rattle.std.proofs.Common.{length}
 use Rattle.mw_frame.specs.Stream.{lines_of}
-use Rattle.mw_session.specs.Parts.{Spoken}
-use Rattle.mw_session.specs.Serving.{AreAnswered, IsServed}
+use Rattle.mw_session.specs.SessionParts.{Spoken}
+use Rattle.mw_session.specs.ServiceCalls.{AreAnswered, IsServed}
 use Rattle.mw_session.proofs.session.Session.answer_all.Given as goal
 
 -- the lines so far were answered

@@ -1,10 +1,11 @@
+-- Answers to goals of Session::run (src/session.rt). They may change freely as long as the crate checks.
 use Rattle.std.proofs.Common.{sym, subst, ◌∙◌, take, arith}
 use Rattle.mw_frame.specs.Stream.{fed}
-use Rattle.mw_session.specs.Parts.{Gives}
-use Rattle.mw_session.specs.Serving.{AreAnswered}
-use Rattle.mw_session.proofs.Judging.{on_ok, read_end, read_some}
-use Rattle.mw_session.proofs.Performing.{asked_nothing, asked_then}
-use Rattle.mw_session.proofs.Ending.{holds_nothing, starts, holds_peer_end, holds_read_fault, holds_memory, last_lines, more_lines}
+use Rattle.mw_session.specs.SessionParts.{Gives}
+use Rattle.mw_session.specs.ServiceCalls.{AreAnswered}
+use Rattle.mw_session.proofs.LineJudgments.{on_ok, read_end, read_some}
+use Rattle.mw_session.proofs.StepOutputs.{asked_nothing, asked_then}
+use Rattle.mw_session.proofs.SessionEnds.{holds_nothing, starts, holds_peer_end, holds_read_fault, holds_memory, last_lines, more_lines}
 use Rattle.mw_session.proofs.session.Session.run.Goals as goal
 
 pub returns-in_default : goal.returns-in_default

@@ -1,4 +1,5 @@
-use Rattle.mw_session.specs.Serving.{AreAnswered, IsServed}
+-- The invariants of the loops of Session::run (src/session.rt). They may change freely as long as the crate checks.
+use Rattle.mw_session.specs.ServiceCalls.{AreAnswered, IsServed}
 use Rattle.mw_session.specs.UnderWay.{UnderWay}
 use Rattle.mw_session.proofs.session.Session.run.Given as goal
 

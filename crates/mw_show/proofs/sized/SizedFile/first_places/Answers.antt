@@ -3,7 +3,7 @@ use Rattle.std.proofs.lemmas.List.{take_all}
 use Rattle.mw_record.specs.Layout.{header}
 use Rattle.mw_show.proofs.sized.SizedFile.first_places.Goals as goal
 
--- the bytes before the layout, its head, and what stands behind that
+-- the bytes before the layout, its head, and the bytes after that
 pub returns : goal.returns
 returns c =
     let file = c.args.self.now in

@@ -5,8 +5,8 @@ use Rattle.mw_simulator.proofs.world.World.all_reopened.Given as goal
 
 abbrev pub invariant-loop-tenant : goal.invariant-loop-tenant
 invariant-loop-tenant l = record {
-  count : length l.accounts.items ≡ l.tenant;
-  each : AreReopening l.self l.stops l.accounts.items;
-  lines : EachHasRoom l.self.accounts.items l.accounts.items;
-  sound : AreSound l.self.config l.accounts.items;
+  count : length l.tenant_states.items ≡ l.tenant;
+  each : AreReopening l.self l.stops l.tenant_states.items;
+  lines : EachHasRoom l.self.tenant_states.items l.tenant_states.items;
+  sound : AreSound l.self.config l.tenant_states.items;
 }

@@ -1,11 +1,11 @@
--- The request is told how its call ended.
+-- The request learns how its call ended.
 use Rattle.std.proofs.Common.{ap, sym, subst, ◌∙◌, Some}
 use Rattle.mw_world.specs.Definition.Calls.{called_at, calling}
 use Rattle.mw_world.specs.Definition.Extent.{has_slot}
-use Rattle.mw_simulator.specs.Ending.{Closed, called_of}
-use Rattle.mw_simulator.specs.Staying.{IsUnchanged}
-use Rattle.mw_simulator.specs.Stepping.{HasRoom}
-use Rattle.mw_simulator.proofs.Calling.{call_ends_well, has_status, room_if, status_is_so}
+use Rattle.mw_simulator.specs.CallEnds.{Closed, called_of}
+use Rattle.mw_simulator.specs.UnchangedParts.{IsUnchanged}
+use Rattle.mw_simulator.specs.StepParts.{HasRoom}
+use Rattle.mw_simulator.proofs.CallEndLaws.{call_ends_well, has_status, room_if, status_is_so}
 use Rattle.mw_simulator.proofs.Crashes.{call_safe}
 use Rattle.mw_simulator.proofs.Unchanged.{unchanged_books}
 use Rattle.mw_simulator.proofs.world.World.call.Goals as goal
@@ -13,7 +13,7 @@ use Rattle.mw_simulator.proofs.world.World.call.Goals as goal
 pub tell_file-requires-clause-room : goal.tell_file-requires-clause-room
 tell_file-requires-clause-room c =
     c.end.ensures.rest.room c.in-Some.actor.tenant
-    (subst (λ t. HasRoom c.reserve.new.self.claims c.reserve.new.self.accounts.items t) c.tenant.ensures
+    (subst (λ t. HasRoom c.reserve.new.self.claims c.reserve.new.self.tenant_states.items t) c.tenant.ensures
     (room_if c.reserve.result _ c.reserve.ensures.room (sym c.is_err.ensures.value ∙ c.if-is_err.false)))
 
 pub returns-in-Ok-clause-ends : goal.returns-in-Ok-clause-ends
@@ -27,7 +27,7 @@ returns-in-Ok-clause-ends c state shows =
     let same = status_is_so (has_slot config called.change.slot) (state.cells.statuses called.change.slot) status slot in
     let closed = subst (λ config. Closed c.end.new.self state actor.tenant (calling config state actor called c.args.outcome) c.in-Ok.ended) c.reserve.ensures.config
     (c.in-Ok.ensures.ends state (c.reserve.ensures.shows state shows) same) in
-    call_ends_well config state c.args.worker actor (state.seats c.args.worker).actor called status c.args.outcome (c.in-Some.ensures.shown state shows) at slot
+    call_ends_well config state c.args.worker actor (state.worker_states c.args.worker).actor called status c.args.outcome (c.in-Some.ensures.shown state shows) at slot
     c.end.new.self c.tell_file.new.self c.in-Ok.ended closed (λ s shown. c.tell_file.ensures.shows s shown)
 
 pub returns-in-Ok-clause-moments : goal.returns-in-Ok-clause-moments

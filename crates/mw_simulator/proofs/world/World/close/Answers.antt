@@ -1,6 +1,6 @@
 -- After a call that went well the slot has its next status.
 use Rattle.std.proofs.Common.{refl}
-use Rattle.mw_simulator.proofs.Calling.{closes_well}
+use Rattle.mw_simulator.proofs.CallEndLaws.{closes_well}
 use Rattle.mw_simulator.proofs.world.World.close.Goals as goal
 
 pub returns-in-Good-clause-shows : goal.returns-in-Good-clause-shows

@@ -1,6 +1,6 @@
--- Making room leaves the tenants' files as they are.
+-- Making room leaves the tenants' files unchanged.
 use Rattle.std.proofs.Common.{sym, ◌∙◌}
-use Rattle.mw_simulator.proofs.Calling.{room_if}
+use Rattle.mw_simulator.proofs.CallEndLaws.{room_if}
 use Rattle.mw_simulator.proofs.Unchanged.{unchanged_books}
 use Rattle.mw_simulator.proofs.world.World.come.Goals as goal
 

@@ -1,12 +1,12 @@
 use Rattle.std.specs.Prelude.{◌≡◌, false, true, length, Some}
 use Rattle.std.proofs.Common.{ap, subst, sym, ◌∙◌}
-use Rattle.mw_actor.specs.Acting.{entries_of_job, own_entries}
+use Rattle.mw_actor.specs.ActorState.{entries_of_job, own_entries}
 use Rattle.mw_world_file.specs.declared.cut.Cut.{Cut}
 use Rattle.mw_world.specs.Definition.Calls.{Called, is_formed, starts_from}
 use Rattle.mw_world.specs.Definition.Extent.{has_slot}
-use Rattle.mw_simulator.specs.Ending.{called_of}
+use Rattle.mw_simulator.specs.CallEnds.{called_of}
 use Rattle.mw_simulator.specs.Stops.{IsCut}
-use Rattle.mw_simulator.proofs.Halting.{cut_is, in_slot, not_formed}
+use Rattle.mw_simulator.proofs.CallsAtStop.{cut_is, in_slot, not_formed}
 use Rattle.mw_simulator.proofs.world.World.cut.Goals as goal
 
 pub returns-then-not-is_formed-clause-shown : goal.returns-then-not-is_formed-clause-shown
@@ -15,8 +15,8 @@ returns-then-not-is_formed-clause-shown c state shows =
     let actor = c.args.actor.now in
     let made = c.args.made in
     let called : Called = called_of c.args.called in
-    let file = (state.accounts actor.tenant).file in
-    let same = (shows.accounts actor.tenant c.args.account.now c.requires.there).book.same_contents in
+    let file = (state.tenant_states actor.tenant).file in
+    let same = (shows.tenant_states actor.tenant c.args.tenant_state.now c.requires.there).book.same_contents in
     let long : length file.contents ≡ c.words.result = ap length same ∙ sym c.words.ensures in
     let own = c.entries_of-entries.ensures ∙ ap entries_of_job c.job.ensures in
     let formed : is_formed called.call file (own_entries actor) ≡ false =
@@ -31,8 +31,8 @@ returns-clause-shown c state shows =
     let called : Called = called_of c.args.called in
     let slot = c.args.called.change.slot in
     let seq = c.args.called.change.seq in
-    let file = (state.accounts actor.tenant).file in
-    let same = (shows.accounts actor.tenant c.args.account.now c.requires.there).book.same_contents in
+    let file = (state.tenant_states actor.tenant).file in
+    let same = (shows.tenant_states actor.tenant c.args.tenant_state.now c.requires.there).book.same_contents in
     let long : length file.contents ≡ c.words.result = ap length same ∙ sym c.words.ensures in
     let own = c.entries_of-entries.ensures ∙ ap entries_of_job c.job.ensures in
     let formed : is_formed called.call file (own_entries actor) ≡ true =

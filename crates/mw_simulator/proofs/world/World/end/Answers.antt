@@ -1,10 +1,10 @@
 -- A call does nothing, or fails on a file that failed before, or is made.
 use Rattle.std.proofs.Common.{ap, inl, inr, refl, sym, subst, ◌∙◌}
-use Rattle.mw_simulator.specs.Ending.{called_of, faulted}
-use Rattle.mw_simulator.specs.Shows.{Shows}
-use Rattle.mw_simulator.specs.Stepping.{with_cells}
+use Rattle.mw_simulator.specs.CallEnds.{called_of, faulted}
+use Rattle.mw_simulator.specs.Representation.{Represents}
+use Rattle.mw_simulator.specs.StepParts.{with_cells}
 use Rattle.mw_simulator.proofs.Crashes.{on_any, on_ok}
-use Rattle.mw_simulator.proofs.Calling.{call_refuses, call_skips, found_at, same_found, shown_at}
+use Rattle.mw_simulator.proofs.CallEndLaws.{call_refuses, call_skips, found_at, same_found, shown_at}
 use Rattle.mw_simulator.proofs.world.World.end.Goals as goal
 
 pub returns-then-not-starts_from-clause-ends : goal.returns-then-not-starts_from-clause-ends
@@ -17,15 +17,15 @@ returns-then-fails_on-clause-ends c state shows same =
     let actor = c.args.actor.now in
     let one = shown_at c.args.self.now state c.from.result actor.tenant c.index.result.now shows (c.from.ensures ∙ c.tenant.ensures) c.requires.tenant c.index.ensures in
     call_refuses c.args.self.now.config state actor (called_of c.args.called) c.args.status c.args.outcome same c.args.self.now c.refuse.new.self c.refuse.result
-    (sym c.starts_from.ensures ∙ c.if-not-starts_from.false) (sym (c.fails_on.ensures.is (state.accounts actor.tenant).file (one.book.same_failed ∙ sym c.has_failed.ensures)) ∙ c.if-fails_on.true) c.refuse.ensures.is
-    (λ good. subst (λ t. Shows c.refuse.new.self (with_cells state (faulted state.cells t))) c.tenant-then-fails_on.ensures (c.refuse.ensures.good good state shows))
-    (λ bad. subst (λ w. Shows w state) (sym (c.refuse.ensures.other bad)) shows)
+    (sym c.starts_from.ensures ∙ c.if-not-starts_from.false) (sym (c.fails_on.ensures.is (state.tenant_states actor.tenant).file (one.book.same_failed ∙ sym c.has_failed.ensures)) ∙ c.if-fails_on.true) c.refuse.ensures.is
+    (λ good. subst (λ t. Represents c.refuse.new.self (with_cells state (faulted state.cells t))) c.tenant-then-fails_on.ensures (c.refuse.ensures.good good state shows))
+    (λ bad. subst (λ w. Represents w state) (sym (c.refuse.ensures.other bad)) shows)
 
 pub work-requires-clause-sound : goal.work-requires-clause-sound
-work-requires-clause-sound c other account is =
+work-requires-clause-sound c other tenant_state is =
     ap (λ shown. shown.book.has_failed)
-    (same_found c.args.self.now.accounts.items c.args.actor.now.tenant account c.index.result.now is
-    (found_at c.args.self.now.accounts.items c.from.result c.args.actor.now.tenant c.index.result.now (c.from.ensures ∙ c.tenant.ensures) c.requires.tenant c.index.ensures))
+    (same_found c.args.self.now.tenant_states.items c.args.actor.now.tenant tenant_state c.index.result.now is
+    (found_at c.args.self.now.tenant_states.items c.from.result c.args.actor.now.tenant c.index.result.now (c.from.ensures ∙ c.tenant.ensures) c.requires.tenant c.index.ensures))
     ∙ sym c.has_failed.ensures ∙ c.fails_on.ensures.unless c.if-fails_on.false other
 
 pub returns-clause-ends : goal.returns-clause-ends
@@ -33,7 +33,7 @@ returns-clause-ends c state shows same =
     let actor = c.args.actor.now in
     let one = shown_at c.args.self.now state c.from.result actor.tenant c.index.result.now shows (c.from.ensures ∙ c.tenant.ensures) c.requires.tenant c.index.ensures in
     c.work.ensures.ends state shows same (sym c.starts_from.ensures ∙ c.if-not-starts_from.false)
-    (sym (c.fails_on.ensures.is (state.accounts actor.tenant).file (one.book.same_failed ∙ sym c.has_failed.ensures)) ∙ c.if-fails_on.false)
+    (sym (c.fails_on.ensures.is (state.tenant_states actor.tenant).file (one.book.same_failed ∙ sym c.has_failed.ensures)) ∙ c.if-fails_on.false)
 
 pub returns-then-not-starts_from-clause-moments : goal.returns-then-not-starts_from-clause-moments
 returns-then-not-starts_from-clause-moments c = on_any c.skipped.result (inl (λ tenant. refl))
@@ -49,6 +49,6 @@ returns-clause-moments c =
       starts = sym c.starts_from.ensures ∙ c.if-not-starts_from.false;
       sound = λ state shows.
           let one = shown_at c.args.self.now state c.from.result actor.tenant c.index.result.now shows (c.from.ensures ∙ c.tenant.ensures) c.requires.tenant c.index.ensures in
-          sym (c.fails_on.ensures.is (state.accounts actor.tenant).file (one.book.same_failed ∙ sym c.has_failed.ensures)) ∙ c.if-fails_on.false;
+          sym (c.fails_on.ensures.is (state.tenant_states actor.tenant).file (one.book.same_failed ∙ sym c.has_failed.ensures)) ∙ c.if-fails_on.false;
       worked = worked;
     })) c.work.ensures.moments

@@ -1,7 +1,7 @@
--- The door of a tenant that is there gets the fault.
+-- The door of an existing tenant gets the fault.
 use Rattle.std.proofs.Common.{refl, ◌<◌, arith}
 use Rattle.mw_world.specs.Definition.State.{tenants_of}
-use Rattle.mw_simulator.proofs.Calling.{faults}
+use Rattle.mw_simulator.proofs.CallEndLaws.{faults}
 use Rattle.mw_simulator.proofs.world.World.fault.Goals as goal
 
 pub returns-clause-shows : goal.returns-clause-shows

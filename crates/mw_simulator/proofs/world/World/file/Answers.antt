@@ -3,7 +3,7 @@ use Rattle.std.proofs.Common.{arith, length, refl, subst, sym, ◌<◌, ◌∙�
 use Rattle.std.proofs.lemmas.List.{length-set}
 use Rattle.mw_world_file.specs.SoundBooks.{HasSound}
 use Rattle.mw_world.specs.Definition.State.{tenant_at}
-use Rattle.mw_simulator.proofs.Calling.{refiled}
+use Rattle.mw_simulator.proofs.CallEndLaws.{refiled}
 use Rattle.mw_simulator.proofs.SoundBooks.{sound_set}
 use Rattle.mw_simulator.proofs.Unchanged.{book_here, books_kept_but}
 use Rattle.mw_simulator.proofs.world.World.file.Goals as goal
@@ -14,21 +14,21 @@ returns-clause-shows c state file shows of =
 
 pub returns-clause-is : goal.returns-clause-is
 returns-clause-is c =
-    book_here c.args.self.now.accounts.items c.from.result c.args.tenant (record c.index_mut.result.now { book = c.args.book }) c.from.ensures c.requires.tenant
+    book_here c.args.self.now.tenant_states.items c.from.result c.args.tenant (record c.index_mut.result.now { book = c.args.book }) c.from.ensures c.requires.tenant
 
 pub returns-clause-others : goal.returns-clause-others
-returns-clause-others c = books_kept_but c.args.self.now.accounts.items c.from.result c.args.tenant (record c.index_mut.result.now { book = c.args.book }) c.from.ensures
+returns-clause-others c = books_kept_but c.args.self.now.tenant_states.items c.from.result c.args.tenant (record c.index_mut.result.now { book = c.args.book }) c.from.ensures
 
 pub invariant_of-self : goal.invariant_of-self
 invariant_of-self c =
     let world = c.args.self.now in
-    let there : c.from.result < length world.accounts.items = omega (arith, c.from.ensures, c.requires.tenant) in
+    let there : c.from.result < length world.tenant_states.items = omega (arith, c.from.ensures, c.requires.tenant) in
     record {
       configured = world.configured;
       workers = world.workers;
-      tenants = length-set world.accounts.items c.from.result _ ∙ world.tenants;
+      tenants = length-set world.tenant_states.items c.from.result _ ∙ world.tenants;
       places = world.places;
       books =
-          sound_set world.config world.accounts.items c.from.result (record c.index_mut.result.now { book = c.args.book }) there
+          sound_set world.config world.tenant_states.items c.from.result (record c.index_mut.result.now { book = c.args.book }) there
           (subst (λ tenant. HasSound (tenant_at world.config tenant).words c.args.book) (sym c.from.ensures) c.requires.sound) world.books;
     }

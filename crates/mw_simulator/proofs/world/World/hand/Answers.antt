@@ -1,4 +1,4 @@
--- Making room leaves the tenants' files as they are.
+-- Making room leaves the tenants' files unchanged.
 use Rattle.std.proofs.Common.{◌∙◌}
 use Rattle.mw_simulator.proofs.Unchanged.{unchanged_books}
 use Rattle.mw_simulator.proofs.world.World.hand.Goals as goal

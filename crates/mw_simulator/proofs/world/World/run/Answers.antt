@@ -1,9 +1,9 @@
 use Rattle.std.proofs.Common.{refl, subst, ◌∙◌, take}
 use Rattle.std.proofs.lemmas.List.{take_all}
-use Rattle.mw_simulator.specs.Running.{AllStep, GoesOn}
-use Rattle.mw_simulator.proofs.GoingOn.{goes_nowhere, goes_on_more, one_event_more, one_step_more, event_read, stops_at}
-use Rattle.mw_simulator.proofs.Holding.{holds}
-use Rattle.mw_simulator.proofs.Serving.{serves}
+use Rattle.mw_simulator.specs.Events.{AllStep, GoesOn}
+use Rattle.mw_simulator.proofs.OneMoreEvent.{goes_nowhere, goes_on_more, one_event_more, one_step_more, event_read, stops_at}
+use Rattle.mw_simulator.proofs.InvariantLaws.{holds}
+use Rattle.mw_simulator.proofs.ServiceAloneLaws.{serves}
 use Rattle.mw_simulator.proofs.world.World.run.Goals as goal
 
 pub loop-index-init : goal.loop-index-init

@@ -1,8 +1,8 @@
--- The bits of a slot's status are those of what stands there.
+-- The bits of a slot's status are those of the status that the slot has.
 use Rattle.std.proofs.Common.{ap, ◌∙◌}
 use Rattle.std.specs.Option.{option_and_then}
 use Rattle.mw_words.specs.Patterns.{unpacked_status}
-use Rattle.mw_simulator.proofs.Calling.{status_at}
+use Rattle.mw_simulator.proofs.CallEndLaws.{status_at}
 use Rattle.mw_simulator.proofs.world.World.status.Goals as goal
 
 pub returns-in-Some-clause-shown : goal.returns-in-Some-clause-shown

@@ -1,7 +1,7 @@
--- What had happened, and this event, have happened.
-use Rattle.mw_simulator.proofs.GoingOn.{stands_after}
-use Rattle.mw_simulator.proofs.Holding.{holds}
-use Rattle.mw_simulator.proofs.Serving.{serves}
+-- The run so far, and this event after it, have happened.
+use Rattle.mw_simulator.proofs.OneMoreEvent.{stands_after}
+use Rattle.mw_simulator.proofs.InvariantLaws.{holds}
+use Rattle.mw_simulator.proofs.ServiceAloneLaws.{serves}
 use Rattle.mw_simulator.proofs.world.World.step.Goals as goal
 
 pub returns-clause-stands : goal.returns-clause-stands

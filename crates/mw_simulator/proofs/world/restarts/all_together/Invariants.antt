@@ -5,6 +5,6 @@ use Rattle.mw_simulator.proofs.world.restarts.all_together.Given as goal
 
 abbrev pub invariant-loop-tenant : goal.invariant-loop-tenant
 invariant-loop-tenant l = record {
-  sum : l.together ≡ quotas_together (quotas_in l.accounts l.stops) l.tenant;
+  sum : l.together ≡ quotas_together (quotas_in l.tenant_states l.stops) l.tenant;
   few : l.together ≤ 255 * l.tenant;
 }

@@ -1,5 +1,5 @@
 use Rattle.std.proofs.Common.{◌≡◌, drop}
-use Rattle.mw_simulator.specs.Running as spec
+use Rattle.mw_simulator.specs.Events as spec
 use Rattle.mw_simulator.proofs.world.restarts.are_named.Given as goal
 
 abbrev pub invariant-loop-index : goal.invariant-loop-index

@@ -1,5 +1,5 @@
 use Rattle.std.proofs.Common.{◌≡◌, drop}
-use Rattle.mw_simulator.specs.Running as spec
+use Rattle.mw_simulator.specs.Events as spec
 use Rattle.mw_simulator.proofs.world.restarts.stop_of.Given as goal
 
 abbrev pub invariant-loop-stop : goal.invariant-loop-stop

@@ -2,8 +2,8 @@ use Rattle.std.proofs.Common.{◌==◌, cond, ℕ, refl}
 use prog.Atomic.{either}
 use Rattle.mw_look.specs.declared.steps.Kind.TheVariants.{Plant as PlantKind}
 use Rattle.mw_look.specs.declared.steps.Op.TheVariants.{Change as ChangeBits}
-use Rattle.mw_look.specs.declared.news.Got.TheVariants.{Won as GotWon, Lost as GotLost}
-use Rattle.mw_table.proofs.Attempting.{attempt_asks}
+use Rattle.mw_look.specs.declared.observations.Got.TheVariants.{Won as GotWon, Lost as GotLost}
+use Rattle.mw_table.proofs.AttemptNumbers.{attempt_asks}
 use Rattle.mw_table.proofs.shared.Shared.attempt.Goals as goal
 
 pub compare_exchange-stood-requires : goal.compare_exchange-stood-requires

@@ -1,10 +1,10 @@
 use Rattle.std.proofs.Common.{◌==◌, ℕ, ap, ◌∙◌}
 use Rattle.mw_words.specs.declared.places.At.TheVariants.{Door as AtDoor}
-use Rattle.mw_look.specs.declared.news.Got.TheVariants.{Word as Found}
+use Rattle.mw_look.specs.declared.observations.Got.TheVariants.{Word as Found}
 use Rattle.mw_rule.specs.Layout.{index_of}
 use prog.Atomic.{either}
-use Rattle.mw_table.proofs.Numbering.{numbers_begin}
-use Rattle.mw_table.proofs.Asking.{first_asks, zero_for_zero}
+use Rattle.mw_table.proofs.StepsKeepNumbers.{numbers_begin}
+use Rattle.mw_table.proofs.StepRequirements.{first_asks, zero_for_zero}
 use Rattle.mw_table.proofs.shared.Shared.begin.Goals as goal
 
 pub compare_exchange_with-requires : goal.compare_exchange_with-requires

@@ -1,7 +1,7 @@
 use Rattle.std.proofs.Common.{refl}
-use Rattle.mw_rule.specs.Moves.{Looks}
-use Rattle.mw_rule.proofs.Moves.{moves_are_allowed}
-use Rattle.mw_table.proofs.Lending.{right_lives, so_of_world}
+use Rattle.mw_rule.specs.WordActions.{Looks}
+use Rattle.mw_rule.proofs.WordActionLaws.{moves_are_allowed}
+use Rattle.mw_table.proofs.TakenFiles.{right_lives, so_of_world}
 use Rattle.mw_table.proofs.Meetings.{some_word}
 use Rattle.mw_table.proofs.shared.Shared.confirm.Goals as goal
 

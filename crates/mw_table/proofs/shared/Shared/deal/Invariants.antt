@@ -1,7 +1,7 @@
 use Rattle.std.proofs.Common.{◌≡◌, All, length}
-use Rattle.mw_table.specs.Dealt.{AreInOrder, IsDealt}
+use Rattle.mw_table.specs.NewPasses.{AreInOrder, IsDealt}
 use Rattle.mw_table.specs.Origins.{basis_of}
-use Rattle.mw_table.proofs.Passing.{left_at}
+use Rattle.mw_table.proofs.PassesAtStart.{left_at}
 use Rattle.mw_table.proofs.shared.Shared.deal.Given as goal
 
 abbrev pub invariant-loop-worker : goal.invariant-loop-worker

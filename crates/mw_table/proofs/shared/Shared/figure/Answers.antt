@@ -3,8 +3,8 @@ use Rattle.mw_world.specs.declared.config.Config.{Config}
 use Rattle.mw_world.specs.Definition.Extent.{has_place}
 use Rattle.std.proofs.Common.{map}
 use Rattle.mw_table.specs.Numbers.{number_of}
-use Rattle.mw_table.proofs.Asking.{look_asks}
-use Rattle.mw_table.proofs.Idling.{rests_on}
+use Rattle.mw_table.proofs.StepRequirements.{look_asks}
+use Rattle.mw_table.proofs.IdlePasses.{rests_on}
 use Rattle.mw_table.proofs.shared.Shared.figure.Goals as goal
 
 pub load-requires : goal.load-requires
@@ -14,6 +14,6 @@ load-requires c =
 
 pub invariant_of-pass : goal.invariant_of-pass
 invariant_of-pass c = record {
-  numbered = ap (map number_of) c.load.ensures.2.0.same_reins ∙ c.args.pass.now.numbered;
+  numbered = ap (map number_of) c.load.ensures.2.0.same_token ∙ c.args.pass.now.numbered;
   rests = λ idle. rests_on c.index_of.result c.load.result c.args.pass.now.seat.me.0 c.load.new.seat.me.0 c.load.ensures.2.0 (c.args.pass.now.rests idle);
 }

@@ -1,9 +1,9 @@
 use Rattle.std.proofs.Common.{ℕ, refl, ◌∙◌}
 use Rattle.mw_look.specs.declared.steps.Op.TheVariants.{Load as LoadBits}
-use Rattle.mw_look.specs.declared.news.Got.TheVariants.{Word as Found}
-use Rattle.mw_table.proofs.Idling.{busy}
-use Rattle.mw_table.proofs.Numbering.{numbers_stay}
-use Rattle.mw_table.proofs.Asking.{step_asks}
+use Rattle.mw_look.specs.declared.observations.Got.TheVariants.{Word as Found}
+use Rattle.mw_table.proofs.IdlePasses.{busy}
+use Rattle.mw_table.proofs.StepsKeepNumbers.{numbers_stay}
+use Rattle.mw_table.proofs.StepRequirements.{step_asks}
 use Rattle.mw_table.proofs.shared.Shared.load.Goals as goal
 
 pub load-requires : goal.load-requires

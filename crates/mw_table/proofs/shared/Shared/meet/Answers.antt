@@ -1,15 +1,15 @@
 use Rattle.std.proofs.Common.{[], ap, map, sym, subst, ◌∙◌}
 use Rattle.atomic_table.specs.Table.{Me}
 use Rattle.atomic_table.specs.declared.shared.Seat.{Seat}
-use Rattle.mw_actor.specs.Acting.{Acting}
+use Rattle.mw_actor.specs.ActorState.{ActorState}
 use Rattle.mw_rule.specs.declared.views.View.{View}
-use Rattle.mw_rule.specs.Carrying.{Met}
-use Rattle.mw_rule.specs.Dealing.{dealt, gathers, hears}
-use Rattle.mw_rule.specs.Moves.{WentOn}
-use Rattle.mw_table.specs.Meeting.{HaveMet}
+use Rattle.mw_rule.specs.Steps.{LearnsMeeting}
+use Rattle.mw_rule.specs.Splits.{dealt, merges, learns}
+use Rattle.mw_rule.specs.WordActions.{WentOn}
+use Rattle.mw_table.specs.Meet.{HaveMet}
 use Rattle.mw_table.specs.Numbers.{number_of}
-use Rattle.mw_table.specs.Resting.{has_none}
-use Rattle.mw_table.proofs.Meetings.{Gathered, Heard, first_lives, have_met, its_live, lives, looks_live, none_held, one_met, other_met, saw_no_less}
+use Rattle.mw_table.specs.Idleness.{has_none}
+use Rattle.mw_table.proofs.Meetings.{Merged, Learned, first_lives, have_met, its_live, lives, looks_live, none_held, one_met, other_met, saw_no_less}
 use Rattle.mw_table.proofs.shared.Shared.meet.Goals as goal
 
 pub look-requires-clause-live : goal.look-requires-clause-live
@@ -18,69 +18,69 @@ look-requires-clause-live c = lives c.args.one.now
 pub note-said-requires-clause-live : goal.note-said-requires-clause-live
 note-said-requires-clause-live c = looks_live c.look.ensures.looked.0 c.args.one.now.seat.me.0 c.look.new.seat.me.0 c.look.ensures.looked.1 (lives c.args.one.now)
 
-pub hear-requires-clause-live : goal.hear-requires-clause-live
-hear-requires-clause-live c = lives c.args.other.now
+pub learn-requires-clause-live : goal.learn-requires-clause-live
+learn-requires-clause-live c = lives c.args.other.now
 
-pub gather-requires-clause-live : goal.gather-requires-clause-live
-gather-requires-clause-live c =
+pub merge-requires-clause-live : goal.merge-requires-clause-live
+merge-requires-clause-live c =
     let one = c.args.one.now in
     let other = c.args.other.now in
     let config = c.requires.other.config ∙ sym c.requires.one.config in
-    let told : Heard one.seat.me.0 other.seat.me.0 = record {
+    let told : Learned one.seat.me.0 other.seat.me.0 = record {
       looked = c.look.new.seat.me.0;
       bits = c.look.ensures.looked.0;
       looking = c.look.ensures.looked.1;
       noted = c.note-said.new.seat.me.0;
-      same = ap (λ (me : Me Acting View). me.0) c.note-said.ensures.same;
+      same = ap (λ (me : Me ActorState View). me.0) c.note-said.ensures.same;
       said = c.note-said.result.me.0;
-      is_note = ap (λ (me : Me Acting View). me.0) c.note-said.ensures.note;
-      heard = c.hear.new.seat.me.0;
-      others = c.hear.ensures.looked.0;
-      hearing = c.hear.ensures.looked.1;
+      is_note = ap (λ (me : Me ActorState View). me.0) c.note-said.ensures.note;
+      learned = c.learn.new.seat.me.0;
+      others = c.learn.ensures.looked.0;
+      learning = c.learn.ensures.looked.1;
       its = c.part-its.result.me.0;
-      is_dealt = ap (λ (me : Me Acting View). me.0) c.part-its.ensures.part;
+      is_dealt = ap (λ (me : Me ActorState View). me.0) c.part-its.ensures.part;
     } in
     first_lives one.seat.me.0 other.seat.me.0 (other.worker, other.attempt) other.numbered config told (lives one)
 
-pub gather-requires-clause-its_live : goal.gather-requires-clause-its_live
-gather-requires-clause-its_live c =
+pub merge-requires-clause-its_live : goal.merge-requires-clause-its_live
+merge-requires-clause-its_live c =
     let one = c.args.one.now in
     let other = c.args.other.now in
     let config = c.requires.other.config ∙ sym c.requires.one.config in
-    let told : Heard one.seat.me.0 other.seat.me.0 = record {
+    let told : Learned one.seat.me.0 other.seat.me.0 = record {
       looked = c.look.new.seat.me.0;
       bits = c.look.ensures.looked.0;
       looking = c.look.ensures.looked.1;
       noted = c.note-said.new.seat.me.0;
-      same = ap (λ (me : Me Acting View). me.0) c.note-said.ensures.same;
+      same = ap (λ (me : Me ActorState View). me.0) c.note-said.ensures.same;
       said = c.note-said.result.me.0;
-      is_note = ap (λ (me : Me Acting View). me.0) c.note-said.ensures.note;
-      heard = c.hear.new.seat.me.0;
-      others = c.hear.ensures.looked.0;
-      hearing = c.hear.ensures.looked.1;
+      is_note = ap (λ (me : Me ActorState View). me.0) c.note-said.ensures.note;
+      learned = c.learn.new.seat.me.0;
+      others = c.learn.ensures.looked.0;
+      learning = c.learn.ensures.looked.1;
       its = c.part-its.result.me.0;
-      is_dealt = ap (λ (me : Me Acting View). me.0) c.part-its.ensures.part;
+      is_dealt = ap (λ (me : Me ActorState View). me.0) c.part-its.ensures.part;
     } in
     its_live one.seat.me.0 other.seat.me.0 (other.worker, other.attempt) other.numbered config told
 
-pub gather-requires-clause-no_less : goal.gather-requires-clause-no_less
-gather-requires-clause-no_less c =
+pub merge-requires-clause-no_less : goal.merge-requires-clause-no_less
+merge-requires-clause-no_less c =
     let one = c.args.one.now in
     let other = c.args.other.now in
     let config = c.requires.other.config ∙ sym c.requires.one.config in
-    let told : Heard one.seat.me.0 other.seat.me.0 = record {
+    let told : Learned one.seat.me.0 other.seat.me.0 = record {
       looked = c.look.new.seat.me.0;
       bits = c.look.ensures.looked.0;
       looking = c.look.ensures.looked.1;
       noted = c.note-said.new.seat.me.0;
-      same = ap (λ (me : Me Acting View). me.0) c.note-said.ensures.same;
+      same = ap (λ (me : Me ActorState View). me.0) c.note-said.ensures.same;
       said = c.note-said.result.me.0;
-      is_note = ap (λ (me : Me Acting View). me.0) c.note-said.ensures.note;
-      heard = c.hear.new.seat.me.0;
-      others = c.hear.ensures.looked.0;
-      hearing = c.hear.ensures.looked.1;
+      is_note = ap (λ (me : Me ActorState View). me.0) c.note-said.ensures.note;
+      learned = c.learn.new.seat.me.0;
+      others = c.learn.ensures.looked.0;
+      learning = c.learn.ensures.looked.1;
       its = c.part-its.result.me.0;
-      is_dealt = ap (λ (me : Me Acting View). me.0) c.part-its.ensures.part;
+      is_dealt = ap (λ (me : Me ActorState View). me.0) c.part-its.ensures.part;
     } in
     saw_no_less one.seat.me.0 other.seat.me.0 (other.worker, other.attempt) other.numbered config told
 
@@ -90,23 +90,23 @@ invariant_of-one c =
     let other = c.args.other.now in
     let config = c.requires.other.config ∙ sym c.requires.one.config in
     let openings = c.requires.other.openings ∙ sym c.requires.one.openings in
-    let told : Heard one.seat.me.0 other.seat.me.0 = record {
+    let told : Learned one.seat.me.0 other.seat.me.0 = record {
       looked = c.look.new.seat.me.0;
       bits = c.look.ensures.looked.0;
       looking = c.look.ensures.looked.1;
       noted = c.note-said.new.seat.me.0;
-      same = ap (λ (me : Me Acting View). me.0) c.note-said.ensures.same;
+      same = ap (λ (me : Me ActorState View). me.0) c.note-said.ensures.same;
       said = c.note-said.result.me.0;
-      is_note = ap (λ (me : Me Acting View). me.0) c.note-said.ensures.note;
-      heard = c.hear.new.seat.me.0;
-      others = c.hear.ensures.looked.0;
-      hearing = c.hear.ensures.looked.1;
+      is_note = ap (λ (me : Me ActorState View). me.0) c.note-said.ensures.note;
+      learned = c.learn.new.seat.me.0;
+      others = c.learn.ensures.looked.0;
+      learning = c.learn.ensures.looked.1;
       its = c.part-its.result.me.0;
-      is_dealt = ap (λ (me : Me Acting View). me.0) c.part-its.ensures.part;
+      is_dealt = ap (λ (me : Me ActorState View). me.0) c.part-its.ensures.part;
     } in
-    let story : Gathered one.seat.me.0 other.seat.me.0 = record { told = told; all = c.gather.new.seat.me.0; last = c.gather.ensures.looked.0; gathering = c.gather.ensures.looked.1 } in
-    let met = subst (Met one.seat.me.0) (sym (ap (λ (seat : Seat Acting View). seat.me.0) c.replace.ensures.after ∙ ap (λ (me : Me Acting View). me.0) c.part-own.ensures.part)) (one_met one.seat.me.0 other.seat.me.0 (one.worker, one.attempt) (other.worker, other.attempt) one.numbered other.numbered config openings story) in
-    record { numbered = ap (map number_of) met.same_reins ∙ one.numbered; rests = λ idle. ap (map has_none) met.same_reins ∙ one.rests idle }
+    let story : Merged one.seat.me.0 other.seat.me.0 = record { told = told; all = c.merge.new.seat.me.0; last = c.merge.ensures.looked.0; merging = c.merge.ensures.looked.1 } in
+    let met = subst (LearnsMeeting one.seat.me.0) (sym (ap (λ (seat : Seat ActorState View). seat.me.0) c.replace.ensures.after ∙ ap (λ (me : Me ActorState View). me.0) c.part-own.ensures.part)) (one_met one.seat.me.0 other.seat.me.0 (one.worker, one.attempt) (other.worker, other.attempt) one.numbered other.numbered config openings story) in
+    record { numbered = ap (map number_of) met.same_token ∙ one.numbered; rests = λ idle. ap (map has_none) met.same_token ∙ one.rests idle }
 
 pub invariant_of-other : goal.invariant_of-other
 invariant_of-other c =
@@ -114,23 +114,23 @@ invariant_of-other c =
     let other = c.args.other.now in
     let config = c.requires.other.config ∙ sym c.requires.one.config in
     let openings = c.requires.other.openings ∙ sym c.requires.one.openings in
-    let told : Heard one.seat.me.0 other.seat.me.0 = record {
+    let told : Learned one.seat.me.0 other.seat.me.0 = record {
       looked = c.look.new.seat.me.0;
       bits = c.look.ensures.looked.0;
       looking = c.look.ensures.looked.1;
       noted = c.note-said.new.seat.me.0;
-      same = ap (λ (me : Me Acting View). me.0) c.note-said.ensures.same;
+      same = ap (λ (me : Me ActorState View). me.0) c.note-said.ensures.same;
       said = c.note-said.result.me.0;
-      is_note = ap (λ (me : Me Acting View). me.0) c.note-said.ensures.note;
-      heard = c.hear.new.seat.me.0;
-      others = c.hear.ensures.looked.0;
-      hearing = c.hear.ensures.looked.1;
+      is_note = ap (λ (me : Me ActorState View). me.0) c.note-said.ensures.note;
+      learned = c.learn.new.seat.me.0;
+      others = c.learn.ensures.looked.0;
+      learning = c.learn.ensures.looked.1;
       its = c.part-its.result.me.0;
-      is_dealt = ap (λ (me : Me Acting View). me.0) c.part-its.ensures.part;
+      is_dealt = ap (λ (me : Me ActorState View). me.0) c.part-its.ensures.part;
     } in
-    let story : Gathered one.seat.me.0 other.seat.me.0 = record { told = told; all = c.gather.new.seat.me.0; last = c.gather.ensures.looked.0; gathering = c.gather.ensures.looked.1 } in
-    let met = subst (Met other.seat.me.0) (sym (ap (λ (seat : Seat Acting View). seat.me.0) c.replace.ensures.value ∙ c.part-own.ensures.rest)) (other_met one.seat.me.0 other.seat.me.0 (one.worker, one.attempt) (other.worker, other.attempt) one.numbered other.numbered config openings story) in
-    record { numbered = ap (map number_of) met.same_reins ∙ other.numbered; rests = λ idle. ap (map has_none) met.same_reins ∙ other.rests idle }
+    let story : Merged one.seat.me.0 other.seat.me.0 = record { told = told; all = c.merge.new.seat.me.0; last = c.merge.ensures.looked.0; merging = c.merge.ensures.looked.1 } in
+    let met = subst (LearnsMeeting other.seat.me.0) (sym (ap (λ (seat : Seat ActorState View). seat.me.0) c.replace.ensures.value ∙ c.part-own.ensures.rest)) (other_met one.seat.me.0 other.seat.me.0 (one.worker, one.attempt) (other.worker, other.attempt) one.numbered other.numbered config openings story) in
+    record { numbered = ap (map number_of) met.same_token ∙ other.numbered; rests = λ idle. ap (map has_none) met.same_token ∙ other.rests idle }
 
 pub returns-clause-one_met : goal.returns-clause-one_met
 returns-clause-one_met c =
@@ -138,22 +138,22 @@ returns-clause-one_met c =
     let other = c.args.other.now in
     let config = c.requires.other.config ∙ sym c.requires.one.config in
     let openings = c.requires.other.openings ∙ sym c.requires.one.openings in
-    let told : Heard one.seat.me.0 other.seat.me.0 = record {
+    let told : Learned one.seat.me.0 other.seat.me.0 = record {
       looked = c.look.new.seat.me.0;
       bits = c.look.ensures.looked.0;
       looking = c.look.ensures.looked.1;
       noted = c.note-said.new.seat.me.0;
-      same = ap (λ (me : Me Acting View). me.0) c.note-said.ensures.same;
+      same = ap (λ (me : Me ActorState View). me.0) c.note-said.ensures.same;
       said = c.note-said.result.me.0;
-      is_note = ap (λ (me : Me Acting View). me.0) c.note-said.ensures.note;
-      heard = c.hear.new.seat.me.0;
-      others = c.hear.ensures.looked.0;
-      hearing = c.hear.ensures.looked.1;
+      is_note = ap (λ (me : Me ActorState View). me.0) c.note-said.ensures.note;
+      learned = c.learn.new.seat.me.0;
+      others = c.learn.ensures.looked.0;
+      learning = c.learn.ensures.looked.1;
       its = c.part-its.result.me.0;
-      is_dealt = ap (λ (me : Me Acting View). me.0) c.part-its.ensures.part;
+      is_dealt = ap (λ (me : Me ActorState View). me.0) c.part-its.ensures.part;
     } in
-    let story : Gathered one.seat.me.0 other.seat.me.0 = record { told = told; all = c.gather.new.seat.me.0; last = c.gather.ensures.looked.0; gathering = c.gather.ensures.looked.1 } in
-    subst (Met one.seat.me.0) (sym (ap (λ (seat : Seat Acting View). seat.me.0) c.replace.ensures.after ∙ ap (λ (me : Me Acting View). me.0) c.part-own.ensures.part)) (one_met one.seat.me.0 other.seat.me.0 (one.worker, one.attempt) (other.worker, other.attempt) one.numbered other.numbered config openings story)
+    let story : Merged one.seat.me.0 other.seat.me.0 = record { told = told; all = c.merge.new.seat.me.0; last = c.merge.ensures.looked.0; merging = c.merge.ensures.looked.1 } in
+    subst (LearnsMeeting one.seat.me.0) (sym (ap (λ (seat : Seat ActorState View). seat.me.0) c.replace.ensures.after ∙ ap (λ (me : Me ActorState View). me.0) c.part-own.ensures.part)) (one_met one.seat.me.0 other.seat.me.0 (one.worker, one.attempt) (other.worker, other.attempt) one.numbered other.numbered config openings story)
 
 pub returns-clause-other_met : goal.returns-clause-other_met
 returns-clause-other_met c =
@@ -161,26 +161,26 @@ returns-clause-other_met c =
     let other = c.args.other.now in
     let config = c.requires.other.config ∙ sym c.requires.one.config in
     let openings = c.requires.other.openings ∙ sym c.requires.one.openings in
-    let told : Heard one.seat.me.0 other.seat.me.0 = record {
+    let told : Learned one.seat.me.0 other.seat.me.0 = record {
       looked = c.look.new.seat.me.0;
       bits = c.look.ensures.looked.0;
       looking = c.look.ensures.looked.1;
       noted = c.note-said.new.seat.me.0;
-      same = ap (λ (me : Me Acting View). me.0) c.note-said.ensures.same;
+      same = ap (λ (me : Me ActorState View). me.0) c.note-said.ensures.same;
       said = c.note-said.result.me.0;
-      is_note = ap (λ (me : Me Acting View). me.0) c.note-said.ensures.note;
-      heard = c.hear.new.seat.me.0;
-      others = c.hear.ensures.looked.0;
-      hearing = c.hear.ensures.looked.1;
+      is_note = ap (λ (me : Me ActorState View). me.0) c.note-said.ensures.note;
+      learned = c.learn.new.seat.me.0;
+      others = c.learn.ensures.looked.0;
+      learning = c.learn.ensures.looked.1;
       its = c.part-its.result.me.0;
-      is_dealt = ap (λ (me : Me Acting View). me.0) c.part-its.ensures.part;
+      is_dealt = ap (λ (me : Me ActorState View). me.0) c.part-its.ensures.part;
     } in
-    let story : Gathered one.seat.me.0 other.seat.me.0 = record { told = told; all = c.gather.new.seat.me.0; last = c.gather.ensures.looked.0; gathering = c.gather.ensures.looked.1 } in
-    subst (Met other.seat.me.0) (sym (ap (λ (seat : Seat Acting View). seat.me.0) c.replace.ensures.value ∙ c.part-own.ensures.rest)) (other_met one.seat.me.0 other.seat.me.0 (one.worker, one.attempt) (other.worker, other.attempt) one.numbered other.numbered config openings story)
+    let story : Merged one.seat.me.0 other.seat.me.0 = record { told = told; all = c.merge.new.seat.me.0; last = c.merge.ensures.looked.0; merging = c.merge.ensures.looked.1 } in
+    subst (LearnsMeeting other.seat.me.0) (sym (ap (λ (seat : Seat ActorState View). seat.me.0) c.replace.ensures.value ∙ c.part-own.ensures.rest)) (other_met one.seat.me.0 other.seat.me.0 (one.worker, one.attempt) (other.worker, other.attempt) one.numbered other.numbered config openings story)
 
 pub returns-clause-one_free : goal.returns-clause-one_free
 returns-clause-one_free c =
-    let first = ap (λ (seat : Seat Acting View). seat.me.0) c.replace.ensures.after ∙ ap (λ (me : Me Acting View). me.0) c.part-own.ensures.part in
+    let first = ap (λ (seat : Seat ActorState View). seat.me.0) c.replace.ensures.after ∙ ap (λ (me : Me ActorState View). me.0) c.part-own.ensures.part in
     ap (λ (view : View). view.files) first
 
 pub returns-clause-other_free : goal.returns-clause-other_free
@@ -189,22 +189,22 @@ returns-clause-other_free c =
     let other = c.args.other.now in
     let config = c.requires.other.config ∙ sym c.requires.one.config in
     let openings = c.requires.other.openings ∙ sym c.requires.one.openings in
-    let told : Heard one.seat.me.0 other.seat.me.0 = record {
+    let told : Learned one.seat.me.0 other.seat.me.0 = record {
       looked = c.look.new.seat.me.0;
       bits = c.look.ensures.looked.0;
       looking = c.look.ensures.looked.1;
       noted = c.note-said.new.seat.me.0;
-      same = ap (λ (me : Me Acting View). me.0) c.note-said.ensures.same;
+      same = ap (λ (me : Me ActorState View). me.0) c.note-said.ensures.same;
       said = c.note-said.result.me.0;
-      is_note = ap (λ (me : Me Acting View). me.0) c.note-said.ensures.note;
-      heard = c.hear.new.seat.me.0;
-      others = c.hear.ensures.looked.0;
-      hearing = c.hear.ensures.looked.1;
+      is_note = ap (λ (me : Me ActorState View). me.0) c.note-said.ensures.note;
+      learned = c.learn.new.seat.me.0;
+      others = c.learn.ensures.looked.0;
+      learning = c.learn.ensures.looked.1;
       its = c.part-its.result.me.0;
-      is_dealt = ap (λ (me : Me Acting View). me.0) c.part-its.ensures.part;
+      is_dealt = ap (λ (me : Me ActorState View). me.0) c.part-its.ensures.part;
     } in
-    let story : Gathered one.seat.me.0 other.seat.me.0 = record { told = told; all = c.gather.new.seat.me.0; last = c.gather.ensures.looked.0; gathering = c.gather.ensures.looked.1 } in
-    let second = ap (λ (seat : Seat Acting View). seat.me.0) c.replace.ensures.value ∙ c.part-own.ensures.rest in
+    let story : Merged one.seat.me.0 other.seat.me.0 = record { told = told; all = c.merge.new.seat.me.0; last = c.merge.ensures.looked.0; merging = c.merge.ensures.looked.1 } in
+    let second = ap (λ (seat : Seat ActorState View). seat.me.0) c.replace.ensures.value ∙ c.part-own.ensures.rest in
     ap (λ (view : View). view.files) second
     ∙ none_held one.seat.me.0 other.seat.me.0 (one.worker, one.attempt) (other.worker, other.attempt) one.numbered other.numbered config openings story c.requires.one_free
 
@@ -214,39 +214,39 @@ returns-clause-both c =
     let other = c.args.other.now in
     let config = c.requires.other.config ∙ sym c.requires.one.config in
     let openings = c.requires.other.openings ∙ sym c.requires.one.openings in
-    let told : Heard one.seat.me.0 other.seat.me.0 = record {
+    let told : Learned one.seat.me.0 other.seat.me.0 = record {
       looked = c.look.new.seat.me.0;
       bits = c.look.ensures.looked.0;
       looking = c.look.ensures.looked.1;
       noted = c.note-said.new.seat.me.0;
-      same = ap (λ (me : Me Acting View). me.0) c.note-said.ensures.same;
+      same = ap (λ (me : Me ActorState View). me.0) c.note-said.ensures.same;
       said = c.note-said.result.me.0;
-      is_note = ap (λ (me : Me Acting View). me.0) c.note-said.ensures.note;
-      heard = c.hear.new.seat.me.0;
-      others = c.hear.ensures.looked.0;
-      hearing = c.hear.ensures.looked.1;
+      is_note = ap (λ (me : Me ActorState View). me.0) c.note-said.ensures.note;
+      learned = c.learn.new.seat.me.0;
+      others = c.learn.ensures.looked.0;
+      learning = c.learn.ensures.looked.1;
       its = c.part-its.result.me.0;
-      is_dealt = ap (λ (me : Me Acting View). me.0) c.part-its.ensures.part;
+      is_dealt = ap (λ (me : Me ActorState View). me.0) c.part-its.ensures.part;
     } in
-    let story : Gathered one.seat.me.0 other.seat.me.0 = record { told = told; all = c.gather.new.seat.me.0; last = c.gather.ensures.looked.0; gathering = c.gather.ensures.looked.1 } in
-    let first = ap (λ (seat : Seat Acting View). seat.me.0) c.replace.ensures.after ∙ ap (λ (me : Me Acting View). me.0) c.part-own.ensures.part in
-    let second = ap (λ (seat : Seat Acting View). seat.me.0) c.replace.ensures.value ∙ c.part-own.ensures.rest in
-    subst (λ (view : View). HaveMet view c.replace.result.me.0) (sym first) (subst (λ (view : View). HaveMet (dealt c.gather.new.seat.me.0) view) (sym second) (have_met one.seat.me.0 other.seat.me.0 (one.worker, one.attempt) (other.worker, other.attempt) one.numbered other.numbered config openings story))
+    let story : Merged one.seat.me.0 other.seat.me.0 = record { told = told; all = c.merge.new.seat.me.0; last = c.merge.ensures.looked.0; merging = c.merge.ensures.looked.1 } in
+    let first = ap (λ (seat : Seat ActorState View). seat.me.0) c.replace.ensures.after ∙ ap (λ (me : Me ActorState View). me.0) c.part-own.ensures.part in
+    let second = ap (λ (seat : Seat ActorState View). seat.me.0) c.replace.ensures.value ∙ c.part-own.ensures.rest in
+    subst (λ (view : View). HaveMet view c.replace.result.me.0) (sym first) (subst (λ (view : View). HaveMet (dealt c.merge.new.seat.me.0) view) (sym second) (have_met one.seat.me.0 other.seat.me.0 (one.worker, one.attempt) (other.worker, other.attempt) one.numbered other.numbered config openings story))
 
 pub returns-clause-event : goal.returns-clause-event
 returns-clause-event c =
-    let same = ap (λ (me : Me Acting View). me.0) c.note-said.ensures.same in
-    let said = ap (λ (me : Me Acting View). me.0) c.note-said.ensures.note in
-    let its = ap (λ (me : Me Acting View). me.0) c.part-its.ensures.part in
+    let same = ap (λ (me : Me ActorState View). me.0) c.note-said.ensures.same in
+    let said = ap (λ (me : Me ActorState View). me.0) c.note-said.ensures.note in
+    let its = ap (λ (me : Me ActorState View). me.0) c.part-its.ensures.part in
     record {
       looked = c.look.new.seat.me.0;
       first_look = c.look.ensures.event;
-      heard = c.hear.new.seat.me.0;
-      second_look = subst (λ (view : View). WentOn [] (hears c.args.other.now.seat.me.0 view) c.hear.new.seat.me.0) said c.hear.ensures.event;
-      all = c.gather.new.seat.me.0;
+      learned = c.learn.new.seat.me.0;
+      second_look = subst (λ (view : View). WentOn [] (learns c.args.other.now.seat.me.0 view) c.learn.new.seat.me.0) said c.learn.ensures.event;
+      all = c.merge.new.seat.me.0;
       last_look =
-          subst (λ (view : View). WentOn [] (gathers view (dealt c.hear.new.seat.me.0)) c.gather.new.seat.me.0) same
-          (subst (λ (view : View). WentOn [] (gathers c.note-said.new.seat.me.0 view) c.gather.new.seat.me.0) its c.gather.ensures.event);
-      one_is = ap (λ (seat : Seat Acting View). seat.me.0) c.replace.ensures.after ∙ ap (λ (me : Me Acting View). me.0) c.part-own.ensures.part;
-      other_is = ap (λ (seat : Seat Acting View). seat.me.0) c.replace.ensures.value ∙ c.part-own.ensures.rest;
+          subst (λ (view : View). WentOn [] (merges view (dealt c.learn.new.seat.me.0)) c.merge.new.seat.me.0) same
+          (subst (λ (view : View). WentOn [] (merges c.note-said.new.seat.me.0 view) c.merge.new.seat.me.0) its c.merge.ensures.event);
+      one_is = ap (λ (seat : Seat ActorState View). seat.me.0) c.replace.ensures.after ∙ ap (λ (me : Me ActorState View). me.0) c.part-own.ensures.part;
+      other_is = ap (λ (seat : Seat ActorState View). seat.me.0) c.replace.ensures.value ∙ c.part-own.ensures.rest;
     }

@@ -1,20 +1,20 @@
 use Rattle.std.proofs.Common.{ℕ, List, Vec, [], ap, sym, subst, ◌∙◌}
 use Rattle.std.specs.declared.alloc.Global.{Global}
 use Rattle.atomic_table.specs.Table.{opening}
-use Rattle.mw_actor.specs.Acting.{Acting}
+use Rattle.mw_actor.specs.ActorState.{ActorState}
 use Rattle.mw_world.specs.declared.config.Config.{Config}
-use Rattle.mw_world.specs.Definition.State.{idle_seat}
-use Rattle.mw_rule.specs.Dealing.{maker}
+use Rattle.mw_world.specs.Definition.State.{idle_worker_state}
+use Rattle.mw_rule.specs.Splits.{maker}
 use Rattle.mw_rule.specs.Rule.{Tied, Ties}
 use Rattle.mw_table.specs.declared.origin.FileOpening.{FileOpening}
-use Rattle.mw_table.specs.Fresh.{StartedWith, basis_of_start, openings_given, world_given}
-use Rattle.mw_table.proofs.Fresh.{fresh_table}
+use Rattle.mw_table.specs.TableAtStart.{StartedWith, basis_of_start, openings_given, world_given}
+use Rattle.mw_table.proofs.TableAtStartLaws.{fresh_table}
 use Rattle.std.specs.Prelude.{length}
 use Rattle.mw_table.proofs.shared.Shared.new.Goals as goal
 
 -- the rule of a table that these begin with
 abbrev IsTied : List ℕ → Config → List FileOpening → Type 0
-IsTied words config found = Tied config (StartedWith config found) (opening {S = Acting} words [] (maker config (openings_given config.tenants.items found) (basis_of_start config found).course (λ worker. idle_seat) (basis_of_start config found).files))
+IsTied words config found = Tied config (StartedWith config found) (opening {S = ActorState} words [] (maker config (openings_given config.tenants.items found) (basis_of_start config found).known_run (λ worker. idle_worker_state) (basis_of_start config found).files))
 
 pub open-requires-clause-tied : goal.open-requires-clause-tied
 open-requires-clause-tied c =

@@ -1,4 +1,4 @@
-use Rattle.mw_rule.proofs.Parting.{notes_keep}
+use Rattle.mw_rule.proofs.SplitLaws.{notes_keep}
 use Rattle.mw_table.proofs.Meetings.{some_word}
 use Rattle.mw_table.proofs.shared.Shared.note.Goals as goal
 

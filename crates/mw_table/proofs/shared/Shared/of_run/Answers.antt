@@ -2,24 +2,24 @@ use Rattle.std.proofs.Common.{◌<◌, ◌∙◌, ℕ, List, Vec, [], None, leng
 use Rattle.std.proofs.lemmas.List.{length-map}
 use Rattle.std.specs.declared.alloc.Global.{Global}
 use Rattle.atomic_table.specs.Table.{opening}
-use Rattle.mw_actor.specs.Acting.{Acting}
+use Rattle.mw_actor.specs.ActorState.{ActorState}
 use Rattle.mw_world.specs.declared.config.Config.{Config}
-use Rattle.mw_rule.specs.Carrying.{IsReadyFor}
-use Rattle.mw_rule.specs.Dealing.{maker}
+use Rattle.mw_rule.specs.Steps.{IsReadyFor}
+use Rattle.mw_rule.specs.Splits.{maker}
 use Rattle.mw_rule.specs.Rule.{Tied}
-use Rattle.mw_table.specs.declared.dealing.Bearing.{Bearing}
+use Rattle.mw_table.specs.declared.new_table.PassState.{PassState}
 use Rattle.mw_table.specs.declared.origin.TenantSoFar.{TenantSoFar}
 use Rattle.mw_table.specs.declared.origin.WorkerSoFar.{WorkerSoFar}
-use Rattle.mw_table.specs.Dealt.{AreBearings}
-use Rattle.mw_table.specs.Runs.{LedTo, last_start, openings_from, seat_at, seat_so_far}
-use Rattle.mw_table.proofs.AfterRuns.{bearings_tell, first_table, ready}
+use Rattle.mw_table.specs.NewPasses.{ArePassStates}
+use Rattle.mw_table.specs.Runs.{LedTo, last_start, openings_from, worker_state_at, worker_state_so_far}
+use Rattle.mw_table.proofs.AfterRuns.{pass_states_tell, first_table, ready}
 use Rattle.mw_table.proofs.shared.Shared.of_run.Goals as goal
 
 -- the rule of a table that these begin with
 abbrev IsTied : List ℕ → Config → List TenantSoFar → List WorkerSoFar → Type 0
 IsTied words config tenants workers =
-    Tied config (LedTo config (map last_start tenants) (map seat_so_far workers)) (opening {S = Acting} words []
-    (maker config (openings_from config 0 (map last_start tenants)) None (seat_at (map seat_so_far workers)) []))
+    Tied config (LedTo config (map last_start tenants) (map worker_state_so_far workers)) (opening {S = ActorState} words []
+    (maker config (openings_from config 0 (map last_start tenants)) None (worker_state_at (map worker_state_so_far workers)) []))
 
 pub open-requires-clause-tied : goal.open-requires-clause-tied
 open-requires-clause-tied c =
@@ -30,20 +30,20 @@ open-requires-clause-tied c =
     subst (λ (one : Config). IsTied words one c.of-2.result.value.items c.of-3.result.value.items) (sym c.of.ensures)
     (subst (λ (some : Vec TenantSoFar Global). IsTied words config some.items c.of-3.result.value.items) (sym c.of-2.ensures)
     (subst (λ (some : Vec WorkerSoFar Global). IsTied words config tenants some.items) (sym c.of-3.ensures)
-    (first_table config (map last_start tenants) (map seat_so_far workers) words c.requires.config (length-map tenants last_start ∙ c.requires.tenants) c.requires.words c.requires.run)))
+    (first_table config (map last_start tenants) (map worker_state_so_far workers) words c.requires.config (length-map tenants last_start ∙ c.requires.tenants) c.requires.words c.requires.run)))
 
-pub open-requires-clause-bearings : goal.open-requires-clause-bearings
-open-requires-clause-bearings c =
+pub open-requires-clause-pass_states : goal.open-requires-clause-pass_states
+open-requires-clause-pass_states c =
     let workers = c.args.workers.now.items in
-    subst (λ (some : Vec WorkerSoFar Global). AreBearings (seat_at (map seat_so_far some.items)) c.args.config.now.workers c.deref-2.result.now) (sym c.of-3.ensures)
-    (subst (λ (count : ℕ). AreBearings (seat_at (map seat_so_far workers)) count c.deref-2.result.now) c.requires.workers
-    (subst (λ (bearings : List Bearing). AreBearings (seat_at (map seat_so_far workers)) (length workers) bearings) (sym c.deref-2.ensures.value)
-    (bearings_tell workers c.in_ok-bearings.bearings.items (c.in_ok-bearings.ensures ∙ ap (map _) c.deref.ensures.value))))
+    subst (λ (some : Vec WorkerSoFar Global). ArePassStates (worker_state_at (map worker_state_so_far some.items)) c.args.config.now.workers c.deref-2.result.now) (sym c.of-3.ensures)
+    (subst (λ (count : ℕ). ArePassStates (worker_state_at (map worker_state_so_far workers)) count c.deref-2.result.now) c.requires.workers
+    (subst (λ (pass_states : List PassState). ArePassStates (worker_state_at (map worker_state_so_far workers)) (length workers) pass_states) (sym c.deref-2.ensures.value)
+    (pass_states_tell workers c.in_ok-pass_states.pass_states.items (c.in_ok-pass_states.ensures ∙ ap (map _) c.deref.ensures.value))))
 
 pub open-requires-clause-ready : goal.open-requires-clause-ready
 open-requires-clause-ready c =
     let config = c.args.config.now in
     let tenants = c.args.tenants.now.items in
     let workers = c.args.workers.now.items in
-    subst (λ (some : Vec WorkerSoFar Global). (worker : ℕ) → worker < config.workers → IsReadyFor config (seat_at (map seat_so_far some.items) worker).actor) (sym c.of-3.ensures)
-    (ready config c.requires.config (map last_start tenants) (map seat_so_far workers) c.requires.run.before c.requires.run.led)
+    subst (λ (some : Vec WorkerSoFar Global). (worker : ℕ) → worker < config.workers → IsReadyFor config (worker_state_at (map worker_state_so_far some.items) worker).actor) (sym c.of-3.ensures)
+    (ready config c.requires.config (map last_start tenants) (map worker_state_so_far workers) c.requires.run.before c.requires.run.led)

@@ -1,4 +1,4 @@
-use Rattle.mw_rule.proofs.Parting.{deals_keep}
+use Rattle.mw_rule.proofs.SplitLaws.{deals_keep}
 use Rattle.mw_table.proofs.Meetings.{some_word}
 use Rattle.mw_table.proofs.shared.Shared.part.Goals as goal
 

@@ -1,11 +1,11 @@
 use Rattle.std.proofs.Common.{ℕ, ap, sym, ◌∙◌}
 use Rattle.mw_look.specs.declared.steps.Op.TheVariants.{Change as ChangeBits}
-use Rattle.mw_look.specs.declared.news.Got.TheVariants.{Won as GotWon}
+use Rattle.mw_look.specs.declared.observations.Got.TheVariants.{Won as GotWon}
 use Rattle.mw_rule.specs.Ways.{made_by_way, got_by_way}
 use Rattle.mw_rule.specs.declared.ways.Way.{Way}
-use Rattle.mw_table.proofs.Idling.{busy}
-use Rattle.mw_table.proofs.Numbering.{numbers_stay, plain_store}
-use Rattle.mw_table.proofs.Asking.{step_asks}
+use Rattle.mw_table.proofs.IdlePasses.{busy}
+use Rattle.mw_table.proofs.StepsKeepNumbers.{numbers_stay, plain_store}
+use Rattle.mw_table.proofs.StepRequirements.{step_asks}
 use Rattle.mw_table.proofs.shared.Shared.store.Goals as goal
 
 pub store-requires : goal.store-requires

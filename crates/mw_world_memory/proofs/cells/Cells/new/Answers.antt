@@ -6,7 +6,7 @@ use Rattle.mw_world_memory.proofs.FirstBits.{StartsAs, start_has_places, start_i
 use Rattle.mw_world_memory.proofs.cells.Cells.new.Goals as goal
 
 -- the bits that were made
-abbrev bits_of : goal.In_ok-news → Bits
+abbrev bits_of : goal.In_ok-new_values → Bits
 bits_of c = record {
   doors = c.in_ok-doors.doors.items;
   gates = c.in_ok-gates.gates.items;
@@ -16,10 +16,10 @@ bits_of c = record {
   counts = c.in_ok-counts.counts.items;
   addrs = c.in_ok-addrs.addrs.items;
   expecteds = c.in_ok-expecteds.expecteds.items;
-  news = c.in_ok-news.news.items;
+  new_values = c.in_ok-new_values.new_values.items;
 }
 
-starts : (c : goal.In_ok-news) → StartsAs c.args.config.now c.args.openings.now (bits_of c)
+starts : (c : goal.In_ok-new_values) → StartsAs c.args.config.now c.args.openings.now (bits_of c)
 starts c =
     let pool = c.from-pool.ensures in
     let words = map (λ tenant. tenant.items) c.in_ok-words.words.items in
@@ -32,7 +32,7 @@ starts c =
       counts = c.in_ok-counts.ensures ∙ ap (λ n. replicate n 0) pool;
       addrs = c.in_ok-addrs.ensures ∙ ap (λ n. replicate (n * MAX_ENTRIES) 0) pool;
       expecteds = c.in_ok-expecteds.ensures ∙ ap (λ n. replicate (n * MAX_ENTRIES) 0) pool;
-      news = c.in_ok-news.ensures ∙ ap (λ n. replicate (n * MAX_ENTRIES) 0) pool;
+      new_values = c.in_ok-new_values.ensures ∙ ap (λ n. replicate (n * MAX_ENTRIES) 0) pool;
     }
 
 pub returns-clause-places : goal.returns-clause-places

@@ -1,4 +1,4 @@
-use Rattle.mw_world_memory.proofs.Tying.{put_is}
+use Rattle.mw_world_memory.proofs.BitsMatchLaws.{put_is}
 use Rattle.mw_world_memory.proofs.cells.Cells.put.Goals as goal
 
 pub returns : goal.returns

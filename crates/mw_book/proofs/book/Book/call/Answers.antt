@@ -1,0 +1,61 @@
+-- Answers to goals of Book::call (src/calls.rt). They may change freely as long as the crate checks.
+use Rattle.mw_look.specs.declared.steps.Call.TheVariants.{Seal, Settle, Cancel}
+use Rattle.mw_book.proofs.FiledCalls.{filed_as}
+use Rattle.mw_book.proofs.book.Book.call.Goals as goal
+
+pub returns-in-Seal-clause-ends : goal.returns-in-Seal-clause-ends
+returns-in-Seal-clause-ends g c = (filed_as g.D.Disk.facts c.args.call Seal c.args.slot c.args.entries.now.items c.args.self.now c.seal.new.self c.seal.result c.in-Seal.is (c.seal.ensures c.args.entries.now.items)).ends
+
+pub returns-in-Seal-clause-moments : goal.returns-in-Seal-clause-moments
+returns-in-Seal-clause-moments g c = (filed_as g.D.Disk.facts c.args.call Seal c.args.slot c.args.entries.now.items c.args.self.now c.seal.new.self c.seal.result c.in-Seal.is (c.seal.ensures c.args.entries.now.items)).moments
+
+pub returns-in-Seal-clause-later : goal.returns-in-Seal-clause-later
+returns-in-Seal-clause-later g c = (c.seal.ensures c.args.entries.now.items).later
+
+pub returns-in-Seal-clause-words : goal.returns-in-Seal-clause-words
+returns-in-Seal-clause-words g c = (c.seal.ensures c.args.entries.now.items).words
+
+pub returns-in-Seal-clause-places : goal.returns-in-Seal-clause-places
+returns-in-Seal-clause-places g c = (c.seal.ensures c.args.entries.now.items).places
+
+pub returns-in-Settle-clause-ends : goal.returns-in-Settle-clause-ends
+returns-in-Settle-clause-ends g c = (filed_as g.D.Disk.facts c.args.call Settle c.args.slot c.args.entries.now.items c.args.self.now c.settle.new.self c.settle.result c.in-Settle.is (c.settle.ensures c.args.entries.now.items)).ends
+
+pub returns-in-Settle-clause-moments : goal.returns-in-Settle-clause-moments
+returns-in-Settle-clause-moments g c = (filed_as g.D.Disk.facts c.args.call Settle c.args.slot c.args.entries.now.items c.args.self.now c.settle.new.self c.settle.result c.in-Settle.is (c.settle.ensures c.args.entries.now.items)).moments
+
+pub returns-in-Settle-clause-later : goal.returns-in-Settle-clause-later
+returns-in-Settle-clause-later g c = (c.settle.ensures c.args.entries.now.items).later
+
+pub returns-in-Settle-clause-words : goal.returns-in-Settle-clause-words
+returns-in-Settle-clause-words g c = (c.settle.ensures c.args.entries.now.items).words
+
+pub returns-in-Settle-clause-places : goal.returns-in-Settle-clause-places
+returns-in-Settle-clause-places g c = (c.settle.ensures c.args.entries.now.items).places
+
+pub returns-in-Cancel-clause-ends : goal.returns-in-Cancel-clause-ends
+returns-in-Cancel-clause-ends g c = (filed_as g.D.Disk.facts c.args.call Cancel c.args.slot c.args.entries.now.items c.args.self.now c.cancel.new.self c.cancel.result c.in-Cancel.is (c.cancel.ensures c.args.entries.now.items)).ends
+
+pub returns-in-Cancel-clause-moments : goal.returns-in-Cancel-clause-moments
+returns-in-Cancel-clause-moments g c = (filed_as g.D.Disk.facts c.args.call Cancel c.args.slot c.args.entries.now.items c.args.self.now c.cancel.new.self c.cancel.result c.in-Cancel.is (c.cancel.ensures c.args.entries.now.items)).moments
+
+pub returns-in-Cancel-clause-later : goal.returns-in-Cancel-clause-later
+returns-in-Cancel-clause-later g c = (c.cancel.ensures c.args.entries.now.items).later
+
+pub returns-in-Cancel-clause-quiet : goal.returns-in-Cancel-clause-quiet
+returns-in-Cancel-clause-quiet g c = (filed_as g.D.Disk.facts c.args.call Cancel c.args.slot c.args.entries.now.items c.args.self.now c.cancel.new.self c.cancel.result c.in-Cancel.is (c.cancel.ensures c.args.entries.now.items)).quiet
+
+pub returns-in-Cancel-clause-words : goal.returns-in-Cancel-clause-words
+returns-in-Cancel-clause-words g c = (c.cancel.ensures c.args.entries.now.items).words
+
+pub returns-in-Cancel-clause-places : goal.returns-in-Cancel-clause-places
+returns-in-Cancel-clause-places g c = (c.cancel.ensures c.args.entries.now.items).places
+
+pub returns-in-Seal-clause-answers : goal.returns-in-Seal-clause-answers
+returns-in-Seal-clause-answers g c = (filed_as g.D.Disk.facts c.args.call Seal c.args.slot c.args.entries.now.items c.args.self.now c.seal.new.self c.seal.result c.in-Seal.is (c.seal.ensures c.args.entries.now.items)).answers
+
+pub returns-in-Settle-clause-answers : goal.returns-in-Settle-clause-answers
+returns-in-Settle-clause-answers g c = (filed_as g.D.Disk.facts c.args.call Settle c.args.slot c.args.entries.now.items c.args.self.now c.settle.new.self c.settle.result c.in-Settle.is (c.settle.ensures c.args.entries.now.items)).answers
+
+pub returns-in-Cancel-clause-answers : goal.returns-in-Cancel-clause-answers
+returns-in-Cancel-clause-answers g c = (filed_as g.D.Disk.facts c.args.call Cancel c.args.slot c.args.entries.now.items c.args.self.now c.cancel.new.self c.cancel.result c.in-Cancel.is (c.cancel.ensures c.args.entries.now.items)).answers

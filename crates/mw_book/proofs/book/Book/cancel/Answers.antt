@@ -1,0 +1,18 @@
+-- Answers to goals of Book::cancel (src/calls.rt). They may change freely as long as the crate checks.
+use Rattle.std.proofs.Common.{refl, sym, ap, subst, arith}
+use Rattle.mw_disk.specs.Runs.{Later}
+use Rattle.mw_disk.proofs.RunLaws.{later_refl}
+use Rattle.mw_file.specs.declared.place_states.Stage.TheVariants.{Prepared}
+use Rattle.mw_file.specs.File.{disk_of}
+use Rattle.mw_book.proofs.FiledCalls.{busy_in, cancel_made}
+use Rattle.mw_book.proofs.book.Book.cancel.Goals as goal
+
+pub returns : goal.returns
+returns g c entries =
+    let old = c.args.self.now in
+    let facts = g.D.Disk.facts in
+    let held = c.in-Some.file in
+    cancel_made facts old _ held c.cancel.new.self c.in-Some.is
+    (subst (λ d. Later (facts (disk_of held)) (facts d)) (sym (ap disk_of c.cancel.ensures.rest)) (later_refl (facts (disk_of held)))) c.cancel.ensures.safe
+    c.args.slot (omega (arith, c.ranges.slot.fits)) (busy_in old held c.args.slot Prepared c.in-Some.is c.requires.may refl) _ c.cancel.ensures.staged
+    (record { is_held = refl; is_words = refl; is_places = refl; is_place_of = refl; is_failed = refl }) entries (ap disk_of c.cancel.ensures.rest)

@@ -1,0 +1,10 @@
+-- Answers to goals of Book::unopened (src/new_books.rt). They may change freely as long as the crate checks.
+use Rattle.std.proofs.Common.{replicate}
+use Rattle.std.proofs.lemmas.List.{get_or-replicate}
+use Rattle.mw_words.specs.declared.limits.TheConstants.{MAX_POOL}
+use Rattle.mw_book.proofs.NewBooks.{unopened_tells}
+use Rattle.mw_book.proofs.book.Book.unopened.Goals as goal
+
+pub returns-clause-shows : goal.returns-clause-shows
+returns-clause-shows g c contents long =
+    unopened_tells g.D.Disk.facts contents c.args.words c.args.places (replicate MAX_POOL 0) (λ slot lt. get_or-replicate MAX_POOL slot 0 0 lt) long

@@ -1,9 +1,0 @@
-use Rattle.std.proofs.Common.{replicate}
-use Rattle.std.proofs.lemmas.List.{get_or-replicate}
-use Rattle.mw_words.specs.declared.limits.TheConstants.{MAX_POOL}
-use Rattle.mw_book.proofs.NewBooks.{new_tells}
-use Rattle.mw_book.proofs.kept.Book.new.Goals as goal
-
-pub returns-clause-shows : goal.returns-clause-shows
-returns-clause-shows g c words long keeps =
-    new_tells g.D.Disk.facts c.args.file words _ c.args.places (replicate MAX_POOL 0) c.requires.free (λ slot lt. get_or-replicate MAX_POOL slot 0 0 lt) c.words-words.ensures long keeps

@@ -1,9 +1,0 @@
-use Rattle.std.proofs.Common.{replicate}
-use Rattle.std.proofs.lemmas.List.{get_or-replicate}
-use Rattle.mw_words.specs.declared.limits.TheConstants.{MAX_POOL}
-use Rattle.mw_book.proofs.NewBooks.{unopened_tells}
-use Rattle.mw_book.proofs.kept.Book.unopened.Goals as goal
-
-pub returns-clause-shows : goal.returns-clause-shows
-returns-clause-shows g c contents long =
-    unopened_tells g.D.Disk.facts contents c.args.words c.args.places (replicate MAX_POOL 0) (λ slot lt. get_or-replicate MAX_POOL slot 0 0 lt) long

@@ -1,0 +1,129 @@
+//! The calls on a tenant's file.
+//!
+//! mw_core makes these calls, in its `file_calls.rt`. `specs/Permits` says when one may be made, and
+//! `specs/CallOutcome` what it leaves.
+ghost use Rattle.std.specs.Prelude.{◌≡◌, List, []};
+ghost use Rattle.mw_disk.specs.Runs.{Later};
+ghost use Rattle.mw_words.specs.declared.jobs.Entry.{Entry as EntryAt};
+ghost use Rattle.mw_world_file.specs.Files.{File};
+
+use crate::answers::Filed;
+use crate::book::Book;
+use mw_disk::Disk;
+use mw_file::Place;
+use mw_look::Call;
+use mw_words::Entries;
+
+impl<D: Disk> Book<D> {
+    ghost use Rattle.mw_book.specs.Answers.{Answers};
+    ghost use Rattle.mw_book.specs.OpenFile.{disk_in, OnDisk};
+    ghost use Rattle.mw_book.specs.Representation.{Represents};
+    ghost use Rattle.mw_book.specs.Permits.{MayCall};
+    ghost use Rattle.mw_book.specs.Ends.{Ends};
+    ghost use Rattle.mw_book.specs.Crashes.{IsCrashSafe};
+    ghost use Rattle.mw_book.specs.CallOutcome.{IsFiled};
+
+    /// Makes a call on the file for the change of a slot. A prepare writes these entries into the lowest free
+    /// place, which then is the slot's. A seal, a settle and a cancel use the slot's place, and take no entries.
+    /// If the file has failed the call does nothing, unless it is a cancel. A cancel makes no device call and
+    /// always goes well.
+    ///
+    /// If the book represented a file, it now represents what this call, with this answer, makes of that file.
+    /// On any disk the answer tells whether a device call failed. Which one failed, and how many were made, is
+    /// known of a disk that keeps the model of [`Disk`].
+    ///
+    /// On such a disk a crash at any moment since the call began leaves the words of each file that the book
+    /// represented then, or these with the change at stake put over them. This is the change that the call
+    /// seals, else the one that an earlier failed seal left in doubt. Nothing is said of a file that didn't open.
+    pub fn call(&mut self, call: Call, slot: u8, entries: &Entries) -> Filed
+        requires may { MayCall self.old call slot entries.now.items }
+        ensures ends { (file : File) → Represents D.facts self.old file → Ends D.facts call slot entries.now.items file self.old self.new result }
+        ensures answers { Answers D.facts call self.old self.new result }
+        ensures moments { IsCrashSafe D.facts call slot self.old self.new result }
+        ensures later { OnDisk D.facts Later (disk_in self.old.held) (disk_in self.new.held) }
+        ensures quiet { call ≡ Call.Cancel → disk_in self.new.held ≡ disk_in self.old.held }
+        ensures words { self.new.words ≡ self.old.words }
+        ensures places { self.new.places ≡ self.old.places }
+    {
+        match call {
+            Call::Prepare => self.prepare(slot, entries),
+            Call::Seal => self.seal(slot),
+            Call::Settle => self.settle(slot),
+            Call::Cancel => self.cancel(slot),
+        }
+    }
+
+    /// Writes the record of a change into the lowest free place, for a slot.
+    fn prepare(&mut self, slot: u8, entries: &Entries) -> Filed
+        requires may { MayCall self.old Call.Prepare slot entries.now.items }
+        ensures { IsFiled D.facts Call.Prepare slot entries.now.items self.old self.new result }
+    {
+        if self.has_failed {
+            return Filed::Untouched;
+        }
+        let Some(file) = &mut self.held else {
+            unreachable!()
+        };
+        match file.prepare(entries) {
+            Ok(place) => {
+                self.place_of[slot as usize] = place.0;
+                Filed::Made
+            }
+            Err(_) => {
+                self.has_failed = true;
+                Filed::Broken
+            }
+        }
+    }
+
+    /// Seals the prepared change of a slot.
+    fn seal(&mut self, slot: u8) -> Filed
+        requires may { MayCall self.old Call.Seal slot [] }
+        ensures { (entries : List EntryAt) → IsFiled D.facts Call.Seal slot entries self.old self.new result }
+    {
+        if self.has_failed {
+            return Filed::Untouched;
+        }
+        let place = self.place_of[slot as usize];
+        let Some(file) = &mut self.held else {
+            unreachable!()
+        };
+        if file.seal(Place(place)).is_err() {
+            self.has_failed = true;
+            return Filed::Broken;
+        }
+        Filed::Made
+    }
+
+    /// Settles the sealed change of a slot. Then its place is free.
+    fn settle(&mut self, slot: u8) -> Filed
+        requires may { MayCall self.old Call.Settle slot [] }
+        ensures { (entries : List EntryAt) → IsFiled D.facts Call.Settle slot entries self.old self.new result }
+    {
+        if self.has_failed {
+            return Filed::Untouched;
+        }
+        let place = self.place_of[slot as usize];
+        let Some(file) = &mut self.held else {
+            unreachable!()
+        };
+        if file.settle(Place(place)).is_err() {
+            self.has_failed = true;
+            return Filed::Broken;
+        }
+        Filed::Made
+    }
+
+    /// Cancels the prepared change of a slot. Then its place is free. It makes no device call.
+    fn cancel(&mut self, slot: u8) -> Filed
+        requires may { MayCall self.old Call.Cancel slot [] }
+        ensures { (entries : List EntryAt) → IsFiled D.facts Call.Cancel slot entries self.old self.new result }
+    {
+        let place = self.place_of[slot as usize];
+        let Some(file) = &mut self.held else {
+            unreachable!()
+        };
+        file.cancel(Place(place));
+        Filed::Made
+    }
+}

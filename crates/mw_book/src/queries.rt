@@ -1,0 +1,60 @@
+//! What a book tells of its file.
+//!
+//! Only tests call these (mw_file_tests): the server makes calls on a book, and takes its words when a file opens.
+ghost use Rattle.std.specs.Prelude.{◌≡◌, true, false, nat_lt, take};
+ghost use Rattle.std.specs.List.{list_any};
+ghost use Rattle.mw_file.specs.PlaceStates.{is_free};
+ghost use Rattle.mw_world_file.specs.Files.{File, empty_from};
+
+use crate::book::Book;
+use mw_disk::Disk;
+use mw_file::{PlaceState, Stage};
+
+impl<D: Disk> Book<D> {
+    ghost use Rattle.mw_book.specs.OpenFile.{states_in};
+    ghost use Rattle.mw_book.specs.Permits.{HasPlace};
+    ghost use Rattle.mw_book.specs.Representation.{Represents};
+
+    /// Returns how many words the file has.
+    pub fn words(&self) -> u16
+        ensures { result ≡ self.now.words }
+    {
+        self.words
+    }
+
+    /// Returns how many of the file's places are used.
+    pub fn places(&self) -> u16
+        ensures { result ≡ self.now.places }
+    {
+        self.places
+    }
+
+    /// Tells whether the file has failed: a device call has failed since it was opened, or it didn't open. Then
+    /// only a cancel does anything until the next start.
+    pub fn has_failed(&self) -> bool
+        ensures { result ≡ self.now.has_failed }
+    {
+        self.has_failed
+    }
+
+    /// Tells whether one of the used places is free, so that a change can be prepared. A file that didn't open
+    /// has no free place.
+    pub fn has_place(&self) -> bool
+        ensures is { result ≡ list_any is_free (take self.now.places (states_in self.now.held)) }
+        ensures room { result ≡ true → HasPlace (states_in self.now.held) self.now.places }
+        ensures shown { (file : File) → Represents D.facts self.now file → file.has_failed ≡ false
+            → result ≡ nat_lt (empty_from file 0 self.now.places) self.now.places }
+    {
+        match &self.held {
+            Some(file) => has_free(&file.states()[..self.places as usize]),
+            None => false,
+        }
+    }
+}
+
+/// Tells whether one of these places is free.
+fn has_free(states: &[PlaceState]) -> bool
+    ensures { result ≡ list_any is_free states.now }
+{
+    states.iter().any(|state| state.stage == Stage::Free)
+}

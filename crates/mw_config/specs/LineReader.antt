@@ -1,0 +1,50 @@
+-- Reads a line from left to right, as a reader does that may see a large number as a smaller one. Only the reader's
+-- steps cite this; for everyone else LineTexts, Limits and Refusals alone count.
+-- Used by: the contracts of lines.rt and tenants.rt. It may change with the reader as long as read_tenants proves the same
+-- contract.
+use Rattle.std.specs.Prelude.{ℕ, Bool, nat_le, ◌≡◌, ◌<◌, ◌&&◌, ◌+◌, List, ◌++◌, length, if◌then◌else◌, codes, Option, Some, None, Result, Ok, Err}
+use Rattle.std.specs.Borrow.{Bor}
+use Rattle.mw_words.specs.Name.{is_name}
+use Rattle.mw_line.specs.LineReader.{◌>>=◌, behind, field_at, number_at}
+use Rattle.mw_words.specs.declared.limits.TheConstants.{MAX_TENANTS}
+use Rattle.mw_config.specs.declared.lines.TenantLine.{TenantLine}
+use Rattle.mw_config.specs.declared.lines.Told.{Told}
+use Rattle.mw_config.specs.declared.refusals.Refusal.{Refusal}
+use Rattle.mw_config.specs.LineTexts.{Line, IsLine, is_path, line_of, spelling}
+use Rattle.mw_config.specs.Limits.{HasWords, HasQuota, IsNew}
+use Rattle.mw_config.specs.Refusals.{IsAtLine, IsWrong}
+
+-- the first line, with its numbers as the reader sees them, and the bytes after it
+unfoldable pub line_at : (ℕ → ℕ) → List ℕ → Option (Line × List ℕ)
+line_at see text = do
+  name ← field_at 32 text
+  words ← number_at see name.1
+  second ← behind (codes " ") words.1
+  quota ← number_at see second
+  third ← behind (codes " ") quota.1
+  path ← field_at 10 third
+  if is_name name.0 && is_path path.0
+      then Some (record { name = name.0; words = words.0; quota = quota.0; path = path.0 }, path.1)
+      else None
+
+-- a number is 1 to most
+abbrev pub is_within : ℕ → ℕ → Bool
+is_within most number = nat_le 1 number && nat_le number most
+
+-- the fields that were read, as a line
+abbrev pub line_of_fields : Told → Line
+line_of_fields told = record { name = told.name.items; words = told.words; quota = told.quota; path = told.path.bytes }
+
+-- The text begins with the line, nothing is wrong with it after these lines, and there is room for it.
+pub record Continues (lines : List Line) (text : List ℕ) (line : Line) (after : List ℕ) : Type 0 where
+  pub formed : IsLine line
+  pub spelled : text ≡ spelling line ++ after
+  pub words : HasWords line
+  pub quota : HasQuota line
+  pub new : IsNew lines line
+  pub room : length lines < MAX_TENANTS
+
+-- What reading the first line of a text gives after these lines: the tenant and the text after it, or what is wrong.
+abbrev pub Takes : List Line → List ℕ → Result (TenantLine × Bor (List ℕ)) Refusal → Type 0
+Takes lines text (Ok taken) = Continues lines text (line_of taken.0) taken.1.now
+Takes lines text (Err why) = IsAtLine (length lines + 1) why × IsWrong lines text why

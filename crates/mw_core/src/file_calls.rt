@@ -1,0 +1,126 @@
+//! One whole call on a tenant's file.
+//!
+//! mw_engine calls `Core::file` under the lock of the tenant's file. `specs/FileCalls` has the words of its
+//! contract.
+ghost use Rattle.std.specs.Prelude.{◌≡◌, ◌≢◌, None};
+ghost use Rattle.mw_actor.specs.ActorState as acting;
+ghost use Rattle.mw_world.specs.Definition.Calls.{called_at};
+ghost use Rattle.mw_table.specs.CarriedRequest.{IsCarried};
+ghost use Rattle.mw_table.specs.FromRule.{ExtendsKnownRun};
+ghost use Rattle.mw_table.specs.FileCalls.{IsFree, IsRightOf, file_kept};
+ghost use Rattle.mw_table.specs.HeldFiles.{HasFile};
+ghost use Rattle.mw_table.specs.Meet.{IsSamePass};
+ghost use Rattle.mw_table.specs.Passes.{IsOf};
+ghost use Rattle.mw_core.specs.Books.{AgreesHeld, AgreesThere};
+ghost use Rattle.mw_core.specs.FileCalls.{AreTaken, FilesOnce, MakesCall};
+
+use crate::calls::Core;
+use mw_actor::Actor;
+use mw_book::{Book, Filed};
+use mw_disk::Disk;
+use mw_look::{Call, Got, Op, Told};
+use mw_table::{FilePass, Pass};
+use mw_words::{Entries, Job, Status, copy_of};
+use mw_world::starts_from;
+
+impl Core {
+    /// Makes the whole call on its tenant's file at which the pass's request is, on the tenant's book and with the
+    /// file pass. The caller must keep both from all other threads meanwhile. It tells the machine how the call went,
+    /// and returns the file pass with what is known of the file by now. The book agrees with that again.
+    ///
+    /// - A call that doesn't start from the status of its change does nothing, and counts as one that went well.
+    /// - A call that starts is made on the book. If all its device calls go well, the status goes on. If one of them
+    ///   fails, or the file had failed before, the tenant's door has the fault from then on.
+    ///
+    /// The call extends a run of a world by one event, which says how the call ended; that run extends the one that
+    /// the pass knew. Then the pass and the file pass know a run that extends what either knew before. So all calls
+    /// on one file are of one run, whichever threads make them.
+    pub fn file<D: Disk>(
+        &self,
+        pass: &mut Pass,
+        actor: &mut Actor,
+        book: &mut Book<D>,
+        right: FilePass,
+    ) -> FilePass
+        requires own { IsOf self.now.shared pass.old }
+        requires carried { IsCarried pass.old actor.old }
+        requires call { called_at actor.old.point ≢ None }
+        requires free { IsFree pass.old }
+        requires right { IsRightOf self.now.shared right }
+        requires whose { right.tenant ≡ actor.old.tenant }
+        requires agrees { AgreesThere D.facts self.now.shared book.old right }
+        ensures own { IsOf self.now.shared pass.new }
+        ensures same { IsSamePass pass.old pass.new }
+        ensures free { IsFree pass.new }
+        ensures carried { IsCarried pass.new actor.new }
+        ensures files { FilesOnce D.facts pass.old pass.new actor.old actor.new book.old book.new (file_kept right) (file_kept result) }
+        ensures right { IsRightOf self.now.shared result }
+        ensures whose { result.tenant ≡ right.tenant }
+        ensures follows { ExtendsKnownRun right.seat.me.0.known_run result.seat.me.0.known_run }
+        ensures known { result.seat.me.0.known_run ≡ pass.new.seat.me.0.known_run }
+        ensures agrees { AgreesThere D.facts self.now.shared book.new result }
+    {
+        let tenant = right.tenant();
+        self.shared().take(pass, right);
+        let went_well = self.make_call(pass, actor, book);
+        actor.tell(Told {
+            got: Got::File(went_well),
+            next: pass.attempt(),
+        });
+        self.shared().give_back(pass, tenant)
+    }
+
+    /// Makes the call itself, with a pass that has the file. Returns whether it went well.
+    fn make_call<D: Disk>(&self, pass: &mut Pass, actor: &Actor, book: &mut Book<D>) -> bool
+        requires own { IsOf self.now.shared pass.old }
+        requires carried { IsCarried pass.old actor.now }
+        requires call { called_at actor.now.point ≢ None }
+        requires has { HasFile pass.old.seat.me.0 actor.now.tenant }
+        requires agrees { AgreesHeld D.facts book.old pass.old.seat.me.0 actor.now.tenant }
+        ensures own { IsOf self.now.shared pass.new }
+        ensures same { IsSamePass pass.old pass.new }
+        ensures made { MakesCall D.facts pass.old.worker pass.old.seat.me.0 pass.new.seat.me.0 actor.now book.old book.new result }
+        ensures agrees { AgreesHeld D.facts book.new pass.new.seat.me.0 actor.now.tenant }
+    {
+        let Op::File { call, slot } = actor.ask() else {
+            unreachable!()
+        };
+        let bits = self.shared().find_status(pass, slot);
+        let Some(status) = Status::unpack(bits) else {
+            unreachable!()
+        };
+        if !starts_from(call, status) {
+            return true;
+        }
+        match book.call(call, slot, &entries_for(call, actor)) {
+            Filed::Made => {
+                self.shared().end_call(pass, call, slot, status);
+                true
+            }
+            Filed::Broken | Filed::Untouched => {
+                self.shared().fault(pass, actor.tenant());
+                false
+            }
+        }
+    }
+}
+
+/// Returns the entries that a call takes: those of the request's own change for a prepare, none for any other call.
+fn entries_for(call: Call, actor: &Actor) -> Entries
+    ensures { AreTaken call result.items (acting.own_entries actor.now) }
+{
+    match call {
+        Call::Prepare => own_entries(actor),
+        Call::Seal | Call::Settle | Call::Cancel => Entries::new(),
+    }
+}
+
+/// Returns the entries of a request's own change; of a read none.
+fn own_entries(actor: &Actor) -> Entries
+    ensures { result.items ≡ acting.own_entries actor.now }
+{
+    match actor.job() {
+        Job::Get(_) => Entries::new(),
+        Job::Cas(entries) => copy_of(entries),
+    }
+}

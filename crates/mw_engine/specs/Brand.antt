@@ -1,0 +1,30 @@
+-- The identity of an engine: what stays the same for its whole life.
+-- Used by: the contracts of src/brand.rt, src/end.rt, src/engine.rt and other code of this crate, many specs of this
+-- crate, mw_programs. A change here changes what these contracts say.
+use Rattle.std.specs.Prelude.{List, []}
+use Rattle.atomic_table.specs.Seated.{TableId}
+use Rattle.mw_world.specs.declared.config.Config.{Config}
+use Rattle.mw_world.specs.Definition.State.{TenantStart}
+use Rattle.mw_core.specs.FromTable.{Shared, config_of, openings_of}
+use Rattle.mw_engine.specs.Identity.{Line}
+
+-- An engine's identity: its table of shared words, the configuration of their world, what the latest start gave the
+-- tenants, and the tenants' lines.
+pub record Identity : Type 0 where
+  pub table : TableId
+  pub config : Config
+  pub openings : List TenantStart
+  pub lines : List Line
+
+-- the identity of an engine on these shared words, with these lines
+abbrev pub identity_on : Shared → List Line → Identity
+identity_on shared lines = record { table = shared.table.shared.table_id; config = config_of shared.table.shared.key; openings = openings_of shared.table.shared.key; lines = lines }
+
+-- the identity of an engine that has no tenant
+abbrev pub of_none : Identity
+of_none = record {
+  table = record { words = 0; slots = 0; views_name = 0; atom = 0; block = 0; offset = 0; slot_names = [] };
+  config = record { pool = 0; workers = 0; seq = 0; tenants = record { items = [] } };
+  openings = [];
+  lines = [];
+}

@@ -1,0 +1,41 @@
+-- Which disks are given at the end of an engine, and which words are on them.
+-- Used by: the contracts of src/end.rt. A change here changes what these contracts say.
+use Rattle.std.specs.Prelude.{◌≡◌, ℕ, false, List, length, slice_get, Option, Some, None, IsTrue}
+use Rattle.mw_disk.specs.Facts.{Facts}
+use Rattle.mw_record.specs.Layout.{pairs_of}
+use Rattle.mw_file.specs.declared.tenant_file.TenantFile.{TenantFile}
+use Rattle.mw_file.specs.File.{disk_of}
+use Rattle.mw_file.specs.RecoveryInvariant.{RecoversTo}
+use Rattle.mw_book.specs.declared.book.Book.{Book}
+use Rattle.mw_core.specs.FromTable.{FilePass, IsSoOfWorld, file_kept, opening_at}
+use Rattle.mw_engine.specs.Brand.{Identity}
+use Rattle.mw_engine.specs.GuardedFile.{IsKept}
+
+module _ {D : Type 0} (facts : D → Facts) (identity : Identity) where
+  -- This is the disk of the book that was kept with this tenant's file pass. What the file pass tells of the file is so
+  -- in a world of the engine, after some run that goes on from the one it knew. If the disk is honest, the file
+  -- represents the words that it has in that world, with the change in doubt there.
+  pub record IsGiven (tenant : ℕ) (disk : D) : Type 0 where
+    pub book : Book D
+    pub right : FilePass
+    pub file : TenantFile D
+    pub kept : IsKept facts identity book right
+    pub its : right.tenant ≡ tenant
+    pub held : book.held ≡ Some file
+    pub on : disk_of file ≡ disk
+    pub so : IsSoOfWorld identity.config identity.openings right.seat.me.0.known_run tenant (file_kept right)
+    pub stands : IsTrue (facts disk).honest → RecoversTo facts file (so.state.tenant_states tenant).file.contents (pairs_of (so.state.tenant_states tenant).file.doubt)
+
+  -- What is given for a tenant: its disk, or none. None is given only if the tenant's file didn't open at the start.
+  abbrev pub GivenAs : ℕ → Option D → Type 0
+  GivenAs tenant None = (opening_at identity.openings tenant).is_up ≡ false
+  GivenAs tenant (Some disk) = IsGiven tenant disk
+
+  -- each of these is given for the tenant of its number
+  abbrev pub EachIsGiven : List (Option D) → Type 0
+  EachIsGiven disks = (tenant : ℕ) (found : Option D) → slice_get disks tenant ≡ Some found → GivenAs tenant found
+
+  -- The disks are given: one entry for each tenant, by number.
+  pub record AreGiven (disks : List (Option D)) : Type 0 where
+    pub count : length disks ≡ length identity.lines
+    pub each : EachIsGiven disks

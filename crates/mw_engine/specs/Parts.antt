@@ -1,0 +1,20 @@
+-- The identity of an engine, by its parts, and the world that its lines make.
+-- Used by the contracts of new_parts.rt and start.rt, and by those of mw_programs and mw_engine_tests. A change here changes
+-- which world an engine is promised to serve.
+use Rattle.std.specs.Prelude.{ℕ, List, map}
+use Rattle.mw_disk.specs.declared.device.Disk.{Ghosts}
+use Rattle.mw_config.specs.declared.lines.TenantLine.{TenantLine}
+use Rattle.mw_world.specs.declared.config.Config.{Config}
+use Rattle.mw_engine.specs.declared.parts.EngineParts.{EngineParts}
+use Rattle.mw_engine.specs.Brand.{Identity, identity_on}
+use Rattle.mw_engine.specs.TenantWords.{lines_told}
+use Rattle.mw_engine.specs.OpenedFiles.{tenant_read}
+
+-- the identity of the engine that these parts make
+abbrev pub identity_of : {D H : Type 0} {device : Ghosts D} → EngineParts D H device → Identity
+identity_of parts = identity_on parts.words.core.shared (lines_told parts.words)
+
+-- The configuration of the world of these lines: so many slots, each first used under the number 0, and so many
+-- workers.
+abbrev pub world_read : ℕ → ℕ → List TenantLine → Config
+world_read pool workers lines = record { pool = pool; workers = workers; seq = 0; tenants = record { items = map tenant_read lines } }

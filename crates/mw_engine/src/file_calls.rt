@@ -1,0 +1,45 @@
+//! A call on a tenant's file, under its lock.
+//!
+//! Used by: `serving`, which takes the lock.
+ghost use Rattle.std.specs.Prelude.{◌≡◌, ◌≢◌, ◌↔◌, None, IsTrue};
+ghost use Rattle.mw_world.specs.Definition.Calls.{called_at};
+ghost use Rattle.mw_core.specs.FromTable.{IsCarried, IsSamePass};
+ghost use Rattle.mw_engine.specs.Brand.{identity_on};
+ghost use Rattle.mw_engine.specs.FileCalls.{FilesOne};
+ghost use Rattle.mw_engine.specs.Passes.{IsOneOf};
+
+use crate::brand::EngineBrand;
+use crate::guarded_file::GuardedFile;
+use mw_actor::Actor;
+use mw_core::{Core, Pass};
+use mw_disk::Disk;
+
+impl<J: EngineBrand, D: Disk> GuardedFile<J, D> {
+    /// Whether this is the file of the request's tenant.
+    pub(crate) fn is_of(&self, actor: &Actor) -> bool
+        ensures { IsTrue result ↔ (self.now.tenant ≡ actor.now.tenant) }
+    {
+        self.tenant == actor.tenant()
+    }
+
+    /// Makes the call on this file to which the pass's request has come.
+    pub(crate) fn file(&mut self, core: &Core, pass: &mut Pass, actor: &mut Actor)
+        requires engine { identity_on core.now.shared J.identity.lines ≡ J.identity }
+        requires own { IsOneOf core.now.shared pass.old }
+        requires carried { IsCarried pass.old actor.old }
+        requires call { called_at actor.old.point ≢ None }
+        requires whose { self.old.tenant ≡ actor.old.tenant }
+        ensures own { IsOneOf core.now.shared pass.new }
+        ensures same { IsSamePass pass.old pass.new }
+        ensures carried { IsCarried pass.new actor.new }
+        ensures files { FilesOne D.facts J.identity pass.old pass.new actor.old actor.new }
+    {
+        match self.right.take() {
+            Some(right) => {
+                let right = core.file(pass, actor, &mut self.book, right);
+                self.right = Some(right);
+            }
+            None => unreachable!(),
+        }
+    }
+}

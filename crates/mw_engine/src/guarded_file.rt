@@ -1,0 +1,21 @@
+//! What the lock of a tenant's file guards.
+//!
+//! Used by: `engine`; `start`, which makes it; `file_calls`; `end`.
+ghost use Rattle.mw_engine.specs.GuardedFile.{KeepsFor};
+
+use crate::brand::EngineBrand;
+use mw_book::Book;
+use mw_core::FilePass;
+use mw_disk::Disk;
+use std::marker::PhantomData;
+
+/// The book of a tenant's file, and the file pass of the table that the engine's identity names. The file pass is
+/// away only while a call on the file is made.
+#[derive(Drop)]
+pub(crate) struct GuardedFile<J: EngineBrand, D: Disk> {
+    pub(crate) book: Book<D>,
+    pub(crate) right: Option<FilePass>,
+    pub(crate) tenant: u8,
+    pub(crate) brand: PhantomData<J>,
+    ghost kept: { KeepsFor D.facts J.identity book right tenant },
+}

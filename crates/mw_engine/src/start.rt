@@ -1,0 +1,68 @@
+//! An engine, made of its parts.
+//!
+//! mw_programs calls `into_engine` once, when the files are open and before the first session. A new field of
+//! `Engine` or of `GuardedFile` gets its value here.
+ghost use Rattle.std.specs.Prelude.{◌≡◌, length, IfOk};
+ghost use Rattle.mw_engine.specs.GuardedFile.{AreKept};
+ghost use Rattle.mw_engine.specs.Parts.{identity_of};
+
+use crate::brand::EngineBrand;
+use crate::engine::Engine;
+use crate::guarded_file::GuardedFile;
+use crate::parts::EngineParts;
+use mw_book::Book;
+use mw_core::FilePass;
+use mw_disk::Disk;
+use std::alloc::{AllocError, Global};
+use std::marker::PhantomData;
+use std::sync::Mutex;
+
+impl<D: Disk + Drop, H: Drop> EngineParts<D, H> {
+    /// Makes the engine of these parts. It serves from now on.
+    ///
+    /// # Errors
+    ///
+    /// [`AllocError`] if memory is out. The parts are dropped.
+    pub fn into_engine<J: EngineBrand>(self, alloc: Global) -> Result<Engine<J, D, H>, AllocError>
+        requires { identity_of self ≡ J.identity }
+        ensures words { IfOk result (λ engine. engine.words ≡ self.words) }
+        ensures hold { IfOk result (λ engine. engine.hold ≡ self.hold) }
+    {
+        let EngineParts {
+            words,
+            hold,
+            books,
+            file_passes,
+        } = self;
+        let books = locked(alloc, books, file_passes)?;
+        Ok(Engine { words, hold, books })
+    }
+}
+
+/// Each tenant's book and its file pass, under a lock.
+fn locked<J: EngineBrand, D: Disk + Drop>(
+    alloc: Global,
+    books: Vec<Book<D>>,
+    file_passes: Vec<FilePass>,
+) -> Result<Vec<Mutex<GuardedFile<J, D>>>, AllocError>
+    requires kept { AreKept D.facts J.identity books.items file_passes.items }
+    requires even { length file_passes.items ≡ length books.items }
+    ensures { IfOk result (λ made. length made.items ≡ length books.items) }
+{
+    let mut made = Vec::with_capacity(alloc, books.len())?;
+    let mut file_passes = file_passes.into_iter();
+    for book in books {
+        let Some(right) = file_passes.next() else {
+            unreachable!()
+        };
+        let tenant = right.tenant();
+        let kept = GuardedFile {
+            book,
+            right: Some(right),
+            tenant,
+            brand: PhantomData,
+        };
+        made.push(Mutex::new(kept))?;
+    }
+    Ok(made)
+}

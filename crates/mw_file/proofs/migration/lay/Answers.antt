@@ -1,0 +1,110 @@
+-- Answers to goals of lay (src/migration.rt). They may change freely as long as the crate checks.
+use Rattle.std.proofs.Common.{◌≤◌, length, true, false, arith, ap, ◌∙◌}
+use Rattle.mw_disk.specs.Facts.{patched}
+use Rattle.mw_disk.proofs.RunLaws.{good_call, bad_call, good_trans, called_later, still_honest}
+use Rattle.mw_record.specs.declared.layout.TheConstants.{SECOND_AT, WORD_SIZE}
+use Rattle.mw_record.specs.Layout.{number_bytes}
+use Rattle.mw_record.proofs.ReadBytes.{length-number_bytes}
+use Rattle.mw_file.specs.RollForward.{InRange}
+use Rattle.mw_file.proofs.Grown.{grown_write, grown_quiet, grown_more}
+use Rattle.mw_file.proofs.Migrated.{laid_bytes}
+use Rattle.mw_file.proofs.Ran.{stops}
+use Rattle.mw_file.proofs.migration.lay.Goals as goal
+
+pub returns-in_err-write_at-2-clause-calls : goal.returns-in_err-write_at-2-clause-calls
+returns-in_err-write_at-2-clause-calls g c =
+    let old = g.D.Disk.facts c.args.disk.now in
+    let one = g.D.Disk.facts c.write_at.new.self in
+    let two = g.D.Disk.facts c.write_at-2.new.self in
+    stops 1 1 3 old one two _ (omega arith) (good_call old one c.in_ok-write_at.ensures.call)
+    (bad_call one two c.in_err-write_at-2.ensures.call (λ honest. c.in_err-write_at-2.ensures.spared)) c.from_residual-in_err-write_at-2.ensures.0
+
+pub returns-in_err-write_at-2-clause-grown : goal.returns-in_err-write_at-2-clause-grown
+returns-in_err-write_at-2-clause-grown g c honest =
+    let old = g.D.Disk.facts c.args.disk.now in
+    let one = g.D.Disk.facts c.write_at.new.self in
+    let two = g.D.Disk.facts c.write_at-2.new.self in
+    let S = InRange SECOND_AT WORD_SIZE in
+    let at = c.args.at in
+    let honest1 = still_honest old one (called_later old one true c.in_ok-write_at.ensures.call) honest in
+    let size = ap length c.home_word.ensures.bytes ∙ length-number_bytes WORD_SIZE at in
+    grown_more S at old one two
+    (grown_write S at old one true c.in_ok-write_at.ensures.call at (length c.args.second.now) (c.in_ok-write_at.ensures.crash honest) (c.in_ok-write_at.ensures.torn honest)
+    (λ k from to low. absurd (omega (arith, from, low))))
+    (grown_write S at one two false c.in_err-write_at-2.ensures.call SECOND_AT (length c.home_word.result) (c.in_err-write_at-2.ensures.crash honest1) (c.in_err-write_at-2.ensures.torn honest1)
+    (λ k from to low. record { from = from; to = omega (arith, to, size) }))
+
+pub returns-in_err-sync-clause-calls : goal.returns-in_err-sync-clause-calls
+returns-in_err-sync-clause-calls g c =
+    let old = g.D.Disk.facts c.args.disk.now in
+    let one = g.D.Disk.facts c.write_at.new.self in
+    let two = g.D.Disk.facts c.write_at-2.new.self in
+    let new = g.D.Disk.facts c.sync.new.self in
+    stops 2 1 3 old two new _ (omega arith)
+    (good_trans 1 1 old one two (good_call old one c.in_ok-write_at.ensures.call) (good_call one two c.in_ok-write_at-2.ensures.call))
+    (bad_call two new c.in_err-sync.ensures.call (λ honest. c.in_err-sync.ensures.spared)) c.from_residual-in_err-sync.ensures.0
+
+pub returns-in_err-sync-clause-grown : goal.returns-in_err-sync-clause-grown
+returns-in_err-sync-clause-grown g c honest =
+    let old = g.D.Disk.facts c.args.disk.now in
+    let one = g.D.Disk.facts c.write_at.new.self in
+    let two = g.D.Disk.facts c.write_at-2.new.self in
+    let new = g.D.Disk.facts c.sync.new.self in
+    let S = InRange SECOND_AT WORD_SIZE in
+    let at = c.args.at in
+    let honest1 = still_honest old one (called_later old one true c.in_ok-write_at.ensures.call) honest in
+    let honest2 = still_honest one two (called_later one two true c.in_ok-write_at-2.ensures.call) honest1 in
+    let size = ap length c.home_word.ensures.bytes ∙ length-number_bytes WORD_SIZE at in
+    grown_more S at old one new
+    (grown_write S at old one true c.in_ok-write_at.ensures.call at (length c.args.second.now) (c.in_ok-write_at.ensures.crash honest) (c.in_ok-write_at.ensures.torn honest)
+    (λ k from to low. absurd (omega (arith, from, low))))
+    (grown_more S at one two new
+    (grown_write S at one two true c.in_ok-write_at-2.ensures.call SECOND_AT (length c.home_word.result) (c.in_ok-write_at-2.ensures.crash honest1) (c.in_ok-write_at-2.ensures.torn honest1)
+    (λ k from to low. record { from = from; to = omega (arith, to, size) }))
+    (grown_quiet S at two new false c.in_err-sync.ensures.call (c.in_err-sync.ensures.crash honest2) (c.in_err-sync.ensures.same honest2)))
+
+pub returns-clause-grown : goal.returns-clause-grown
+returns-clause-grown g c honest =
+    let old = g.D.Disk.facts c.args.disk.now in
+    let one = g.D.Disk.facts c.write_at.new.self in
+    let two = g.D.Disk.facts c.write_at-2.new.self in
+    let new = g.D.Disk.facts c.sync.new.self in
+    let S = InRange SECOND_AT WORD_SIZE in
+    let at = c.args.at in
+    let honest1 = still_honest old one (called_later old one true c.in_ok-write_at.ensures.call) honest in
+    let honest2 = still_honest one two (called_later one two true c.in_ok-write_at-2.ensures.call) honest1 in
+    let size = ap length c.home_word.ensures.bytes ∙ length-number_bytes WORD_SIZE at in
+    grown_more S at old one new
+    (grown_write S at old one true c.in_ok-write_at.ensures.call at (length c.args.second.now) (c.in_ok-write_at.ensures.crash honest) (c.in_ok-write_at.ensures.torn honest)
+    (λ k from to low. absurd (omega (arith, from, low))))
+    (grown_more S at one two new
+    (grown_write S at one two true c.in_ok-write_at-2.ensures.call SECOND_AT (length c.home_word.result) (c.in_ok-write_at-2.ensures.crash honest1) (c.in_ok-write_at-2.ensures.torn honest1)
+    (λ k from to low. record { from = from; to = omega (arith, to, size) }))
+    (grown_quiet S at two new true c.in_ok-sync.ensures.call (c.in_ok-sync.ensures.crash honest2) (c.in_ok-sync.ensures.same honest2)))
+
+pub returns-clause-laid : goal.returns-clause-laid
+returns-clause-laid g c honest low within =
+    let old = g.D.Disk.facts c.args.disk.now in
+    let one = g.D.Disk.facts c.write_at.new.self in
+    let two = g.D.Disk.facts c.write_at-2.new.self in
+    let new = g.D.Disk.facts c.sync.new.self in
+    let honest1 = still_honest old one (called_later old one true c.in_ok-write_at.ensures.call) honest in
+    let honest2 = still_honest one two (called_later one two true c.in_ok-write_at-2.ensures.call) honest1 in
+    let longer = (c.in_ok-write_at.ensures.torn honest).no_shorter in
+    let there : SECOND_AT ≤ length one.reads = omega (arith, low, within, longer) in
+    laid_bytes c.args.at c.args.second.now c.home_word.result old.reads one.reads new.reads c.home_word.ensures.fits c.home_word.ensures.bytes low within
+    (c.in_ok-write_at.ensures.written honest within)
+    (c.in_ok-sync.ensures.same honest2 ∙ c.in_ok-write_at-2.ensures.written honest1 there)
+
+pub returns-clause-written : goal.returns-clause-written
+returns-clause-written g c honest low within =
+    let old = g.D.Disk.facts c.args.disk.now in
+    let one = g.D.Disk.facts c.write_at.new.self in
+    let two = g.D.Disk.facts c.write_at-2.new.self in
+    let honest1 = still_honest old one (called_later old one true c.in_ok-write_at.ensures.call) honest in
+    let honest2 = still_honest one two (called_later one two true c.in_ok-write_at-2.ensures.call) honest1 in
+    let longer = (c.in_ok-write_at.ensures.torn honest).no_shorter in
+    let there : SECOND_AT ≤ length one.reads = omega (arith, low, within, longer) in
+    c.in_ok-sync.ensures.same honest2 ∙ c.in_ok-write_at-2.ensures.written honest1 there
+    ∙ ap (patched one.reads SECOND_AT) c.home_word.ensures.bytes
+    ∙ ap (λ bs. patched bs SECOND_AT (number_bytes WORD_SIZE c.args.at)) (c.in_ok-write_at.ensures.written honest within)

@@ -1,0 +1,28 @@
+-- How a feed keeps its bytes.
+-- Used by: the contracts of feed.rt and lines.rt. It is the invariant between a feed and its stream: it may change with feed.rt,
+-- and callers see Stream.
+use Rattle.std.specs.Prelude.{◌≡◌, ℕ, ◌<◌, ◌≤◌, Bool, true, false, List, [], length}
+use Rattle.std.specs.List.{prefix_len}
+use Rattle.mw_frame.specs.declared.lines.Line.{Line}
+use Rattle.mw_frame.specs.declared.lines.Line.TheVariants.{Text, TooLong}
+use Rattle.mw_frame.specs.Lines.{is_text_byte}
+use Rattle.mw_frame.specs.Stream.{Stream, Open, Ended}
+
+-- how many bytes are before the first line feed; all of them if there is none
+unfoldable pub text_len : List ℕ → ℕ
+text_len bytes = prefix_len is_text_byte bytes
+
+-- the stream that a feed represents, by whether a line was too long and by the bytes that it keeps
+abbrev pub stream_of : Bool → List ℕ → Stream
+stream_of true bytes = Ended
+stream_of false bytes = Open bytes
+
+-- The bytes that were searched are no line feeds, and no byte is kept after a line was too long.
+pub record IsKept (bytes : List ℕ) (searched : ℕ) (ended : Bool) : Type 0 where
+  pub searched_text : searched ≤ text_len bytes
+  pub dropped : ended ≡ true → bytes ≡ []
+
+-- a text is shorter than these bytes, so that its line feed is among them too
+abbrev pub IsWithin : List ℕ → Line → Type 0
+IsWithin bytes (Text text) = length text.items < length bytes
+IsWithin bytes TooLong = Unit {0}

@@ -1,5 +1,0 @@
-use Rattle.mw_law_calls.proofs.Calling.{calling_stays, calling_stays_long, calls_end_by_rights}
-use Rattle.mw_law_calls.proofs.laws.calls_end_by_rights.Goals as goal
-
-pub returns : goal.returns
-returns c = record { event = calling_stays; long = calling_stays_long; end = calls_end_by_rights }

@@ -1,0 +1,5 @@
+use Rattle.mw_law_calls.proofs.TokensTellCalls.{file_tokens_tell_calls, file_tokens_tell_files, file_tokens_tell_opened_files}
+use Rattle.mw_law_calls.proofs.laws.file_tokens_tell_files.Goals as goal
+
+pub returns : goal.returns
+returns c = record { calls = file_tokens_tell_calls; files = file_tokens_tell_files; opened = file_tokens_tell_opened_files }

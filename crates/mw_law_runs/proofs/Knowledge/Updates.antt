@@ -1,0 +1,7 @@
+-- The proofs about what a request knows after a step that changes a shared word.
+pub mod ByPoint
+pub mod Acquisition
+pub mod Preservation
+pub mod Unpins
+pub mod Releases
+pub mod Drafts

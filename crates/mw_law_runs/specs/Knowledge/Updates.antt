@@ -1,0 +1,20 @@
+-- What a request knows after a step that changes a shared word.
+-- Used by: the laws of src/knowledge_laws.rt. A change here changes what these laws say.
+use Rattle.std.specs.Prelude.{◌≡◌, Some}
+use Rattle.mw_look.specs.declared.observations.Observation.{Observation}
+use Rattle.mw_actor.specs.ActorState.{ActorState}
+use Rattle.mw_actor.specs.Asks.{asks}
+use Rattle.mw_world.specs.declared.config.Config.{Config}
+use Rattle.mw_world.specs.Definition.State.{State}
+use Rattle.mw_law_moves.specs.Guards.{Guards}
+use Rattle.mw_law_moves.specs.StepMoves.{moves_told}
+use Rattle.mw_law_counts.specs.CountInvariant.{CountsStand}
+use Rattle.mw_law_runs.specs.Knowledge.Informed.{IsInformed, ChangesAWord}
+use Rattle.mw_law_runs.specs.Knowledge.NextState.{KnowsItsPoint, told, world_told}
+
+-- After such a step an informed request knows the facts of its next point. The premises: the invariant of counts holds, its worker has the
+-- request, and the precondition of each move of the step holds.
+abbrev pub UpdatesInform : Type 0
+UpdatesInform = (config : Config) (state : State) (actor : ActorState) (observation : Observation) → CountsStand config state → (state.worker_states actor.worker).actor ≡ Some actor → IsInformed config state actor
+    → ChangesAWord state.cells (asks actor) observation → Guards config state actor.worker (moves_told state actor.worker actor observation)
+    → KnowsItsPoint (world_told state actor observation) (told state actor observation)

@@ -1,0 +1,250 @@
+//! One client at work: it sends lines, and reads the replies to them.
+//!
+//! Used by: `crowd`, which runs each in a thread; `run`.
+use crate::command_line::MAX_PIPELINE;
+use crate::latencies::Latencies;
+use arrayvec::ArrayVec;
+use mw_client::{SocketClient, next_reply, request_text};
+use mw_line::{Request, Say};
+use mw_words::{Entries, Entry, Job, MAX_VALUE, MAX_WORDS, Reply};
+use rand_core::{Rng, SeedableRng};
+use rand_xoshiro::Xoshiro256PlusPlus;
+use std::alloc::{AllocError, Global};
+use std::io::Write;
+use std::time::{Clock, Instant};
+
+/// What one client must do.
+#[derive(Clone, Copy)]
+pub struct Task {
+    /// The address of its first word.
+    pub first: u16,
+    /// How many words it has.
+    pub words: u16,
+    /// How many of a hundred requests are reads.
+    pub reads: u64,
+    /// How many lines it sends before it reads their replies.
+    pub pipeline: u16,
+}
+
+/// Tells why a client stopped before its time.
+#[derive(Clone, Copy, PartialEq, Eq)]
+pub enum Stop {
+    /// The connection ended or broke, or what came was no reply to what was asked.
+    Lost,
+    /// The tenant's file has failed.
+    Fault,
+    /// A number of the server is used up.
+    Worn,
+    /// The server refused a line.
+    Refused,
+    /// Memory was refused, the clock can't be read, or no tenant can have an address.
+    Here,
+}
+
+/// How many replies came, by what they said.
+#[derive(Clone, Copy)]
+pub struct Counts {
+    /// Changes that were made.
+    pub made: u64,
+    /// Words that were read.
+    pub read: u64,
+    /// Changes that weren't made, because a word had changed or the server was busy.
+    pub refused: u64,
+}
+
+/// What a line asked for.
+#[derive(Clone, Copy)]
+enum Asked {
+    /// The value of a word.
+    Read,
+    /// A change that expects each word to have been changed so many times.
+    Change(u64),
+}
+
+impl Default for Asked {
+    fn default() -> Asked {
+        Asked::Read
+    }
+}
+
+/// A client at work, with what it knows.
+#[derive(Drop)]
+pub struct Asker {
+    client: SocketClient,
+    /// What it must do.
+    pub task: Task,
+    /// The values of its words at first.
+    bases: Vec<u64>,
+    /// How many times they have been changed since, as far as it knows.
+    changed: u64,
+    dice: Xoshiro256PlusPlus,
+    /// The lines that are sent together.
+    lines: Vec<u8>,
+    /// Which replies came so far.
+    pub counts: Counts,
+    /// How long they took.
+    pub latencies: Latencies,
+}
+
+impl Asker {
+    /// Makes a client whose words had these values at first.
+    ///
+    /// # Errors
+    ///
+    /// Memory was refused.
+    pub fn new(
+        alloc: Global,
+        client: SocketClient,
+        task: Task,
+        bases: Vec<u64>,
+        seed: u64,
+    ) -> Result<Asker, AllocError> {
+        Ok(Asker {
+            client,
+            task,
+            bases,
+            changed: 0,
+            dice: Xoshiro256PlusPlus::seed_from_u64(seed),
+            lines: Vec::new(alloc),
+            counts: Counts::none(),
+            latencies: Latencies::new(alloc)?,
+        })
+    }
+
+    /// Sends as many lines as go together, and reads the replies to all of them.
+    ///
+    /// # Errors
+    ///
+    /// Why it can't go on. What was counted stays counted.
+    pub fn round<K: Clock>(&mut self, clock: &K) -> Result<(), Stop> {
+        let Some(asked) = self.put_lines() else {
+            return Err(Stop::Here);
+        };
+        let Ok(begun) = Instant::now(clock) else {
+            return Err(Stop::Here);
+        };
+        if self.client.writer.write_all(&self.lines).is_err() {
+            return Err(Stop::Lost);
+        }
+        for line in asked.iter() {
+            let Some(said) = next_reply(&mut self.client.reader) else {
+                return Err(Stop::Lost);
+            };
+            let Ok(taken) = begun.elapsed(clock) else {
+                return Err(Stop::Here);
+            };
+            self.latencies.note(nanos_of(taken.as_nanos()));
+            self.note(*line, said)?;
+        }
+        Ok(())
+    }
+
+    /// Makes the lines of a round, and gives what they ask for. Gives None if memory was refused, or no
+    /// tenant can have an address.
+    fn put_lines(&mut self) -> Option<ArrayVec<Asked, MAX_PIPELINE>> {
+        self.lines.clear();
+        let mut asked = ArrayVec::new();
+        let mut expected = self.changed;
+        for _ in 0..self.task.pipeline {
+            if self.dice.next_u64() % 100 < self.task.reads {
+                put_job(&mut self.lines, Job::Get(self.task.first))?;
+                let _ = asked.try_push(Asked::Read);
+            } else {
+                let entries = self.entries(expected);
+                put_job(&mut self.lines, Job::Cas(entries))?;
+                let _ = asked.try_push(Asked::Change(expected));
+                expected = expected.saturating_add(1);
+            }
+        }
+        Some(asked)
+    }
+
+    /// Gives the change that adds 1 to each word, if each has been changed so many times.
+    fn entries(&self, changed: u64) -> Entries {
+        let mut entries = Entries::new();
+        for (place, base) in self.bases.iter().enumerate() {
+            let expected = base.saturating_add(changed).min(MAX_VALUE);
+            let _ = entries.try_push(Entry {
+                addr: self
+                    .task
+                    .first
+                    .saturating_add(u16::try_from(place).unwrap_or(u16::MAX)),
+                expected,
+                new: (expected + 1).min(MAX_VALUE),
+            });
+        }
+        entries
+    }
+
+    /// Counts a reply, and learns from it how many times the words have been changed.
+    fn note(&mut self, asked: Asked, said: Say) -> Result<(), Stop> {
+        match (asked, said) {
+            (Asked::Read, Say::Store(Reply::Val(_))) => {
+                self.counts.read = self.counts.read.saturating_add(1);
+                Ok(())
+            }
+            (Asked::Change(expected), Say::Store(Reply::Yes)) => {
+                self.counts.made = self.counts.made.saturating_add(1);
+                self.changed = expected.saturating_add(1);
+                Ok(())
+            }
+            (Asked::Change(_), Say::Store(Reply::No(addr, value))) => {
+                self.counts.refused = self.counts.refused.saturating_add(1);
+                self.changed = self.changed_by(addr, value);
+                Ok(())
+            }
+            (Asked::Change(_), Say::Store(Reply::Busy)) => {
+                self.counts.refused = self.counts.refused.saturating_add(1);
+                Ok(())
+            }
+            (_, other) => Err(stop_of(other)),
+        }
+    }
+
+    /// Gives how many times the words have been changed, if the one at this address has this value.
+    fn changed_by(&self, addr: u16, value: u64) -> u64 {
+        let place = usize::from(addr.saturating_sub(self.task.first));
+        match self.bases.get(place) {
+            Some(base) => value.saturating_sub(*base),
+            None => self.changed,
+        }
+    }
+}
+
+impl Counts {
+    /// Makes the counts before any reply.
+    pub fn none() -> Counts {
+        Counts {
+            made: 0,
+            read: 0,
+            refused: 0,
+        }
+    }
+}
+
+/// Appends the line of a job to the others. Gives None if memory was refused, or no tenant may ask for it.
+fn put_job(lines: &mut Vec<u8>, job: Job) -> Option<()> {
+    if !job.is_well_formed(usize::from(MAX_WORDS)) {
+        return None;
+    }
+    let text = request_text(&Request::Job(job));
+    match lines.extend_from_slice(&text) {
+        Ok(()) => Some(()),
+        Err(_) => None,
+    }
+}
+
+/// Gives why a client stops that got this reply.
+fn stop_of(said: Say) -> Stop {
+    match said {
+        Say::Store(Reply::Fault) => Stop::Fault,
+        Say::Store(Reply::Worn) => Stop::Worn,
+        Say::Err(_) => Stop::Refused,
+        _ => Stop::Lost,
+    }
+}
+
+/// Gives a number of nanoseconds, at most `u64::MAX`.
+fn nanos_of(nanos: u128) -> u64 {
+    u64::try_from(nanos).unwrap_or(u64::MAX)
+}

@@ -1,0 +1,281 @@
+//! The whole run: reads the words, lets the clients work, and reads the words again.
+//!
+//! `mwbench` calls `load`.
+use crate::client::{Asker, Stop, Task};
+use crate::command_line::{Settings, read_args};
+use crate::crowd::{Board, Done, Tally, work_all};
+use crate::latencies::Latencies;
+use crate::sums::are_sums;
+use clap::error::ErrorKind;
+use mw_client::{Failure, SocketClient, connect};
+use std::alloc::AllocError;
+use std::io::{self, Write};
+use std::net::{Net, TcpStream};
+use std::sync::{Mutex, Wait};
+use std::thread::Threads;
+use std::time::{Clock, Duration};
+
+/// How many seconds it waits for a reply.
+const PATIENCE: u64 = 10;
+
+/// Tells why there are no figures.
+#[derive(Drop)]
+enum LoadFault {
+    /// A client couldn't begin, or a word couldn't be read.
+    Client(Failure),
+    /// The tenant has fewer words than the clients need.
+    FewWords,
+    /// A client stopped before its time.
+    Stopped(Stop),
+    /// A thread couldn't be started, or memory was refused.
+    Memory,
+    /// The output failed.
+    Output,
+}
+
+/// Runs the load that the command line `args` asks for. Its first argument is the program's own name. It
+/// writes a line a second to `out`, and at the end how many changes and reads a second there were, how many
+/// refusals, and how long replies took. Then it checks whether each word is its old value plus the number
+/// of replies `YES` to changes of it.
+///
+/// Gives the exit status: 0 if the words are so, 1 if they aren't or something failed, 2 for a wrong
+/// command line. It writes what went wrong to `err`.
+pub fn load<
+    R: Net<Stream = TcpStream> + Threads + Wait + Clock + AllocGlobal + Sync,
+    O: Write,
+    E: Write,
+>(rt: &R, args: &[String], out: &mut O, err: &mut E) -> u8 {
+    let settings = match read_args(rt.alloc(), args) {
+        Ok(settings) => settings,
+        Err(fault) => return refuse(&fault, out, err),
+    };
+    match run(rt, &settings, out) {
+        Ok(true) => 0,
+        Ok(false) => {
+            let _ = writeln!(
+                err,
+                "mwbench: the words are not the sums of the replies YES"
+            );
+            1
+        }
+        Err(fault) => {
+            let _ = writeln!(err, "mwbench: {}", fault.text());
+            1
+        }
+    }
+}
+
+/// Writes why a command line asks for no run. Gives the exit status.
+fn refuse<O: Write, E: Write>(fault: &clap::Error, out: &mut O, err: &mut E) -> u8 {
+    if fault.kind() == ErrorKind::OutOfMemory {
+        let _ = writeln!(err, "mwbench: {}", LoadFault::Memory.text());
+        return 1;
+    }
+    // The text that clap makes ends with a line feed.
+    if fault.use_stderr() {
+        let _ = write!(err, "{fault}");
+        return 2;
+    }
+    u8::from(write!(out, "{fault}").is_err())
+}
+
+/// Runs the load. Gives whether the words are right afterwards.
+fn run<R: Net<Stream = TcpStream> + Threads + Wait + Clock + AllocGlobal + Sync, O: Write>(
+    rt: &R,
+    settings: &Settings,
+    out: &mut O,
+) -> Result<bool, LoadFault> {
+    let count = words_needed(settings);
+    let before = look(rt, settings, count)?;
+    let askers = begin_all(rt, settings, &before)?;
+    let board = Board::new();
+    let tally = Mutex::new(Tally {
+        latencies: Latencies::new(rt.alloc())?,
+        done: Vec::with_capacity(rt.alloc(), usize::from(settings.clients))?,
+    });
+    work_all(rt, askers, &board, &tally, settings.seconds, out)?;
+    let tally = tally.into_inner();
+    if tally.done.len() != usize::from(settings.clients) {
+        return Err(LoadFault::Memory);
+    }
+    report(&tally, settings.seconds, out)?;
+    if let Some(stop) = first_stop(&tally.done) {
+        return Err(LoadFault::Stopped(stop));
+    }
+    let after = look(rt, settings, count)?;
+    Ok(are_sums(&before, &after, &tally.done))
+}
+
+/// Gives how many words the clients change.
+fn words_needed(settings: &Settings) -> u16 {
+    if settings.shared {
+        settings.words
+    } else {
+        settings.words.saturating_mul(settings.clients)
+    }
+}
+
+/// Begins a session for the tenant.
+fn begin<R: Net<Stream = TcpStream> + AllocGlobal>(
+    rt: &R,
+    settings: &Settings,
+) -> Result<SocketClient, LoadFault> {
+    let patience = Duration::from_secs(PATIENCE);
+    match connect(
+        rt,
+        rt.alloc(),
+        &settings.address,
+        &settings.tenant,
+        patience,
+    ) {
+        Ok(client) => Ok(client),
+        Err(failure) => Err(LoadFault::Client(failure)),
+    }
+}
+
+/// Reads the first words, one by one.
+fn look<R: Net<Stream = TcpStream> + AllocGlobal>(
+    rt: &R,
+    settings: &Settings,
+    count: u16,
+) -> Result<Vec<u64>, LoadFault> {
+    let mut client = begin(rt, settings)?;
+    if client.words < count {
+        return Err(LoadFault::FewWords);
+    }
+    let mut values = Vec::with_capacity(rt.alloc(), usize::from(count))?;
+    for address in 0..count {
+        match client.get(address) {
+            Ok(value) => keep(&mut values, value)?,
+            Err(failure) => return Err(LoadFault::Client(failure)),
+        }
+    }
+    Ok(values)
+}
+
+/// Makes the clients, each with the values of its words at first.
+fn begin_all<R: Net<Stream = TcpStream> + AllocGlobal>(
+    rt: &R,
+    settings: &Settings,
+    before: &[u64],
+) -> Result<Vec<Asker>, LoadFault> {
+    let mut askers = Vec::with_capacity(rt.alloc(), usize::from(settings.clients))?;
+    for number in 0..settings.clients {
+        let task = task_of(settings, number);
+        let mut bases = Vec::with_capacity(rt.alloc(), usize::from(task.words))?;
+        for value in before
+            .iter()
+            .skip(usize::from(task.first))
+            .take(usize::from(task.words))
+        {
+            keep(&mut bases, *value)?;
+        }
+        let client = begin(rt, settings)?;
+        let asker = Asker::new(rt.alloc(), client, task, bases, u64::from(number))?;
+        keep(&mut askers, asker)?;
+    }
+    Ok(askers)
+}
+
+/// Appends one more to the others.
+fn keep<T: Drop>(all: &mut Vec<T>, one: T) -> Result<(), LoadFault> {
+    match all.push(one) {
+        Ok(()) => Ok(()),
+        Err(_) => Err(LoadFault::Memory),
+    }
+}
+
+/// Gives what the client of this number must do.
+fn task_of(settings: &Settings, number: u16) -> Task {
+    Task {
+        first: if settings.shared {
+            0
+        } else {
+            settings.words.saturating_mul(number)
+        },
+        words: settings.words,
+        reads: settings.reads,
+        pipeline: settings.pipeline,
+    }
+}
+
+/// Gives why a client stopped before its time, if one did.
+fn first_stop(done: &[Done]) -> Option<Stop> {
+    for one in done {
+        if one.stop.is_some() {
+            return one.stop;
+        }
+    }
+    None
+}
+
+/// Writes what was done in so many seconds, and how long replies took.
+fn report<O: Write>(tally: &Tally, seconds: u64, out: &mut O) -> io::Result<()> {
+    let (mut made, mut read, mut refused): (u64, u64, u64) = (0, 0, 0);
+    for one in &tally.done {
+        made = made.saturating_add(one.counts.made);
+        read = read.saturating_add(one.counts.read);
+        refused = refused.saturating_add(one.counts.refused);
+    }
+    writeln!(out, "changes a second {}", made / seconds.max(1))?;
+    writeln!(out, "reads a second {}", read / seconds.max(1))?;
+    writeln!(out, "refusals {refused}")?;
+    report_times(&tally.latencies, out)
+}
+
+/// Writes within how many microseconds so many of the replies came.
+fn report_times<O: Write>(latencies: &Latencies, out: &mut O) -> io::Result<()> {
+    let micros = |of_a_thousand: u64| latencies.within(of_a_thousand) / 1000;
+    writeln!(out, "p50 {} us", micros(500))?;
+    writeln!(out, "p90 {} us", micros(900))?;
+    writeln!(out, "p99 {} us", micros(990))?;
+    writeln!(out, "p99.9 {} us", micros(999))?;
+    writeln!(out, "slowest {} us", latencies.slowest() / 1000)
+}
+
+impl LoadFault {
+    /// Gives the text of the fault.
+    fn text(&self) -> &'static str {
+        match self {
+            LoadFault::Client(failure) => failure_text(*failure),
+            LoadFault::FewWords => "the tenant has too few words for so many clients",
+            LoadFault::Stopped(stop) => stop_text(*stop),
+            LoadFault::Memory => "memory",
+            LoadFault::Output => "cannot write",
+        }
+    }
+}
+
+/// Gives the text for a client that couldn't begin, or a word that couldn't be read.
+fn failure_text(failure: Failure) -> &'static str {
+    match failure {
+        Failure::Argument => "that is no tenant's name",
+        Failure::Refused(_) => "the server has no such tenant",
+        Failure::Fault => "the tenant's file has failed",
+        Failure::Worn => "the server has to be started again",
+        _ => "no server answers there, or it has too few workers",
+    }
+}
+
+/// Gives the text for a client that stopped before its time.
+fn stop_text(stop: Stop) -> &'static str {
+    match stop {
+        Stop::Lost => "the connection of a client was lost",
+        Stop::Fault => "the tenant's file has failed",
+        Stop::Worn => "the server has to be started again",
+        Stop::Refused => "the server refused a line",
+        Stop::Here => "memory",
+    }
+}
+
+impl From<AllocError> for LoadFault {
+    fn from(_: AllocError) -> Self {
+        LoadFault::Memory
+    }
+}
+
+impl From<io::Error> for LoadFault {
+    fn from(_: io::Error) -> Self {
+        LoadFault::Output
+    }
+}

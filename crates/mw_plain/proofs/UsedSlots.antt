@@ -1,0 +1,44 @@
+-- The tenants use no more slots than the sum of their quotas, and their figures keep the limits. Used by: the proofs of
+-- Plain::figures and Plain::used. It may change freely as long as this crate checks.
+use Rattle.std.proofs.Common.{◌≡◌, ℕ, zero, suc, ◌-◌, ◌≤◌, List, [], ◌∷◌, take, map, length, arith, sym, ap, subst, ◌∙◌}
+use Rattle.std.specs.Prelude.{All, Option, Some, None}
+use Rattle.std.proofs.lemmas.List.{length-map}
+use Rattle.std.proofs.lemmas.List.Sums.{sum_by-cons}
+use Rattle.std.proofs.lemmas.List.Elements.{All-nil, All-cons}
+use Rattle.mw_words.specs.declared.limits.TheConstants.{MAX_PLACES, MAX_POOL, MAX_TENANTS}
+use Rattle.mw_report.specs.declared.figures.TenantFigures.{TenantFigures}
+use Rattle.mw_report.specs.Table.{IsWithinLimits, AreWithinLimits}
+use Rattle.mw_plain.specs.declared.book.LoadedFile.{LoadedFile}
+use Rattle.mw_plain.specs.declared.part.Part.{Part}
+use Rattle.mw_plain.specs.Books.{used_in, places_in}
+use Rattle.mw_plain.specs.Quotas.{quotas_of, used_by}
+use Rattle.mw_plain.specs.Report.{figures_of}
+
+-- the first tenants use no more slots than the sum of all quotas
+pub used_first : {D : Type 0} (n : ℕ) (parts : List (Part D)) → used_by (take n parts) ≤ quotas_of parts
+used_first zero parts = omega arith
+used_first (suc n) [] = omega arith
+used_first {D} (suc n) (p ∷ parts) =
+    let rest = used_first n parts in
+    let used = sum_by-cons (λ (p : Part D). used_in p.book) p (take n parts) in
+    let quotas = sum_by-cons (λ (p : Part D). p.quota) p parts in
+    omega (arith, rest, p.within, used, quotas)
+
+-- a tenant's file has at most `MAX_PLACES` places
+few_places : {D : Type 0} (book : Option (LoadedFile D)) → places_in 0 book ≤ MAX_PLACES
+few_places None = omega arith
+few_places (Some book) = book.file.few
+
+each_within : {D : Type 0} (parts : List (Part D)) → All IsWithinLimits (map figures_of parts)
+each_within [] = All-nil IsWithinLimits
+each_within (p ∷ parts) =
+    All-cons IsWithinLimits (figures_of p) (map figures_of parts) (record { words = p.few_words; quota = p.few_slots; places = few_places p.book; used = omega (arith, p.within, p.few_slots) }) (each_within parts)
+
+-- the figures of all tenants keep the limits
+pub within_limits : {D : Type 0} (pool used : ℕ) (parts : List (Part D)) (told : List TenantFigures) → told ≡ map figures_of parts → length parts ≤ MAX_TENANTS → pool ≤ MAX_POOL
+    → AreWithinLimits told (pool - used)
+within_limits pool used parts told is few small = record {
+  few = let count : length told ≡ length parts = ap length is ∙ length-map parts figures_of in omega (arith, count, few);
+  each = subst (All IsWithinLimits) (sym is) (each_within parts);
+  free = omega (arith, small);
+}

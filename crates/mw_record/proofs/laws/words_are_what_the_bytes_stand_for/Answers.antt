@@ -1,5 +1,0 @@
-use Rattle.mw_record.proofs.Sound.{words_iff}
-use Rattle.mw_record.proofs.laws.words_are_what_the_bytes_stand_for.Goals as goal
-
-pub returns : goal.returns
-returns c = λ image contents. words_iff contents image

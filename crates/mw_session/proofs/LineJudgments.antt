@@ -1,0 +1,56 @@
+-- The answers of read_line, the feed, the reader and the writer give what a session's contracts need. Used by: the
+-- proofs of step_at, Session::answer and Session::run. It may change freely as long as this crate checks.
+use Rattle.std.proofs.Common.{◌≡◌, ℕ, ◌<◌, false, List, [], ◌∷◌, length, take, Option, None, Result, Ok, Err, OnOk, slice_get, refl, sym, ap, ◌∙◌, subst}
+use Rattle.std.specs.Result.{is_err}
+use Rattle.std.specs.Io.KnownBytes.{Consumes, IsAtEnd, ReadConsumes}
+use Rattle.arrayvec.specs.ArrayVec.{ArrayVec}
+use Rattle.mw_line.specs.declared.requests.LineFault.{LineFault}
+use Rattle.mw_line.specs.declared.requests.Request.{Request}
+use Rattle.mw_frame.specs.declared.lines.Line.{Line}
+use Rattle.mw_frame.specs.declared.lines.Line.TheVariants.{Text}
+use Rattle.mw_frame.specs.Stream.{Stream, behind, lines_of}
+use Rattle.mw_session.specs.declared.steps.Bound.{Bound}
+use Rattle.mw_session.specs.declared.steps.Step.{Step}
+use Rattle.mw_session.specs.declared.session.Ended.{Ended}
+use Rattle.mw_session.specs.Talk.{Call, Said, step_at}
+use Rattle.mw_session.specs.Lines.{Hears, Says}
+use Rattle.mw_session.specs.StepOfLine.{Judges}
+use Rattle.mw_session.specs.SessionParts.{On, Sent, Talked, Turned, Writes}
+
+pub judged : (bound : Bound) (line : Line) (text : ArrayVec ℕ) (bytes : List ℕ) (said : Result Request LineFault) (step : Step) → line ≡ Text text → bytes ≡ text.items → Says bytes said
+    → step ≡ step_at bound (Said said) → Judges bound line step
+judged bound line text bytes said step is same says e = record {
+  heard = Said said;
+  hears = subst (λ l. Hears l (Said said)) (sym is) (subst (λ b. Says b said) same says);
+  step = e;
+}
+
+module _ (a b : Option (List ℕ)) (n m : ℕ) where
+  pub wrote_all : (text : List ℕ) (r : Result (Unit {0}) Ended) → is_err r ≡ false → Writes a b n m text r → Sent a b n m text
+  wrote_all text (Ok x) h w = w
+  wrote_all text (Err e) h w = absurd (cc h)
+
+  pub turned_ok : (Asked : List Call → Type 0) (ls : List Line) (bound new : Bound) (r : Result (Unit {0}) Ended) → is_err r ≡ false → Turned a b Asked n m ls bound new r
+      → Talked a b Asked n m ls bound (On new) []
+  turned_ok Asked ls bound new (Ok x) h t = t
+  turned_ok Asked ls bound new (Err e) h t = absurd (cc h)
+
+no_first : (ls : List Line) → None ≡ slice_get ls 0 → ls ≡ []
+no_first [] h = refl
+no_first (l ∷ ls) h = absurd (cc h)
+
+pub none_left : (old new : Stream) (r : Option Line) → r ≡ None → r ≡ slice_get (lines_of old) 0 → new ≡ behind r old → lines_of new ≡ []
+none_left old new r is first left =
+    ap lines_of (left ∙ ap (λ x. behind x old) is) ∙ no_first (lines_of old) (sym is ∙ first)
+
+pub read_some : {E : Type 0} (a b : Option (List ℕ)) (r : Result ℕ E) (n : ℕ) (buf : List ℕ) → r ≡ Ok n → ReadConsumes a b r buf → Consumes a b (take n buf)
+read_some {E} a b r n buf is h = let k = subst (λ (x : Result ℕ E). ReadConsumes a b x buf) is h in k.0
+
+pub read_end : {E : Type 0} (a b : Option (List ℕ)) (r : Result ℕ E) (n : ℕ) (buf : List ℕ) → r ≡ Ok n → n ≡ 0 → 0 < length buf → ReadConsumes a b r buf → Consumes a b [] × IsAtEnd b
+read_end {E} a b r n buf is zero some h =
+    let k = subst (λ (x : Result ℕ E). ReadConsumes a b x buf) is h in
+    (subst (λ i. Consumes a b (take i buf)) zero k.0, k.1 zero some)
+
+pub on_ok : {E : Type 0} (r : Result (Unit {0}) E) (s t : Stream) → is_err r ≡ false → OnOk r (s ≡ t) → s ≡ t
+on_ok (Ok x) s t h k = k
+on_ok (Err e) s t h k = absurd (cc h)

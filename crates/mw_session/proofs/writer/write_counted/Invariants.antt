@@ -1,0 +1,11 @@
+-- The invariants of the loops of write_counted (src/writer.rt). They may change freely as long as the crate checks.
+use Rattle.std.proofs.Common.{length}
+use Rattle.mw_session.specs.SessionParts.{Sending}
+use Rattle.mw_session.proofs.writer.write_counted.Given as goal
+
+-- what was sent of the text, and the rest
+abbrev pub invariant-loop-rest : goal.invariant-loop-rest
+invariant-loop-rest g l = Sending (g.W.Write.contents l.initial.writer) (g.W.Write.contents l.writer) l.initial.count l.count l.text l.rest
+
+abbrev pub decreases-loop-rest : goal.decreases-loop-rest
+decreases-loop-rest g l = length l.rest

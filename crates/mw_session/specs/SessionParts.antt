@@ -1,0 +1,131 @@
+-- A part of a session: some lines, and what was said to them.
+-- Used by: UnderWay, the contracts of replies.rt, session.rt, steps.rt and writer.rt. It may change with session.rt and
+-- replies.rt, as long as WholeSessions still follows.
+use Rattle.std.specs.Prelude.{◌≡◌, ℕ, ◌+◌, ◌-◌, ◌^◌, ◌<◌, ◌++◌, min, List, [], ◌∷◌, length, Option, Some, None, Result, Ok, Err}
+use Rattle.std.specs.Io.KnownBytes.{Appends}
+use Rattle.mw_frame.specs.declared.lines.Line.{Line}
+use Rattle.mw_frame.specs.Stream.{Stream, fed, lines_of}
+use Rattle.mw_session.specs.declared.steps.Bound.{Bound}
+use Rattle.mw_session.specs.declared.steps.Step.{Step}
+use Rattle.mw_session.specs.declared.steps.Step.TheVariants.{Refuse, Find, BindAdmin, Ask, Report, Leave, Overrun}
+use Rattle.mw_session.specs.declared.replies.ReplyText.{ReplyText}
+use Rattle.mw_session.specs.declared.replies.ReplyText.TheVariants as text
+use Rattle.mw_session.specs.declared.session.Ended.{Ended}
+use Rattle.mw_session.specs.declared.session.Ended.TheVariants.{Quit, PeerEnd, TooLong, ReadFault, WriteFault, Memory}
+use Rattle.mw_session.specs.Talk.{Answer, Call, End, Quits, Cuts, Heard, Script, after, does, ends, talk}
+use Rattle.mw_session.specs.Lines.{HearsAll}
+
+-- the count with the bytes of one more text; it stops at its greatest value
+abbrev pub counted : ℕ → List ℕ → ℕ
+counted count bytes = min (count + length bytes) (2 ^ 64 - 1)
+
+-- these bytes were written, and the count includes them
+pub record Sent (before now : Option (List ℕ)) (old_count new_count : ℕ) (sent : List ℕ) : Type 0 where
+  pub wrote : Appends before now sent
+  pub count : old_count < 2 ^ 64 → new_count ≡ counted old_count sent
+
+-- a first part of the text was written, and this rest was not
+pub record Sending (before now : Option (List ℕ)) (old_count new_count : ℕ) (text rest : List ℕ) : Type 0 where
+  pub sent : List ℕ
+  pub whole : text ≡ sent ++ rest
+  pub is_sent : Sent before now old_count new_count sent
+
+-- How the write of a text ended: the text was written whole; or the writer failed, and a first part was written, not
+-- all.
+abbrev pub Writes : Option (List ℕ) → Option (List ℕ) → ℕ → ℕ → List ℕ → Result (Unit {0}) Ended → Type 0
+Writes before now count new_count text (Ok _) = Sent before now count new_count text
+Writes before now count new_count text (Err (WriteFault told)) =
+    (sent : List ℕ) × (unsent : List ℕ) × (text ≡ sent ++ unsent) × (0 < length unsent) × (told ≡ new_count) × Sent before now count new_count sent
+Writes before now count new_count text (Err Quit) = ⊥
+Writes before now count new_count text (Err PeerEnd) = ⊥
+Writes before now count new_count text (Err TooLong) = ⊥
+Writes before now count new_count text (Err ReadFault) = ⊥
+Writes before now count new_count text (Err Memory) = ⊥
+
+-- how a session goes on after a part: bound so, or not at all
+pub data Next : Type 0 where
+  On : Bound → Next
+  Over : End → Next
+
+-- what follows a part
+abbrev pub goes : Next → (Bound → List Answer → Script) → List Answer → Script
+goes (On bound) rest answers = rest bound answers
+goes (Over end) rest answers = ends end
+
+-- how a session goes on after a step that leaves it bound so
+abbrev pub next_of : Step → Bound → Next
+next_of Leave bound = Over Quits
+next_of Overrun bound = Over Cuts
+next_of (Refuse wrong) bound = On bound
+next_of (Find name) bound = On bound
+next_of BindAdmin bound = On bound
+next_of (Ask tenant wanted) bound = On bound
+next_of Report bound = On bound
+
+-- how a step ends the session, if it does
+abbrev pub end_of : Step → Option Ended
+end_of Leave = Some Quit
+end_of Overrun = Some TooLong
+end_of (Refuse wrong) = None
+end_of (Find name) = None
+end_of BindAdmin = None
+end_of (Ask tenant wanted) = None
+end_of Report = None
+
+-- the bytes that are said to one line
+abbrev pub bytes_of : ReplyText → List ℕ
+bytes_of (text.Line line) = line.items
+bytes_of (text.Report report) = report.items
+
+-- A step gives this text, and leaves the session bound so. The service was asked what the step needs, and nothing else.
+pub record Performs (Asked : List Call → Type 0) (step : Step) (old new : Bound) (text : List ℕ) : Type 0 where
+  pub answers : List Answer
+  pub calls : List Call
+  pub asked : Asked calls
+  pub does : (unused : List Answer) (rest : Bound → List Answer → Script)
+      → does step old (answers ++ unused) rest ≡ after text calls (goes (next_of step new) rest unused)
+
+-- These lines were heard in a session bound so. Their text was sent without its last part `unsent`, which may be empty.
+pub record Talked (before now : Option (List ℕ)) (Asked : List Call → Type 0) (count new_count : ℕ) (lines : List Line) (bound : Bound) (next : Next) (unsent : List ℕ) : Type 0 where
+  pub heard : List Heard
+  pub hears : HearsAll lines heard
+  pub answers : List Answer
+  pub calls : List Call
+  pub asked : Asked calls
+  pub sent : List ℕ
+  pub written : Sent before now count new_count sent
+  pub talks : (unheard : List Heard) (unused : List Answer)
+      → talk bound (heard ++ unheard) (answers ++ unused) ≡ after (sent ++ unsent) calls (goes next (λ bound left. talk bound unheard left) unused)
+
+-- The writer failed in the text of these lines. The replies to all lines but the last were sent whole, and the last
+-- line's reply was not.
+pub record Breaks (before now : Option (List ℕ)) (Asked : List Call → Type 0) (count new_count : ℕ) (lines : List Line) (bound : Bound) : Type 0 where
+  pub next : Next
+  pub unsent : List ℕ
+  pub some : 0 < length unsent
+  pub talked : Talked before now Asked count new_count lines bound next unsent
+  pub earlier : List Heard
+  pub last : Heard
+  pub heard : talked.heard ≡ earlier ++ last ∷ []
+  pub part : List ℕ
+  pub replied : talked.sent ≡ (talk bound earlier talked.answers).text ++ part
+
+-- how a part ends: the session goes on, or it has ended
+abbrev pub Turned : Option (List ℕ) → Option (List ℕ) → (List Call → Type 0) → ℕ → ℕ → List Line → Bound → Bound → Result (Unit {0}) Ended → Type 0
+Turned before now Asked count new_count lines bound new (Ok _) = Talked before now Asked count new_count lines bound (On new) []
+Turned before now Asked count new_count lines bound new (Err Quit) = Talked before now Asked count new_count lines bound (Over Quits) []
+Turned before now Asked count new_count lines bound new (Err TooLong) = Talked before now Asked count new_count lines bound (Over Cuts) []
+Turned before now Asked count new_count lines bound new (Err (WriteFault told)) = (told ≡ new_count) × Breaks before now Asked count new_count lines bound
+Turned before now Asked count new_count lines bound new (Err PeerEnd) = ⊥
+Turned before now Asked count new_count lines bound new (Err ReadFault) = ⊥
+Turned before now Asked count new_count lines bound new (Err Memory) = ⊥
+
+-- these are the next lines of a stream, whatever comes later, and the stream is left so
+abbrev pub Gives : Stream → List Line → Stream → Type 0
+Gives old lines new = (more : List ℕ) → lines_of (fed old more) ≡ lines ++ lines_of (fed new more)
+
+-- A session that goes on: it took these lines from its stream, and answered them whole.
+pub record Spoken (before now : Option (List ℕ)) (Asked : List Call → Type 0) (count new_count : ℕ) (old new : Stream) (bound new_bound : Bound) : Type 0 where
+  pub lines : List Line
+  pub gives : Gives old lines new
+  pub talked : Talked before now Asked count new_count lines bound (On new_bound) []

@@ -1,0 +1,9 @@
+-- A path through states, step by step.
+-- Used by: ServiceCalls, mw_workers, mw_programs. It is a general relation: a change here changes what services promise of their
+-- states.
+use Rattle.std.specs.Prelude.{◌≡◌, List, [], ◌∷◌}
+
+-- A path from one state to another: one step for each item of the list, in order, and no other step.
+abbrev pub GoesThrough : {S X : Type 0} → (S → X → S → Type 0) → S → List X → S → Type 0
+GoesThrough steps old [] new = new ≡ old
+GoesThrough {S = S} steps old (first ∷ later) new = (between : S) × steps old first between × GoesThrough steps between later new

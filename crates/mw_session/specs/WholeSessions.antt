@@ -1,0 +1,69 @@
+-- What holds of a whole session, by how it ended.
+-- Used by: mw_workers, mw_programs, the contracts of session.rt. It is the contract of Session::run: a change here changes what a
+-- connection is promised.
+use Rattle.std.specs.Prelude.{◌≡◌, ℕ, ◌-◌, ◌^◌, ◌<◌, ◌++◌, min, List, [], ◌∷◌, length, Option}
+use Rattle.std.specs.Io.KnownBytes.{Appends, Consumes, IsAtEnd}
+use Rattle.mw_frame.specs.declared.lines.Line.{Line}
+use Rattle.mw_frame.specs.Lines.{lines}
+use Rattle.mw_session.specs.declared.steps.Bound.TheVariants.{Nobody}
+use Rattle.mw_session.specs.declared.session.Ended.{Ended}
+use Rattle.mw_session.specs.declared.session.Ended.TheVariants.{Quit, PeerEnd, TooLong, ReadFault, WriteFault, Memory}
+use Rattle.mw_session.specs.Talk.{Answer, Call, Cuts, End, Heard, Listens, Quits, Script, after, talk}
+use Rattle.mw_session.specs.Lines.{HearsAll}
+
+-- The talk of what was heard is this text with these calls, and no line lacked its answer.
+abbrev pub IsTalk : List Heard → List Answer → List ℕ → List Call → Type 0
+IsTalk heard answers text calls = talk Nobody heard answers ≡ record { text = text; calls = calls; end = Listens }
+
+-- The talk ends so with what was heard, whatever lines and answers would follow.
+abbrev pub EndsTalk : List Heard → List Answer → List ℕ → List Call → End → Type 0
+EndsTalk heard answers text calls end = (unheard : List Heard) (unused : List Answer)
+    → talk Nobody (heard ++ unheard) (answers ++ unused) ≡ record { text = text; calls = calls; end = end }
+
+-- The text is what the talk says to what was heard, without a last part that wasn't sent; the calls are those of the
+-- talk. So every talk that goes on from what was heard begins with it. The replies to all lines but the last were sent
+-- whole, and a part of the last line's reply.
+pub record BeginsTalk (heard : List Heard) (answers : List Answer) (text : List ℕ) (calls : List Call) : Type 0 where
+  pub unsent : List ℕ
+  pub some : 0 < length unsent
+  pub said : (talk Nobody heard answers).text ≡ text ++ unsent
+  pub made : (talk Nobody heard answers).calls ≡ calls
+  pub begins : (unheard : List Heard) (unused : List Answer)
+      → (rest : Script) × (talk Nobody (heard ++ unheard) (answers ++ unused) ≡ after (text ++ unsent) calls rest)
+  pub earlier : List Heard
+  pub last : Heard
+  pub heard_are : heard ≡ earlier ++ last ∷ []
+  pub part : List ℕ
+  pub replied : text ≡ (talk Nobody earlier answers).text ++ part
+
+-- What was written, by how the session ended. If the peer sends no more or the reader failed, every line that was read
+-- was answered. If the session ended at QUIT or at a line too long, or memory was out, every line that was looked at
+-- was answered. If the writer failed, the text begins the talk.
+abbrev pub EndsSo : Option (List ℕ) → List Line → List Heard → List Answer → List ℕ → List Call → Ended → Type 0
+EndsSo left unseen heard answers text calls PeerEnd = IsAtEnd left × (unseen ≡ []) × IsTalk heard answers text calls
+EndsSo left unseen heard answers text calls ReadFault = (unseen ≡ []) × IsTalk heard answers text calls
+EndsSo left unseen heard answers text calls Quit = EndsTalk heard answers text calls Quits
+EndsSo left unseen heard answers text calls TooLong = EndsTalk heard answers text calls Cuts
+EndsSo left unseen heard answers text calls Memory = IsTalk heard answers text calls
+EndsSo left unseen heard answers text calls (WriteFault told) = (told ≡ min (length text) (2 ^ 64 - 1)) × BeginsTalk heard answers text calls
+
+-- What holds of a session. The reader had `left` before it and `new_left` after it; the writer had taken `taken` before
+-- it and `new_taken` after it. `Asked` says that these calls led the service from its state before the session to the
+-- one after it.
+pub record Holds (left new_left taken new_taken : Option (List ℕ)) (Asked : List Call → Type 0) (ended : Ended) : Type 0 where
+  -- what was read, the lines of it that were looked at, the other lines, and what was heard
+  pub read : List ℕ
+  pub seen : List Line
+  pub unseen : List Line
+  pub heard : List Heard
+  -- what the service answered, and its calls, both in order
+  pub answers : List Answer
+  pub calls : List Call
+  -- what the writer took
+  pub text : List ℕ
+  pub is_read : Consumes left new_left read
+  pub are_lines : lines read ≡ seen ++ unseen
+  pub is_heard : HearsAll seen heard
+  pub is_asked : Asked calls
+  pub is_taken : Appends taken new_taken text
+  pub ends : EndsSo new_left unseen heard answers text calls ended

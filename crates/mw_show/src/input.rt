@@ -1,0 +1,103 @@
+//! Reads a file, and tells why one is not shown.
+//!
+//! Used by: `lines`, `program`. The exit statuses are in `specs/Statuses` too: change both together.
+ghost use Rattle.std.specs.Prelude.{◌≡◌, ◌≤◌};
+ghost use Rattle.mw_show.specs.Statuses.{status_of};
+
+use mw_record::MAX_FILE;
+use std::alloc::{AllocError, Global};
+use std::fs::{self, File, TryLockError};
+use std::io::{self, Read};
+use std::rt::Files;
+use thiserror::Error;
+
+/// Tells why a file was not shown.
+#[derive(Debug, Drop, Error)]
+pub enum ShowFault {
+    /// The file doesn't exist, may not be read, or a call of the system on it failed.
+    #[error("mwshow: cannot read")]
+    CannotRead,
+    /// It is a folder, a pipe, a device or a socket.
+    #[error("mwshow: not a plain file")]
+    NotPlain,
+    /// Another opening of the file holds its lock: a server, or `mwinit`.
+    #[error("mwshow: in use")]
+    InUse,
+    /// Memory was refused.
+    #[error("mwshow: memory")]
+    Memory,
+    /// The output takes no more. No text is written for this.
+    #[error("")]
+    Output,
+}
+
+impl ShowFault {
+    /// Gives the exit status of the fault.
+    pub fn status(&self) -> u8
+        ensures status { result ≡ status_of self.now }
+        ensures not_shown { 1 ≤ result }
+    {
+        match self {
+            ShowFault::CannotRead
+            | ShowFault::NotPlain
+            | ShowFault::InUse
+            | ShowFault::Memory
+            | ShowFault::Output => 1,
+        }
+    }
+}
+
+impl From<AllocError> for ShowFault {
+    fn from(_: AllocError) -> Self {
+        ShowFault::Memory
+    }
+}
+
+impl From<io::Error> for ShowFault {
+    fn from(_: io::Error) -> Self {
+        ShowFault::Output
+    }
+}
+
+/// Reads the bytes of the file at a path, as many as are ever looked at. It opens only a plain file, and
+/// reads it under a shared lock, so that no server writes to it meanwhile. It releases the lock before it
+/// returns.
+///
+/// # Errors
+///
+/// [`ShowFault::CannotRead`], [`ShowFault::NotPlain`], [`ShowFault::InUse`] and [`ShowFault::Memory`].
+pub fn read_file<R: Files<File = File> + AllocGlobal>(
+    rt: &R,
+    path: &str,
+) -> Result<Vec<u8>, ShowFault> {
+    // Opening a pipe would wait for its writer.
+    match fs::metadata(rt, path) {
+        Ok(data) if data.is_file() => read_plain(rt, path),
+        Ok(_) => Err(ShowFault::NotPlain),
+        Err(_) => Err(ShowFault::CannotRead),
+    }
+}
+
+fn read_plain<R: Files<File = File> + AllocGlobal>(
+    rt: &R,
+    path: &str,
+) -> Result<Vec<u8>, ShowFault> {
+    let Ok(file) = File::open(rt, path) else {
+        return Err(ShowFault::CannotRead);
+    };
+    match file.try_lock_shared() {
+        Ok(()) => read_front(rt.alloc(), file),
+        Err(TryLockError::WouldBlock) => Err(ShowFault::InUse),
+        Err(TryLockError::Error(_)) => Err(ShowFault::CannotRead),
+    }
+}
+
+/// Reads the bytes that are looked at, and closes the file.
+fn read_front(alloc: Global, file: File) -> Result<Vec<u8>, ShowFault> {
+    let mut bytes = Vec::new(alloc);
+    match file.take(MAX_FILE as u64).read_to_end(&mut bytes) {
+        Ok(_) => Ok(bytes),
+        Err(fault) if fault.kind() == io::ErrorKind::OutOfMemory => Err(ShowFault::Memory),
+        Err(_) => Err(ShowFault::CannotRead),
+    }
+}

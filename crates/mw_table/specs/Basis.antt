@@ -1,0 +1,21 @@
+-- What a table begins with, whether it is made at a start or after a run.
+-- Used by: many specs of this crate, mw_core, mw_engine, mw_world_table, mw_table_tests. Contracts use it through
+-- these: a change here changes what they say.
+use Rattle.std.specs.Prelude.{ℕ, List, Option}
+use Rattle.mw_world.specs.declared.config.Config.{Config}
+use Rattle.mw_world.specs.Definition.State.{TenantStart, WorkerState}
+use Rattle.mw_rule.specs.KnownRuns.{KnownRun}
+use Rattle.mw_rule.specs.declared.views.HeldFile.{HeldFile}
+
+-- What a table begins with.
+pub record Basis : Type 0 where
+  -- what its world is made of
+  pub config : Config
+  -- what the latest start gave each tenant
+  pub openings : List TenantStart
+  -- the run that led to it, if it is known
+  pub known_run : Option KnownRun
+  -- the state of each worker
+  pub worker_states : ℕ → WorkerState
+  -- the files for which it makes passes
+  pub files : List HeldFile

@@ -1,0 +1,85 @@
+//! How a pass takes a tenant's file for a call and gives it back.
+//!
+//! Used by: mw_core, in each call on a file; mw_engine, at its end (`confirm`).
+ghost use Rattle.std.specs.Prelude.{◌≡◌, []};
+ghost use Rattle.mw_rule.specs.Splits.{without_file, takes_files, with_file_given};
+ghost use Rattle.mw_rule.specs.Steps.{LearnsPlainLoad};
+ghost use Rattle.mw_rule.specs.WordActions.{WentOn};
+ghost use Rattle.mw_table.specs.FileCalls.{IsFree, IsRightOf, IsSoOfWorld, file_kept};
+ghost use Rattle.mw_table.specs.HeldFiles.{HasFile, file_among};
+ghost use Rattle.mw_table.specs.Meet.{IsSamePass};
+ghost use Rattle.mw_table.specs.Origins.{config_of, openings_of};
+ghost use Rattle.mw_table.specs.Passes.{IsOf};
+
+use crate::file_pass::FilePass;
+use crate::shared::{Pass, Shared};
+use atomic_table::Play;
+use mw_actor::Actor;
+use mw_rule::{GivesFile, TakesFiles, View};
+
+/// What a thread learns from a load that is no event: the bits that it found, and that what it knows is true in the
+/// world of the table's run.
+pub struct Confirms;
+
+impl Play<Actor, View> for Confirms {
+    ghost then = { λ step me found next. LearnsPlainLoad step.word found me.0 next.0 × WentOn [] me.0 next.0 };
+}
+
+impl FilePass {
+    /// Returns the tenant whose file it is, by its index.
+    pub fn tenant(&self) -> u8
+        ensures { result ≡ self.now.tenant }
+    {
+        self.tenant
+    }
+}
+
+impl Shared {
+    /// Takes a file for a call. The pass must have none, and gives this one back after the call. That is no step of a
+    /// request.
+    pub fn take(&self, pass: &mut Pass, right: FilePass)
+        requires own { IsOf self.now pass.old }
+        requires right { IsRightOf self.now right }
+        requires free { IsFree pass.old }
+        ensures own { IsOf self.now pass.new }
+        ensures same { IsSamePass pass.old pass.new }
+        ensures took { pass.new.seat.me.0 ≡ takes_files pass.old.seat.me.0 right.seat.me.0 }
+        ensures has { HasFile pass.new.seat.me.0 right.tenant }
+    {
+        self.table
+            .shared
+            .join_seat::<TakesFiles>(&mut pass.seat, right.seat);
+    }
+
+    /// Gives this tenant's file back, with what is known of the file by now. The pass has no file then. That is no
+    /// step of a request.
+    pub fn give_back(&self, pass: &mut Pass, tenant: u8) -> FilePass
+        requires own { IsOf self.now pass.old }
+        requires has { HasFile pass.old.seat.me.0 tenant }
+        ensures own { IsOf self.now pass.new }
+        ensures same { IsSamePass pass.old pass.new }
+        ensures left { pass.new.seat.me.0 ≡ without_file pass.old.seat.me.0 }
+        ensures free { IsFree pass.new }
+        ensures right { IsRightOf self.now result }
+        ensures whose { result.tenant ≡ tenant }
+        ensures is { result.seat.me.0 ≡ with_file_given pass.old.seat.me.0 }
+        ensures file { file_kept result ≡ file_among pass.old.seat.me.0.files }
+    {
+        let seat = self.table.shared.split_seat::<GivesFile>(&mut pass.seat);
+        FilePass { seat, tenant }
+    }
+
+    /// Confirms what is known of a file that nobody calls, and gives up its pass: it is true in a world of the table,
+    /// after a run that extends the one known with the file. It loads a word to find that, which is no step of a
+    /// request.
+    pub fn confirm(&self, right: FilePass)
+        requires right { IsRightOf self.now right }
+        ensures { IsSoOfWorld (config_of self.now.table.shared.key) (openings_of self.now.table.shared.key) right.seat.me.0.known_run right.tenant (file_kept right) }
+    {
+        let FilePass {
+            mut seat,
+            tenant: _,
+        } = right;
+        self.table.shared.load::<Confirms>(&mut seat, 0);
+    }
+}

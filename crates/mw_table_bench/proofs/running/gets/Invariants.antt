@@ -1,5 +1,0 @@
-use Rattle.mw_table_bench.specs.Ready.{MayGet}
-use Rattle.mw_table_bench.proofs.running.gets.Given as goal
-
-abbrev pub invariant-loop : goal.invariant-loop
-invariant-loop l = MayGet l.core.shared l.pass l.tenant

@@ -1,0 +1,63 @@
+//! A listening socket, of TCP or a local one.
+//!
+//! Used by `sockets.rt` alone. It has no contracts: nothing is proved of sockets.
+use std::io;
+use std::net::{TcpListener, TcpStream};
+use std::os::fd::OwnedFd;
+use std::os::unix::net::UnixListener;
+
+/// A listening socket of either kind.
+#[derive(Drop)]
+pub(crate) enum ListeningSocket {
+    Tcp(TcpListener),
+    Local(UnixListener),
+}
+
+impl ListeningSocket {
+    /// Takes the next connection. One by a local socket has the type of a TCP connection too, because the
+    /// system reads, writes, times and closes both by the same calls.
+    ///
+    /// # Errors
+    ///
+    /// The system gives no connection.
+    pub(crate) fn next(&self) -> io::Result<TcpStream> {
+        match self {
+            ListeningSocket::Tcp(listener) => {
+                let (stream, _) = listener.accept()?;
+                // If the system refuses this, the client is served all the same, but its replies may come
+                // late.
+                let _ = stream.set_nodelay(true);
+                Ok(stream)
+            }
+            ListeningSocket::Local(listener) => {
+                let (stream, _) = listener.accept()?;
+                Ok(TcpStream::from(OwnedFd::from(stream)))
+            }
+        }
+    }
+
+    /// Gives the port of a TCP listener, and None for a local socket.
+    ///
+    /// # Errors
+    ///
+    /// The system doesn't tell.
+    pub(crate) fn port(&self) -> io::Result<Option<u16>> {
+        match self {
+            ListeningSocket::Tcp(listener) => Ok(Some(listener.local_addr()?.port())),
+            ListeningSocket::Local(_) => Ok(None),
+        }
+    }
+
+    /// Gives a second handle to the listening socket, by which it can be shut down.
+    ///
+    /// # Errors
+    ///
+    /// The system has no room for it.
+    pub(crate) fn handle(&self) -> io::Result<TcpStream> {
+        let socket = match self {
+            ListeningSocket::Tcp(listener) => OwnedFd::from(listener.try_clone()?),
+            ListeningSocket::Local(listener) => OwnedFd::from(listener.try_clone()?),
+        };
+        Ok(TcpStream::from(socket))
+    }
+}

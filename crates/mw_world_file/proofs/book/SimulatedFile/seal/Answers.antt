@@ -1,0 +1,107 @@
+use Rattle.std.proofs.Common.{◌∙◌, ◌≡◌, true, false, refl, sym, ap, arith, get_or, is_err, is_ok}
+use Rattle.mw_words.specs.Change.{put}
+use Rattle.mw_world_file.specs.declared.places.Place.TheVariants.{Prepared as KeptPrepared}
+use Rattle.mw_world_file.specs.CallEffects.{may_end}
+use Rattle.mw_world_file.proofs.WorkedFiles.{is_at, IsAt, unfailed_open}
+use Rattle.mw_world_file.proofs.SealedFiles.{all_clear, not_apart, may_seal_it, sealed_kept, sealed_sized, seal_done, seal_broken}
+use Rattle.mw_look.specs.declared.steps.Call.TheVariants.{Seal}
+use Rattle.mw_world_file.proofs.CalledDisks.{came_to_fault}
+use Rattle.mw_world_file.proofs.CrashedFiles.{seal_safe}
+use Rattle.mw_file.specs.File.{has_failed}
+use Rattle.mw_file.proofs.Ended.{ended_well, went_well}
+use Rattle.mw_disk.specs.Memory.{memory_facts}
+use Rattle.mw_world_file.proofs.book.SimulatedFile.seal.Goals as goal
+
+pub returns-then-not-is_apart-clause-works : goal.returns-then-not-is_apart-clause-works
+returns-then-not-is_apart-clause-works c others =
+    let old = c.args.self.now in let es = c.in-Some-Prepared.entries in
+    let at : IsAt old c.args.slot (get_or old.place_of c.args.slot 0) (KeptPrepared es) =
+    is_at old c.args.slot (KeptPrepared es) c.in-Some-Prepared.field-0.now c.deref.result.now c.in-Some-Prepared.field-0-is c.in-Some-Prepared.ensures.lookup.0 c.in-Some-Prepared.ensures.lookup.1
+    c.deref.ensures.value (omega (arith, c.ranges.slot.fits)) in
+    not_apart old c.args.slot (get_or old.place_of c.args.slot 0) es at others c.args.outcome
+    (all_clear c.is_apart.result es.items c.deref-3.result.now old.places.items c.deref-2.result.now c.is_apart.ensures c.deref-3.ensures.0 c.deref-2.ensures.value ∙ c.if-not-is_apart.true)
+
+pub seal-made-requires : goal.seal-made-requires
+seal-made-requires c =
+    let old = c.args.self.now in let es = c.in-Some-Prepared.entries in
+    let at : IsAt old c.args.slot (get_or old.place_of c.args.slot 0) (KeptPrepared es) =
+    is_at old c.args.slot (KeptPrepared es) c.in-Some-Prepared.field-0.now c.deref.result.now c.in-Some-Prepared.field-0-is c.in-Some-Prepared.ensures.lookup.0 c.in-Some-Prepared.ensures.lookup.1
+    c.deref.ensures.value (omega (arith, c.ranges.slot.fits)) in
+    let all = all_clear c.is_apart.result es.items c.deref-3.result.now old.places.items c.deref-2.result.now c.is_apart.ensures c.deref-3.ensures.0 c.deref-2.ensures.value ∙ c.if-not-is_apart.false in
+    may_seal_it old c.args.slot (get_or old.place_of c.args.slot 0) es at c.in-Open.held c.in-Open.is c.in_ok-file.file c.in_ok-file.ensures.states all
+
+pub with_place-requires-clause-sized : goal.with_place-requires-clause-sized
+with_place-requires-clause-sized c =
+    let old = c.args.self.now in let es = c.in-Some-Prepared.entries in
+    let at : IsAt old c.args.slot (get_or old.place_of c.args.slot 0) (KeptPrepared es) =
+    is_at old c.args.slot (KeptPrepared es) c.in-Some-Prepared.field-0.now c.deref.result.now c.in-Some-Prepared.field-0-is c.in-Some-Prepared.ensures.lookup.0 c.in-Some-Prepared.ensures.lookup.1
+    c.deref.ensures.value (omega (arith, c.ranges.slot.fits)) in
+    let fine : is_err c.seal-made.result ≡ false = sym c.is_err.ensures.value ∙ c.if-is_err.false in
+    let words : c.in_ok-contents-in-Good.contents.items ≡ put old.contents.items es.items =
+    c.in_ok-contents-in-Good.ensures ∙ ap (λ ws. put ws c.deref-in-Good-2.result.now) c.deref-in-Good.ensures.value ∙ ap (λ xs. put old.contents.items xs) c.deref-in-Good-2.ensures.0 in
+    sealed_sized old c.args.slot (get_or old.place_of c.args.slot 0) es at c.in-Open.held c.in-Open.is c.in_ok-file.file c.in_ok-file.ensures.states c.seal-made.new.self c.in_ok-contents-in-Good.contents.items
+    (ended_well memory_facts 2 c.in_ok-file.file c.seal-made.new.self c.seal-made.result fine c.seal-made.ensures.ends).words c.in_ok-file.ensures.words words
+
+pub with_place-requires-clause-kept : goal.with_place-requires-clause-kept
+with_place-requires-clause-kept c =
+    let old = c.args.self.now in let es = c.in-Some-Prepared.entries in
+    let at : IsAt old c.args.slot (get_or old.place_of c.args.slot 0) (KeptPrepared es) =
+    is_at old c.args.slot (KeptPrepared es) c.in-Some-Prepared.field-0.now c.deref.result.now c.in-Some-Prepared.field-0-is c.in-Some-Prepared.ensures.lookup.0 c.in-Some-Prepared.ensures.lookup.1
+    c.deref.ensures.value (omega (arith, c.ranges.slot.fits)) in
+    let fine : is_err c.seal-made.result ≡ false = sym c.is_err.ensures.value ∙ c.if-is_err.false in
+    sealed_kept old c.args.slot (get_or old.place_of c.args.slot 0) es at c.in-Open.held c.in-Open.is c.in_ok-file.file c.in_ok-file.ensures.states c.seal-made.new.self c.copy_of.result c.copy_of.ensures
+    (went_well c.seal-made.result _ fine c.seal-made.ensures.staged)
+
+pub returns-in_ok-with_place-in-Good-clause-works : goal.returns-in_ok-with_place-in-Good-clause-works
+returns-in_ok-with_place-in-Good-clause-works c others =
+    let old = c.args.self.now in let es = c.in-Some-Prepared.entries in
+    let at : IsAt old c.args.slot (get_or old.place_of c.args.slot 0) (KeptPrepared es) =
+    is_at old c.args.slot (KeptPrepared es) c.in-Some-Prepared.field-0.now c.deref.result.now c.in-Some-Prepared.field-0-is c.in-Some-Prepared.ensures.lookup.0 c.in-Some-Prepared.ensures.lookup.1
+    c.deref.ensures.value (omega (arith, c.ranges.slot.fits)) in
+    let all = all_clear c.is_apart.result es.items c.deref-3.result.now old.places.items c.deref-2.result.now c.is_apart.ensures c.deref-3.ensures.0 c.deref-2.ensures.value ∙ c.if-not-is_apart.false in
+    let fine : is_err c.seal-made.result ≡ false = sym c.is_err.ensures.value ∙ c.if-is_err.false in
+    let words : c.in_ok-contents-in-Good.contents.items ≡ put old.contents.items es.items =
+    c.in_ok-contents-in-Good.ensures ∙ ap (λ ws. put ws c.deref-in-Good-2.result.now) c.deref-in-Good.ensures.value ∙ ap (λ xs. put old.contents.items xs) c.deref-in-Good-2.ensures.0 in
+    seal_done old c.args.slot (get_or old.place_of c.args.slot 0) es at c.in-Open.held c.in-Open.is c.in_ok-file.file c.in_ok-file.ensures.states c.seal-made.new.self _ others c.args.outcome c.seal-made.result
+    c.in_ok-file.ensures.keeps c.seal-made.ensures.safe all c.requires c.in_ok-contents-in-Good.contents.items c.copy_of.result words c.copy_of.ensures c.in-Good.is fine c.in_ok-with_place-in-Good.ensures
+
+pub returns-in_ok-broken-in-Fail-clause-works : goal.returns-in_ok-broken-in-Fail-clause-works
+returns-in_ok-broken-in-Fail-clause-works c others =
+    let old = c.args.self.now in let es = c.in-Some-Prepared.entries in
+    let at : IsAt old c.args.slot (get_or old.place_of c.args.slot 0) (KeptPrepared es) =
+    is_at old c.args.slot (KeptPrepared es) c.in-Some-Prepared.field-0.now c.deref.result.now c.in-Some-Prepared.field-0-is c.in-Some-Prepared.ensures.lookup.0 c.in-Some-Prepared.ensures.lookup.1
+    c.deref.ensures.value (omega (arith, c.ranges.slot.fits)) in
+    let all = all_clear c.is_apart.result es.items c.deref-3.result.now old.places.items c.deref-2.result.now c.is_apart.ensures c.deref-3.ensures.0 c.deref-2.ensures.value ∙ c.if-not-is_apart.false in
+    let bad : is_ok c.seal-made.result ≡ false = sym c.is_ok.ensures.value ∙ c.if-is_ok.false in
+    let may : may_end 2 c.args.outcome ≡ true = ap (λ n. may_end n c.args.outcome) (sym c.device_calls.ensures) ∙ sym c.may_end.ensures ∙ c.if-not-may_end.false in
+    let unfailed : has_failed c.in_ok-file.file ≡ false = c.in_ok-file.ensures.failed ∙ unfailed_open old c.in-Open.held c.in-Open.is c.requires in
+    seal_broken old c.args.slot (get_or old.place_of c.args.slot 0) es at c.in-Open.held c.in-Open.is c.in_ok-file.file c.in_ok-file.ensures.states c.seal-made.new.self _ others c.args.outcome c.seal-made.result
+    c.in_ok-file.ensures.keeps c.seal-made.ensures.safe all c.requires c.in-Fail.field-0 c.copy_of-in-Fail.result c.copy_of-in-Fail.ensures c.in-Fail.is may bad unfailed 2 c.seal-made.ensures.ends c.in_ok-broken-in-Fail.ensures
+
+pub returns-in_ok-broken-in-Fail-clause-disk : goal.returns-in_ok-broken-in-Fail-clause-disk
+returns-in_ok-broken-in-Fail-clause-disk c =
+    came_to_fault c.args.self.now c.in_ok-broken-in-Fail.field-0 c.in-Open.held c.in_ok-file.file c.seal-made.new.self Seal c.args.slot 2 c.in-Fail.field-0 c.args.outcome c.seal-made.result c.in-Open.is
+    c.in_ok-broken-in-Fail.ensures.is_device c.requires c.in-Fail.is (c.in_ok-file.ensures.failing c.in-Fail.field-0 c.in-Fail.is) (λ j. c.in_ok-file.ensures.plan c.in-Fail.field-0 j c.in-Fail.is)
+    c.in_ok-file.ensures.failed refl (sym c.is_ok.ensures.value ∙ c.if-is_ok.false) c.seal-made.ensures.ends (omega (arith, c.refused.ensures, c.refused-else-is_ok.ensures, c.if-refused.false)) c.seal-made.ensures.later
+
+pub returns-in_ok-with_place-in-Good-clause-moments : goal.returns-in_ok-with_place-in-Good-clause-moments
+returns-in_ok-with_place-in-Good-clause-moments c =
+    let old = c.args.self.now in let es = c.in-Some-Prepared.entries in
+    let at : IsAt old c.args.slot (get_or old.place_of c.args.slot 0) (KeptPrepared es) =
+    is_at old c.args.slot (KeptPrepared es) c.in-Some-Prepared.field-0.now c.deref.result.now c.in-Some-Prepared.field-0-is c.in-Some-Prepared.ensures.lookup.0 c.in-Some-Prepared.ensures.lookup.1
+    c.deref.ensures.value (omega (arith, c.ranges.slot.fits)) in
+    let unfailed : has_failed c.in_ok-file.file ≡ false = c.in_ok-file.ensures.failed ∙ unfailed_open old c.in-Open.held c.in-Open.is c.requires in
+    seal_safe old c.in_ok-with_place-in-Good.field-0 c.in-Open.held c.in_ok-file.file c.seal-made.new.self c.args.slot c.args.outcome c.in-Open.is c.in_ok-with_place-in-Good.ensures.is_device
+    c.in_ok-file.ensures.disk c.in_ok-file.ensures.failing c.in_ok-file.ensures.keeps (get_or old.place_of c.args.slot 0) es at c.in_ok-file.ensures.states c.seal-made.result unfailed 2
+    c.seal-made.ensures.ends c.seal-made.ensures.safe
+
+pub returns-in_ok-broken-in-Fail-clause-moments : goal.returns-in_ok-broken-in-Fail-clause-moments
+returns-in_ok-broken-in-Fail-clause-moments c =
+    let old = c.args.self.now in let es = c.in-Some-Prepared.entries in
+    let at : IsAt old c.args.slot (get_or old.place_of c.args.slot 0) (KeptPrepared es) =
+    is_at old c.args.slot (KeptPrepared es) c.in-Some-Prepared.field-0.now c.deref.result.now c.in-Some-Prepared.field-0-is c.in-Some-Prepared.ensures.lookup.0 c.in-Some-Prepared.ensures.lookup.1
+    c.deref.ensures.value (omega (arith, c.ranges.slot.fits)) in
+    let unfailed : has_failed c.in_ok-file.file ≡ false = c.in_ok-file.ensures.failed ∙ unfailed_open old c.in-Open.held c.in-Open.is c.requires in
+    seal_safe old c.in_ok-broken-in-Fail.field-0 c.in-Open.held c.in_ok-file.file c.seal-made.new.self c.args.slot c.args.outcome c.in-Open.is c.in_ok-broken-in-Fail.ensures.is_device
+    c.in_ok-file.ensures.disk c.in_ok-file.ensures.failing c.in_ok-file.ensures.keeps (get_or old.place_of c.args.slot 0) es at c.in_ok-file.ensures.states c.seal-made.result unfailed 2
+    c.seal-made.ensures.ends c.seal-made.ensures.safe

@@ -1,0 +1,87 @@
+use Rattle.std.proofs.Common.{◌+◌, ◌∙◌, ◌≡◌, true, false, sym, ap, refl, arith, get_or, is_err}
+use Rattle.mw_disk.specs.Memory.{memory_facts}
+use Rattle.mw_file.proofs.Ended.{ended_well, went_well}
+use Rattle.mw_look.specs.declared.steps.Call.TheVariants.{Settle}
+use Rattle.mw_world_file.specs.declared.places.Place.TheVariants.{Sealed as KeptSealed}
+use Rattle.mw_world_file.specs.Files.{entries_in}
+use Rattle.mw_world_file.specs.Devices.{told_at}
+use Rattle.mw_world_file.specs.Calls.{device_calls}
+use Rattle.mw_world_file.specs.CallEffects.{may_end}
+use Rattle.mw_world_file.proofs.WorkedFiles.{is_at, IsAt}
+use Rattle.mw_world_file.proofs.CalledDisks.{came_well, came_to_fault}
+use Rattle.mw_world_file.proofs.CrashedFiles.{stays_safe}
+use Rattle.mw_world_file.proofs.SealedFiles.{is_sealed_in, sealed_writes, emptied_kept, settle_done, settle_broken}
+use Rattle.mw_world_file.proofs.book.SimulatedFile.settle.Goals as goal
+
+pub settle-made-requires : goal.settle-made-requires
+settle-made-requires c =
+    let old = c.args.self.now in let es = c.in-Some-Sealed.entries in
+    let at : IsAt old c.args.slot (get_or old.place_of c.args.slot 0) (KeptSealed es) =
+    is_at old c.args.slot (KeptSealed es) c.in-Some-Sealed.field-0.now c.deref.result.now c.in-Some-Sealed.field-0-is c.in-Some-Sealed.ensures.lookup.0 c.in-Some-Sealed.ensures.lookup.1
+    c.deref.ensures.value (omega (arith, c.ranges.slot.fits)) in
+    is_sealed_in old c.args.slot (get_or old.place_of c.args.slot 0) es at c.in-Open.held c.in-Open.is c.in_ok-file.file c.in_ok-file.ensures.states
+
+pub emptied-requires-clause-kept : goal.emptied-requires-clause-kept
+emptied-requires-clause-kept c =
+    let old = c.args.self.now in let es = c.in-Some-Sealed.entries in
+    let at : IsAt old c.args.slot (get_or old.place_of c.args.slot 0) (KeptSealed es) =
+    is_at old c.args.slot (KeptSealed es) c.in-Some-Sealed.field-0.now c.deref.result.now c.in-Some-Sealed.field-0-is c.in-Some-Sealed.ensures.lookup.0 c.in-Some-Sealed.ensures.lookup.1
+    c.deref.ensures.value (omega (arith, c.ranges.slot.fits)) in
+    let fine : is_err c.settle-made.result ≡ false = sym c.is_err.ensures.value ∙ c.if-is_err.false in
+    emptied_kept old c.args.slot (get_or old.place_of c.args.slot 0) (KeptSealed es) at c.in-Open.held c.in-Open.is c.in_ok-file.file c.in_ok-file.ensures.states c.settle-made.new.self _
+    (went_well c.settle-made.result _ fine c.settle-made.ensures.staged)
+
+pub returns-in_ok-emptied-in-Good-clause-works : goal.returns-in_ok-emptied-in-Good-clause-works
+returns-in_ok-emptied-in-Good-clause-works c others =
+    let old = c.args.self.now in let es = c.in-Some-Sealed.entries in
+    let at : IsAt old c.args.slot (get_or old.place_of c.args.slot 0) (KeptSealed es) =
+    is_at old c.args.slot (KeptSealed es) c.in-Some-Sealed.field-0.now c.deref.result.now c.in-Some-Sealed.field-0-is c.in-Some-Sealed.ensures.lookup.0 c.in-Some-Sealed.ensures.lookup.1
+    c.deref.ensures.value (omega (arith, c.ranges.slot.fits)) in
+    settle_done old c.args.slot (get_or old.place_of c.args.slot 0) es at c.in-Open.held c.in-Open.is c.settle-made.new.self _ others c.args.outcome c.requires
+    (λ contents doubt keeps. (c.settle-made.ensures.safe refl contents doubt (c.in_ok-file.ensures.keeps contents doubt keeps)).after) c.in-Good.is c.in_ok-emptied-in-Good.ensures
+
+pub returns-in_ok-broken-in-Fail-clause-works : goal.returns-in_ok-broken-in-Fail-clause-works
+returns-in_ok-broken-in-Fail-clause-works c others =
+    let old = c.args.self.now in let es = c.in-Some-Sealed.entries in
+    let at : IsAt old c.args.slot (get_or old.place_of c.args.slot 0) (KeptSealed es) =
+    is_at old c.args.slot (KeptSealed es) c.in-Some-Sealed.field-0.now c.deref.result.now c.in-Some-Sealed.field-0-is c.in-Some-Sealed.ensures.lookup.0 c.in-Some-Sealed.ensures.lookup.1
+    c.deref.ensures.value (omega (arith, c.ranges.slot.fits)) in
+    let may : may_end (device_calls Settle es.items) c.args.outcome ≡ true =
+    ap (λ xs. may_end (device_calls Settle xs) c.args.outcome) (sym c.deref-2.ensures.0) ∙ ap (λ n. may_end n c.args.outcome) (sym c.device_calls.ensures) ∙ sym c.may_end.ensures ∙ c.if-not-may_end.false in
+    settle_broken old c.args.slot (get_or old.place_of c.args.slot 0) es at c.in-Open.held c.in-Open.is c.settle-made.new.self _ others c.args.outcome c.requires
+    (λ contents doubt keeps. (c.settle-made.ensures.safe refl contents doubt (c.in_ok-file.ensures.keeps contents doubt keeps)).after) c.in-Fail.field-0 c.new.result c.new.ensures c.in-Fail.is may
+    c.in_ok-broken-in-Fail.ensures
+
+pub returns-in_ok-emptied-in-Good-clause-disk : goal.returns-in_ok-emptied-in-Good-clause-disk
+returns-in_ok-emptied-in-Good-clause-disk c =
+    let old = c.args.self.now in let es = c.in-Some-Sealed.entries in
+    let at : IsAt old c.args.slot (get_or old.place_of c.args.slot 0) (KeptSealed es) =
+    is_at old c.args.slot (KeptSealed es) c.in-Some-Sealed.field-0.now c.deref.result.now c.in-Some-Sealed.field-0-is c.in-Some-Sealed.ensures.lookup.0 c.in-Some-Sealed.ensures.lookup.1
+    c.deref.ensures.value (omega (arith, c.ranges.slot.fits)) in
+    let many = sealed_writes old c.args.slot (get_or old.place_of c.args.slot 0) es at c.in-Open.held c.in-Open.is c.in_ok-file.file c.in_ok-file.ensures.states in
+    let calls = ap (λ n. n + 3) many ∙ sym (ap (λ q. device_calls Settle (entries_in (told_at q))) at.there) in
+    let fine : is_err c.settle-made.result ≡ false = sym c.is_err.ensures.value ∙ c.if-is_err.false in
+    came_well old c.in_ok-emptied-in-Good.field-0 c.in-Open.held c.in_ok-file.file c.settle-made.new.self Settle c.args.slot _ c.args.outcome c.in-Open.is c.in_ok-emptied-in-Good.ensures.is_device c.in-Good.is
+    (c.in_ok-file.ensures.disk c.in-Good.is) calls (ended_well memory_facts _ c.in_ok-file.file c.settle-made.new.self c.settle-made.result fine c.settle-made.ensures.ends).made c.settle-made.ensures.later
+
+pub returns-in_ok-broken-in-Fail-clause-disk : goal.returns-in_ok-broken-in-Fail-clause-disk
+returns-in_ok-broken-in-Fail-clause-disk c =
+    let old = c.args.self.now in let es = c.in-Some-Sealed.entries in
+    let at : IsAt old c.args.slot (get_or old.place_of c.args.slot 0) (KeptSealed es) =
+    is_at old c.args.slot (KeptSealed es) c.in-Some-Sealed.field-0.now c.deref.result.now c.in-Some-Sealed.field-0-is c.in-Some-Sealed.ensures.lookup.0 c.in-Some-Sealed.ensures.lookup.1
+    c.deref.ensures.value (omega (arith, c.ranges.slot.fits)) in
+    let many = sealed_writes old c.args.slot (get_or old.place_of c.args.slot 0) es at c.in-Open.held c.in-Open.is c.in_ok-file.file c.in_ok-file.ensures.states in
+    let calls = ap (λ n. n + 3) many ∙ sym (ap (λ q. device_calls Settle (entries_in (told_at q))) at.there) in
+    came_to_fault old c.in_ok-broken-in-Fail.field-0 c.in-Open.held c.in_ok-file.file c.settle-made.new.self Settle c.args.slot _ c.in-Fail.field-0 c.args.outcome c.settle-made.result c.in-Open.is
+    c.in_ok-broken-in-Fail.ensures.is_device c.requires c.in-Fail.is (c.in_ok-file.ensures.failing c.in-Fail.field-0 c.in-Fail.is) (λ j. c.in_ok-file.ensures.plan c.in-Fail.field-0 j c.in-Fail.is)
+    c.in_ok-file.ensures.failed calls (sym c.is_ok.ensures.value ∙ c.if-is_ok.false) c.settle-made.ensures.ends (omega (arith, c.refused.ensures, c.refused-else-is_ok.ensures, c.if-refused.false)) c.settle-made.ensures.later
+
+pub returns-in_ok-emptied-in-Good-clause-moments : goal.returns-in_ok-emptied-in-Good-clause-moments
+returns-in_ok-emptied-in-Good-clause-moments c =
+    stays_safe c.args.self.now c.in_ok-emptied-in-Good.field-0 c.in-Open.held c.in_ok-file.file c.settle-made.new.self c.args.slot c.args.outcome c.in-Open.is c.in_ok-emptied-in-Good.ensures.is_device
+    c.in_ok-file.ensures.disk c.in_ok-file.ensures.failing c.in_ok-file.ensures.keeps Settle (λ file. refl) c.settle-made.ensures.safe
+
+pub returns-in_ok-broken-in-Fail-clause-moments : goal.returns-in_ok-broken-in-Fail-clause-moments
+returns-in_ok-broken-in-Fail-clause-moments c =
+    stays_safe c.args.self.now c.in_ok-broken-in-Fail.field-0 c.in-Open.held c.in_ok-file.file c.settle-made.new.self c.args.slot c.args.outcome c.in-Open.is c.in_ok-broken-in-Fail.ensures.is_device
+    c.in_ok-file.ensures.disk c.in_ok-file.ensures.failing c.in_ok-file.ensures.keeps Settle (λ file. refl) c.settle-made.ensures.safe

@@ -1,0 +1,10 @@
+-- What a book's file gives at a start.
+-- Used by: the contracts of src/start_values.rt, mw_simulator. A change here changes what these contracts say.
+use Rattle.std.specs.Prelude.{ℕ, ◌≡◌, true, false, Vec, MatchOption}
+use Rattle.std.specs.declared.option.Option.{Option}
+use Rattle.std.specs.declared.alloc.Global.{Global}
+use Rattle.mw_world_file.specs.declared.book.SimulatedFile.{SimulatedFile}
+
+-- a file gives its words at a start, or nothing if it has failed
+abbrev pub IsGiven : SimulatedFile → Option (Vec ℕ Global) → Type 0
+IsGiven book opening = MatchOption opening (book.has_failed ≡ true) (λ given. (book.has_failed ≡ false) × (given.items ≡ book.contents.items))

@@ -1,0 +1,9 @@
+-- Which worker state a worker in memory represents.
+-- Used by: the contracts of src/lines.rt and src/workers.rt, mw_simulator, mw_world_table. A change here changes what
+-- these contracts say.
+use Rattle.mw_world.specs.Definition.State.{WorkerState}
+use Rattle.mw_world_memory.specs.declared.workers.WorkerState.{WorkerState as KeptWorkerState}
+
+-- the worker state that this represents
+abbrev pub worker_state_of : KeptWorkerState → WorkerState
+worker_state_of worker_state = record { actor = worker_state.actor; request = worker_state.request; attempt = worker_state.attempt; kept = worker_state.kept; retiring = worker_state.retiring }
