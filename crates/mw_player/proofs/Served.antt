@@ -17,8 +17,8 @@ use Rattle.mw_schedule.specs.Playable.{IsSchedule}
 use Rattle.mw_player.specs.declared.player.PlayFault.{PlayFault}
 use Rattle.mw_player.specs.declared.player.PlayFault.TheVariants as halt
 use Rattle.mw_player.specs.declared.player.Player.{Player}
-use Rattle.mw_player.specs.declared.replay.ReplayFault.{ReplayFault}
-use Rattle.mw_player.specs.declared.replay.ReplayFault.TheVariants as fault
+use Rattle.mw_player.specs.declared.program.ReplayFault.{ReplayFault}
+use Rattle.mw_player.specs.declared.program.ReplayFault.TheVariants as fault
 use Rattle.mw_player.specs.PlayerSteps.{GoesOn, IsRest, IsSame, ObeysAll, Plays}
 use Rattle.mw_player.specs.Printed.{text_of, told_in}
 use Rattle.mw_player.specs.Replayed.{MayPrint, Printed, PrintsAll, Replays, fault_at, status_of}

@@ -1,5 +1,5 @@
 -- What playing a schedule prints, and that the replies are those of the tenants' stores alone.
--- Used by: the contracts of src/replay.rt. A change here changes what these contracts say.
+-- Used by: the contracts of src/program.rt. A change here changes what these contracts say.
 use Rattle.std.specs.Prelude.{ℕ, ◌≡◌, ◌≢◌, ◌<◌, ◌++◌, ◌⊎◌, Bool, List, [], Result, Ok, Err, Option}
 use Rattle.std.specs.Io.KnownBytes.{Appends, Keeps}
 use Rattle.mw_world.specs.declared.events.Event.{Event}
@@ -14,8 +14,8 @@ use Rattle.mw_schedule.specs.Playable.{IsSchedule}
 use Rattle.mw_player.specs.declared.player.PlayFault.{PlayFault}
 use Rattle.mw_player.specs.declared.player.PlayFault.TheVariants as halt
 use Rattle.mw_player.specs.declared.player.Player.{Player}
-use Rattle.mw_player.specs.declared.replay.ReplayFault.{ReplayFault}
-use Rattle.mw_player.specs.declared.replay.ReplayFault.TheVariants.{CannotRead, Memory, Wrong, NotEnabled, LastNumber, DidNotArrive, Output}
+use Rattle.mw_player.specs.declared.program.ReplayFault.{ReplayFault}
+use Rattle.mw_player.specs.declared.program.ReplayFault.TheVariants.{CannotRead, Memory, Wrong, NotEnabled, LastNumber, DidNotArrive, Output}
 use Rattle.mw_player.specs.PlayerSteps.{ObeysAll}
 use Rattle.mw_player.specs.Printed.{replies_among, text_of, told_in}
 

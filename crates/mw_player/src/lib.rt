@@ -6,7 +6,7 @@
 
 mod lines;
 mod player;
-mod replay;
+mod program;
 
 pub use player::{PlayFault, Player};
-pub use replay::{replay, replay_args, replay_file, replay_schedule};
+pub use program::{replay, replay_args, replay_file, replay_schedule};

@@ -5,7 +5,7 @@
 #![tactic(auto)]
 
 mod clients;
-mod init;
+mod new_file;
 mod notes;
 mod opening;
 mod plain_file;
@@ -15,5 +15,5 @@ mod tenants;
 mod watched_file;
 mod worker;
 
-pub use init::init;
+pub use new_file::init;
 pub use serving::serve;

@@ -1,5 +1,5 @@
 -- What a table begins with that is made of a world in memory.
--- Used by: the contracts of src/copies.rt and src/of_world.rt, mw_table_tests. A change here changes what these
+-- Used by: the contracts of src/copies.rt and src/from_world.rt, mw_table_tests. A change here changes what these
 -- contracts say.
 use Rattle.std.specs.Prelude.{map, Option}
 use Rattle.mw_actor.specs.ActorState.{ActorState}

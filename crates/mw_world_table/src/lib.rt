@@ -7,7 +7,7 @@
 #![tactic(auto)]
 
 mod copies;
-mod of_world;
+mod from_world;
 mod words;
 
-pub use of_world::of_world;
+pub use from_world::of_world;

@@ -2,7 +2,7 @@ use Rattle.std.proofs.Common.{◌∷◌, ◌++◌, [], Ok, Err, refl, sym, ap, �
 use Rattle.std.specs.Vec.Iter.{into_iter_items}
 use Rattle.mw_player.specs.PlayerSteps.{ObeysAll}
 use Rattle.mw_player.proofs.PlayerStepLaws.{is_same, plays_halts, plays_line, plays_nothing, same_then}
-use Rattle.mw_player.proofs.replay.play_lines.Goals as goal
+use Rattle.mw_player.proofs.program.play_lines.Goals as goal
 
 pub loop-line-init : goal.loop-line-init
 loop-line-init g c = record {

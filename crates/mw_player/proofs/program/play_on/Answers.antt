@@ -1,6 +1,6 @@
 use Rattle.mw_player.specs.Replayed.{status_after}
 use Rattle.mw_player.proofs.Served.{prints_halted, prints_whole}
-use Rattle.mw_player.proofs.replay.play_on.Goals as goal
+use Rattle.mw_player.proofs.program.play_on.Goals as goal
 
 pub returns-in-Ok : goal.returns-in-Ok
 returns-in-Ok g c =

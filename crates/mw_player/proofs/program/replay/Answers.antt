@@ -1,5 +1,5 @@
 use Rattle.mw_player.proofs.Served.{may_print}
-use Rattle.mw_player.proofs.replay.replay.Goals as goal
+use Rattle.mw_player.proofs.program.replay.Goals as goal
 
 pub returns-in-Ok : goal.returns-in-Ok
 returns-in-Ok g c =

@@ -1,7 +1,7 @@
 use Rattle.std.proofs.Common.{◌≡◌, ◌++◌, Ok}
 use Rattle.std.specs.Vec.Iter.{into_iter_items}
 use Rattle.mw_player.specs.PlayerSteps.{IsSame, ObeysAll, Plays}
-use Rattle.mw_player.proofs.replay.play_lines.Given as goal
+use Rattle.mw_player.proofs.program.play_lines.Given as goal
 
 -- the lines so far were played, and these are left
 abbrev pub invariant-loop-line : goal.invariant-loop-line

@@ -6,7 +6,7 @@ use Rattle.mw_simulator.specs.FromMemory.{worker_state_of}
 use Rattle.mw_table.specs.Runs.{AreAfterRun, LastStart, last_start, worker_state_so_far}
 use Rattle.mw_world_table.specs.Worlds.{actor_of, last_start_of}
 use Rattle.mw_world_table.proofs.Worlds.{actors_are, after_run}
-use Rattle.mw_world_table.proofs.of_world.of_world.Goals as goal
+use Rattle.mw_world_table.proofs.from_world.of_world.Goals as goal
 
 pub of_run-requires-clause-run : goal.of_run-requires-clause-run
 of_run-requires-clause-run c =
