@@ -1,4 +1,4 @@
--- Defines a request that a worker works on, and small definitions that its program uses.
+-- Defines the state of a request while a worker works on it, and small definitions that its program uses.
 -- Used by: 11 pages of specs/, 17 crates from mw_world on, the contracts of actor.rt, actor/asks.rt and tasks.rt. A change here
 -- changes the program of every request, and the laws about it.
 use Rattle.std.specs.Prelude.{ℕ, ◌==◌, ◌&&◌, Bool, cond, List, [], slice_index_or}

@@ -1,4 +1,4 @@
--- Defines how a request turns to another's change that is in its way, and reads it.
+-- Defines how a request turns to another's change that is in its way (helping), pins it, and reads it.
 -- Used by: Inspection, Program, mw_law_requests, mw_law_counts, mw_law_runs, mw_law_store, mw_rule, the contracts of actor.rt,
 -- actor/moves.rt and tasks.rt. It is a part of Program: a change here changes the algorithm, and the laws in the crates above
 -- must be proved again.

@@ -1,4 +1,4 @@
--- Defines the program of a request: where it goes from each of its points.
+-- Defines the program of a request (a state machine): where it goes from each of its points.
 -- Used by: 14 crates from mw_world on, the contracts of actor.rt and actor/moves.rt. It is the algorithm of a request: a new
 -- point needs a case here and in Asks, and the laws in the crates above must be proved again.
 use Rattle.std.specs.Prelude.{ℕ, false, Some, None}

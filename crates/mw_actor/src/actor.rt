@@ -1,4 +1,4 @@
-//! The machine of a request.
+//! A request as a state machine: it is asked for its next step, told what the step found, and at last has its reply.
 //!
 //! mw_engine makes one for each request, and mw_core runs it; mw_simulator has one for each busy worker of a world in
 //! memory. It may change as long as it asks what `specs/Asks` says, and goes where `specs/Program` says.

@@ -1,9 +1,9 @@
-//! The machine of a request: a read, or a change of several words at once.
+//! The program of a request as a state machine: a read, or a change of several words at once.
 //!
-//! A machine is asked for its next step. A worker makes that step on the shared words or on the tenant's file,
-//! and tells the machine what the step found. This goes on until the request has its reply. A change is written
-//! into a slot of the pool. If a change finds another in its way, it first works on that one, as the other's
-//! own worker does. A read only looks.
+//! The machine is asked for its next step. A worker makes that step on the shared words or on the tenant's file, and
+//! tells the machine what the step found. This goes on until the request has its reply. A change is written into a
+//! slot of the pool. If a change finds another in its way, it first works on that one, as the other's own worker
+//! does. A read only looks.
 //!
 //! A change follows the multi-word compare-and-swap of Harris, Fraser and Pratt ("A practical multi-word
 //! compare-and-swap operation", 2002). A slot is what they call a descriptor, and work on the change in the way

@@ -1,3 +1,7 @@
+//! Tests the machine of a request (`mw_actor`): it is told what each of its steps found, and must ask for the right
+//! next step.
+//!
+//! Nothing else uses it: it may change with what it tests.
 use crate::same::same;
 use mw_actor::*;
 use mw_look::{Call, Got, Kind, Op, Told};

@@ -1,5 +1,6 @@
-//! Tests the core's moves and machines: paths through the programs, and each public function once. The
-//! tests are apart from the crates that they test, so that those are proved once.
+//! Tests the machines of requests, which ask for one step on the shared words at a time: paths through their
+//! programs, and each public function once. The tests are apart from the crates that they test, so that those are
+//! proved once.
 #![tactic(auto)]
 
 #[cfg(test)]

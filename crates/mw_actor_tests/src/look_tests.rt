@@ -1,3 +1,7 @@
+//! Tests the machine of a read (`mw_look`): it is told what each of its steps found, and must ask for the right
+//! next step.
+//!
+//! Nothing else uses it: it may change with what it tests.
 use crate::same::same;
 use mw_look::*;
 use mw_words::{At, Reply};

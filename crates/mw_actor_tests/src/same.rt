@@ -1,3 +1,6 @@
+//! Compares what a test found with what it wanted. Used by: the other modules of this crate.
+//!
+//! It may change freely as long as this crate checks and its tests pass.
 use std::fmt::Debug;
 use std::process::Abort;
 

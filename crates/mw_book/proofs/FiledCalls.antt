@@ -1,4 +1,4 @@
--- Each call on a book ends as its contract says, if the call on the file goes well and if the device fails in it.
+-- Each call on a book ends as its contract says, whether the device fails in it or not.
 -- Used by: the proofs of all calls of Book. It may change freely as long as this crate checks.
 use Rattle.std.proofs.Common.{◌≡◌, ℕ, ◌+◌, ◌<◌, ◌≤◌, Bool, true, false, List, [], length, Some, Result, Ok, Err, is_err, slice_set, nat_le, IsTrue, refl, sym, ap, subst, ◌∙◌, arith}
 use Rattle.std.proofs.lemmas.Bool.{and_from, le-leb}

@@ -1,5 +1,5 @@
--- If one place of the open file and the same place of the world's file get a new stage, the places still match. Used by:
--- FiledCalls. It may change freely as long as this crate checks.
+-- If one place of a book's open file and the same place of the file that it represents get a new stage, all places still match.
+-- Used by: FiledCalls. It may change freely as long as this crate checks.
 use Rattle.std.proofs.Common.{◌≡◌, ◌<◌, ℕ, false, List, sym, ap, subst, ◌∙◌, inl, inr, arith}
 use Rattle.std.proofs.lemmas.Bool.{cases_eq}
 use Rattle.mw_record.specs.Records.{Pairs}

@@ -1,4 +1,5 @@
--- Which files a book can't tell apart.
+-- Defines which simulated files (`File` of mw_world_file) a book can't tell apart, and claims that it represents all of them or
+-- none.
 -- Used by: the contracts of laws.rt. A change here changes the law files_that_are_alike.
 use Rattle.std.specs.Prelude.{ℕ, ◌≡◌, ◌<◌}
 use Rattle.mw_words.specs.declared.limits.TheConstants.{MAX_POOL}

@@ -1,4 +1,4 @@
--- What the answer to a call on a book tells of the book and its device, on any disk.
+-- Defines what the answer to a call on a book (a tenant's open file) says of the book and its device, on any disk.
 -- Used by: CallOutcome, the contracts of calls.rt. A change here changes what a call promises on any disk.
 use Rattle.std.specs.Prelude.{◌≡◌, ◌≢◌, ◌+◌, Bool, true, false, min}
 use Rattle.mw_look.specs.declared.steps.Call.{Call}

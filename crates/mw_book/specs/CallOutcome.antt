@@ -1,4 +1,4 @@
--- All that is known of a book after a call on it.
+-- Defines all that is known of a book after a call on it: its answer, the file, and what a crash leaves.
 -- Used by: the contracts of calls.rt. It is the contract of `Book::call` as one record; Ends, Answers and Crashes define its
 -- first clauses.
 use Rattle.std.specs.Prelude.{◌≡◌, ℕ, List}

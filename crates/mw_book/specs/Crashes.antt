@@ -1,4 +1,4 @@
--- What a crash during a call on a book, or between two calls, leaves.
+-- Defines what a crash during a call on a book, or between two calls, leaves of the file.
 -- Used by: CallOutcome, mw_core, mw_engine, the contracts of calls.rt and laws.rt. A change here changes what is promised of a
 -- crash during a call.
 use Rattle.std.specs.Prelude.{ℕ, List, IsTrue}

@@ -1,4 +1,4 @@
--- How a call on a book ends, for each file that the book represented before it.
+-- Defines how a call on a book ends, for each simulated file (`File` of mw_world_file) that the book represented before it.
 -- Used by: CallOutcome, mw_core, the contracts of calls.rt. A change here changes what a call promises of the file as the world
 -- knows it.
 use Rattle.std.specs.Prelude.{◌≡◌, ◌+◌, ℕ, true, false, List}

@@ -1,4 +1,5 @@
--- Which calls may be made on a book.
+-- Defines when each call may be made on a book. Prepare needs a free place, seal a change that may be sealed, settle a sealed
+-- one, cancel a prepared one.
 -- Used by: mw_core, the contracts of calls.rt, laws.rt and queries.rt. A change here changes when a caller may make a call.
 use Rattle.std.specs.Prelude.{◌≡◌, ◌<◌, ℕ, true, false, List, Some, IsTrue}
 use Rattle.mw_words.specs.declared.limits.TheConstants.{MAX_POOL}

@@ -1,4 +1,4 @@
--- Which files, as the world knows them, a book represents.
+-- Defines when a book represents a simulated file of mw_world_file: same words, places, fault and change in doubt.
 -- Used by: Alike, CallOutcome, Crashes, Ends, Permits, mw_core, mw_engine, the contracts of calls.rt, new_books.rt and
 -- queries.rt. It is the relation that every call keeps. mw_core ties the world of running threads to the files by it.
 use Rattle.std.specs.Prelude.{◌≡◌, ◌<◌, ◌≤◌, ℕ, Bool, true, false, List, length, slice_index, Option}

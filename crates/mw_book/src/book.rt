@@ -1,4 +1,4 @@
-//! A tenant's file, and what is kept beside it.
+//! A tenant's open file (its *book*), as threads keep it under a lock, with the place of each slot's change.
 //!
 //! `new_books.rt` makes books, `calls.rt` alone changes them, and `queries.rt` reads them. mw_engine keeps one for
 //! each tenant, under the tenant's lock, and mw_core makes the calls on it. A new field needs a value in

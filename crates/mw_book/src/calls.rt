@@ -1,7 +1,7 @@
-//! The calls on a tenant's file.
+//! Makes the calls on a tenant's book: prepare, seal, settle and cancel the change of a slot.
 //!
 //! mw_core makes these calls, in its `file_calls.rt`. `specs/Permits` says when one may be made, and
-//! `specs/CallOutcome` what it leaves.
+//! `specs/CallOutcome` what it leaves: change them together. README and docs/PROMISES cite `call`.
 ghost use Rattle.std.specs.Prelude.{◌≡◌, List, []};
 ghost use Rattle.mw_disk.specs.Runs.{Later};
 ghost use Rattle.mw_words.specs.declared.jobs.Entry.{Entry as EntryAt};

@@ -1,6 +1,7 @@
-//! Laws of books. None of these functions does anything.
+//! Laws of books, as contracts of empty functions: which calls may be made, what a crash leaves, which files are
+//! alike.
 //!
-//! No code calls them. Proofs of mw_core cite the lemmas behind them.
+//! No code calls them. Proofs of mw_core cite the lemmas behind them: a statement may change with mw_core.
 ghost use Rattle.mw_book.specs.Alike.{RepresentsAlike};
 ghost use Rattle.mw_book.specs.Crashes.{LeavesWords};
 ghost use Rattle.mw_book.specs.Permits.{PermitsCalls};

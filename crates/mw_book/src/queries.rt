@@ -1,6 +1,7 @@
-//! What a book tells of its file.
+//! Tells a book's number of words and places, whether its file has failed, and whether a place is free.
 //!
 //! Only tests call these (mw_file_tests): the server makes calls on a book, and takes its words when a file opens.
+//! They may change with these tests.
 ghost use Rattle.std.specs.Prelude.{◌≡◌, true, false, nat_lt, take};
 ghost use Rattle.std.specs.List.{list_any};
 ghost use Rattle.mw_file.specs.PlaceStates.{is_free};

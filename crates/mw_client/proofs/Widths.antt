@@ -1,4 +1,5 @@
--- A printed value has at most 15 digits, and a printed address at most 5. Used by: the proofs of mw_client.
+-- A word's value is printed with at most 15 digits, and an address with at most 5.
+-- Used by: the proofs of the functions of requests.rt. It may change freely as long as this crate checks.
 use Rattle.std.proofs.Common.{ℕ, ◌^◌, ◌<◌, ◌≤◌, length, decimal, arith}
 use Rattle.std.proofs.lemmas.Fmt.{length-decimal-le}
 

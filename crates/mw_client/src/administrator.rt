@@ -1,4 +1,4 @@
-//! A client of the administrator.
+//! A client's session as the administrator, who may ask for the report.
 //!
 //! `wire` makes one by a socket. A new call of the administrator belongs here, and what it sends and reads in
 //! `specs/Exchanges`.

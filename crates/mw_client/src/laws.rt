@@ -1,4 +1,4 @@
-//! States what holds of every request, and of what the server makes of it.
+//! The law that each request is read by the server as it was sent, as the contract of an empty function.
 //!
 //! The function does nothing, and nothing calls it: its contract is the fact, proved in `proofs/laws`. To
 //! change the fact, change its definition in `specs`, and then its proof.

@@ -1,6 +1,7 @@
-//! Pauses between two tries.
+//! Waits between two tries of a call, each time twice as long, for a limited time in all.
 //!
-//! Used by: `client`, between two tries of a change, and of a read of several words.
+//! Used by: `client`, between two tries of a change, and of a read of several words. No contract names its numbers:
+//! it may change freely.
 use std::thread;
 use std::time::{Clock, Duration, Instant};
 

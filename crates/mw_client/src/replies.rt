@@ -1,4 +1,4 @@
-//! Reads a reply from a line.
+//! Reads which reply of the server a line is.
 //!
 //! Used by: `conversation`, `report`. A new reply of the server needs a case here and in
 //! `specs/ReplyGrammar`.

@@ -1,6 +1,6 @@
-//! Reads the figures of a report.
+//! Reads the administrator's report, and gives its figures.
 //!
-//! Used by: `administrator`.
+//! Used by: `administrator`. A new figure of mw_report needs its reader here.
 ghost use Rattle.std.specs.Prelude.{◌≡◌, ◌≤◌, All, IfSome, length};
 ghost use Rattle.std.specs.Io.KnownBytes.{Consumes};
 ghost use Rattle.mw_words.specs.declared.limits.TheConstants.{MAX_POOL};

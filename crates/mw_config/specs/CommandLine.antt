@@ -1,4 +1,4 @@
--- What a command line may ask for.
+-- Defines what the command line of `mwserve` may ask for: connections, silence, file modes, pool and workers.
 -- Used by: mw_programs, the contracts of command_line.rt. A change here changes what mwserve promises of its options: its help
 -- and docs/OPERATING change with it.
 use Rattle.std.specs.Prelude.{ℕ, ◌≤◌, IfSome}

@@ -1,5 +1,4 @@
--- Which rule of a line's form is broken first, for whoever corrects a tenants file. Refusals alone says that a line is
--- refused.
+-- Defines which rule of a line's form is broken first, for the note about a refused tenants file.
 -- Used by: the contracts of forms.rt. It may change freely with forms.rt: it decides only the text of a refusal.
 use Rattle.std.specs.Prelude.{ℕ, ◌==◌, nat_le, ◌&&◌, Bool, false, not, List, length, if◌then◌else◌, Option, Some, None}
 use Rattle.std.specs.List.{list_all}

@@ -1,4 +1,4 @@
--- Which lines a tenants file may have.
+-- Defines which lines a tenants file may have: the limits of each line, and of all together.
 -- Used by: LineReader, Refusals, mw_engine, mw_programs, mw_engine_tests, the contracts of laws.rt, lines.rt and tenants.rt. A
 -- change here changes which tenants files are refused: docs/OPERATING changes with it.
 use Rattle.std.specs.Prelude.{ℕ, ◌≡◌, ◌≢◌, ◌≤◌, ◌⊎◌, ◌&&◌, Bool, not, List, length, map, All, flat_map, sum_by, bytes_eq, IsTrue}

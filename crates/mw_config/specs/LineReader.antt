@@ -1,5 +1,5 @@
--- Reads a line from left to right, as a reader does that may see a large number as a smaller one. Only the reader's
--- steps cite this; for everyone else LineTexts, Limits and Refusals alone count.
+-- Defines how a tenants file's line is read from left to right, by a reader that may see a large number as a smaller one. What
+-- `read_tenants` promises is in LineTexts, Limits and Refusals; this page is for the contracts of its steps.
 -- Used by: the contracts of lines.rt and tenants.rt. It may change with the reader as long as read_tenants proves the same
 -- contract.
 use Rattle.std.specs.Prelude.{ℕ, Bool, nat_le, ◌≡◌, ◌<◌, ◌&&◌, ◌+◌, List, ◌++◌, length, if◌then◌else◌, codes, Option, Some, None, Result, Ok, Err}

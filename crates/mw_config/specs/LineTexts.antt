@@ -1,4 +1,4 @@
--- What the lines of a tenants file are, before any limit is checked.
+-- Defines the lines of a tenants file and the text of each, before any limit is checked.
 -- Used by: Forms, Limits, LineReader, Refusals, the contracts of laws.rt, lines.rt and tenants.rt. A change here changes the
 -- grammar of a tenants file: docs/OPERATING changes with it.
 use Rattle.std.specs.Prelude.{ℕ, ◌≡◌, ◌&&◌, Bool, List, ◌++◌, length, codes, nat_le, IsTrue, map}

@@ -1,7 +1,7 @@
-//! Why a tenants file is refused.
+//! The reasons why a tenants file is refused.
 //!
-//! `read_tenants` gives it, and mw_programs writes its note. A new refusal needs a case in `specs/Refusals`, and its
-//! text in mw_programs.
+//! `read_tenants` gives it, and mw_programs writes its text as a note. A new refusal needs its text here, a case in
+//! `specs/Refusals`, and a row in docs/OPERATING.
 
 use thiserror::Error;
 

@@ -1,4 +1,4 @@
--- A whole call on a tenant's file, for the request that a pass carries.
+-- Defines a whole call on a tenant's file, for the request that a pass carries.
 -- Used by: the contracts of src/file_calls.rt, mw_engine. A change here changes what these contracts say.
 use Rattle.std.specs.Prelude.{ℕ, ◌≡◌, Bool, List, [], ◌∷◌, length, map, Option, Some, None}
 use Rattle.mw_words.specs.declared.jobs.Entry.{Entry}

@@ -1,4 +1,4 @@
--- Why a read begins again, by what its steps found.
+-- Defines the reasons for which a read begins again, by what its steps found.
 -- Used by: the contracts of src/read_rounds.rt, specs/ReadRounds. A change here changes what these contracts say.
 use Rattle.std.specs.Prelude.{ℕ, ◌≡◌, false, cond, List, [], ◌∷◌, Option, Some, None}
 use Rattle.mw_words.specs.declared.gates.Gate.{Gate}

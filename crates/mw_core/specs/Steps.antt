@@ -1,4 +1,4 @@
--- What a call of the core does: one step of a request on the shared words, or nothing.
+-- Defines what a call of the core does: one step of a request on the shared words, or nothing.
 -- Used by: the contracts of src/calls.rt, mw_engine, mw_table_tests. A change here changes what these contracts say.
 use Rattle.std.specs.Prelude.{ℕ, ◌≡◌, Option, Some, None}
 use Rattle.mw_words.specs.declared.replies.Reply.{Reply}

@@ -1,7 +1,7 @@
-//! One whole call on a tenant's file.
+//! Makes one whole call on a tenant's file, for the request that a pass carries.
 //!
-//! mw_engine calls `Core::file` under the lock of the tenant's file. `specs/FileCalls` has the words of its
-//! contract.
+//! mw_engine calls `Core::file` under the lock of the tenant's file. Its contracts use `specs/FileCalls` and
+//! `specs/Books`: change them together.
 ghost use Rattle.std.specs.Prelude.{◌≡◌, ◌≢◌, None};
 ghost use Rattle.mw_actor.specs.ActorState as acting;
 ghost use Rattle.mw_world.specs.Definition.Calls.{called_at};

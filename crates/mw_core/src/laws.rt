@@ -1,4 +1,5 @@
-//! States facts about books and their file tokens.
+//! States that a book (a tenant's open file) and its file token (the ghost capability to call it) agree after each
+//! opening and call.
 //!
 //! The functions do nothing, and nothing calls them: each contract is a fact, proved in `proofs/laws`. Proofs
 //! of crates above import other pages of `proofs`, by which these facts are proved. To change a fact, change

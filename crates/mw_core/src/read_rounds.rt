@@ -1,4 +1,4 @@
-//! One round of a read: up to its reply, or back to its first point.
+//! Makes one round of a read: up to its reply, or back to its first point.
 //!
 //! mw_engine reads by `try_look`, and so does mw_table_bench. A new reason to begin again needs a case in
 //! [`WhyAgain`] and in `specs/Reasons`.

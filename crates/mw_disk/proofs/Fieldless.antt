@@ -1,4 +1,4 @@
--- A struct whose fields only contracts see has no bytes and owns nothing, and can be made anywhere.
+-- A struct whose fields only contracts read has no bytes and owns nothing, so it can be made anywhere.
 -- Used by: the proofs of Block and History. It may change freely as long as this crate checks.
 use Rattle.std.proofs.Common.{List, [], ◌∷◌, refl}
 use seplogic.Ra.Ura.{Ura}

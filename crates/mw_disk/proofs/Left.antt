@@ -1,5 +1,5 @@
--- What a disk in memory keeps at run time matches the calls that contracts see. Used by: the proofs of put, note_torn, note_sync
--- and note_quiet. It may change freely as long as this crate checks.
+-- The bytes and unsynced ranges that a disk in memory keeps at run time match the calls that its contracts remember.
+-- Used by: the proofs of put, note_torn, note_sync and note_quiet. It may change freely as long as this crate checks.
 use Rattle.std.proofs.Common.{◌≡◌, ℕ, List, [], ◌∷◌, ◌++◌, refl, sym, ap, ◌∙◌, subst}
 use Rattle.mw_disk.specs.Facts.{patched}
 use Rattle.mw_disk.specs.Memory.{State, only, padded, after, run}

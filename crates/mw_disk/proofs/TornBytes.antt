@@ -1,4 +1,4 @@
--- Torn bytes put at the offsets of the ranges, one after the other, make an image.
+-- A disk in memory that puts torn bytes into its unsynced ranges, one after the other, gets bytes that a crash may leave.
 -- Used by: Left, the proofs of tear and MemDisk::crash. It may change freely as long as this crate checks.
 use Rattle.std.proofs.Common.{◌≡◌, ◌≢◌, ◌<◌, ◌≤◌, ◌-◌, ℕ, ◌+◌, suc, zero, Bool, cond, IsTrue, List, [], ◌∷◌, ◌++◌, length, set, get_or, replicate, refl, sym, ap, ◌∙◌, subst, inl, inr, arith, add-one, Some, None}
 use Rattle.std.proofs.lemmas.List.{get_or_past, get_or_append_left, get_or-append_right, get_or-replicate, get_or-set_same, get_or-set_other, length-set, length-replicate}

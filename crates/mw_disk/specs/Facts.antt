@@ -1,4 +1,4 @@
--- What is known of a disk at one moment, and what one call may change of it.
+-- Defines the facts of a disk at one moment (its abstract state), and what one call may change of them.
 -- Used by: Memory, Runs, Unknown, 9 crates from mw_file on, the contracts of device.rt, edits.rt, file.rt and memory.rt. It is
 -- the disk model on which all that is said of crashes rests. A change here changes what the server assumes of a disk.
 use Rattle.std.specs.Prelude.{◌≡◌, ◌<◌, ◌≤◌, ℕ, suc, ◌+◌, ◌^◌, ◌-◌, Bool, true, false, Option, Some, IsTrue, List, [], ◌∷◌, ◌++◌, length, take, drop, min, max, slice_index, if◌then◌else◌}

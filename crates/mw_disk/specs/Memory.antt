@@ -1,4 +1,4 @@
--- A disk in memory: which facts follow from the calls that it remembers, and how each call ends.
+-- Defines a disk in memory for contracts: its facts, which follow from the calls that it remembers, and how each call ends.
 -- Used by: Crash, mw_file, mw_world_file, mw_simulator, mw_engine_tests, the contracts of edits.rt, event.rt, memory.rt and
 -- spans.rt. A change here changes what MemDisk promises (to tests, and to the simulated files of the world), and nothing of a
 -- real disk.
@@ -116,7 +116,7 @@ one_less (Some left) = Some (left - 1)
 abbrev pub is_named : Memory → Bool
 is_named m = nat_lt m.calls most_counted && list_any (λ n. n == m.calls + 1) m.script
 
--- how the next call is to end
+-- how the next call will end
 abbrev pub next_turn : Memory → Turn
 next_turn m = if is_stopped m.stop then Stopped else (if is_named m then Fails else Goes)
 
@@ -158,7 +158,7 @@ only_if false Goes = Fails
 only_if false Fails = Fails
 only_if false Stopped = Stopped
 
--- how a read is to end: past the end it fails
+-- how a read will end: past the end it fails
 abbrev pub read_turn : Memory → ℕ → ℕ → Turn
 read_turn m at len = only_if (nat_le (at + len) (length (bytes_of m.first m.log))) (next_turn m)
 

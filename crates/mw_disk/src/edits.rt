@@ -1,4 +1,4 @@
-//! Writes over the bytes of a disk in memory.
+//! Writes a block, or zeros, over the bytes of a disk in memory.
 //!
 //! Used by `memory.rt` and `spans.rt` alone: it may change freely as long as both check.
 ghost use Rattle.std.specs.Prelude.{◌≡◌, ◌+◌, ◌≤◌, length, OnOk, OnErr};

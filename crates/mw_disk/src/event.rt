@@ -1,4 +1,4 @@
-//! The calls of a disk in memory, as its history remembers them, and how a call is to end.
+//! The calls of a disk in memory as contracts remember them, and how the next call will end.
 //!
 //! Used by `memory.rt` and `history.rt`. Only contracts look at a [`Call`] or an [`Event`]; a [`Turn`] is looked at
 //! when a program runs. A new kind of `Call` needs a case in `specs/Memory` and `specs/Crash`, a new `Turn` one in
@@ -50,7 +50,7 @@ pub(crate) struct Event {
     pub(crate) call: Call,
 }
 
-/// How a call is to end.
+/// How a call will end.
 #[derive(Clone, Copy, Debug, PartialEq, Eq)]
 pub(crate) enum Turn {
     /// It goes well, if there is memory for it.

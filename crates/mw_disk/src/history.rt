@@ -1,5 +1,4 @@
-//! The past of a disk in memory. Only contracts read it: it takes no memory, and nothing happens to it at run
-//! time.
+//! The calls that a disk in memory has seen, as its contracts read them. At run time it takes no memory.
 //!
 //! Only `memory.rt` has one. It may change with `specs/Memory`, which says what follows from a history.
 ghost use Rattle.std.specs.Prelude.{◌≡◌, ℕ, List, [], ◌∷◌, ◌++◌};

@@ -1,4 +1,5 @@
-//! A disk in memory, whose calls fail as a test tells them to.
+//! A disk in memory for tests: its calls fail when a test says so, and a crash leaves the bytes that the test
+//! chooses.
 //!
 //! Used by tests, and by the simulated files of mw_world_file; the server uses `FileDisk`. A change of a contract
 //! here is no change of the disk model, which is in `device.rt`.
@@ -185,7 +186,7 @@ impl MemDisk {
         Ok(bytes)
     }
 
-    // Counts a call, and returns how it is to end.
+    // Counts a call, and returns how it will end.
     fn begin(&mut self) -> Turn
         ensures turn { result ≡ next_turn self.old }
         ensures begun { self.new ≡ begun self.old }
@@ -258,7 +259,7 @@ impl MemDisk {
         Ok(())
     }
 
-    // Ends a call that is to fail and is not a write.
+    // Ends a call that must fail and is not a write.
     fn fail(&mut self, turn: Turn) -> DiskFault
         requires { turn ≡ Turn.Goes → ⊥ }
         ensures { FailsAs (Quiet false) turn self.old self.new }
@@ -270,7 +271,7 @@ impl MemDisk {
         DiskFault
     }
 
-    // Ends a write that is to fail.
+    // Ends a write that must fail.
     fn fail_write(&mut self, turn: Turn, at: u64, len: u64) -> DiskFault
         requires { turn ≡ Turn.Goes → ⊥ }
         ensures { FailsAs (Tore at len) turn self.old self.new }

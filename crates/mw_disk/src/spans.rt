@@ -1,6 +1,6 @@
-//! Ranges of a disk in memory, and the torn bytes that a crash leaves in them.
+//! The ranges of a disk in memory that were written since its last sync, and the writing of torn bytes into them.
 //!
-//! Used by `memory.rt` alone. What a crash leaves is defined in `specs/Crash`.
+//! Used by `memory.rt` alone. `specs/Crash` defines which bytes are torn: change both together.
 ghost use Rattle.std.specs.Prelude.{◌≡◌, ◌+◌, [], ◌∷◌, length, slice_set, IfOk, OnOk};
 ghost use Rattle.mw_disk.specs.Memory.{padded};
 ghost use Rattle.mw_disk.specs.Crash.{IsNext, nearer as nearer_of, Tears};

@@ -1,5 +1,5 @@
--- The lines and fitting files make a valid configuration and a valid start of a world. Used by: PartsAgree, the proof of
--- EngineParts::new.
+-- Tenants' lines and files that fit them make a valid configuration of a world and a valid start.
+-- Used by: PartsAgree, the proof of EngineParts::new. It may change freely as long as this crate checks.
 use Rattle.std.specs.Prelude.{◌≡◌, ◌≤◌, ◌<◌, ◌+◌, ℕ, zero, suc, All, List, [], ◌∷◌, length, map, slice_get, slice_index_or, sum_by, IsTrue, Option, Some, None, Vec}
 use Rattle.std.specs.declared.alloc.Global.{Global}
 use Rattle.std.proofs.Common.{refl, sym, ap, subst, ◌∙◌, arith}

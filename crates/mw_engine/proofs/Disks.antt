@@ -1,5 +1,5 @@
--- Each disk at the end of an engine is given for its tenant. Used by: the proofs of Engine::into_disks and
--- GuardedFile::into_disk.
+-- At its end an engine gives each tenant's disk under that tenant's number.
+-- Used by: the proofs of Engine::into_disks and GuardedFile::into_disk. It may change freely as long as this crate checks.
 use Rattle.std.specs.Prelude.{◌≡◌, ℕ, zero, suc, is_some, List, [], ◌∷◌, ◌++◌, length, slice_get, Option, Some, None, IsTrue}
 use Rattle.std.proofs.Common.{refl, sym, ap, subst, ◌∙◌}
 use Rattle.mw_disk.specs.Facts.{Facts}

@@ -1,4 +1,5 @@
--- When a pass becomes idle, its request's outcome stays. Used by: the proof of Engine::advance.
+-- When a pass becomes idle, what is known of its finished request stays.
+-- Used by: the proof of Engine::advance. It may change freely as long as this crate checks.
 use Rattle.std.specs.Prelude.{◌≡◌, true, false, is_some, Option, Some, None}
 use Rattle.std.proofs.Common.{refl, sym, subst}
 use Rattle.mw_words.specs.declared.replies.Reply.{Reply}

@@ -1,5 +1,5 @@
--- A call on its file leaves a request under way, and the same. Used by: the proofs of Engine::file, Engine::go_on and
--- Engine::serve.
+-- A call on its file leaves a request the same. A request without a reply is under way.
+-- Used by: the proofs of Engine::file, Engine::go_on and Engine::serve. It may change freely as long as this crate checks.
 use Rattle.std.specs.Prelude.{ℕ, ◌≡◌, true, false, Bool, Option, None}
 use Rattle.std.proofs.Common.{sym, ap, subst, ◌∙◌}
 use Rattle.mw_words.specs.declared.jobs.Job.{Job}

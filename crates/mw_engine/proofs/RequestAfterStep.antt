@@ -1,5 +1,5 @@
--- A step leaves a request the same; if a file is needed, the request has come to a call on it. Used by: StepOrFileCall, the
--- proof of Engine::advance.
+-- After a step a request is the same. If it then needs its file, it has come to a call on it.
+-- Used by: StepOrFileCall, the proof of Engine::advance. It may change freely as long as this crate checks.
 use Rattle.std.specs.Prelude.{◌≡◌, Bool, true, false, Option, Some, None}
 use Rattle.std.proofs.Common.{refl, sym, ap, ◌∙◌}
 use Rattle.mw_words.specs.declared.replies.Reply.{Reply}

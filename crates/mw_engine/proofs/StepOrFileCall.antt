@@ -1,5 +1,5 @@
--- After one step of a request that had no reply, or with a file call next, the request is the same and under way. Used
--- by: the proof of Engine::go_on.
+-- After one step without a reply, or before a call on its file, a request is the same and under way.
+-- Used by: the proof of Engine::go_on. It may change freely as long as this crate checks.
 use Rattle.std.specs.Prelude.{◌≡◌, false, Option, Some, None, if◌then◌else◌, is_some}
 use Rattle.std.proofs.Common.{refl, subst}
 use Rattle.mw_look.specs.declared.steps.Call.{Call}

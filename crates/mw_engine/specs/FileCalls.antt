@@ -1,4 +1,4 @@
--- What a call on a tenant's file does, as an engine makes it.
+-- Defines what a call on a tenant's file does, as an engine makes it.
 -- Used by: the contracts of src/file_calls.rt and src/serving.rt. A change here changes what these contracts say.
 use Rattle.std.specs.Prelude.{◌≡◌}
 use Rattle.mw_actor.specs.ActorState.{ActorState}

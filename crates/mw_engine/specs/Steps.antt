@@ -1,4 +1,4 @@
--- The effect of a call of the engine that makes one step of a request.
+-- Defines the effect of a call of the engine that makes one step of a request.
 -- Used by: the contracts of src/serving.rt and src/steps.rt. A change here changes what these contracts say.
 use Rattle.std.specs.Prelude.{◌≡◌, ◌≢◌, Bool, true, false, Option, Some, None}
 use Rattle.mw_words.specs.declared.replies.Reply.{Reply}

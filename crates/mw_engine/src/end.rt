@@ -1,6 +1,7 @@
-//! The end of an engine.
+//! Ends an engine and gives the disks of its tenants' files.
 //!
-//! Only tests call `into_disks`. `mwserve` drops its engine when it ends.
+//! Only tests call `into_disks`. `mwserve` drops its engine when it ends. Its contracts use `specs/Brand` and
+//! `specs/DisksAtEnd`: change them together.
 ghost use Rattle.std.specs.Prelude.{◌≡◌, IfOk};
 ghost use Rattle.mw_engine.specs.Brand.{identity_on};
 ghost use Rattle.mw_engine.specs.DisksAtEnd.{AreGiven, GivenAs};

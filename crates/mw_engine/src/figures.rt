@@ -1,6 +1,7 @@
-//! The figures of the tenants and the pool, for a report.
+//! Gives the figures of the tenants and the pool, for a report.
 //!
-//! mw_programs reports them when the administrator asks.
+//! mw_programs reports them when the administrator asks. Its contracts use `specs/Figures`, `specs/Identity`,
+//! `specs/LinesOfWorld` and others: change them together.
 ghost use Rattle.std.specs.Prelude.{◌≡◌, ◌≤◌, ◌<◌, All, true, length, map};
 ghost use Rattle.mw_report.specs.Table.{AreWithinLimits, IsWithinLimits};
 ghost use Rattle.mw_words.specs.declared.limits.TheConstants.{MAX_QUOTA};

@@ -1,6 +1,7 @@
-//! A call on a tenant's file, under its lock.
+//! Makes a call on a tenant's file, under its lock.
 //!
-//! Used by: `serving`, which takes the lock.
+//! Used by: `serving`, which takes the lock. Its contracts use `specs/Brand`, `specs/FileCalls` and `specs/Passes`:
+//! change them together.
 ghost use Rattle.std.specs.Prelude.{◌≡◌, ◌≢◌, ◌↔◌, None, IsTrue};
 ghost use Rattle.mw_world.specs.Definition.Calls.{called_at};
 ghost use Rattle.mw_core.specs.FromTable.{IsCarried, IsSamePass};

@@ -1,6 +1,7 @@
-//! What the lock of a tenant's file guards.
+//! What the lock of a tenant's file guards: its book, and the file pass (the capability to call it).
 //!
-//! Used by: `engine`; `start`, which makes it; `file_calls`; `end`.
+//! Used by: `engine`; `start`, which makes it; `file_calls`; `end`. Its ghost fields use `specs/GuardedFile`:
+//! change them together.
 ghost use Rattle.mw_engine.specs.GuardedFile.{KeepsFor};
 
 use crate::brand::EngineBrand;

@@ -1,4 +1,4 @@
-//! The points of a request at which tests can hold a worker.
+//! Lets tests hold a worker at certain points of a request.
 //!
 //! `serving` tells the points. `mwserve` holds nobody ([`NoHold`]). A new point needs a call in `serving`.
 

@@ -1,6 +1,6 @@
-//! A tenant's line, as an engine keeps it.
+//! A tenant's line as an engine keeps it: its name, number of words, quota and places.
 //!
-//! Used by: `new_parts`, `tenant_words`.
+//! Used by: `new_parts`, `tenant_words`. `specs/Lines` says which line it is: change it with a field.
 use mw_words::Name;
 
 /// A tenant's line without the path: its name, its number of words and its quota. With it, how many places for

@@ -1,6 +1,7 @@
-//! The meeting of two passes.
+//! Lets two passes meet: afterwards each has seen the sealed changes that either had seen.
 //!
-//! Only tests use it: the workers of `mwserve` don't tell each other what they know.
+//! Only tests use it: the workers of `mwserve` don't tell each other what they know. Its contracts use
+//! `specs/Passes`: change them together.
 ghost use Rattle.mw_core.specs.FromTable.{HaveMet, IsSamePass, LearnsMeeting, MetByNone};
 ghost use Rattle.mw_engine.specs.Passes.{IsPassOf};
 

@@ -1,4 +1,4 @@
-//! Requests, each served to its reply.
+//! Serves a request to its reply.
 //!
 //! mw_programs answers each request of a session by `Engine::serve`. docs/PROMISES.md cites its contract: a
 //! change of it, or of `specs/History` or `specs/Replies`, changes what clients are promised.

@@ -1,6 +1,7 @@
-//! The tenants' words. No lock guards them.
+//! The tenants' words, which no lock guards, and the tenants' lines.
 //!
-//! Used by: `parts`, `engine`, `new_parts`, `figures`.
+//! Used by: `parts`, `engine`, `new_parts`, `figures`. Its ghost fields use `specs/LinesOfWorld` and `specs/Lines`:
+//! change them together.
 ghost use Rattle.std.specs.Prelude.{◌≡◌, map};
 ghost use Rattle.mw_core.specs.FromTable.{openings_of};
 ghost use Rattle.mw_engine.specs.LinesOfWorld.{Agrees, places_told};

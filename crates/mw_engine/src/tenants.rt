@@ -1,6 +1,7 @@
-//! The tenants, and the requests that they may make.
+//! Finds a tenant by its name, and makes the requests that it may have.
 //!
-//! mw_programs finds a session's tenant by `find`. `serving` and `reads` make their requests by `request`.
+//! mw_programs finds a session's tenant by `find`. `serving` and `reads` make their requests by `request`. Its
+//! contracts use `specs/Identity`, `specs/Passes` and `specs/Requests`: change them together.
 ghost use Rattle.std.specs.Prelude.{◌≡◌, length, IfSome, MatchOption};
 ghost use Rattle.mw_engine.specs.Identity.{HasNone, HasWords, IsFirst, IsFor};
 ghost use Rattle.mw_engine.specs.Passes.{IsPassOf};

@@ -1,4 +1,5 @@
--- A file that was opened with its line's words and places fits that line. Used by: the proof of opened.
+-- A file that was opened with its line's words and places fits that line.
+-- Used by: the proof of opened. It may change freely as long as this crate checks.
 use Rattle.std.specs.Prelude.{◌≡◌, ◌≤◌, ℕ, length, Vec, IsTrue}
 use Rattle.std.specs.declared.alloc.Global.{Global}
 use Rattle.std.proofs.Common.{sym, subst, ◌∙◌}

@@ -1,4 +1,5 @@
--- A tenant may ask for a job that is well formed for its words. Used by: the proofs of mw_engine_tests.
+-- A tenant may ask for a job that is well formed for its words.
+-- Used by: the proofs of mw_engine_tests. It may change freely as long as this crate checks.
 use Rattle.std.specs.Prelude.{ℕ, List, IsTrue}
 use Rattle.std.proofs.Common.{sym, subst}
 use Rattle.mw_words.specs.declared.jobs.Job.{Job}

@@ -1,7 +1,7 @@
-//! Cases: tenants with new files, what the workers of an engine do, and the files afterwards.
+//! Plays cases on an engine: tenants with new files, what its workers do, and the files afterwards.
 //!
-//! Used by: `disks`, `held_tests`, `plain_tests`, `race_tests`, `session_tests`, `socket_tests`, `starts`,
-//! other modules.
+//! Used by: `disks`, `held_tests`, `plain_tests`, `race_tests`, `session_tests`, `socket_tests`, `starts`, other
+//! modules. It may change freely as long as this crate checks and its tests pass.
 ghost use Rattle.std.specs.Prelude.{◌≡◌, ◌≤◌, All, IfSome};
 ghost use Rattle.mw_config.specs.Limits.{ArePermitted};
 ghost use Rattle.mw_words.specs.declared.limits.TheConstants.{MAX_POOL};

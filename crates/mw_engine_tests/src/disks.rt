@@ -1,6 +1,6 @@
-//! Makes tenants' files in memory.
+//! Makes tenants' files on disks in memory, for tests of the engine.
 //!
-//! Used by: `cases`, `socket_tests`, `twins`.
+//! Used by: `cases`, `socket_tests`, `twins`. It may change freely as long as this crate checks and its tests pass.
 use crate::cases::{Case, Device, lines_of};
 use crate::latch::{Latch, LatchedDisk};
 use mw_config::TenantLine;

@@ -1,5 +1,7 @@
-//! Holds a request while others are served. Nobody waits for a worker that is held: neither one that asks
-//! for the words that its change holds, nor one that asks another tenant.
+//! Tests an engine in which one request is held while others are served. Nobody waits for a worker that is held:
+//! neither one that asks for the words that its change holds, nor one that asks another tenant.
+//!
+//! Nothing else uses it: it may change with what it tests.
 use crate::cases::{Case, Device, Play, is_so};
 use crate::latch::Place;
 use crate::talks::{Story, Talk};

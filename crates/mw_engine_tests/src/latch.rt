@@ -1,6 +1,7 @@
-//! A latch, which stops a worker in the middle of its request.
+//! A latch, which stops a worker in the middle of its request until the test lets it go.
 //!
-//! Used by: `cases`, `disks`, `held_tests`, `socket_tests`, `starts`, `talks`, `twins`, other modules.
+//! Used by: `cases`, `disks`, `held_tests`, `socket_tests`, `starts`, `talks`, `twins`, other modules. It may
+//! change freely as long as this crate checks and its tests pass.
 ghost use Rattle.mw_disk.specs.Memory.{memory_facts};
 
 use mw_disk::{Disk, DiskFault, MemDisk};

@@ -1,6 +1,7 @@
 //! Peers of sessions that say and take single bytes, and fail.
 //!
-//! Used by: `cases`, `sweep_tests`, `talks`, `workers`.
+//! Used by: `cases`, `sweep_tests`, `talks`, `workers`. It may change freely as long as this crate checks and its
+//! tests pass.
 use mw_session::Ended;
 use mw_test_peers::{Failure, Page, Sender};
 

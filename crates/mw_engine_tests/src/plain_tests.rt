@@ -1,4 +1,6 @@
-//! Compares the engine with the plain store, which serves one request at a time.
+//! Tests that the engine answers and fails like the plain store, which serves one request at a time.
+//!
+//! Nothing else uses it: it may change with what it tests.
 use crate::cases::{Case, Device, Play, is_so};
 use std::alloc::Global;
 use std::sync::Wait;

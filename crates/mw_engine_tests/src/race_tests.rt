@@ -1,4 +1,6 @@
-//! Makes requests by several threads at once.
+//! Tests requests that several threads make of an engine at once.
+//!
+//! Nothing else uses it: it may change with what it tests.
 use crate::cases::{Case, Device, Play, is_so};
 use crate::races::Race;
 

@@ -1,6 +1,6 @@
-//! Workers that count up words at once.
+//! Lets several workers count up the same words at once.
 //!
-//! Used by: `cases`, `race_tests`.
+//! Used by: `cases`, `race_tests`. It may change freely as long as this crate checks and its tests pass.
 use crate::workers::{Worker, change};
 use mw_engine::EngineBrand;
 use mw_words::{Job, MAX_VALUE, Reply};

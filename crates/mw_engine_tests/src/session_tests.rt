@@ -1,4 +1,6 @@
-//! Runs sessions of an engine's workers, one after the other, and checks the tenants' files after them.
+//! Tests sessions of an engine's workers, one after the other, and the tenants' files after them.
+//!
+//! Nothing else uses it: it may change with what it tests.
 use crate::cases::{Case, Device, Play, is_so};
 use crate::talks::Talk;
 use std::alloc::Global;

@@ -1,4 +1,6 @@
-//! Holds a request over sockets, while another client is served.
+//! Tests that one client is served over a socket while another one's request is held.
+//!
+//! Nothing else uses it: it may change with what it tests.
 ghost use Rattle.std.specs.Prelude.{◌≡◌, ◌<◌, All, vec_len};
 ghost use Rattle.mw_engine.specs.Passes.{IsNew};
 ghost use Rattle.mw_engine.specs.Parts.{identity_of};

@@ -1,6 +1,6 @@
-//! Starts an engine.
+//! Starts an engine for a test.
 //!
-//! Used by: `cases`, `socket_tests`, `twins`.
+//! Used by: `cases`, `socket_tests`, `twins`. It may change freely as long as this crate checks and its tests pass.
 ghost use Rattle.std.specs.Prelude.{All, IfSome};
 ghost use Rattle.mw_engine.specs.OpenedFiles.{FitLines, FitsLine};
 ghost use Rattle.mw_engine.specs.Passes.{IsNew};

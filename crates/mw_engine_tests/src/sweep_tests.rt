@@ -1,4 +1,6 @@
-//! Runs sessions whose peers say and take single bytes and break off, and a new session after each.
+//! Tests sessions whose peers say and take single bytes and break off, and a new session after each.
+//!
+//! Nothing else uses it: it may change with what it tests.
 use crate::cases::{Case, Device, Play, is_so};
 use crate::peers::Peer;
 use mw_session::Ended;

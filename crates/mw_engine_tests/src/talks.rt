@@ -1,6 +1,7 @@
-//! What sessions say and are told, one after the other, or while one of them is held.
+//! Plays sessions, one after the other or while one of them is held, and checks what they are told.
 //!
-//! Used by: `cases`, `held_tests`, `session_tests`.
+//! Used by: `cases`, `held_tests`, `session_tests`. It may change freely as long as this crate checks and its tests
+//! pass.
 use crate::latch::{Latch, Place};
 use crate::peers::Peer;
 use crate::workers::Worker;

@@ -1,6 +1,7 @@
-//! A worker of an engine, for tests.
+//! A worker of an engine, with its pass, for tests.
 //!
-//! Used by: `cases`, `races`, `socket_tests`, `steps`, `talks`, `twins`.
+//! Used by: `cases`, `races`, `socket_tests`, `steps`, `talks`, `twins`. It may change freely as long as this crate
+//! checks and its tests pass.
 ghost use Rattle.std.specs.Prelude.{◌≡◌, true, All};
 ghost use Rattle.mw_engine.specs.Passes.{IsNew, IsPassOf};
 

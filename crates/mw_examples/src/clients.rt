@@ -1,7 +1,7 @@
 //! Clients over loopback for the tests, and how they learn where the server listens. What they wait for
 //! comes within a limit.
 //!
-//! Used by: `tests/serving`.
+//! Used by: `tests/serving`. It may change freely as long as this crate checks and its tests pass.
 use std::alloc::Global;
 use std::io::{ErrorKind, Read, Write};
 use std::net::{Net, TcpListener, TcpStream};

@@ -1,6 +1,7 @@
 //! Makes folders for the tests, and runs the programs in them.
 //!
-//! Used by: `stories`, `tests`, `tests/operating`, `tests/serving`.
+//! Used by: `stories`, `tests`, `tests/operating`, `tests/serving`. It may change freely as long as this crate
+//! checks and its tests pass.
 use mw_programs::{init, serve};
 use std::alloc::{AllocError, Global};
 use std::fs::File;

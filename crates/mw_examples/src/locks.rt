@@ -1,6 +1,6 @@
 //! Looks whether a file is locked while a program writes its output.
 //!
-//! Used by: `tests/serving`.
+//! Used by: `tests/serving`. It may change freely as long as this crate checks and its tests pass.
 use std::fs::{File, TryLockError};
 use std::io::{self, Write};
 use std::rt::Files;

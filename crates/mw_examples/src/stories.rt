@@ -1,10 +1,9 @@
 //! Plays stories: what is done in a folder and what comes of it, a line each.
 //!
-//! - `mwinit ARGS` and `mwserve ARGS` run a program.
-//! - `serve OPTIONS` has `mwserve` serve the script of the folder to the tenants of its tenants file.
-//! - `gives STATUS OUT|ERR` is what the program gave that ran last.
-//! - `write NAME TEXT` writes a file of the folder.
-//! - `new NAME` says that a file has two words, one place, and no change.
+//! - `mwinit ARGS` and `mwserve ARGS` run a program. - `serve OPTIONS` has `mwserve` serve the script of the folder
+//! to the tenants of its tenants file. - `gives STATUS OUT|ERR` is what the program gave that ran last. - `write
+//! NAME TEXT` writes a file of the folder. - `new NAME` says that a file has two words, one place, and no change.
+//! It may change freely as long as this crate checks and its tests pass.
 //!
 //! `DIR` means the folder, and in a text `;` means a line's end.
 //!

@@ -1,4 +1,6 @@
 //! Tests the programs by stories: what is done in a folder, and what comes of it.
+//!
+//! Nothing else uses it: it may change with what it tests.
 mod operating;
 mod serving;
 

@@ -1,5 +1,6 @@
--- If all places of a file are free, one change alone may go through it, and then all are free again. Used by: Places, Ready,
--- mw_book, among others. Its statements may change with those crates; its proofs may change freely.
+-- If all places of a file are free, one change may be prepared, sealed and settled alone, and then all places are free again.
+-- Used by: Places, Ready, mw_book, among others. Its statements may change with mw_book, mw_plain and mw_world_file; its proofs
+-- may change freely.
 use Rattle.std.proofs.Common.{◌≡◌, ℕ, zero, suc, ◌+◌, ◌-◌, ◌<◌, ◌≤◌, List, [], ◌∷◌, length, take, true, Some, IsSome, is_some, if◌then◌else◌, refl, sym, ap, ◌∙◌, inl, inr, arith}
 use Rattle.std.proofs.lemmas.Bool.{and_parts, and_from, cases_eq, cases_Bool}
 use Rattle.mw_file.specs.declared.place_states.PlaceState.{PlaceState}

@@ -1,4 +1,5 @@
--- A crash during the migration leaves a file of the same words, and after it the second layout has them.
+-- A crash while a file gets its second layout leaves a file of the same words. After the migration the second layout is in use,
+-- with these words.
 -- Used by: Ready, the proofs of lay and migrate. It may change freely as long as this crate checks.
 use Rattle.std.proofs.Common.{◌≡◌, ℕ, ◌+◌, ◌*◌, ◌-◌, ◌^◌, ◌<◌, ◌≤◌, ◌==◌, true, false, None, List, [], ◌∷◌, ◌++◌, length, take, drop, replicate, slice_index, get_or, refl, sym, ap, ◌∙◌, inl, inr, arith, subst}
 use Rattle.std.specs.List.{flat_map}

@@ -1,4 +1,5 @@
--- After each write of a home word, the home words have the values so far, and only bytes of the record's home words have changed.
+-- When a loop writes a record's values into the home words, each write sets the next value and touches only the record's home
+-- words.
 -- Used by: the proof of write_values. It may change freely as long as this crate checks.
 use Rattle.std.proofs.Common.{◌≡◌, ℕ, ◌+◌, ◌-◌, ◌^◌, ◌<◌, ◌≤◌, ◌==◌, List, [], ◌∷◌, ◌++◌, length, take, drop, Some, Bool, true, if◌then◌else◌, refl, sym, ap, ◌∙◌, arith, subst, get_or}
 use Rattle.std.proofs.lemmas.List.{take_more, length-drop}

@@ -1,4 +1,4 @@
--- The bytes that an opening reads tell what all of the disk's bytes tell, and the opening keeps its promises.
+-- The opening of a file keeps its promises, although it reads no more than the first MAX_FILE bytes of the disk.
 -- Used by: the proof of TenantFile::open. It may change freely as long as this crate checks.
 use Rattle.std.proofs.Common.{◌≡◌, ℕ, ◌+◌, ◌<◌, ◌≤◌, Bool, true, false, List, ◌++◌, length, take, drop, min, Some, None, is_none, if◌then◌else◌, IsTrue, refl, sym, ap, ◌∙◌, arith, subst, inl, inr}
 use Rattle.std.proofs.lemmas.List.{take-append-le, take_all, ext_get_or, get_or-take, get_or-drop, length-take}

@@ -1,5 +1,7 @@
--- The states that an opening makes of a file's records match its bytes, and take the device calls that the bytes ask for. Used
--- by: mw_file_tests, the proofs of finish, repair, fill_words and writes_of.
+-- The place states that an opening makes of a file's open records match the file's bytes. Finishing them takes as many device
+-- calls as the bytes say.
+-- Used by: mw_file_tests, the proofs of finish, repair, fill_words and writes_of. Its statements may change with mw_file_tests;
+-- its proofs may change freely.
 use Rattle.std.proofs.Common.{◌≡◌, ℕ, zero, suc, ◌+◌, ◌<◌, ◌≤◌, ◌==◌, List, [], ◌∷◌, ◌++◌, length, drop, Some, None, Option, unwrap_or, if◌then◌else◌, min, take, slice_get, slice_set, get_or, refl, sym, ap, ◌∙◌, inl, inr, arith, subst, IsTrue}
 use Rattle.std.proofs.lemmas.List.{take_all, take_more, take_more_set}
 use Rattle.std.proofs.lemmas.List.Sums.{sum_by_more, sum_by_more_le}
@@ -56,7 +58,7 @@ module _ (f : PlaceState → ℕ) (states : List PlaceState) (k : ℕ) (lt : k <
   sum_step : (s : PlaceState) → slice_get states k ≡ Some s → f (get_or states k s) ≡ f s
   sum_step s at = ap f (get_or_from_slice_get states k s s at)
 
--- if no commit byte is to be cleared, no place is sealed
+-- if no commit byte must be cleared, no place is sealed
 pub none_sealed : (states : List PlaceState) (k : ℕ) → commit_writes states ≡ 0 → k < length states → stage_of states k ≡ Sealed → ⊥
 none_sealed states k none lt sealed =
     let here = state_here commit_writes_of states k lt in

@@ -1,4 +1,4 @@
--- A crash during a roll forward leaves a file of the same words, and after it the commit bytes are clear.
+-- A crash during a roll forward (redo) leaves a file of the same words. After it the commit bytes are clear.
 -- Used by: the proofs of roll_forward and repair. It may change freely as long as this crate checks.
 use Rattle.std.proofs.Common.{◌≡◌, ◌⊎◌, ℕ, ◌+◌, ◌<◌, ◌≤◌, List, length, drop, slice_index, sym, inl, inr, arith, subst}
 use Rattle.mw_disk.specs.Facts.{Facts, IsSynced, MayLeave}

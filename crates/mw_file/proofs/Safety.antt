@@ -1,4 +1,4 @@
--- A crash during a call does no harm: each call's possible writes leave what its contract says of a crash.
+-- A crash during a call on a file leaves what the call's contract says, because each of its writes does.
 -- Used by: the proofs of all calls of TenantFile. It may change freely as long as this crate checks.
 use Rattle.std.proofs.Common.{◌≡◌, ℕ, ◌+◌, ◌<◌, ◌≤◌, List, [], ◌∷◌, length, drop, Some, None, true, false, IsTrue, slice_index, slice_get, refl, sym, ap, ◌∙◌, inl, inr, arith, subst}
 use Rattle.mw_words.specs.declared.jobs.Entry.{Entry}

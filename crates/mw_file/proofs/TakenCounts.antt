@@ -1,4 +1,4 @@
--- Some place is free exactly if fewer places have a change than there are, and one place's new stage changes the count by one place.
+-- A file has a free place exactly if fewer places have a change than there are. A call changes this count by one place.
 -- Used by: the law places_are_counted, mw_plain. Its statements may change with mw_plain; its proofs may change freely.
 use Rattle.std.proofs.Common.{◌≡◌, ◌≢◌, ℕ, zero, suc, ◌+◌, ◌<◌, ◌≤◌, List, [], ◌∷◌, length, Some, is_some, nat_lt, if◌then◌else◌, refl, sym, ap, ◌∙◌, inl, inr, arith}
 use Rattle.std.proofs.lemmas.Bool.{cases_lt, lt-ltb, le-ltb}

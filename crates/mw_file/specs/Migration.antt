@@ -1,4 +1,4 @@
--- How a file in its first layout gets its second one, after the first.
+-- Defines the migration: how a file that has its first layout alone gets the second one, after the first.
 -- Used by: OpeningEnds, mw_world_file, the contracts of migration.rt and opening.rt. It may change with migration.rt; what
 -- callers are promised of an opening is in OpeningEnds.
 use Rattle.std.specs.Prelude.{◌≡◌, ◌⊎◌, ◌<◌, ◌≤◌, ℕ, ◌+◌, ◌*◌, false, None, List, [], ◌∷◌, length, drop, slice_index, IsTrue}

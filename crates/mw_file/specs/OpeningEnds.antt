@@ -1,6 +1,6 @@
--- How the opening of a file ends, and what each ending says of the file and the disk.
+-- Defines how the opening of a file ends, and what each ending says of the file and the disk.
 -- Used by: mw_plain, mw_world_file, mw_simulator, mw_programs, mw_engine_tests, the contracts of laws.rt and opening.rt. A change
--- here changes what an opening promises, and when it refuses a file.
+-- here changes what an opening promises, and when it refuses a file. docs/PROMISES cites `IsOpened`, docs/THEOREM `Opens`.
 use Rattle.std.specs.Prelude.{◌≡◌, ◌≤◌, ◌<◌, ◌==◌, ℕ, zero, suc, ◌+◌, Bool, true, false, Some, None, is_none, List, [], length, take, min, if◌then◌else◌, Vec, Result, Ok, Err, IsTrue}
 use Rattle.std.specs.declared.alloc.Global.{Global}
 use Rattle.mw_disk.specs.Facts.{Facts, IsSynced}
@@ -102,7 +102,7 @@ abbrev pub SparesFirst : Facts → Facts → Type 0
 SparesFirst old new = IsTrue old.honest → IsSynced old → is_switched old.reads ≡ true → Touched (λ k. second_at old.reads ≤ k) old new
 
 -- An opening on an honest and synced disk keeps the first layout of a file that has no second one. In what a read gives, and in what
--- a crash at any moment leaves, no byte is gone. Before the offset at which the second layout is to begin, only the bytes of the head
+-- a crash at any moment leaves, no byte is gone. Before the offset at which the second layout will begin, only the bytes of the head
 -- that tell of it may have changed.
 abbrev pub KeepsFirst : Facts → Facts → Type 0
 KeepsFirst old new = IsTrue old.honest → IsSynced old → is_switched old.reads ≡ false → Grown InSwitch (begins_at old.reads) old new

@@ -1,4 +1,4 @@
--- What an opening finds after a crash.
+-- Defines what an opening of a file finds after a crash.
 -- Used by: mw_plain, the contracts of laws.rt. A change here changes the laws of a file that is opened again after a crash.
 use Rattle.std.specs.Prelude.{◌⊎◌, ℕ, List, [], Vec, Result, Ok, Err}
 use Rattle.std.specs.declared.alloc.Global.{Global}

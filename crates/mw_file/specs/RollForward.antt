@@ -1,4 +1,4 @@
--- Which bytes a roll forward writes, and what the home words and commit bytes are after it.
+-- Defines which bytes a roll forward (redo) of sealed changes writes, and what the home words and commit bytes are after it.
 -- Used by: Migration, OpeningEnds, the contracts of calls.rt, migration.rt, opening.rt and roll.rt. Callers do not see it: it may
 -- change with roll.rt and with the writes of calls.rt.
 use Rattle.std.specs.Prelude.{◌≡◌, ◌⊎◌, ◌<◌, ◌≤◌, ℕ, ◌+◌, ◌-◌, true, Option, Some, None, List, length, drop, slice_index, IsTrue}
@@ -24,8 +24,7 @@ pub record InRange (at n k : ℕ) : Type 0 where
   pub from : at ≤ k
   pub to : k < at + n
 
--- Byte k of a file is at this offset or after it, and S has its distance from there. S tells of the bytes of a second layout, counted
--- from where the layout begins.
+-- Byte k of a file is in a second layout that begins at this offset, and S holds of its offset in that layout.
 pub record Behind (at : ℕ) (S : ℕ → Type 0) (k : ℕ) : Type 0 where
   pub from : at ≤ k
   pub inside : S (k - at)

@@ -1,4 +1,4 @@
--- How a run of device calls ends, and what it means that a disk is known to fail at one call.
+-- Defines how a run of device calls ends, and what it means that a disk is known to fail at one call.
 -- Used by: OpeningEnds, the contracts of calls.rt, laws.rt, migration.rt, opening.rt and roll.rt. A change here changes what is
 -- promised of the device call that failed.
 use Rattle.std.specs.Prelude.{◌≡◌, ◌<◌, ℕ, Some, true, false, Result, Ok, Err, IsTrue}

@@ -1,4 +1,4 @@
--- How the bytes of a file match the states of its places in memory.
+-- Defines when the bytes of a file match the states of its places in memory.
 -- Used by: RecoveryInvariant, mw_engine, the contracts of opening.rt. It ties memory and bytes: a new field of PlaceState needs a
 -- clause here if the bytes have it.
 use Rattle.std.specs.Prelude.{◌≡◌, ◌<◌, ℕ, true, Some, None, List, length, drop}

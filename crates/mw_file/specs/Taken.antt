@@ -1,4 +1,4 @@
--- How many places of a file have a change.
+-- Defines how many places of a file have a change.
 -- Used by: mw_plain, the contracts of laws.rt. A change here changes the law places_are_counted, by which mw_plain knows that
 -- there is room.
 use Rattle.std.specs.Prelude.{ℕ, ◌+◌, List, [], ◌∷◌}

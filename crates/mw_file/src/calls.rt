@@ -1,10 +1,11 @@
-//! The calls that take a change through a file.
+//! The calls that take a change through a file: prepare, seal, settle and cancel.
 //!
 //! What they say of crashes holds on a disk that keeps the model of [`mw_disk::Disk`].
 //!
-//! mw_book makes these calls for the server, mw_plain and mw_world_file for tests and simulated worlds. Which calls
-//! may be made is said by `specs/PlaceStates`, and how they end by `specs/File` and `specs/RecoveryInvariant`.
-//! docs/FILES tells the order of the device calls.
+//! mw_book makes these calls for the server, mw_plain and mw_world_file for tests and simulated worlds.
+//! `specs/PlaceStates` says which calls may be made, `specs/File` and `specs/RecoveryInvariant` how they end.
+//! docs/FILES tells the order of the device calls: change them together. README cites `seal`, docs/PROMISES `prepare`
+//! and `seal`.
 ghost use Rattle.std.specs.Prelude.{◌≡◌, ◌+◌, ◌≤◌, ◌<◌, ◌^◌, Some, length, IsTrue, IsSome, IfSome, is_some, IfOk, OnOk, OnErr};
 ghost use Rattle.mw_disk.specs.Facts.{IsSynced, patched};
 ghost use Rattle.mw_disk.specs.Runs.{Later, Touched, Fits};

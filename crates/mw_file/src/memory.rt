@@ -1,6 +1,7 @@
-//! A file on a disk in memory, for tests.
+//! Lets tests copy a file on a disk in memory, make its device calls fail, and crash it.
 //!
-//! Used by tests and by mw_world_file. The server has no such file.
+//! Used by tests and by mw_world_file. The server has no such file. Its contracts may change with mw_world_file and
+//! the tests.
 ghost use Rattle.std.specs.Prelude.{◌≡◌, ℕ, List, length, IfOk, OnOk, OnErr};
 ghost use Rattle.mw_disk.specs.Crash.{Tears, unsynced};
 ghost use Rattle.mw_disk.specs.Facts.{MayLeave};

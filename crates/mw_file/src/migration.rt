@@ -1,4 +1,4 @@
-//! Migration: a file in its first layout gets its second one.
+//! Adds the second layout to a file that has its first layout alone.
 //!
 //! Only `opening.rt` calls it. It may change with `specs/Migration`; the bytes that it writes are in docs/FILES.
 ghost use Rattle.std.specs.Prelude.{◌≡◌, ◌+◌, ◌*◌, ◌≤◌, ℕ, List, length, IsTrue, OnOk};

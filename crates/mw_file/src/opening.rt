@@ -1,7 +1,9 @@
-//! The opening of a file, with its recovery.
+//! Opens a file: reads it, finishes the changes that were sealed and not settled, and adds the second layout if it
+//! has none.
 //!
 //! mw_programs opens each tenant's file by it before a server serves; mw_world_file and tests open files in memory.
-//! `specs/OpeningEnds` says how it ends. A new [`OpenFault`] needs a case there and in mw_programs.
+//! `specs/OpeningEnds` says how it ends. A new [`OpenFault`] needs a case there, in mw_programs and in mw_world_file
+//! (`opening.rt` of each). docs/PROMISES and docs/THEOREM cite `open`.
 ghost use Rattle.std.specs.Prelude.{◌≡◌, true, false, ◌*◌, ◌≤◌, ◌<◌, ◌^◌, ◌==◌, ℕ, not, if◌then◌else◌, List, length, None, vec_len, min, take, IsTrue, IfOk, OnOk};
 ghost use Rattle.mw_words.specs.declared.limits.TheConstants.{MAX_PLACES, MAX_WORDS};
 ghost use Rattle.mw_record.specs.declared.layout.Layout.TheVariants.{First};

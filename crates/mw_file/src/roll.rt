@@ -1,4 +1,4 @@
-//! Roll forward: writes the values of sealed changes into the home words, and clears their commit bytes.
+//! Rolls sealed changes forward (redo): writes their values into the home words, then clears their commit bytes.
 //!
 //! Called by `settle` and by an opening. Callers don't see it: it may change with `specs/RollForward`.
 ghost use Rattle.std.specs.Prelude.{◌≡◌, ◌+◌, ◌≤◌, ◌<◌, ◌^◌, ℕ, List, Some, length, drop, slice_index, IsTrue, OnOk, OnErr};

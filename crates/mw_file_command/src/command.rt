@@ -1,4 +1,8 @@
-//! Reads what such a command line asks for, and tells what is wrong with one.
+//! Reads the command line of a program that takes one file and may be given one switch, and tells what is wrong with
+//! it.
+//!
+//! Used by: mw_show, mw_player. docs/OPERATING and docs/SCHEDULES tell their users what it accepts: change them
+//! together.
 ghost use Rattle.std.specs.Prelude.{◌≡◌, IfOk};
 
 use clap::error::ErrorKind;

@@ -1,4 +1,6 @@
 //! Tests the book of a tenant's file, one place of which is used, on a device that fails.
+//!
+//! Nothing else uses it: it may change with what it tests.
 use crate::file_tests::{MEMORY, change, disk_with, new_bytes};
 use crate::same::same;
 use mw_book::{Book, Filed};

@@ -1,4 +1,6 @@
 //! Tests disks in memory, and disks over files.
+//!
+//! Nothing else uses it: it may change with what it tests.
 use crate::file_tests::{MEMORY, disk_with};
 use crate::same::same;
 use mw_disk::*;

@@ -1,4 +1,6 @@
 //! Tests the calls on a tenant's file, also with a crash in each. Other tests of this crate use the disks here.
+//!
+//! It may change freely as long as this crate checks and its tests pass.
 ghost use Rattle.std.specs.Prelude.{◌≡◌, ◌≤◌, ◌==◌, true};
 ghost use Rattle.mw_words.specs.declared.limits.TheConstants.{MAX_WORDS};
 ghost use Rattle.mw_record.specs.declared.layout.TheConstants.{FIRST_PLACES};

@@ -1,5 +1,7 @@
 //! Tests a tenant's file on a disk in memory: it is copied, its calls are told to fail, and memory is
 //! refused.
+//!
+//! Nothing else uses it: it may change with what it tests.
 use crate::file_tests::{
     Answers, MEMORY, Words, answers, answers_to, disk_with, left, new_bytes, opened, words_left,
 };

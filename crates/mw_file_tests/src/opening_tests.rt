@@ -1,7 +1,7 @@
 //! Tests the opening of a file: what it finds, what is damaged, and what crashes of it leave. It gives a
 //! file in its first layout the second one.
 //!
-//! Used by: `power_tests`.
+//! Used by: `power_tests`. It may change freely as long as this crate checks and its tests pass.
 ghost use Rattle.std.specs.Prelude.{◌≤◌};
 ghost use Rattle.mw_record.specs.declared.layout.TheConstants.{FIRST_PLACES};
 

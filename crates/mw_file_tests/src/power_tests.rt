@@ -1,4 +1,6 @@
 //! Tests power failures: a file keeps any part of a write that wasn't synced, torn at any byte.
+//!
+//! Nothing else uses it: it may change with what it tests.
 
 use crate::file_tests::{
     MEMORY, ONES, Trouble, WRITTEN, Words, ZEROS, answers, left, opening, over_and_over, troubled,

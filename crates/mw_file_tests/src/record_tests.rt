@@ -1,4 +1,7 @@
-//! Tests files with one fault each, and a file that is read.
+//! Tests how a file's bytes are read: the damage that is told of a file with changed bytes, and the records of
+//! others.
+//!
+//! Nothing else uses it: it may change with what it tests.
 use crate::same::{same, same_at};
 use mw_record::{
     COMMITTED, Damage, Image, MAX_FILE, MAX_FIRST, MAX_SECOND, SECOND_AT, SWITCH_AT, body, decode,

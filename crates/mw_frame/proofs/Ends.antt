@@ -1,5 +1,6 @@
--- The end of the first text can be searched from where the last search ended. Used by: the calls of Feed, and
--- first_line and text_end, which name its rule sets. It may change freely as long as this crate checks.
+-- A feed may search for the next line feed from where its last search ended, and finds the same first line.
+-- Used by: the calls of Feed, and first_line and text_end, which name its rule sets. It may change freely as long as this crate
+-- checks.
 use Rattle.std.proofs.Common.{◌≡◌, ℕ, zero, suc, ◌+◌, ◌-◌, ◌<◌, ◌≤◌, ◌++◌, Bool, true, false, List, [], ◌∷◌, length, drop, take, Some, None, slice_get, refl, sym, arith}
 use Rattle.std.proofs.lemmas.Bool.{and_parts}
 use Rattle.std.proofs.lemmas.List.{take_rest}

@@ -1,6 +1,5 @@
--- How a feed keeps its bytes.
--- Used by: the contracts of feed.rt and lines.rt. It is the invariant between a feed and its stream: it may change with feed.rt,
--- and callers see Stream.
+-- Defines which stream of lines the bytes in a feed represent, and what the feed keeps true of them.
+-- Used by: the contracts of feed.rt and lines.rt. Callers see Stream alone: it may change with feed.rt and lines.rt.
 use Rattle.std.specs.Prelude.{◌≡◌, ℕ, ◌<◌, ◌≤◌, Bool, true, false, List, [], length}
 use Rattle.std.specs.List.{prefix_len}
 use Rattle.mw_frame.specs.declared.lines.Line.{Line}

@@ -1,4 +1,4 @@
--- What a feed has given and will give are the lines of all that was fed, however it was cut into pieces.
+-- Claims that a feed gives the lines of all the bytes that it was fed, however they were cut into pieces.
 -- Used by: the contracts of laws.rt. A change here changes only these laws, which no other crate cites.
 use Rattle.std.specs.Prelude.{ℕ, ◌≡◌, ◌++◌, List, [], ◌∷◌, Option, slice_get}
 use Rattle.std.specs.Option.{option_to_list}

@@ -1,4 +1,4 @@
-//! The feed: it takes pieces and gives lines.
+//! A feed: it takes a connection's bytes in pieces, and gives them back as lines.
 //!
 //! Each session has one. Callers see the stream of `specs/Stream`; the fields may change with `specs/FeedBytes`.
 ghost use Rattle.std.specs.Prelude.{◌≡◌, ℕ, List, [], ◌++◌, IsOk, IfOk, OnOk, OnErr, IfNone, slice_get};

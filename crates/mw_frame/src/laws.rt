@@ -1,6 +1,7 @@
-//! What holds of the lines of every stream: facts for proofs to cite. The functions do nothing.
+//! Laws of a feed's lines, as contracts of empty functions: however the bytes are cut, the same lines are given.
 //!
-//! No code calls them, and no other crate cites them: they say for readers what the contracts of a feed come to.
+//! No code calls them, and no other crate cites them: they say for readers what the contracts of a feed come to. They
+//! may change with `specs/Given` and `specs/Texts`. docs/PROMISES cites `however_cut`.
 ghost use Rattle.mw_frame.specs.Given.{GivenAtFirst, GivenThenFed, GivenThenMore, HoweverCut, NoneLeft, SameLines};
 ghost use Rattle.mw_frame.specs.Texts.{EachIsCut, LinesStay, TextsAreLines, TooLongIsLast};
 

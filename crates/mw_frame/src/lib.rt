@@ -1,4 +1,4 @@
-//! Lines out of bytes, however the bytes are cut.
+//! Cuts the bytes of a connection into lines, in whatever pieces they come.
 //!
 //! A connection gives its bytes in pieces that are cut anywhere: in the middle of a line, or with many lines in one
 //! piece. A [`Feed`] takes the pieces as they come and gives the lines. They are the lines of all the bytes that were

@@ -1,7 +1,7 @@
-//! Lines, and the first line of some bytes.
+//! Defines a line (a text, or one that is too long), and finds the first line of some bytes.
 //!
 //! `feed.rt` calls [`first_line`], and sessions are given each [`Line`]. A new kind of line needs a case in
-//! `specs/Lines` and in mw_session.
+//! `specs/Lines`, `specs/Stream` and `specs/FeedBytes`, and in mw_session.
 ghost use Rattle.std.specs.Prelude.{◌≡◌, ◌≤◌, ◌<◌, length, IfNone, IfSome, slice_get, take};
 ghost use Rattle.mw_frame.specs.Lines.{IsText, lines, text_line};
 ghost use Rattle.mw_frame.specs.FeedBytes.{IsWithin, text_len};

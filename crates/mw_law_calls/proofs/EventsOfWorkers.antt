@@ -1,5 +1,5 @@
--- If a property holds of the world after each kind of update, it holds after each event of a worker.
--- Used by: OtherEventLaws, StableStatusLaws.
+-- A proof rule: what each kind of update of a world keeps, each event of a worker keeps.
+-- Used by: OtherEventLaws, StableStatusLaws. It may change freely as long as this crate checks.
 use Rattle.std.specs.Prelude.{ℕ, ◌≡◌, ◌&&◌, ◌==◌, Bool, true, false, not, cond, if◌then◌else◌, is_some, Option, Some, None}
 use Rattle.std.proofs.Common.{subst}
 use Rattle.std.proofs.lemmas.Option.{none-some, same_Some}

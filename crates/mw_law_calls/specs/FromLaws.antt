@@ -1,4 +1,4 @@
--- Definitions of the laws below that crates above need too, passed on so that they name this crate alone.
+-- Definitions of mw_law_runs and mw_law_store that mw_rule needs too, passed on so that it names this crate alone.
 -- Used by: mw_rule. Add and take out names as these crates need them.
 pub use Rattle.mw_law_runs.specs.RunInvariant.{IsSound}
 pub use Rattle.mw_law_store.specs.Simulation.{start_of}

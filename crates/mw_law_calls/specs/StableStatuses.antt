@@ -1,4 +1,4 @@
--- What stays while a call is under way that has found its status.
+-- States what stays while a call is under way that has found its change's status: the request, that status and the file.
 -- Used by: the laws of src/laws.rt. A change here changes what these laws say.
 use Rattle.std.specs.Prelude.{ℕ, ◌≡◌, ◌++◌, true, List, Some}
 use Rattle.mw_actor.specs.ActorState.{ActorState}

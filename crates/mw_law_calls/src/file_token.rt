@@ -1,6 +1,8 @@
-//! The file token: the capability to make calls on a tenant's file. Proofs use it; the program makes no value of it.
+//! The file token: the ghost capability to make calls on a tenant's file. Proofs use it; the program makes no value
+//! of it.
 //!
-//! mw_rule keeps the tokens of a thread in its view (`src/views.rt`).
+//! mw_rule keeps the tokens of a thread in its view (`src/views.rt`). `specs/FileTokens` says what its fields tell
+//! of the file: change it with a field.
 
 use mw_words::Entry;
 use std::collections::LinkedList;

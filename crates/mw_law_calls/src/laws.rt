@@ -1,4 +1,5 @@
-//! States what is proved of calls on tenants' files.
+//! States what is proved of calls on tenants' files: how they start and end, and what the file token says of a
+//! file.
 //!
 //! The functions do nothing, and nothing calls them: each contract is a fact, proved in `proofs/laws`. Proofs
 //! of crates above import other pages of `proofs`, by which these facts are proved. To change a fact, change

@@ -1,6 +1,6 @@
-//! Calls on tenants' files by threads that share the words of a world: which step on one shared word is a call's
-//! event, what the world is after it, and what stays while a call is under way. It also defines the file token, the
-//! capability to call one file, which one thread has at a time.
+//! Proves how calls on tenants' files end on words that threads share: which step on one shared word is a call's
+//! event, and what stays until then. It also defines the file token, the ghost capability to call one file, which
+//! one thread has at a time.
 //!
 //! Used by: mw_rule.
 #![tactic(auto)]

@@ -1,4 +1,4 @@
--- What follows from the invariant of counts: a worker that will free a slot is alone with it, and there is room in the pool.
+-- Facts that follow from the invariant of counts: a worker that will free a slot is alone with it, and the pool has room.
 -- Used by: the laws of src/laws.rt, mw_law_runs, mw_law_store. A change here changes what these laws say.
 use Rattle.std.specs.Prelude.{ℕ, ◌≡◌, ◌≢◌, ◌≤◌, true, false, Some}
 use Rattle.mw_actor.specs.ActorState.{ActorState}

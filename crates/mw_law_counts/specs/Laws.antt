@@ -1,4 +1,4 @@
--- What is proved of the counts.
+-- The statements that this crate proves of counts: starts, events and runs keep them, and the pool has room.
 -- Used by: the laws of src/laws.rt, mw_law_runs. A change here changes what these laws say.
 use Rattle.std.specs.Prelude.{ℕ, ◌≡◌, ◌≤◌, List, ◌++◌, Some}
 use Rattle.mw_world.specs.declared.config.Config.{Config}

@@ -1,5 +1,5 @@
--- What a request has made sure of at a point, by what it saw on the way there. Gates and doors allow its next exchange of a gate or of its door. A
--- change of which it will take a pin isn't its own.
+-- When a request is ready for its next exchange of a gate or door, by its point: what it saw before allows the exchange. A change of which
+-- it will take a pin isn't its own.
 -- Used by: specs/CountInvariant, mw_law_runs, mw_law_store. Contracts use it through these: a change here changes what they say.
 use Rattle.std.specs.Prelude.{ℕ, ◌≡◌, false}
 use Rattle.mw_pool.specs.Moves.{Admits, Claims, Pins}

@@ -1,4 +1,5 @@
--- What the counts of a slot are compared with: its pin that was left behind, and whether it will be freed. Only proofs use these.
+-- Two terms of the counts of a slot: 1 if its pin was left behind, and 1 if it is taken and has no pin.
+-- Only proofs of this crate use these; they may change freely as long as it checks.
 use Rattle.std.specs.Prelude.{ℕ, ◌==◌, ◌&&◌, if◌then◌else◌}
 use Rattle.mw_world.specs.Definition.State.{State}
 

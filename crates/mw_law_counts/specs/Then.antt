@@ -1,5 +1,5 @@
--- What a change counts after a step, by its stage and what it learns: the pins that it holds, the slots that it will free, and the slots that its
--- door counts for it. Only proofs use these.
+-- The counts of a change after its next step: its pins, the slots that it will free, and those that its door counts for it.
+-- Only proofs of this crate use these; they may change freely as long as it checks.
 use Rattle.std.specs.Prelude.{ℕ, ◌+◌, ◌==◌, cond}
 use Rattle.mw_look.specs.declared.observations.Observation.{Observation}
 use Rattle.mw_look.specs.declared.observations.Observation.TheVariants.{SawDoor, SawGate, SawStatus, Won}

@@ -1,4 +1,5 @@
-//! States facts about the counts of a world.
+//! States what is proved of two counts of a world: the pins of each slot, and the slots that each tenant's door
+//! counts.
 //!
 //! The functions do nothing, and nothing calls them: each contract is a fact, proved in `proofs/laws`. Proofs
 //! of crates above import other pages of `proofs`, by which these facts are proved. To change a fact, change

@@ -1,4 +1,4 @@
--- A short run with a late mark, and its results.
+-- An example: in a history of one word, a refusal is legal at a place that was reserved for it, and illegal at the end.
 -- Used by: the laws of src/laws.rt. A change here changes what these laws say.
 use Rattle.std.specs.Prelude.{ℕ, ◌≡◌, List, [], ◌∷◌, slice_set, Option, Some, None}
 use Rattle.std.specs.Option.{option_and_then, option_map}

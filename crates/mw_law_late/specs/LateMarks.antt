@@ -1,6 +1,5 @@
--- Lines of marks, in which an empty line is a place that may be reserved for a mark, and what is known at such a place.
--- Used by: specs/Examples, specs/Laws, mw_law_store. Contracts use it through these: a change here changes what they
--- say.
+-- Defines histories with room for late marks: each line is a mark or an empty place. Defines when a place is reserved for a mark.
+-- Used by: specs/Examples, specs/Laws, mw_law_store. Contracts use it through these: a change here changes what they say.
 use Rattle.std.specs.Prelude.{ℕ, ◌<◌, ◌≡◌, ◌≢◌, ◌==◌, ◌++◌, Bool, true, false, List, [], ◌∷◌, slice_get, Option, Some, None}
 use Rattle.std.specs.List.{flat_map}
 use Rattle.std.specs.Option.{option_and_then, option_to_list}

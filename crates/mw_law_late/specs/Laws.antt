@@ -1,4 +1,4 @@
--- What is proved of marks that come late.
+-- The statements that this crate proves of marks: what each does to a store alone, and that a mark may be put in late.
 -- Used by: the laws of src/laws.rt. A change here changes what these laws say.
 use Rattle.std.specs.Prelude.{ℕ, ◌≡◌, ◌≢◌, ◌++◌, true, false, not, List, length, Option, Some, None, slice_set}
 use Rattle.std.specs.List.{list_all}

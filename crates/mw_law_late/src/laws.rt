@@ -1,4 +1,4 @@
-//! States facts about marks that come late.
+//! States what is proved of marks: what each does to a store alone, and that a mark may be put into a history late.
 //!
 //! The functions do nothing, and nothing calls them: each contract is a fact, proved in `proofs/laws`. Proofs
 //! of crates above import other pages of `proofs`, by which these facts are proved. To change a fact, change

@@ -1,5 +1,4 @@
-//! Proves what each mark does to a store alone, and that a mark may be put in late, at a place that was reserved for
-//! it.
+//! Proves what each mark does to a store alone, and that a mark may be put in late, at a place reserved for it.
 //!
 //! A mark is one atomic step in a tenant's serial history. A place is a position of that history. It stays empty
 //! until it is known whether the step that belongs there took place.

@@ -1,4 +1,5 @@
--- What is proved of the moves.
+-- The statements that this crate proves of moves, the elementary changes: each start has the invariant of the shared words, and each move
+-- keeps it.
 -- Used by: the laws of src/laws.rt. A change here changes what these laws say.
 use Rattle.std.specs.Prelude.{ℕ, ◌≤◌, List}
 use Rattle.mw_words.specs.declared.limits.TheConstants.{MAX_VALUE}

@@ -1,5 +1,5 @@
--- The moves: each thing that a step may do to the shared words, to the history and to the numbers of the workers' attempts.
--- No move depends on the point of a request or changes it.
+-- Defines the moves: the elementary changes that a worker's step makes to the shared words, the history and the attempt numbers. No move
+-- depends on the point of a request or changes it.
 -- Used by: many specs of this crate, mw_law_runs, mw_law_store. Contracts use it through these: a change here changes what they say.
 use Rattle.std.specs.Prelude.{ℕ, ◌+◌, List, [], ◌∷◌}
 use Rattle.mw_words.specs.declared.jobs.Entry.{Entry}

@@ -1,4 +1,4 @@
--- The value that each word represents according to the history, and what the moves do to it.
+-- Defines the value that each word represents according to the history, and states that only the commit of a change changes it.
 -- Used by: the laws of src/laws.rt, mw_law_store. A change here changes what these laws say.
 use Rattle.std.specs.Prelude.{ℕ, ◌≡◌, ◌==◌, ◌&&◌, Bool, true, false, if◌then◌else◌, List, [], ◌∷◌, Some}
 use Rattle.mw_words.specs.declared.words.Word.{Word}

@@ -1,4 +1,4 @@
-//! States facts about the moves.
+//! States what is proved of moves, the elementary changes of which every step on the shared words is made.
 //!
 //! The functions do nothing, and nothing calls them: each contract is a fact, proved in `proofs/laws`. Proofs
 //! of crates above import other pages of `proofs`, by which these facts are proved. To change a fact, change

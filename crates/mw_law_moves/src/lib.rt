@@ -1,5 +1,5 @@
-//! Defines the moves of which every step on the shared words is made, each with its precondition, and proves what
-//! every such move keeps.
+//! Defines the moves, the elementary changes of which every step on the shared words is made, each with its
+//! precondition. Proves what every such move keeps.
 //!
 //! Used by: mw_law_runs, mw_law_store.
 #![tactic(auto)]

@@ -1,4 +1,4 @@
--- In which order the words of a change are held: one after another, from its first entry on.
+-- Defines the order in which a change's request holds the words: one after another, from the first entry on.
 -- Used by: the laws of src/laws.rt. A change here changes what these laws say.
 use Rattle.std.specs.Prelude.{ℕ, zero, suc, ◌≡◌, ◌≤◌, ◌<◌, Bool, true, false, cond, List, [], ◌∷◌, length}
 use Rattle.arrayvec.specs.ArrayVec.{ArrayVec}

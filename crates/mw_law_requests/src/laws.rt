@@ -1,4 +1,4 @@
-//! States facts about every run of a request, whatever it is told.
+//! States what holds of every run of one request, whatever its steps find in the shared words.
 //!
 //! The functions do nothing, and nothing calls them: each contract is a fact, proved in `proofs/laws`. Proofs
 //! of crates above import other pages of `proofs`, by which these facts are proved. To change a fact, change

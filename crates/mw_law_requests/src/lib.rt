@@ -1,5 +1,5 @@
-//! Proves what holds of every run of one request, whatever it is told: its tenant, its pins and its slots
-//! (`specs/Runs`), the order of its steps (`specs/Order`), and the order of the words that it holds
+//! Proves what holds of every run of one request, whatever its steps find: its tenant, its pins and its slots
+//! (`specs/Runs`). Also the order of its steps (`specs/Order`), and the order of the words that it holds
 //! (`specs/HoldOrder`).
 //!
 //! Used by: mw_law_counts, mw_law_runs.

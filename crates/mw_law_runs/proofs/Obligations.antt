@@ -1,4 +1,4 @@
--- The proofs about which request must release a held word or clean a written one.
+-- The proofs about which request must release a held word or clean a written one. This page only lists its modules.
 pub mod Apart
 pub mod FileCalls
 pub mod StepEffects

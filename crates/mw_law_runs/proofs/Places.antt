@@ -1,4 +1,4 @@
--- The proofs about which slots, entries and workers a request may name at a point.
+-- The proofs about which slots, entries and workers a request may name at its point. This page only lists its modules.
 pub mod NextPoints
 pub mod PlaceInvariant
 pub mod There

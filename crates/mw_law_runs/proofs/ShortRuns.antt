@@ -1,5 +1,5 @@
--- A run with fewer events than there are numbers has numbers left: an event raises the number of a slot or of a worker's next attempt by at most one.
--- Used by: short_runs_have_numbers.
+-- A run with fewer events than there are numbers uses up no number. Each event raises a slot's or an attempt's number by at most one.
+-- Used by: short_runs_have_numbers. It may change freely as long as this crate checks.
 use Rattle.std.specs.Prelude.{ℕ, ◌≡◌, ◌<◌, ◌≤◌, ◌⊎◌, ◌+◌, ◌==◌, ◌&&◌, ◌++◌, Bool, true, false, not, cond, is_some, List, [], ◌∷◌, length, if◌then◌else◌, Option, Some, None}
 use Rattle.std.specs.Option.{option_and_then}
 use Rattle.std.proofs.Common.{refl, sym, ap, subst, ◌∙◌, inl, inr, arith}

@@ -1,4 +1,4 @@
--- What is proved of the releasers of words.
+-- The statements that this crate proves of releasers, the requests that will release a held word or clean a written one.
 -- Used by: the laws of src/laws.rt. A change here changes what these laws say.
 use Rattle.std.specs.Prelude.{ℕ, ◌≡◌, ◌⊎◌, Some}
 use Rattle.mw_look.specs.declared.observations.Observation.{Observation}

@@ -1,5 +1,4 @@
--- Which slots, entries and workers a request may name at a point, where no fact about changes tells it. With this the next step of each request is at
--- a place that exists.
+-- Defines which slots, entries and workers a request may name at its point, so that its next step is at a word that exists.
 -- Used by: the laws of src/laws.rt. A change here changes what these laws say.
 use Rattle.std.specs.Prelude.{ℕ, ◌≡◌, ◌≤◌, ◌<◌, true, List, Some, None}
 use Rattle.mw_words.specs.declared.limits.TheConstants.{MAX_ENTRIES}

@@ -1,4 +1,4 @@
-//! States facts about what requests know.
+//! States what a request knows at each point of its program, and which steps leave this true.
 //!
 //! The functions do nothing, and nothing calls them: each contract is a fact, proved in
 //! `proofs/knowledge_laws`. Proofs of crates above import other pages of `proofs`, by which these facts are

@@ -1,4 +1,4 @@
-//! States facts about sound worlds.
+//! States that every event keeps a world sound (what holds at every moment of a run, except of files and marks).
 //!
 //! The functions do nothing, and nothing calls them: each contract is a fact, proved in `proofs/laws`. Proofs
 //! of crates above import other pages of `proofs`, by which these facts are proved. To change a fact, change

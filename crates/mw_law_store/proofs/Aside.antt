@@ -1,5 +1,6 @@
--- An event of another tenant's request keeps a tenant's part of the world refining its store. Used by: SimulationSteps/Come,
--- SimulationSteps/Handed, SimulationSteps/Turned, SimulationSteps/EndsOfCalls, SimulationSteps/StepsWithoutPlace.
+-- An event of one tenant's request keeps each other tenant's part of the world refining its store alone (the reference model).
+-- Used by: SimulationSteps/Come, SimulationSteps/Handed, SimulationSteps/Turned, SimulationSteps/EndsOfCalls,
+-- SimulationSteps/StepsWithoutPlace. It may change freely as long as this crate checks.
 use Rattle.std.specs.Prelude.{ℕ, ◌≡◌, ◌≢◌, Bool, true, false}
 use Rattle.std.proofs.Common.{refl, sym, ap, ◌∙◌, inl, inr, subst}
 use Rattle.std.proofs.lemmas.Bool.{cases_eq}

@@ -1,4 +1,4 @@
--- The proofs that each step leaves due of its request what its label says.
+-- The proofs that after each step the store alone has what is due of the request (`specs/Due`). This page only lists its modules.
 pub mod StepEnds
 pub mod Noted
 pub mod Onward

@@ -1,4 +1,5 @@
--- In a run with numbers left no request comes to be on the way to WORN. Used by: RunSimulation, the law runs_are_not_worn.
+-- In a run in which no number is used up, no request comes to a point from which it answers WORN.
+-- Used by: RunSimulation, the law runs_are_not_worn. It may change freely as long as this crate checks.
 use Rattle.std.specs.Prelude.{ℕ, ◌≡◌, ◌≢◌, ◌<◌, ◌⊎◌, ◌==◌, ◌&&◌, Bool, true, false, not, is_some, [], Option, Some, None}
 use Rattle.std.proofs.Common.{refl, sym, ap, subst, ◌∙◌, append-nil, inl, inr, arith}
 use Rattle.std.proofs.lemmas.Bool.Decides.{nat_tests}

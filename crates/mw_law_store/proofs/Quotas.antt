@@ -1,5 +1,5 @@
--- Only a start changes a tenant's quota, and no event changes its places: over events, and over runs. Used by: the law
--- quotas_are_told, mw_law_calls.
+-- Only a start changes a tenant's quota, and no event changes how many record places its file has.
+-- Used by: the law quotas_are_told, mw_law_calls. Its statements may change with mw_law_calls; its proofs may change freely.
 use Rattle.std.specs.Prelude.{ℕ, zero, suc, ◌≡◌, ◌≢◌, ◌⊎◌, ◌++◌, List, [], ◌∷◌, Option, Some, None}
 use Rattle.std.specs.Option.{unwrap_or}
 use Rattle.std.proofs.Common.{refl, sym, ap, subst, ◌∙◌, inl, inr, arith}

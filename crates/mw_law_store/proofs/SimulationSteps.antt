@@ -1,4 +1,4 @@
--- The proofs that each kind of event is simulated by the stores of all tenants.
+-- The proofs that the store alone of each tenant simulates every kind of event. This page only lists its modules.
 pub mod Called
 pub mod ChangeSteps
 pub mod Come

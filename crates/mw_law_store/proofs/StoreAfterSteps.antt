@@ -1,5 +1,6 @@
--- A store that steps as a label says simulates the event, if all parts of the simulation hold after it. Used by:
--- SimulationSteps/Met.
+-- If a store alone steps as an event's label says, and all parts of the simulation hold after it, then it simulates the event. The label is
+-- what the event adds to the history.
+-- Used by: SimulationSteps/Met. It may change freely as long as this crate checks.
 use Rattle.std.specs.Prelude.{ℕ, ◌≡◌, List, Option}
 use Rattle.std.proofs.Common.{sym, ap, subst}
 use Rattle.mw_lone.specs.declared.marks.Mark.{Mark}

@@ -1,5 +1,7 @@
--- An abstract state agrees with a store in the words, in the change in doubt and in what each request asks for, and each mark
--- keeps that. Used by: the law words_are_of_marks, HistoryMatchLaws, LastLines, DurabilityLaws, SimulationSteps/Started.
+-- A store alone and an abstract state (words, sealed changes) of one history agree in words, change in doubt and requests. Each mark keeps
+-- that.
+-- Used by: the law words_are_of_marks, HistoryMatchLaws, LastLines, DurabilityLaws, SimulationSteps/Started. It may change freely as long
+-- as this crate checks.
 use Rattle.std.specs.Prelude.{ℕ, ◌≡◌, ◌≢◌, ◌==◌, Bool, true, false, List, [], ◌∷◌, Option, Some, None, if◌then◌else◌}
 use Rattle.std.specs.FinMap as map
 use Rattle.std.specs.Option.{option_map_or}

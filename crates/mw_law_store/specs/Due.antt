@@ -1,4 +1,4 @@
--- What the store alone must have of a request: by the point of the request, and by the status of its change.
+-- Defines what is due of a request: what the store alone must have of it, by the request's point and its change's status.
 -- Used by: specs/Refinement. Contracts use it through these: a change here changes what they say.
 use Rattle.std.specs.Prelude.{Bool, true, false, List, Option, Some, None}
 use Rattle.mw_words.specs.declared.jobs.Entry.{Entry}

@@ -1,5 +1,5 @@
--- Durability of the store alone: its words are the first ones with changes put over them, and the change of each request that was
--- handed YES is one of these.
+-- Defines durability of a store alone: its words are the first ones with changes put over them, among them each change that was answered
+-- YES.
 -- Used by: the laws of src/laws.rt, specs/DurabilityInRuns, specs/Laws, mw_simulator. A change here changes what these laws say.
 use Rattle.std.specs.Prelude.{ℕ, ◌≡◌, ◌&&◌, not, Bool, true, false, List, [], ◌∷◌, ◌++◌, slice_get, Some, if◌then◌else◌}
 use Rattle.mw_words.specs.declared.jobs.Entry.{Entry}

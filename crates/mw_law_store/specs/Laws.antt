@@ -1,4 +1,4 @@
--- The main facts that this crate proves of tenants and their stores.
+-- The main facts that this crate proves of tenants and their stores alone: a store simulates each tenant in every run.
 -- Used by: the laws of src/laws.rt. A change here changes what these laws say.
 use Rattle.std.specs.Prelude.{ℕ, ◌≡◌, ◌<◌, Bool, true, List, slice_set, Option, Some}
 use Rattle.mw_words.specs.Change.{fits}

@@ -1,5 +1,5 @@
--- The relaxed step of a store, which is defined also when a number was used up, and the label that a step adds to a tenant's
--- lines.
+-- Defines a store alone's relaxed step, which is possible also when a number was used up. Defines the label: what a step adds to a tenant's
+-- history.
 -- Used by: specs/HistoryMatches, specs/Laws, specs/Simulation. Contracts use it through these: a change here changes what they say.
 use Rattle.std.specs.Prelude.{ℕ, ◌-◌, ◌≡◌, true, false, List, slice_set, Option, Some, None}
 use Rattle.mw_words.specs.declared.replies.Reply.{Reply}

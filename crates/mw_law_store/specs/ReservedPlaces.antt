@@ -1,5 +1,5 @@
--- What holds of a place that a worker has reserved among its tenant's lines. The words there are known in every run; that the
--- mark would be legal there (`IsReservedFor` of mw_law_late) holds in runs with numbers left.
+-- Defines what holds of a place that a worker has reserved in its tenant's history for a late mark. The words there are known in every run;
+-- that the mark would be legal there (`IsReservedFor` of mw_law_late) holds in runs with numbers left.
 -- Used by: specs/Simulation. Contracts use it through these: a change here changes what they say.
 use Rattle.std.specs.Prelude.{ℕ, ◌≡◌, ◌≢◌, Bool, true, false, List, slice_get, Option, Some, None}
 use Rattle.mw_words.specs.declared.jobs.Entry.{Entry}

@@ -1,5 +1,5 @@
--- Facts about a world that marks need and no crate below proves: about decided faults, about tenants that are down, about why a
--- request gives up, and about what a read has read. They name no store and no line.
+-- Facts about decided faults, tenants that are down, requests that give up, and reads. The proofs about marks need them. They name no store
+-- and no line.
 -- Used by: specs/Laws. Contracts use it through these: a change here changes what they say.
 use Rattle.std.specs.Prelude.{ℕ, ◌≡◌, ◌≢◌, ◌<◌, ◌⊎◌, Bool, true, false, length, Some}
 use Rattle.mw_words.specs.declared.replies.Reply.TheVariants.{Fault as SaysFault}

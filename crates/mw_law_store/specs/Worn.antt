@@ -1,4 +1,4 @@
--- In a run with numbers left no request comes to say WORN; and what holds of numbers also when they are used up.
+-- States that no request answers WORN in a run with numbers left, and what holds of numbers also when they are used up.
 -- Used by: the laws of src/laws.rt, specs/Simulation. A change here changes what these laws say.
 use Rattle.std.specs.Prelude.{ℕ, ◌≡◌, ◌≤◌, Bool, true, false, List, Some}
 use Rattle.mw_words.specs.declared.limits.TheConstants.{WORN_NUMBER}

@@ -1,4 +1,5 @@
-//! Facts about tenants and the store alone, for proofs to cite. The functions do nothing.
+//! States what is proved of each tenant and its store alone (the sequential reference model). The functions do
+//! nothing; their contracts are the facts.
 //!
 //! No code calls them. Proofs of mw_law_calls, mw_rule and mw_simulator cite the lemmas behind them. A change of a
 //! contract here changes a theorem: the last one is the theorem of docs/THEOREM.md.

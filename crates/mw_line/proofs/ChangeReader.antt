@@ -1,5 +1,7 @@
--- The reader of a change reads its entries one by one, and finds the first fault at the end. Used by: Faults, the proofs of
--- listing_of, Listing::change, Listing::note and cas. It may change freely as long as this crate checks.
+-- The loop that reads the entries of a `CAS` line keeps what `specs/EntryList` says, and what it read tells the change's first
+-- fault.
+-- Used by: Faults, the proofs of listing_of, Listing::change, Listing::note and cas. It may change freely as long as this crate
+-- checks.
 use Rattle.std.proofs.Common.{◌≡◌, ℕ, zero, suc, ◌<◌, ◌≤◌, Bool, true, false, cond, eqb, ltb, leb, ◌&&◌, List, [], ◌∷◌, ◌++◌, length, take_all, Option, Some, None, refl, sym, ap, ◌∙◌, arith, append_assoc, append-nil, ne_eqb, le-leb, ltb-false, lt-ltb, length-append, nat_lt, take}
 use Rattle.std.specs.Prelude.{codes, flat_map, map}
 use Rattle.std.specs.List.{list_all}
@@ -152,7 +154,7 @@ entries_fit (e ∷ es) a v =
     let q = pair _ _ v in
     rw (join (addr_fits e) (leb e.expected MAX_VALUE) (leb e.new MAX_VALUE) p.0 q.0) (entries_fit es p.1 q.1)
 
--- if all else is in order, the entries are a change just if their addresses rise
+-- if all else is in order, the entries are a change exactly if their addresses rise
 pub order_is_left : (es : List Entry) → 0 < length es → ltb MAX_ENTRIES (length es) ≡ false → list_all addr_fits es ≡ true → list_all values_fit es ≡ true → is_change MAX_WORDS es ≡ rises es
 order_is_left es some few a v =
     let short : length es ≤ MAX_ENTRIES = ltb-false MAX_ENTRIES (length es) few in

@@ -1,5 +1,5 @@
--- The digits at the front of a text are read one at a time. Used by: Numerals, Entries, the proof of digits_at. It may change
--- freely as long as this crate checks.
+-- A reader takes the digits at the front of a text one at a time, even if it sees a large number as a smaller one.
+-- Used by: Numerals, Entries, the proof of digits_at. It may change freely as long as this crate checks.
 use Rattle.std.proofs.Common.{◌≡◌, ℕ, ◌+◌, ◌-◌, ◌*◌, ◌<◌, ◌≤◌, min, true, false, List, [], ◌∷◌, length, get_or, take, drop, take_all, ◌⊎◌, inl, inr, refl, sym, ap, ◌∙◌, arith, le-leb}
 use Rattle.std.proofs.lemmas.Bool.Decides.{nat_tests}
 use Rattle.mw_words.specs.Name.{is_digit}

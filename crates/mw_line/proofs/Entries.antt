@@ -1,5 +1,6 @@
--- The text of entries is read as those entries, and what is read as entries is their text. Used by: ChangeReader,
--- Commands, Faults, and in mw_client and mw_config. Its statements may change with those crates; its proofs may change freely.
+-- The text of a change's entries is read as those entries, and what is read as entries is their text.
+-- Used by: ChangeReader, Commands, Faults, and in mw_client and mw_config. Its statements may change with mw_client and
+-- mw_config; its proofs may change freely.
 use Rattle.std.proofs.Common.{◌≡◌, ℕ, zero, suc, ◌≤◌, Bool, true, false, cond, eqb, List, [], ◌∷◌, ◌++◌, length, map, Option, Some, None, ◌⊎◌, inl, inr, refl, sym, ap, subst, ◌∙◌, arith, append_assoc, eqb-true, ne_eqb, ap₂}
 use Rattle.std.specs.Prelude.{codes, flat_map}
 use Rattle.std.proofs.lemmas.List.{length-append}

@@ -1,4 +1,4 @@
--- Which commands keep the limits, and how a line is answered.
+-- Defines which commands keep the protocol's limits, and the request or the fault with which a line is answered.
 -- Used by: LineReader, mw_session, mw_client, the contracts of changes.rt and requests.rt. A change here changes which fault
 -- answers a line, and so the protocol.
 use Rattle.std.specs.Prelude.{◌≡◌, ◌&&◌, Bool, length, nat_le, nat_lt, if◌then◌else◌, Option, Some, None, Result, Ok, Err, IsTrue}

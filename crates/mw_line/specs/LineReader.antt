@@ -1,6 +1,5 @@
--- The reading of a line from left to right, by a reader that may see a large number as a smaller one. The contracts of the
--- reader's steps cite this page, and readers of mw_config and mw_client do. What read_line promises is in Grammar and
--- Limits.
+-- Defines how a client's line is read from left to right, by a reader that may see a large number as a smaller one. What
+-- `read_line` promises is in Grammar and Limits; this page is for the contracts of the reader's steps.
 -- Used by: mw_config, mw_schedule, mw_client, the contracts of changes.rt, numbers.rt and requests.rt. It may change with the
 -- readers that cite it, as long as read_line proves the same contract.
 use Rattle.std.specs.Prelude.{◌≡◌, ℕ, zero, suc, ◌+◌, ◌-◌, ◌*◌, ◌^◌, ◌==◌, min, List, [], ◌∷◌, length, if◌then◌else◌, codes, Option, Some, None, Result, Err, bytes_eq}

@@ -1,12 +1,11 @@
--- Numbers as the protocol writes them, of any length. (The library's `decimal` has at most 64 digits.)
--- Used by Grammar, the laws of this crate, mw_config (tenants files) and mw_client. A change here changes what a number is in the
--- protocol and in a tenants file.
+-- Defines the decimal text of a number in the protocol, of any length. (The library's `decimal` has at most 64 digits.)
+-- Used by: Grammar, mw_config (for tenants files), mw_client, the contracts of laws.rt. A change here changes what a number is in
+-- the protocol and in a tenants file.
 use Rattle.std.specs.Prelude.{ℕ, zero, suc, ◌+◌, ◌/◌, ◌%◌, ◌==◌, ◌&&◌, Bool, false, List, [], ◌∷◌, ◌++◌, length, nat_lt, if◌then◌else◌}
 use Rattle.std.specs.List.{list_all}
 use Rattle.mw_words.specs.Name.{is_digit}
 
--- at most so many of a number's last digits: a lone digit, or the digits of the number without its last one, and then
--- that one
+-- The last k digits of n in decimal, or all of them if n has fewer.
 abbrev pub last_digits : ℕ → ℕ → List ℕ
 last_digits zero n = []
 last_digits (suc k) n = if nat_lt n 10 then (48 + n) ∷ [] else last_digits k (n / 10) ++ (48 + n % 10) ∷ []

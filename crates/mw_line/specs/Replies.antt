@@ -1,4 +1,4 @@
--- The texts of what the server says, each with the line feed that ends it.
+-- Defines the text of each line that the server says, with the line feed that ends it.
 -- Used by: mw_session, mw_client, mw_player, the contracts of replies.rt. A change here is a change of the protocol:
 -- docs/PROTOCOL and both clients change with it.
 use Rattle.std.specs.Prelude.{ℕ, List, ◌++◌, codes, decimal}

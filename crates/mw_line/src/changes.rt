@@ -1,4 +1,4 @@
-//! The entries of a change, as a line lists them.
+//! Reads the entries of a `CAS` line one by one, and tells the first fault among them.
 //!
 //! Only `requests.rt` calls it. It may change with `specs/EntryList`, as long as `read_line` keeps its contract.
 ghost use Rattle.std.specs.Prelude.{◌≡◌, ◌<◌, ◌++◌, List, [], ◌∷◌, length, MatchResult};

@@ -1,4 +1,5 @@
-//! Laws of the protocol's grammar: a line says one command, and a number has one text. The functions do nothing.
+//! Laws of the protocol's grammar, as contracts of empty functions: a line says one command, and a number has one
+//! text.
 //!
 //! No code calls them. They follow from `specs/Grammar` and `specs/Number` alone: after a change there, they must be
 //! proved again. The lemmas behind them are in `proofs/Commands` and `proofs/Numerals`; proofs of mw_config and

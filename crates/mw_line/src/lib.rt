@@ -1,4 +1,4 @@
-//! The lines of the protocol: what a client's line asks for, and the text of each line of an answer.
+//! The lines of the protocol: reads what a client's line asks for, and writes each line of an answer.
 //!
 //! mw_session reads requests by it and writes replies; mw_client does the reverse. mw_config, mw_client and
 //! mw_schedule also use its readers of numbers. A change of a line is a change of the protocol: docs/PROTOCOL.

@@ -1,4 +1,4 @@
-//! What the server says to a client.
+//! Writes the lines that the server says to a client: replies, and errors with their numbers.
 //!
 //! mw_session writes these lines, and mw_client reads them. A new [`Say`] or [`ErrCode`] needs its text in
 //! `specs/Replies`, and a case in both crates. [`MAX_REPLY`] must be as long as the longest.

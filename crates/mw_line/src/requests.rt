@@ -1,7 +1,9 @@
-//! What a client may ask for, and how a line says it.
+//! Reads a client's line as a request, or finds its first fault.
 //!
-//! mw_session calls [`read_line`] for each line of a client, and mw_client writes these lines. CONTRIBUTING lists
-//! under *A command* what a new request needs.
+//! mw_session calls [`read_line`] for each line of a client, and mw_schedule (`commands.rt`) for the jobs of a
+//! schedule; mw_client writes these lines. `specs/Limits` and `specs/LineReader` say which fault comes first: change
+//! them together. CONTRIBUTING lists under *A command* what a new request needs. README and docs/PROMISES cite
+//! `read_line`.
 ghost use Rattle.std.specs.Prelude.{◌≡◌, ◌↔◌, IfOk};
 ghost use Rattle.mw_line.specs.Grammar.{Command, Spells};
 ghost use Rattle.mw_line.specs.Limits.{first_fault, command_of, Answers, FitsLargestTenant};
@@ -68,7 +70,7 @@ pub fn read_line(line: &[u8]) -> Result<Request, LineFault>
     ensures fits { IfOk result FitsLargestTenant }
     // A line that says a command is answered by that command, or by the command's first fault.
     ensures answered { (c : Command) → Spells c line.now → Answers c result }
-    // A line is answered so just if it says no command.
+    // The answer is `NotACommand` exactly if the line says no command.
     ensures not_a_command { (result ≡ Err LineFault.NotACommand) ↔ ((c : Command) → ¬ Spells c line.now) }
 {
     request_of(line)

@@ -1,6 +1,6 @@
-//! Reads what the command line asks for.
+//! Reads the command line of `mwbench`: the server, the tenant, and how many clients do what.
 //!
-//! Used by: `run`.
+//! Used by: `run`. docs/BENCH tells the options and their limits: change both together.
 use arrayvec::ArrayVec;
 use clap::builder::ValueParser;
 use clap::{Arg, ArgAction, ArgMatches, Command};

@@ -1,6 +1,6 @@
-//! Runs all clients, each in a thread of its own.
+//! Runs all clients of a load, each in a thread of its own, and writes once a second what they did.
 //!
-//! Used by: `run`.
+//! Used by: `run`. It has no contracts, and may change freely.
 use crate::client::{Asker, Counts, Stop, Task};
 use crate::latencies::Latencies;
 use std::io::Write;

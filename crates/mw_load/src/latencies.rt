@@ -1,6 +1,6 @@
-//! Counts how long replies took.
+//! Counts how long the replies to a load took.
 //!
-//! Used by: `client`, `crowd`, `run`.
+//! Used by: `client`, `crowd`, `run`. docs/BENCH tells how exact the counts are: change both together.
 use std::alloc::{AllocError, Global};
 
 /// How many counts there are.

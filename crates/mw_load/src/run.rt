@@ -1,6 +1,6 @@
-//! The whole run: reads the words, lets the clients work, and reads the words again.
+//! Runs a whole load: reads the words, lets the clients work, reads the words again, and prints the result.
 //!
-//! `mwbench` calls `load`.
+//! `mwbench` calls `load`. docs/BENCH tells what it prints and its statuses: change both together.
 use crate::client::{Asker, Stop, Task};
 use crate::command_line::{Settings, read_args};
 use crate::crowd::{Board, Done, Tally, work_all};

@@ -1,6 +1,6 @@
-//! Checks whether the words are right afterwards.
+//! Checks that each word has grown by the number of changes of it that were made.
 //!
-//! Used by: `run`.
+//! Used by: `run`. `specs/Sums` says when that is so: change both together.
 ghost use Rattle.std.specs.Prelude.{◌≡◌, true};
 ghost use Rattle.mw_load.specs.Sums as spec;
 ghost use Rattle.mw_load.specs.Sums.{AreSums};

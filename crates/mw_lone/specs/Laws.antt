@@ -1,4 +1,4 @@
--- What holds after every run of the store alone.
+-- Claims what holds after every run of the store alone: of its words, its slots, its quota and its replies.
 -- Used by: mw_law_store, the contracts of laws.rt. A change here changes these laws, which the laws of histories rest on.
 use Rattle.std.specs.Prelude.{ℕ, ◌≡◌, ◌≤◌, Bool, true, List, [], ◌∷◌, ◌++◌, length, Some}
 use Rattle.std.specs.Option.{option_and_then, option_to_list}

@@ -1,4 +1,4 @@
--- What every store keeps: its jobs are well formed, and its change in doubt is of words that are there.
+-- Defines when a store alone is sound: its jobs are well formed, and its change in doubt is of words that are there.
 -- Used by: the contracts of store.rt. It is what store.rt keeps from call to call; a clause may be added if each call keeps it.
 use Rattle.std.specs.Prelude.{ℕ, ◌≡◌, List, length, Some, IsTrue}
 use Rattle.std.specs.List.{list_all}

@@ -1,4 +1,4 @@
-//! The requests that were asked since the last start.
+//! The list of the requests that a store alone was asked since its last start, in the order of their numbers.
 //!
 //! Only `store.rt` uses it. It may change with `specs/Asked`, as long as `Lone` keeps its contracts.
 ghost use Rattle.std.specs.Prelude.{◌≡◌, ◌+◌, ◌-◌, ◌<◌, ◌&&◌, OnOk, OnErr, IsSome, IsSomeAnd, IfSome, IsTrue, true, not, length, slice_get};

@@ -1,4 +1,4 @@
-//! What may happen to a store.
+//! Defines the marks: the events that may happen to a store alone, such as a request, its reply, or a restart.
 //!
 //! mw_world's labels enter these marks into a tenant's history, and mw_plain's cases name them. CONTRIBUTING lists
 //! under *A mark* what a new one needs.

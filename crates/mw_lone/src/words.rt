@@ -1,4 +1,4 @@
-//! A tenant's words, read and written one at a time.
+//! Reads and writes a tenant's words, one at a time, for the store alone.
 //!
 //! Used by `asked.rt` and `store.rt` alone: it may change freely as long as both check.
 ghost use Rattle.std.specs.Prelude.{◌≡◌, ◌<◌, length, IsTrue};

@@ -1,5 +1,4 @@
--- Claims that the values at a place and their bits are one to one, and that a machine which loads the bits is told
--- the value.
+-- Claims that a value of a shared place and its 64 bits determine each other. A request that loads the bits is told the value.
 -- Used by: the contracts of laws.rt. A change here changes this law alone. The patterns are in mw_words.
 use Rattle.std.specs.Prelude.{◌≡◌, ◌^◌, ◌<◌, Some}
 use Rattle.mw_words.specs.declared.places.At.{At}

@@ -1,4 +1,4 @@
--- Defines the program of a read: its step at each of its points, and where it goes from there.
+-- Defines the program of a read (a state machine): its step at each point, and where it goes from there.
 -- Used by: Runs, 11 crates from mw_actor on, the contracts of look.rt and points.rt. It is the algorithm of a read: src/look.rt
 -- is proved to follow it, and laws in the crates above are about it.
 use Rattle.std.specs.Prelude.{ℕ, ◌+◌, ◌-◌, ◌<◌, ◌==◌, ◌&&◌, not, Bool, true, false, cond, nat_lt, Some, None}

@@ -1,4 +1,4 @@
--- Defines the steps for which a machine asks, with values in place of bits.
+-- Defines the steps that a request's program asks for, with values in place of their 64 bits.
 -- Used by: Program, Runs, 15 crates from mw_actor on, the contracts of look.rt and steps.rt. A new kind of step needs a case
 -- here, in src/steps.rt, and wherever the world makes steps (mw_world).
 use Rattle.std.specs.Prelude.{ℕ}

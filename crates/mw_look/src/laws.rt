@@ -1,8 +1,7 @@
-//! Facts about places, and about every run of a read, whatever it is told; for proofs to cite. The functions do
-//! nothing.
+//! Laws of shared places and of every run of a read, as contracts of empty functions.
 //!
 //! No code calls them. Proofs of mw_actor and of the laws (mw_law_requests, mw_law_counts and others) cite the lemmas
-//! behind them.
+//! behind them. They may change with `specs/PlacePatterns`, `specs/Runs` and these proofs. docs/STEPS refers to them.
 ghost use Rattle.mw_look.specs.PlacePatterns.{PacksFit, PacksAreUnpacked, PacksAreApart, PacksAreSeen, NilIsZero};
 ghost use Rattle.mw_look.specs.Runs.{ReadsChangeOnlyPins, ReadsStayAtTheirWord, ReadsAreUnderPin, PinsAreHeldUntilTakenBack, RepliesGiveBack, RepliesStay, RepliesAreOfTheWord};
 

@@ -1,4 +1,4 @@
-//! The machine of a read, and the types in which all machines of requests speak of shared words.
+//! The program of a read as a state machine, and the types of all requests' steps on shared words.
 //!
 //! Many requests work on the shared words at once. A request is a machine: it asks for its next step, a worker
 //! makes that step on the shared words, and tells the machine what the step found.

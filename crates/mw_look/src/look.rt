@@ -1,4 +1,5 @@
-//! The machine of a read: it finds the value of one word of a tenant, whatever others do to the word meanwhile.
+//! Finds the value of one word for a read, whatever others do to the word meanwhile. It is a state machine that asks
+//! for one step at a time.
 //!
 //! An `Actor` (mw_actor) has one while its job is a read. It may change as long as it asks and goes on as
 //! `specs/Program` says.

@@ -1,7 +1,7 @@
-//! The points of a read's program: its program counter.
+//! The points of a read's program (its program counter), each with what the read has found so far.
 //!
 //! `look.rt` goes from point to point, and the world's definitions see the point of each request. A new point needs a
-//! case in `specs/Program`, and in each law about reads.
+//! case in `specs/Program`, and in the laws about reads.
 ghost use Rattle.std.specs.Prelude.{◌≡◌};
 ghost use Rattle.mw_words.specs.Patterns.{IsGateInRange};
 ghost use Rattle.mw_look.specs.Program.{word_of, slot_of, seq_of, resumed, first_entry, next_entry, address_seen, pinning, answer, is_over, value_of};

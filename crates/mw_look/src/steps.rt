@@ -1,7 +1,11 @@
-//! The steps for which a machine asks, in bits.
+//! The operations that a request's program asks for: load or change a shared word of 64 bits, or call a tenant's
+//! file.
 //!
-//! A machine asks for an [`Op`]; mw_table makes it on the shared words, and mw_simulator in memory. A new [`Kind`]
-//! needs a way in mw_rule (`ways.rt`), and a case wherever the world says what a step means (mw_world).
+//! mw_table makes an [`Op`] on the shared words, and mw_simulator in memory. A new [`Kind`] needs a case in
+//! `Kind::shape` and perhaps `specs/Shapes`, its name in mw_schedule (`src/steps.rt`), and a case in `claims_slot`
+//! (mw_player, `specs/Printed`). A new fetch also needs a case in `way_of` (mw_rule), in `fetched` (mw_world,
+//! `specs/Definition/Changes`) and in mw_world_memory (`src/cells/steps.rt`). In `way_of` and the latter a catch-all
+//! takes a new fetch silently.
 ghost use Rattle.std.specs.Prelude.{◌≡◌};
 ghost use Rattle.mw_look.specs.Shapes.{shape_of};
 ghost use Rattle.mw_look.specs.Steps.{place_of};

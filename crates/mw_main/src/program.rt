@@ -1,6 +1,6 @@
 //! Runs a program from its start to its exit status.
 //!
-//! Each program's `main` calls `run`.
+//! Each program's `main` calls `run`. docs/OPERATING tells the texts and the statuses: change them together.
 ghost use Rattle.std.specs.Prelude.{◌≡◌};
 ghost use Rattle.std.specs.Process.{exit_status};
 

@@ -1,6 +1,6 @@
-//! Holds the descriptors of standard streams that are closed.
+//! Opens `/dev/null` on each standard stream that is closed, so that no file gets its number.
 //!
-//! Used by: `program`, before anything else of a program.
+//! Used by: `program`, before anything else of a program. docs/OPERATING tells users of it: change both together.
 
 use std::fs::{File, OpenOptions};
 use std::io;

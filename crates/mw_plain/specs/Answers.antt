@@ -1,5 +1,4 @@
--- What the calls on a store of several tenants promise: they answer as the tenant's store alone does, and leave the
--- tenant as it does.
+-- Defines what the calls on a plain store promise: each tenant is answered, and left, as its store alone does it.
 -- Used by: Made, Tasks, the contracts of restarts.rt and tenants.rt. The server does not use this crate: a change here changes
 -- only what tests compare the engine with.
 use Rattle.std.specs.Prelude.{◌≡◌, ◌≢◌, ℕ, false, List, length, Option, Some, None, is_some}

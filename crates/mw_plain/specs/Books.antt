@@ -1,4 +1,5 @@
--- The loaded file that serves a tenant; there is none if the tenant's file didn't open.
+-- Names the parts of a tenant's loaded file (its open file, with its words in memory), also if there is none because the file
+-- didn't open.
 -- Used by: Answers, CallEnds, Quotas, Report, Tickets, the contracts of calls.rt, part.rt and serving.rt. It may change with
 -- LoadedFile, in src/book.rt.
 use Rattle.std.specs.Prelude.{◌≡◌, ℕ, Bool, true, false, List, length, Option, Some, None}

@@ -1,4 +1,4 @@
--- How a tenant's calls end.
+-- Defines how the start of a job and the finish of a change end for one tenant: its reply, its file, and its store alone.
 -- Used by: Answers, the contracts of calls.rt and serving.rt. It may change with calls.rt and serving.rt, as long as Answers
 -- still follows.
 use Rattle.std.specs.Prelude.{◌≡◌, ◌≢◌, ◌≤◌, ◌+◌, ℕ, true, false, List, length, Option, Some, None, is_some}

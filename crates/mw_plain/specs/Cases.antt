@@ -1,5 +1,5 @@
--- What the calls of a plain store come to, by cases: the marks of a call, the reply that they hand out, and the store
--- alone after them. One call starts a job. If the start prepared a change, another call finishes it.
+-- Defines the cases in which a call of the plain store may end. Each has marks (events), the reply that they hand out, and the
+-- store alone after them. One call starts a job. If the start prepared a change, another call finishes it.
 -- Used by: Answers, CallEnds, Marks, Tasks, the contracts of calls.rt, restarts.rt, serving.rt and tenants.rt. A new mark or
 -- reply needs a case here first; Answers and CallEnds follow it.
 use Rattle.std.specs.Prelude.{ℕ, ◌≡◌, ◌≢◌, ◌<◌, ◌+◌, ◌-◌, Bool, true, false, List, [], ◌∷◌, ◌++◌, length, Option, Some, None, IsTrue, IsSomeAnd, slice_get, take}
@@ -220,7 +220,7 @@ abbrev pub after_ask : Store → Job → AskCase → Store
 after_ask s job (AtStart case) = after_start s job case
 after_ask s job (AtFinish case) = after_finish (after_start s job Prepared) s.next job case
 
--- the start ends the job, and no finish is to come
+-- the start ends the job, and no finish follows
 abbrev pub is_end : StartCase → Bool
 is_end Prepared = false
 is_end case = true

@@ -1,4 +1,4 @@
--- What a store of several tenants is made of: their lines and their files.
+-- Defines which opened files fit which tenants' lines, and of what parts a new plain store is made.
 -- Used by: Made, Restarts, mw_store_tests, mw_engine_tests, the contracts of opening.rt. A change here changes which files a
 -- store may be made of.
 use Rattle.std.specs.Prelude.{◌≡◌, ◌≤◌, ℕ, true, false, List, [], ◌∷◌, length, sum_by, Option, Some, None, Vec, IsTrue}

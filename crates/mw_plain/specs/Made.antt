@@ -1,4 +1,4 @@
--- What a new store of several tenants represents.
+-- Defines which stores alone represent the tenants of a new plain store.
 -- Used by: the contracts of opening.rt. A change here changes what Plain::new promises.
 use Rattle.std.specs.Prelude.{◌≡◌, ℕ, List, slice_get, Some, Option, Vec}
 use Rattle.std.specs.declared.alloc.Global.{Global}

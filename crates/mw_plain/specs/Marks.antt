@@ -1,5 +1,5 @@
--- What the marks of a call do to the store alone: they are legal, they hand out the call's reply, and they leave the
--- store that the case says.
+-- Claims that a call's marks (events) are legal for the store alone, hand out the call's reply, and lead to the store of its
+-- case.
 -- Used by: Answers, Tasks, the contracts of laws.rt. A change here changes the law marks_of_a_call, by which the cases are tied
 -- to mw_lone.
 use Rattle.std.specs.Prelude.{ℕ, ◌≡◌, ◌≢◌, Bool, if◌then◌else◌, List, [], ◌∷◌, ◌++◌, length, Option, Some, IsTrue}

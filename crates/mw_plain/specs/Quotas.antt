@@ -1,4 +1,4 @@
--- The slots that tenants share and use, and the disks of their files.
+-- Defines how many slots the tenants of a plain store may use and do use, and which disks their files are on.
 -- Used by: the contracts of opening.rt, plain.rt and tenants.rt. A change here changes what the store says of slots in use.
 use Rattle.std.specs.Prelude.{ℕ, List, sum_by, Option}
 use Rattle.std.specs.Option.{option_map}

@@ -1,5 +1,6 @@
--- When a tenant's store alone represents what serves the tenant.
--- Used by: Answers, CallEnds. It is the relation that every call keeps: a clause may be added if each call keeps it.
+-- Defines when a store alone (the reference model) represents a tenant's loaded file, and what a crash during a call may leave of
+-- that file.
+-- Used by: Answers, CallEnds. Every call keeps this relation. A clause added here must also hold after a start (`Plain::new`).
 use Rattle.std.specs.Prelude.{◌≡◌, ℕ, true, List, length, Option, Some, None, IsTrue}
 use Rattle.mw_disk.specs.Facts.{Facts}
 use Rattle.mw_disk.specs.Runs.{LeavesOnly}

@@ -1,4 +1,4 @@
--- What a report says of a tenant.
+-- Defines the figures that a report of the plain store has for a tenant.
 -- Used by: the contracts of serving.rt and tenants.rt. A change here changes the figures that a report has for a tenant.
 use Rattle.std.specs.Prelude.{not}
 use Rattle.mw_report.specs.declared.figures.TenantFigures.{TenantFigures}

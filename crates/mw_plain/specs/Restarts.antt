@@ -1,4 +1,4 @@
--- What a start goes on from after a crash.
+-- Defines with which words and quota a tenant's store alone may start after a crash.
 -- Used by: the contracts of restarts.rt. A change here changes the law a_restart_goes_on.
 use Rattle.std.specs.Prelude.{◌≡◌, ◌≤◌, ℕ, Bool, List, [], length, Option, Some, Vec, Result, Ok, Err, IsTrue}
 use Rattle.std.specs.declared.alloc.Global.{Global}

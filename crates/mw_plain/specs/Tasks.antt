@@ -1,4 +1,4 @@
--- Tasks that are asked one after the other.
+-- Defines how a list of tasks (jobs, each with its tenant) is answered, and what it does to the tenants' stores alone.
 -- Used by: the contracts of tenants.rt. A change here changes what Plain::run promises.
 use Rattle.std.specs.Prelude.{◌≡◌, ◌<◌, ◌==◌, ℕ, List, [], ◌∷◌, map, IsTrue, if◌then◌else◌}
 use Rattle.mw_disk.specs.Facts.{Facts}

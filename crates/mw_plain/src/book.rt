@@ -1,4 +1,4 @@
-//! The words of a tenant whose file has opened, over that file.
+//! A tenant's file after it has opened, with its words in memory, the slots in use, and whether it has faulted.
 //!
 //! `calls.rt` changes it, and `opening.rt` makes it. A new field needs a value there, and a clause in
 //! `specs/Refinement` if the store alone knows of it.

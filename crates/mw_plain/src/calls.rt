@@ -1,4 +1,4 @@
-//! The calls of one tenant whose file has opened.
+//! Starts and finishes a change of one tenant whose file has opened, and answers its reads.
 //!
 //! `serving.rt` makes these calls, and `tenants.rt` reads what a start leaves to do. How the calls end is in
 //! `specs/CallEnds`: change both together.

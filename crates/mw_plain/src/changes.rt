@@ -1,4 +1,4 @@
-//! The comparison and the writing of a change.
+//! Compares a tenant's words with the values that a change expects, and writes its new values into them.
 //!
 //! Called by `calls.rt` alone: it may change freely as long as that checks.
 ghost use Rattle.std.specs.Prelude.{◌≡◌, length, IsTrue, MatchOption};

@@ -1,4 +1,5 @@
-//! The plain store: every tenant's words over its own file, one call at a time.
+//! The plain store: a store without threads, with which tests compare the engine. Every tenant's words are over its
+//! own file, and one call is made at a time.
 //!
 //! Two calls serve a change. `start` counts a slot of the tenant's quota for it, and prepares it in the tenant's
 //! file. `finish` compares the words, and then writes them or gives the change up. `ask` does both, and `run` asks

@@ -1,4 +1,4 @@
-//! The calls of one tenant.
+//! Serves one tenant of the plain store: its calls, and its figures for the report, also if its file didn't open.
 //!
 //! Called by `tenants.rt` alone, which finds the tenant. How the calls end is in `specs/CallEnds`: change both
 //! together.

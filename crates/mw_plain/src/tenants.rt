@@ -1,6 +1,8 @@
-//! The calls on the store of all tenants.
+//! The calls on the plain store: start, finish, ask, run, and the report's figures, each for the tenant that it
+//! names.
 //!
-//! mw_store_tests and mw_engine_tests make these calls. What they promise is in `specs/Answers` and `specs/Tasks`.
+//! mw_store_tests and mw_engine_tests make these calls. `specs/Answers` and `specs/Tasks` say what they promise:
+//! change them together. docs/PROMISES cites `ask`.
 ghost use Rattle.std.specs.Prelude.{◌≡◌, ◌<◌, ◌≤◌, ◌-◌, map, IsTrue, IfOk, OnErr};
 ghost use Rattle.mw_report.specs.Table.{AreWithinLimits};
 ghost use Rattle.mw_words.specs.Change.{is_well_formed};

@@ -1,7 +1,8 @@
-//! What the plain store's calls take and give.
+//! The values that the plain store's calls take and give: tasks, tickets of started changes, and what a start
+//! answers.
 //!
 //! `tenants.rt` gives and takes them. Only it makes a [`Ticket`], so that each ticket is of a change that was
-//! started.
+//! started. A new field or variant needs its value in `tenants.rt`.
 
 use mw_file::Place;
 use mw_words::{Entries, Job, Reply};

@@ -1,4 +1,4 @@
-//! The lines that a player prints.
+//! Makes and writes the lines that a player prints.
 //!
 //! Used by: `player`. `specs/Printed` says which line each reply and claim has: change both together.
 ghost use Rattle.std.specs.Prelude.{◌≡◌, ℕ, IfOk};

@@ -1,4 +1,4 @@
-//! Plays the lines of a schedule on a world.
+//! Plays the lines of a schedule on a simulated world.
 //!
 //! Used by: `replay`. A new command of mw_schedule needs a case in `Player::obey`, and a new [`PlayFault`]
 //! one in `replay`.

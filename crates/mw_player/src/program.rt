@@ -1,4 +1,4 @@
-//! `mwreplay`: plays a schedule.
+//! The program `mwreplay`: plays a schedule on a simulated world and prints the replies.
 //!
 //! `mwreplay` calls `replay_args`. The exit statuses are in `specs/Replayed` too: change both together.
 ghost use Rattle.std.specs.Prelude.{◌≡◌, IfOk};

@@ -1,6 +1,6 @@
-//! Tests what playing schedules gives.
+//! Tests what playing a schedule (a text of what happens to a world) gives.
 //!
-//! Used by: `restart_tests`.
+//! Used by: `restart_tests`. It may change freely as long as this crate checks and its tests pass.
 ghost use Rattle.mw_schedule.specs.Playable.{IsSchedule};
 
 use crate::line_tests::{

@@ -1,5 +1,7 @@
 //! Tests restarts that give quotas, and files that no start has opened yet. Here a schedule is one line;
 //! `/` ends each of its own lines.
+//!
+//! Nothing else uses it: it may change with what it tests.
 
 use crate::replay_tests::{play, play_behind_head};
 use std::alloc::{AllocError, Global};

@@ -1,6 +1,6 @@
-//! Schedules that tests play, and what playing them prints.
+//! The schedules that tests play, and what playing them must print.
 //!
-//! Used by: `mistake_tests`, `replay_tests`.
+//! Used by: `mistake_tests`, `replay_tests`. It may change freely as long as this crate checks and its tests pass.
 
 const OWN_QUOTA_BUSY: &str = "\
 pool 2

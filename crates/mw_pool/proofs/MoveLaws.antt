@@ -1,5 +1,7 @@
--- Each move's function gives just what its relation allows, and stays in range. Unpin subtracts 2^48 from the bits.
--- Used by: mw_look, mw_actor, mw_law_moves. Its statements may change with those crates; its proofs may change freely.
+-- The functions of `specs/Moves` (admit, claim, pin, unpin, free) give exactly the doors and gates that its relations allow, in
+-- range. Unpin subtracts 2^48 from the bits.
+-- Used by: mw_look, mw_actor, mw_law_moves. Its statements may change with mw_actor, mw_law_moves and mw_look; its proofs may
+-- change freely.
 use Rattle.std.specs.Prelude.{◌≡◌, ℕ, ◌+◌, ◌^◌, ◌<◌, ◌≤◌, ◌==◌, ◌&&◌, Bool, true, false, not, cond, nat_lt, nat_le, Some, None, IfSome}
 use Rattle.std.proofs.Common.{refl, arith}
 use Rattle.std.proofs.lemmas.Bool.Decides.{nat_tests}

@@ -1,7 +1,7 @@
-//! What a tenant's door says to one change more.
+//! Tells whether a tenant's door admits one change more: it does, or the answer is BUSY or FAULT.
 //!
 //! A change calls [`admit`] when it has loaded its tenant's door (mw_actor). What an admission may do is in
-//! `specs/Moves`.
+//! `specs/Moves`: change both together.
 ghost use Rattle.std.specs.Prelude.{◌≡◌};
 ghost use Rattle.mw_pool.specs.Moves.{Says, after_admit};
 

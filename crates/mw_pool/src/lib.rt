@@ -14,9 +14,9 @@
 //!
 //! A move whose result doesn't fit the bits of a door or a gate is not allowed.
 //!
-//! The machines of requests (mw_look, mw_actor) call admit, claim and pin before they ask for the exchange. Unpin and
-//! free are called by tests alone: their steps are made without a load. The laws of the world cite `specs/Moves`, so
-//! a change there changes the algorithm.
+//! Requests (mw_look, mw_actor) call admit, claim and pin before they ask for the exchange. Unpin and free are called
+//! by tests alone: their steps are made without a load. The laws of the world cite `specs/Moves`, so a change there
+//! changes the algorithm.
 #![tactic(auto)]
 
 mod doors;

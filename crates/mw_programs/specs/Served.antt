@@ -1,5 +1,5 @@
--- What a worker's answers say of what its pass knew before and after, and what a session of a worker says.
--- Used by: the contracts of src/served.rt and src/worker.rt. A change here changes what these contracts say.
+-- Defines what a worker answers to a session, by what its pass (its handle to the engine) knew before and after.
+-- Used by: the contracts of src/served.rt and src/worker.rt. It may change with src/served.rt and src/worker.rt.
 use Rattle.std.specs.Prelude.{◌≡◌, ℕ, List, length, map, Option, MatchOption}
 use Rattle.mw_session.specs.declared.session.Ended.{Ended}
 use Rattle.mw_session.specs.Transitions.{GoesThrough}

@@ -1,6 +1,7 @@
-//! Serves clients, over TCP or by local sockets.
+//! Listens at the addresses of a server, and serves the clients that come, each by a free worker.
 //!
-//! Used by: `serving`, if the command line says `--listen`.
+//! Used by: `serving`, if the command line says `--listen`. docs/OPERATING tells what it prints and its notes: change
+//! both together.
 ghost use Rattle.std.specs.Prelude.{◌≡◌, ◌<◌, All, IfOk, vec_len};
 ghost use Rattle.mw_engine.specs.Passes.{IsNew};
 

@@ -1,7 +1,6 @@
-//! Implements the programs of the server: `mwinit` makes a tenant's file, and `mwserve` serves tenants'
-//! words.
+//! Implements two programs: `mwinit` makes a tenant's file, and `mwserve` serves tenants' words.
 //!
-//! Used by: mwinit, mwserve, mw_examples.
+//! Used by: mwinit, mwserve, mw_examples. docs/OPERATING describes both programs for users: change them together.
 #![tactic(auto)]
 
 mod clients;

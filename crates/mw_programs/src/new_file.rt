@@ -1,6 +1,6 @@
-//! Implements `mwinit`: makes a tenant's file.
+//! Implements `mwinit`: makes a tenant's file with words that are 0, and syncs it.
 //!
-//! `mwinit` calls `init`.
+//! `mwinit` calls `init`. docs/OPERATING tells its form, its notes and its statuses: change both together.
 ghost use Rattle.std.specs.Prelude.{◌≤◌, IfSome};
 ghost use Rattle.mw_words.specs.declared.limits.TheConstants.{MAX_WORDS};
 ghost use Rattle.mw_record.specs.declared.layout.TheConstants.{FIRST_PLACES};

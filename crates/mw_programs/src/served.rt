@@ -1,4 +1,5 @@
-//! Implements a session's service for a worker: the engine answers, with the worker's pass.
+//! Implements a session's service for a worker: finds tenants, asks the engine for jobs, and gives the report's
+//! figures.
 //!
 //! mw_session calls it for the lines of a session, which `worker` runs. A new question of a session needs a
 //! call here and in `Service` of mw_session.

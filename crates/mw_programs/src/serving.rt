@@ -1,6 +1,6 @@
 //! Implements `mwserve`: reads the command line, opens the files, and serves the tenants' words.
 //!
-//! `mwserve` calls `serve`.
+//! `mwserve` calls `serve`. docs/OPERATING tells its options, notes and statuses: change them together.
 ghost use Rattle.std.specs.Prelude.{◌≡◌, ◌<◌, ◌≤◌, All, IfOk, vec_len};
 ghost use Rattle.mw_config.specs.CommandLine.{ArePermittedArgs};
 ghost use Rattle.mw_config.specs.Limits.{ArePermitted};

@@ -1,6 +1,7 @@
-//! Writes notes on tenants that fail while they are served.
+//! Writes a note, once, on each tenant whose file fails while it is served.
 //!
-//! `serving` makes the notes. `served` tells of each FAULT, on behalf of a worker.
+//! `serving` makes the notes. `served` tells of each FAULT, on behalf of a worker. docs/OPERATING tells the note's
+//! text: change both together.
 ghost use Rattle.std.specs.Prelude.{◌<◌};
 ghost use Rattle.mw_words.specs.declared.limits.TheConstants.{MAX_TENANTS};
 

@@ -1,6 +1,7 @@
-//! A worker of an engine, which serves sessions.
+//! A worker: it serves sessions with its pass, its handle to the engine.
 //!
-//! Used by: `serving`, for a script; `clients`, for each worker of the listener.
+//! Used by: `serving`, for a script; `clients`, for each worker of the listener. `specs/Served` says what a session
+//! of a worker is: change both together. docs/PROMISES cites `Worker::run`.
 ghost use Rattle.std.specs.Prelude.{◌≡◌, true};
 ghost use Rattle.mw_engine.specs.Passes.{IsPassOf};
 ghost use Rattle.mw_programs.specs.Served.{IsSession};

@@ -1,6 +1,5 @@
--- Some changes of a layout's bytes keep its words: a closed place whose values are at home, a covered home word, bytes past its end.
--- Others put a record over them. Used by: FirstBytes, mw_file, the law first_layouts_stay. Its statements may change with
--- mw_file; its proofs may change freely.
+-- Says which writes to a file's bytes keep its words, and which add one record's change to them.
+-- Used by: FirstBytes, mw_file, the law first_layouts_stay. Its statements may change with mw_file; its proofs may change freely.
 use Rattle.std.proofs.Common.{◌≡◌, ℕ, ◌+◌, ◌<◌, ◌≤◌, ◌⊎◌, List, length, get_or, refl, sym, ap, ◌∙◌, inl, inr, arith}
 use Rattle.mw_record.specs.declared.layout.Layout.{Layout}
 use Rattle.mw_record.specs.declared.layout.Layout.TheVariants.{First}

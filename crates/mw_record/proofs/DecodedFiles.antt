@@ -1,4 +1,4 @@
--- A file's damage, or its layout in use and its sizes, follow from what the bytes of one layout are found to be.
+-- What `decode` found of one layout's bytes tells the file's damage, or its layout in use and its sizes.
 -- Used by: the proof of decode. It may change freely as long as this crate checks.
 use Rattle.std.proofs.Common.{◌≡◌, ℕ, true, false, Option, Some, None, List, drop, Result, Ok, Err, IsErrAnd, MatchResult, sym, ap, ◌∙◌}
 use Rattle.mw_record.specs.declared.layout.Layout.{Layout}

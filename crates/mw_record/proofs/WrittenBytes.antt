@@ -1,4 +1,4 @@
--- The loops that write a record's body and a second layout's words give exactly their bytes.
+-- The loops that write a record's body and a second layout write exactly the bytes that `specs/Layout` defines.
 -- Used by: ClosedPlaces, the proofs of body and write_second. It may change freely as long as this crate checks.
 use Rattle.std.proofs.Common.{◌≡◌, ℕ, ◌+◌, ◌-◌, ◌*◌, ◌<◌, ◌≤◌, List, [], ◌∷◌, ◌++◌, length, get_or, take, drop, replicate, refl, sym, ap, ◌∙◌, arith, append_assoc}
 use Rattle.std.specs.List.{flat_map}

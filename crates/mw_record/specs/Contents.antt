@@ -1,4 +1,4 @@
--- What words a layout's bytes and a file's bytes represent.
+-- Defines which words the bytes of a layout, and those of a whole file, represent.
 -- Used by: mw_file, mw_world_file, mw_engine, mw_show, the contracts of laws.rt. A change here changes which words a file is said
 -- to have.
 use Rattle.std.specs.Prelude.{◌≡◌, ◌<◌, ◌≤◌, ℕ, Bool, true, false, Some, List, length, drop, slice_index}

@@ -1,6 +1,6 @@
--- What can be wrong with a file, and what a file without damage says.
--- A file begins with a first layout. If the switch byte in its head is set, a second layout is in use, at the offset that the head
--- tells. Otherwise the first is in use.
+-- Defines what can be wrong with a file, in the order of the tests, and what a file without damage says. A file begins with a
+-- first layout. If the switch byte in its head is set, a second layout is in use, at the offset that the head tells. Otherwise
+-- the first is in use.
 -- Used by: Contents, mw_file, mw_world_file, mw_engine, mw_simulator, mw_show, the contracts of damages.rt, images.rt and
 -- laws.rt. A new Damage needs a case here, in src/damages.rt and in mw_show.
 use Rattle.std.specs.Prelude.{◌≡◌, ℕ, ◌*◌, ◌==◌, ◌&&◌, nat_le, if◌then◌else◌, Bool, Option, Some, None, List, [], ◌∷◌, drop, slice_index, is_none}

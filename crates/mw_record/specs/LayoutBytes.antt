@@ -1,4 +1,4 @@
--- What the bytes of one layout say, from where it begins: its sizes, its records, its words, and what can be wrong with it.
+-- Defines what the bytes of one layout say: its sizes, its records, its words, and what can be wrong with it.
 -- Used by: Contents, Damages, mw_file, mw_world_file, mw_show, the contracts of images.rt. It is how a file is read: a change
 -- here changes which files are taken for damaged.
 use Rattle.std.specs.Prelude.{ℕ, ◌&&◌, nat_eq, nat_le, Bool, List, [], ◌∷◌, length, map, unwrap_or}

@@ -1,7 +1,8 @@
-//! What can be wrong with a file.
+//! The kinds of damage that a file may have, each with its number.
 //!
-//! `decode` finds them, mw_file doesn't open a file that has one, and mw_show says what it is. A new damage needs a
-//! number in `specs/Damages`, and a text in mw_show.
+//! `decode` finds them, mw_file doesn't open a file that has one, and mw_show prints its number and where it is. A
+//! new damage needs a number in `specs/Damages`, a byte in mw_show (`damaged.rt`, and `byte_of` in `specs/Places`),
+//! and a row in docs/OPERATING.
 ghost use Rattle.std.specs.Prelude.{◌≡◌};
 ghost use Rattle.mw_record.specs.Damages as spec;
 

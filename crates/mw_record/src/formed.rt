@@ -1,4 +1,4 @@
-//! The bytes of a layout that has all its bytes, and whose open records are well formed.
+//! Tests whether the records of a layout are well formed and apart, and reads its words.
 //!
 //! Used by `images.rt` alone: it may change freely as long as `decode` and the calls of `Image` keep their contracts.
 ghost use Rattle.std.specs.Prelude.{◌≡◌, ◌+◌, ◌≤◌, ◌<◌, ◌&&◌, nat_le, true, length};

@@ -1,4 +1,4 @@
-//! Where each part of a layout is, and how its numbers are read and written.
+//! Defines where each part of a file's layout is, and reads and writes its numbers.
 //!
 //! It is the format of files that are in use: CONTRIBUTING says under *Limits of the file* what may change. mw_file,
 //! mw_show and mw_world_file use these numbers, and docs/FILES tells them.

@@ -1,5 +1,5 @@
-//! The bytes of a tenant's file: how its two layouts are laid out, what is written to them, and what the
-//! bytes of a whole file say when they are read.
+//! Defines the bytes of a tenant's file: its two layouts, what is written to them, and what the bytes of a whole file
+//! say.
 //!
 //! Every number is little-endian. A file begins with a first layout. If its switch byte is [`COMMITTED`], a
 //! second layout follows, at the offset that the file's head tells. Then the second layout is in use: the

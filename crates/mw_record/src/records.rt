@@ -1,4 +1,5 @@
-//! One record of a file, in the file's bytes.
+//! Reads one record in a file's bytes: its entries, whether they are well formed, and the value that it gives to a
+//! word.
 //!
 //! Used by `formed.rt` and `images.rt` alone: it may change freely as long as `decode` keeps its contract.
 ghost use Rattle.std.specs.Prelude.{◌≡◌, ◌+◌, ◌*◌, ◌≤◌, ◌<◌, length, Some, slice_get, slice_index};

@@ -1,4 +1,4 @@
--- The text of the administrator's report: a table of the tenants, and how many slots of the pool are free.
+-- Defines the text of the administrator's report: a table of the tenants, and how many slots of the pool are free.
 -- Used by: 6 crates from mw_plain on, the contracts of table.rt. A change here is a change of the REPORT, which clients read:
 -- docs/PROTOCOL and mw_client change with it.
 use Rattle.std.specs.Prelude.{ℕ, ◌-◌, ◌≤◌, ◌++◌, All, Bool, List, length, replicate, flat_map, codes, decimal, if◌then◌else◌}

@@ -1,4 +1,4 @@
-//! What a report tells.
+//! The figures of an administrator's report: those of each tenant, and how many slots of the pool are free.
 //!
 //! mw_engine gathers them, mw_session has them written, and mw_client gives them to its caller. A new figure needs a
 //! column in `specs/Table` and `table.rt`, its value in mw_engine, and its reader in mw_client.

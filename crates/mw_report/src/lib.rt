@@ -1,4 +1,5 @@
-//! The administrator's report: a table of the tenants with their figures, and how many slots of the pool are free.
+//! Writes the administrator's report: a table of the tenants with their figures, and how many slots of the pool are
+//! free.
 //!
 //! ```text
 //! t                   2  1  2  0 up

@@ -1,7 +1,8 @@
-//! The report's text.
+//! Writes the text of an administrator's report: a line for each tenant, and a last line for the pool.
 //!
 //! mw_session calls [`report_text`] to answer `REPORT`. mw_client calls it to check that it has understood a report.
-//! [`MAX_REPORT`] must have room for a line of each tenant and the last one.
+//! [`MAX_REPORT`] must have room for a line of each tenant and the last one. `specs/Table` defines the text: change
+//! both together.
 ghost use Rattle.std.specs.Prelude.{◌≡◌, ◌+◌, ◌≤◌, ◌++◌, decimal, length};
 ghost use Rattle.mw_report.specs.Table as spec;
 ghost use Rattle.mw_report.specs.Table.{AreWithinLimits, IsWithinLimits};

@@ -1,5 +1,5 @@
--- If a run can be extended with one failed device call of a file call, it can be with any other of that call.
--- Used by: the law moves_are_of_the_run, mw_table.
+-- If one device call of a file call may fail after a run, so may any other device call of that file call.
+-- Used by: the law moves_are_of_the_run, mw_table. Its statements may change with mw_table; its proofs may change freely.
 use Rattle.std.specs.Prelude.{ℕ, ◌≡◌, ◌<◌, true, false, List, [], ◌∷◌, ◌++◌, Some}
 use Rattle.std.specs.Option.{option_and_then}
 use Rattle.std.proofs.Common.{sym, ap, subst, ◌∙◌, append_assoc, arith}

@@ -1,5 +1,5 @@
--- A step extends a run by its own events, a first step also by the coming before it, a plain load by none.
--- Used by: the law moves_are_of_the_run, mw_table.
+-- Which events a thread adds to the table's run: a step its own, a first step also the arrival before it, a plain load none.
+-- Used by: the law moves_are_of_the_run, mw_table. Its statements may change with mw_table; its proofs may change freely.
 use Rattle.std.specs.Prelude.{ℕ, ◌≡◌, ◌<◌, true, List, [], ◌∷◌, slice_index}
 use Rattle.std.proofs.Common.{refl, sym, ap, subst, ◌∙◌, inr, arith}
 use Rattle.std.proofs.lemmas.Bool.Decides.{nat_tests}

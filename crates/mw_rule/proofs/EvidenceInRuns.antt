@@ -1,5 +1,5 @@
--- What a request's step finds on the table is what the world has, and so it is evidence for the request's reply.
--- Used by: RequestEvents.
+-- What a request's step finds in the table's bits is what the world has there, so it counts as evidence for the reply.
+-- Used by: RequestEvents. It may change freely as long as this crate checks.
 use Rattle.std.specs.Prelude.{ℕ, ◌≡◌, ◌≤◌, List, [], Some}
 use Rattle.std.proofs.Common.{sym, ap, subst, ◌∙◌, arith}
 use Rattle.mw_words.specs.declared.doors.Door.{Door}

@@ -1,5 +1,6 @@
--- A thread's finished requests are split by worker without loss, and a merged pair of threads can be split again.
--- Used by: the law knowledge_stays_right, KnowledgeIsRight, SplitLaws, mw_table.
+-- The list of a thread's finished requests is split by worker without loss, and two merged lists can be split again.
+-- Used by: the law knowledge_stays_right, KnowledgeIsRight, SplitLaws, mw_table. Its statements may change with mw_table; its proofs may
+-- change freely.
 use Rattle.std.specs.Prelude.{ℕ, ◌+◌, ◌≡◌, ◌≢◌, ◌==◌, Bool, true, false, cond, List, [], ◌∷◌, ◌++◌}
 use Rattle.std.proofs.Common.{refl, sym, ap, subst, ◌∙◌, append-nil, inl, inr, arith}
 use Rattle.std.proofs.lemmas.Bool.Decides.{nat_tests}

@@ -1,5 +1,5 @@
--- What a thread knows when it makes a call on a file is true in the world, before each step of the call and after it.
--- Used by: FileCalls.
+-- Before and after each step of a thread's call on a file, what it knows of the file and its request is true.
+-- Used by: FileCalls. It may change freely as long as this crate checks.
 use Rattle.std.specs.Prelude.{ℕ, ◌+◌, ◌≡◌, ◌≤◌, ◌<◌, ◌==◌, true, List, [], ◌∷◌, ◌++◌, Some, None}
 use Rattle.std.proofs.Common.{sym, ap, subst, ◌∙◌, arith}
 use Rattle.std.proofs.lemmas.Bool.Decides.{nat_tests}

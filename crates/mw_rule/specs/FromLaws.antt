@@ -1,5 +1,5 @@
--- Definitions of the laws below that crates above need too, passed on: these then name this crate alone.
--- Used by: mw_table, mw_core, mw_engine. Add and take out names as these crates need them.
+-- Definitions of the law crates that crates above need too, passed on: mw_table then names this crate alone.
+-- Used by: mw_table, which passes some on. Add and take out names as these crates need them.
 pub use Rattle.mw_law_calls.specs.declared.file_token.FileToken.{FileToken}
 pub use Rattle.mw_law_calls.specs.CallsByToken.{End, FindsFault, GoesWell, MayEnd, MeetsFault, Skips, file_token_by, went_well}
 pub use Rattle.mw_law_calls.specs.CallEnds.{kind_of}

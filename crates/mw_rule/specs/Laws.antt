@@ -1,4 +1,4 @@
--- What is proved of the rule: it holds of new tables, and whatever threads do keeps it.
+-- States that the rule of the table (`specs/Rule`) holds of new tables, and that whatever threads do keeps it.
 -- Used by: the laws of src/laws.rt, mw_table. A change here changes what these laws say.
 use Rattle.std.specs.Prelude.{[], false, length, List, slice_get, Option, Some, true, ℕ, ◌<◌, ◌∷◌, ◌≡◌, ◌≢◌, ◌≤◌}
 use Rattle.atomic_table.specs.Table.{Me, Allows, Splits, Joins, opening}

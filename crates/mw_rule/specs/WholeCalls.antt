@@ -1,4 +1,4 @@
--- A whole request of a thread: what the thread knew when it came, and what it knows when it has its reply.
+-- Defines a whole request of a thread: what the thread knew when it came, and what it knows when it has its reply.
 -- Used by: the laws of src/laws.rt, mw_table, mw_core, mw_engine. A change here changes what these laws say.
 use Rattle.std.specs.Prelude.{ℕ, ◌≡◌, ◌≤◌, Bool, true, List, [], ◌∷◌, ◌++◌, length, Option, Some, None}
 use Rattle.mw_words.specs.declared.jobs.Job.{Job}

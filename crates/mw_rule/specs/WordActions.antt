@@ -1,4 +1,4 @@
--- All that a thread may do to one word of the table, and by which events each of these actions extends the table's run.
+-- Lists all that a thread may do to one word of the table, and by which events each of these actions extends the table's run.
 -- Used by: the laws of src/laws.rt, mw_table, mw_core, mw_engine. A change here changes what these laws say.
 use Rattle.std.specs.Prelude.{ℕ, true, false, ◌≡◌, List, [], ◌∷◌, ◌++◌, Some}
 use mathlib.Core.Option.{some}

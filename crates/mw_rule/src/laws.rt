@@ -1,4 +1,4 @@
-//! States what is proved of the rule.
+//! States what is proved of the rule that ties the threads' shared words to a run of the world (`specs/Rule`).
 //!
 //! The functions do nothing, and nothing calls them: each contract is a fact, proved in `proofs/laws`. Proofs
 //! of crates above import other pages of `proofs`, by which these facts are proved. To change a fact, change

@@ -1,6 +1,8 @@
-//! The rule as a type that the table takes, and the ways in which threads share what they know.
+//! Gives the rule (`specs/Rule`) as a type that `atomic_table` takes, and the ways in which threads split and merge
+//! what they know.
 //!
-//! mw_table names these types when it makes a table, and when threads split and merge what they know.
+//! mw_table names these types when it makes a table, and when threads split and merge what they know. `specs/Rule`
+//! and `specs/Splits` define them: change them together.
 ghost use Rattle.std.specs.Prelude.{List, ℕ};
 ghost use Rattle.mw_world.specs.declared.config.Config.{Config};
 ghost use Rattle.mw_world.specs.Definition.Events.{WorldEvent};

@@ -1,6 +1,6 @@
-//! What a thread knows of the world, as ghost types. Proofs use them; the program makes no value of them.
+//! Ghost types of what a thread knows of the world: its view. Proofs use them; the program makes no value of them.
 //!
-//! Used by: `rule`, mw_table.
+//! Used by: `rule`, mw_table. `specs/Rule` says when a view is true: change it with a field.
 
 use mw_actor::Actor;
 use mw_law_calls::FileToken;

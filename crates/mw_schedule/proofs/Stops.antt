@@ -1,4 +1,5 @@
--- Stops that a schedule may have stay so with one more, if it is of another tenant. Used by: the proof of read_stops.
+-- Stops of files that a schedule may have are still such with one more, if that is of another tenant.
+-- Used by: the proof of read_stops. It may change freely as long as this crate checks.
 use Rattle.std.proofs.Common.{◌≡◌, ◌≢◌, ℕ, ◌==◌, ◌<◌, false, List, [], ◌∷◌, ◌++◌, arith}
 use Rattle.std.specs.Prelude.{All}
 use Rattle.std.specs.List.{list_any}

@@ -1,4 +1,4 @@
--- The number that a text is.
+-- Defines the number that a whole text is, if it is one.
 -- Used by: the contracts of src/fields.rt. A change here changes what these contracts say.
 use Rattle.std.specs.Prelude.{ℕ, ◌==◌, List, length, if◌then◌else◌, Option, Some, None}
 use Rattle.mw_line.specs.LineReader.{◌>>=◌, narrow, number_at}

@@ -1,4 +1,4 @@
-//! The lines of a schedule that say what happens.
+//! Reads the lines of a schedule that say what happens.
 //!
 //! Used by: `reader`; `restarts`, for the numbers of tenants and workers. A new command needs a case here, in
 //! `schedule`, in mw_player, and in docs/SCHEDULES.md.

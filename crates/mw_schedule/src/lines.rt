@@ -1,6 +1,6 @@
-//! The lines of a text, one after the other.
+//! Reads a text line by line.
 //!
-//! Used by: `config`, `olds`, `reader`.
+//! Used by: `config`, `olds`, `reader`. Its contracts use `specs/Lines`: change them together.
 ghost use Rattle.std.specs.Prelude.{◌≡◌, IfSome};
 ghost use Rattle.mw_schedule.specs.Lines.{IsFurther};
 

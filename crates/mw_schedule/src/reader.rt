@@ -1,4 +1,4 @@
-//! How to read a schedule, and the lines that it has.
+//! Reads a whole schedule: first its configuration, then what happens.
 //!
 //! mw_player reads each schedule by `read_schedule`. docs/SCHEDULES.md describes the text: change both
 //! together.

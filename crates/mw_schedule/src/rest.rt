@@ -1,6 +1,6 @@
 //! The lines of a text that are left to read.
 //!
-//! Used by: `lines`, `config`, `olds`, `reader`.
+//! Used by: `lines`, `config`, `olds`, `reader`. `specs/Lines` names its fields: change both together.
 ghost use Rattle.std.specs.Prelude.{◌+◌, ◌<◌, ◌^◌, length};
 
 /// The lines of a text that are left to read.

@@ -1,6 +1,6 @@
-//! How a schedule says that each tenant's file is stopped and opened again.
+//! Reads how a schedule says that each tenant's file is stopped and opened again.
 //!
-//! Used by: `commands`.
+//! Used by: `commands`. Its contracts use `specs/Playable`: change them together.
 ghost use Rattle.std.specs.Prelude.{◌≡◌, ◌==◌, ◌<◌, length, IfOk, IfSome};
 ghost use Rattle.std.specs.List.{list_any};
 ghost use Rattle.mw_world.specs.Definition.State.{tenants_of};

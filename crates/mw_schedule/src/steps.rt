@@ -1,4 +1,4 @@
-//! The kinds of step that a schedule can name.
+//! The kinds of step that a schedule can name, and which kind a step is.
 //!
 //! `commands` reads their names, and mw_player finds the kind of a worker's next step. A new kind needs a
 //! case here, in `specs/Steps`, and in docs/SCHEDULES.md.

@@ -1,4 +1,6 @@
-//! Tests clients of a server that is a text, and one that comes by a socket.
+//! Tests clients of a server that is a text in memory, and a client that comes by a socket.
+//!
+//! Nothing else uses it: it may change with what it tests.
 use crate::test_serving::{Shop, serves_right};
 use arrayvec::ArrayVec;
 use mw_client::{Administrator, Client, Failure, Outcome, connect_administrator, read_reply};

@@ -1,4 +1,6 @@
 //! Tests clients that come by a local socket.
+//!
+//! Nothing else uses it: it may change with what it tests.
 use crate::test_clients::Caller;
 use crate::test_serving::{Shop, serves_beside};
 use mw_workers::listen_at;

@@ -1,5 +1,7 @@
-//! Ends of a session for the tests: a reader and a writer of one line many times, and a service that
-//! records what it is asked for.
+//! Ends of a session, for tests: a reader and a writer of one line many times, and a service that records what it
+//! is asked.
+//!
+//! Used by: `session_tests`. It may change freely as long as this crate checks and its tests pass.
 use arrayvec::ArrayVec;
 use mw_report::Figures;
 use mw_session::Service;

@@ -1,3 +1,7 @@
+//! Tests sessions: what a client says and is told, also cut into pieces, with long lines, and with a peer that
+//! fails.
+//!
+//! Nothing else uses it: it may change with what it tests.
 use crate::session_peers::{Chatter, Listener, Notebook};
 use crate::test_shelf::Shelf;
 use arrayvec::ArrayVec;

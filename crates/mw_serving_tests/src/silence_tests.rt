@@ -1,4 +1,6 @@
 //! Tests clients that are silent or slow to leave, and a system without room for connections.
+//!
+//! Nothing else uses it: it may change with what it tests.
 ghost use Rattle.std.specs.Prelude.{None};
 
 use crate::test_clients::Caller;

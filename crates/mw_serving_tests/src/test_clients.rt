@@ -1,4 +1,7 @@
-//! Clients by sockets for the tests. What they wait for comes within a limit.
+//! Clients over sockets, for tests: what they wait for must come within a limit of time.
+//!
+//! Used by: `local_tests`, `silence_tests`, `test_serving`, `workers_tests`. It may change freely as long as this
+//! crate checks and its tests pass.
 use std::io;
 use std::io::{Read, Write};
 use std::net::{Net, TcpListener, TcpStream};

@@ -1,4 +1,6 @@
-//! Clients in memory for the tests.
+//! Clients in memory, for tests: each has a script of what it says and what it must be told.
+//!
+//! Used by: `workers_tests`. It may change freely as long as this crate checks and its tests pass.
 ghost use Rattle.std.specs.Prelude.{None, Some};
 
 use arrayvec::ArrayVec;

@@ -1,4 +1,7 @@
-//! A server for the tests, over the words of one tenant.
+//! A server for tests, over the words of one tenant.
+//!
+//! Used by: `client_tests`, `local_tests`, `silence_tests`, `workers_tests`. It may change freely as long as this
+//! crate checks and its tests pass.
 ghost use Rattle.std.specs.Prelude.{◌<◌};
 
 use crate::test_clients::come_and_go;

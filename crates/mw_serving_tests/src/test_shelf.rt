@@ -1,5 +1,7 @@
-//! A service in memory for the tests: one tenant, `t`, and its words. Many workers may ask for them if they
-//! are under a lock.
+//! A service in memory, for tests: one tenant, `t`, and its words. Many workers may ask for them if they are under
+//! a lock.
+//!
+//! Used by: `session_tests`, `test_serving`. It may change freely as long as this crate checks and its tests pass.
 use arrayvec::ArrayVec;
 use mw_report::{Figures, TenantFigures};
 use mw_session::Service;

@@ -1,3 +1,6 @@
+//! Tests workers that serve clients: each client once, one after the other, and all kinds at once.
+//!
+//! Nothing else uses it: it may change with what it tests.
 ghost use Rattle.std.specs.Prelude.{◌<◌};
 
 use crate::test_clients::Caller;

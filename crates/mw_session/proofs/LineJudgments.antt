@@ -1,5 +1,5 @@
--- The answers of read_line, the feed, the reader and the writer give what a session's contracts need. Used by: the
--- proofs of step_at, Session::answer and Session::run. It may change freely as long as this crate checks.
+-- What the reader, the feed and `read_line` answer gives the facts that a session's contracts need.
+-- Used by: the proofs of step_at, Session::answer and Session::run. It may change freely as long as this crate checks.
 use Rattle.std.proofs.Common.{◌≡◌, ℕ, ◌<◌, false, List, [], ◌∷◌, length, take, Option, None, Result, Ok, Err, OnOk, slice_get, refl, sym, ap, ◌∙◌, subst}
 use Rattle.std.specs.Result.{is_err}
 use Rattle.std.specs.Io.KnownBytes.{Consumes, IsAtEnd, ReadConsumes}

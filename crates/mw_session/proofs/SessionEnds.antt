@@ -1,5 +1,5 @@
--- A session between two reads goes on to the next read, or ends as it should. Used by: the proof of Session::run. It may change
--- freely as long as this crate checks.
+-- A session between two reads goes on to the next read, or ends as `specs/WholeSessions` says.
+-- Used by: the proof of Session::run. It may change freely as long as this crate checks.
 use Rattle.std.proofs.Common.{◌≡◌, ℕ, ◌-◌, ◌^◌, min, List, [], ◌++◌, Option, Some, None, Err, refl, sym, ap, ◌∙◌, subst, arith, append-nil, append_assoc, lit<}
 use Rattle.std.specs.Io.KnownBytes.{Consumes, IsAtEnd, Keeps}
 use Rattle.mw_frame.specs.declared.lines.Line.{Line}

@@ -1,5 +1,6 @@
--- Each step says and asks what the talk does. Used by: the proof of `perform`, and for calls one after another those of
--- Session::answer_all and Session::run. It may change freely as long as this crate checks.
+-- Each step of a session writes the text, and asks the service, as `specs/Talk` says.
+-- Used by: the proof of `perform`, and for calls one after another those of Session::answer_all and Session::run. It may change
+-- freely as long as this crate checks.
 use Rattle.std.proofs.Common.{◌≡◌, ℕ, List, [], ◌∷◌, ◌++◌, Some, None, refl, sym, ap, subst}
 use Rattle.arrayvec.specs.ArrayVec.{ArrayVec}
 use Rattle.mw_words.specs.declared.jobs.Job.{Job}

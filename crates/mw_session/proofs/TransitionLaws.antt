@@ -1,4 +1,5 @@
--- A path through states with one more step at its end is a path. Used by: mw_workers. It may be changed freely as long as mw_workers checks.
+-- A path through states (one step for each item of a list), with one more step at its end, is a path.
+-- Used by: mw_workers. Its statements may change with mw_workers; its proofs may change freely.
 use Rattle.std.proofs.Common.{List, [], ◌∷◌, ◌++◌, refl, subst}
 use Rattle.mw_session.specs.Transitions.{GoesThrough}
 

@@ -1,5 +1,5 @@
--- Writes and reads one after another take the joined bytes. Used by: AnsweredLines, SessionEnds, the proof of
--- write_counted. It may change freely as long as this crate checks.
+-- Two writes (or two reads), one after the other, take the joined bytes.
+-- Used by: AnsweredLines, SessionEnds, the proof of write_counted. It may change freely as long as this crate checks.
 use Rattle.std.proofs.Common.{◌≡◌, ℕ, ◌+◌, ◌-◌, ◌^◌, ◌≤◌, ◌<◌, ◌++◌, min, List, [], length, take, drop, Option, Some, None, Result, Ok, Err, refl, sym, ap, ◌∙◌, arith, append_assoc, append-nil, length-append, subst}
 use Rattle.std.proofs.lemmas.List.{length-take-le, take-append-drop, take_rest}
 use Rattle.std.specs.Result.{result_unwrap_or}

@@ -1,4 +1,4 @@
--- What is heard of each line: a request, its first fault, or that it is too long.
+-- Defines what is heard of each line of a session: a request, its first fault, or that it is too long.
 -- Used by: SessionParts, StepOfLine, WholeSessions, the contracts of laws.rt. A change here changes how a line is heard, and so
 -- what one_hearing says.
 use Rattle.std.specs.Prelude.{◌≡◌, ◌↔◌, ℕ, List, [], ◌∷◌, Result, Err, IfOk, None}

@@ -1,4 +1,4 @@
--- How a service answers the calls of a session, and what a session may ask for.
+-- Defines which calls a session may make of its service, and that the service answered them in order.
 -- Used by: mw_workers, the contracts of replies.rt and session.rt. A new Step needs a case in CanAsk. A change here changes what
 -- a Service is promised to be asked.
 use Rattle.std.specs.Prelude.{ℕ, List, IsTrue}

@@ -1,4 +1,4 @@
--- A part of a session: some lines, and what was said to them.
+-- Defines a part of a session: some lines, what was written for them, and how the session goes on.
 -- Used by: UnderWay, the contracts of replies.rt, session.rt, steps.rt and writer.rt. It may change with session.rt and
 -- replies.rt, as long as WholeSessions still follows.
 use Rattle.std.specs.Prelude.{◌≡◌, ℕ, ◌+◌, ◌-◌, ◌^◌, ◌<◌, ◌++◌, min, List, [], ◌∷◌, length, Option, Some, None, Result, Ok, Err}

@@ -1,4 +1,4 @@
--- A session between two reads.
+-- Defines a session between two reads: all complete lines that have come were answered.
 -- Used by: proofs of this crate. Callers do not see it: it is the loop invariant of Session::run, and may change with that loop.
 use Rattle.std.specs.Prelude.{◌≡◌, ℕ, ◌++◌, List, [], Option}
 use Rattle.std.specs.Io.KnownBytes.{Consumes}

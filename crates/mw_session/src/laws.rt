@@ -1,6 +1,6 @@
-//! What holds of every session: a fact for proofs to cite. The function does nothing.
+//! The law that a session hears each line in one way only, as the contract of an empty function.
 //!
-//! No code calls it, and no other crate cites it. It says that `specs/Lines` gives a line one meaning.
+//! No code calls it, and no other crate cites it. It may change with `specs/Lines`.
 ghost use Rattle.std.specs.Prelude.{◌≡◌, List};
 ghost use Rattle.mw_frame.specs.declared.lines.Line.{Line};
 ghost use Rattle.mw_session.specs.Talk.{Heard};

@@ -1,4 +1,4 @@
-//! One session: it answers each line before it looks at the next.
+//! Serves one client's lines: a session answers each line before it looks at the next.
 //!
 //! A session reads bytes, cuts them into lines, and judges each line by what the session is bound to. It asks the
 //! service if the line needs that, and writes the answer. A session begins unbound. `TENANT` binds it to a tenant, for

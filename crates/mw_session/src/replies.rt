@@ -1,6 +1,8 @@
-//! The reply to a line, and what the service is asked for it.
+//! Takes the step that a line asks for: asks the service if the step needs it, and gives the text of the reply.
 //!
-//! `session.rt` calls [`perform`] for each line. A new `Step` needs a case here, and in `does` of `specs/Talk`.
+//! `session.rt` calls [`perform`] for each line. A new `Step` needs a case here, in `does` of `specs/Talk`, in
+//! `next_of` and `end_of` (`specs/SessionParts`), `CanAsk` (`specs/ServiceCalls`) and `Suits` (`specs/StepOfLine`),
+//! and in `ends_as` and `goes_as` (`proofs/AnsweredLines`).
 ghost use Rattle.std.specs.Prelude.{◌≡◌};
 ghost use Rattle.mw_line.specs.Replies as line_spec;
 ghost use Rattle.mw_session.specs.SessionParts.{Performs, bytes_of};

@@ -1,4 +1,4 @@
-//! What a session asks of the server.
+//! The trait of a service: what a session asks of the server (to find a tenant, to serve a job, to report).
 //!
 //! mw_programs implements it by mw_engine (`served.rt`), and four services of tests do. A new call needs a body in
 //! each, and a `Call` in `specs/Talk`.

@@ -1,7 +1,8 @@
-//! The session itself: it reads, and answers the lines that have come.
+//! Runs one session: reads the client's bytes, and answers the lines that have come.
 //!
-//! mw_workers calls [`Session::run`] for each connection, and mw_programs for a script. It is promised by
-//! `specs/WholeSessions`; the loop may change with `specs/UnderWay` and `specs/SessionParts`.
+//! mw_workers calls [`Session::run`] for each connection, and mw_programs for a script. `specs/WholeSessions` says
+//! what it promises; the loop may change with `specs/UnderWay` and `specs/SessionParts`. README and docs/PROMISES
+//! cite `Session::run`.
 ghost use Rattle.std.specs.Prelude.{◌≡◌, [], ◌∷◌, List, OnOk};
 ghost use Rattle.mw_frame.specs.declared.lines.Line.{Line as LineRead};
 ghost use Rattle.mw_frame.specs.Stream.{lines_of};

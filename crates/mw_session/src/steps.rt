@@ -1,4 +1,4 @@
-//! What a line asks the session to do.
+//! Tells which step a line asks of the session: to refuse it, to bind, to ask for a job or the report, or to end.
 //!
 //! `session.rt` calls [`step_at`] for each line, and `replies.rt` takes the step. A new command needs a [`Step`]
 //! here, and a case in `specs/Talk` and `specs/StepOfLine`.

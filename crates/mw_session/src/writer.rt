@@ -1,7 +1,7 @@
-//! The writing of a text, with a count of its bytes.
+//! Writes a text to the client, and counts the bytes that were written.
 //!
 //! Called by `session.rt` alone. A session counts bytes so that it can tell how much was written before a write
-//! failed.
+//! failed. It may change freely as long as this crate checks.
 ghost use Rattle.mw_session.specs.SessionParts.{Writes};
 
 use crate::session::Ended;

@@ -1,5 +1,5 @@
--- What is printed for the bytes of a file, a line for each fact.
--- Used by: the contracts of src/lines.rt and src/program.rt. A change here changes what these contracts say.
+-- Defines the text that `mwshow` prints for the bytes of a file, with a line for each fact.
+-- Used by: the contracts of src/lines.rt and src/program.rt. A change here changes docs/OPERATING too.
 use Rattle.std.specs.Prelude.{ℕ, ◌≡◌, ◌==◌, ◌||◌, ◌++◌, not, if◌then◌else◌, Bool, List, [], Option, codes, decimal, is_none}
 use Rattle.std.specs.List.{flat_map, range_with_len}
 use Rattle.std.specs.Option.{option_map_or}

@@ -1,6 +1,6 @@
-//! Finds where the damage of a file is.
+//! Finds the byte at which a file's damaged part begins.
 //!
-//! Used by: `lines`.
+//! Used by: `lines`. `specs/Places` defines that byte: change both together.
 ghost use Rattle.std.specs.Prelude.{◌≡◌, ◌≤◌, IfOk, Some, length};
 ghost use Rattle.mw_record.specs.declared.layout.TheConstants.{HEAD_SIZE};
 ghost use Rattle.mw_record.specs.Damages.{at_of, damage_of, found_places, layout_of, second_at, words_of};

@@ -1,4 +1,4 @@
-//! Reads a file, and tells why one is not shown.
+//! Reads the file that `mwshow` must show, or tells why it is not shown.
 //!
 //! Used by: `lines`, `program`. The exit statuses are in `specs/Statuses` too: change both together.
 ghost use Rattle.std.specs.Prelude.{◌≡◌, ◌≤◌};

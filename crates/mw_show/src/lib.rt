@@ -14,7 +14,7 @@
 //! A damaged file has one line, `damage N byte B`: the damage's number, and the byte at which the damaged
 //! part begins, counted from the beginning of the file.
 //!
-//! Used by: mwshow, mw_store_tests.
+//! Used by: mwshow, mw_store_tests. docs/OPERATING describes these lines for users: change both together.
 #![tactic(auto)]
 
 mod damaged;

@@ -1,6 +1,7 @@
-//! Writes the lines for a file's bytes.
+//! Writes what `mwshow` prints of a file: its layout, sizes, open records and words; or its first damage.
 //!
-//! Used by: `program`. `specs/Text` says what is printed: change both together.
+//! Used by: `program`; mw_store_tests also calls `show`. `specs/Text` says what is printed: change both together.
+//! docs/PROMISES cites `show`.
 ghost use Rattle.std.specs.Prelude.{◌≡◌, ◌<◌, None, Some, OnOk, is_none, IfOk};
 ghost use Rattle.std.specs.Io.KnownBytes.{Appends};
 ghost use Rattle.mw_record.specs.Damages.{at_of, damage_of, found_places, layout_of};

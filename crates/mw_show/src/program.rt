@@ -1,6 +1,6 @@
 //! Implements `mwshow`: shows what a tenant's file says.
 //!
-//! `mwshow` calls `show_args`.
+//! `mwshow` calls `show_args`. docs/OPERATING tells its options and statuses: change both together.
 ghost use Rattle.std.specs.Prelude.{◌≡◌, ◌≤◌, IfOk, true};
 ghost use Rattle.mw_show.specs.Statuses.{status_of};
 ghost use Rattle.mw_show.specs.Text.{IsShown};

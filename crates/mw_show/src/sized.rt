@@ -1,6 +1,6 @@
-//! A damaged file whose sizes are known, and its parts.
+//! Finds in a damaged file, whose sizes are known, the place or home word that is damaged.
 //!
-//! Used by: `damaged`.
+//! Used by: `damaged`. `specs/Places` defines these bytes: change both together.
 ghost use Rattle.std.specs.Prelude.{◌≡◌, ◌+◌, ◌≤◌, IfOk};
 ghost use Rattle.mw_record.specs.Layout.{header, place_at};
 ghost use Rattle.mw_show.specs.Places as spec;

@@ -1,5 +1,5 @@
--- The request that a world in memory begins is the one that the definition begins: it has the same number, quota and
--- first step. Used by: the proofs of World::begin and World::request_for.
+-- A request that begins in the simulated world is the one that the definition begins: same number, quota and first step.
+-- Used by: the proofs of World::begin and World::request_for. It may change freely as long as this crate checks.
 use Rattle.std.specs.Prelude.{ℕ, ◌≡◌, ◌<◌, ◌&&◌, Bool, true, false, if◌then◌else◌, nat_lt, length, slice_index_or, Some, None}
 use Rattle.std.proofs.Common.{refl, sym, ap, subst, ◌∙◌, arith}
 use Rattle.std.proofs.lemmas.Bool.Decides.{nat_tests}

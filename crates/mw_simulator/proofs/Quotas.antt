@@ -1,5 +1,5 @@
--- The test of quotas in memory is the test of the definition. Used by: Restarted, the proofs of World::may_give and
--- each_can_be.
+-- The simulator's test of the quotas that a start gives is the definition's test.
+-- Used by: Restarted, the proofs of World::may_give and each_can_be. It may change freely as long as this crate checks.
 use Rattle.std.specs.Prelude.{ℕ, zero, suc, ◌≡◌, ◌≤◌, ◌<◌, ◌+◌, ◌&&◌, Bool, true, false, List, length, nat_le, slice_get, slice_index_or, Option, Some, None}
 use Rattle.std.specs.Option.{option_map_or, unwrap_or}
 use Rattle.std.proofs.Common.{refl, sym, ap, subst, ◌∙◌, inl, inr, arith}

@@ -1,5 +1,6 @@
--- A step of a request is the change of the shared words, and then what its label means; a step in bits can be made if,
--- and only if, the step can. Used by: the proofs of World::turn, World::go_on and World::tell_file.
+-- A step of a request is a change of the shared words, and then an addition to the history (its label). It can be made in bits exactly if
+-- the step can.
+-- Used by: the proofs of World::turn, World::go_on and World::tell_file. It may change freely as long as this crate checks.
 use Rattle.std.specs.Prelude.{ℕ, ◌≡◌, ◌==◌, ◌&&◌, Bool, true, false, not, cond, ◌<◌, if◌then◌else◌, is_some, length, slice_index_or, Option, Some, None}
 use Rattle.std.proofs.Common.{refl, sym, ap, subst, ◌∙◌}
 use Rattle.mw_words.specs.declared.places.At.{At}

@@ -1,4 +1,4 @@
--- Why a world in memory refuses an event, if a tenant's file refuses it.
+-- Defines why the simulator refuses an event, if a tenant's file refuses it.
 -- Used by: the contracts of src/faults.rt. A change here changes what these contracts say.
 use Rattle.mw_world_file.specs.declared.faults.BookFault.{BookFault}
 use Rattle.mw_world_file.specs.declared.faults.BookFault.TheVariants.{NotEnabled as FileNotEnabled, Memory as FileMemory}

@@ -1,6 +1,5 @@
--- What holds of a world in memory after every run from a new world.
--- Used by: the contracts of src/world/events.rt and src/world/new_worlds.rt. A change here changes what these contracts
--- say.
+-- Defines what holds of a simulated world after every run from a new world.
+-- Used by: the contracts of src/world/events.rt and src/world/new_worlds.rt. A change here changes what these contracts say.
 use Rattle.std.specs.Prelude.{List}
 use Rattle.mw_world.specs.Claim.Headline.{HoldsOfRun}
 use Rattle.mw_world.specs.Definition.Events.{WorldEvent}

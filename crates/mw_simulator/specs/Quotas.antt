@@ -1,4 +1,4 @@
--- The quotas that a start gives the tenants in memory.
+-- Defines the quotas that a start gives the tenants of a simulated world.
 -- Used by: the contracts of src/world/restarts.rt. A change here changes what these contracts say.
 use Rattle.std.specs.Prelude.{ℕ, ◌≡◌, ◌≤◌, List, slice_get, Option, Some}
 use Rattle.std.specs.Option.{option_map_or, unwrap_or}

@@ -1,4 +1,4 @@
--- The workers and the tenants of a world in memory at a start.
+-- Defines the workers and the tenants of a simulated world at a start.
 -- Used by: the contracts of src/world/new_worlds.rt, specs/Stops. A change here changes what these contracts say.
 use Rattle.std.specs.Prelude.{ℕ, ◌≡◌, Bool, not, List, length, slice_get, Some}
 use Rattle.mw_world_file.specs.StartValues.{IsGiven}

@@ -1,4 +1,4 @@
-//! Why an event is refused.
+//! The reasons for which the simulator refuses an event.
 //!
 //! mw_player makes its own fault of it (`PlayFault`). A new kind needs a case there and in `specs/Events`.
 

@@ -1,4 +1,5 @@
-//! States a theorem about each image that a crash may leave.
+//! States a theorem about each image (bytes) that a crash may leave of a tenant's disk, in terms of the tenant's
+//! store alone.
 //!
 //! The function does nothing, and nothing calls it: its contract is the fact, proved in `proofs/laws`. To
 //! change the fact, change its definition in `specs`, and then its proof.

@@ -1,4 +1,4 @@
-//! A world in memory.
+//! A simulated world: a server's tenants, workers and files as one value in memory.
 //!
 //! mw_player plays schedules on it, mw_world_table makes tables of it, and tests play random runs on it.
 //! `specs/Representation` says which world of the definition it represents: change it with a field.

@@ -1,3 +1,6 @@
+//! Tests how a tenants file and a command line are read: what is accepted, and the text of each refusal.
+//!
+//! Nothing else uses it: it may change with what it tests.
 use crate::same::{MEMORY, same, same_text};
 use mw_config::*;
 use std::alloc::{AllocError, Global};

@@ -1,4 +1,6 @@
-//! Tests what is shown of a tenant's file.
+//! Tests what mw_show tells of a tenant's file.
+//!
+//! Nothing else uses it: it may change with what it tests.
 
 use crate::same::{MEMORY, same_text};
 use mw_record::{header, header2, size, size2};

@@ -1,4 +1,5 @@
--- Lemmas of mw_rule that crates above need too, passed on. Used by: mw_core.
+-- Lemmas of mw_rule that mw_core needs too, passed on.
+-- Used by: mw_core. Add and take out names as it needs them.
 pub use Rattle.mw_rule.proofs.WholeCallLaws.{calls_begin, calls_take_files, calls_end, calls_file, calls_give_back, calls_go_on, keeps_all, keeps_on, keeps_so}
 pub use Rattle.mw_rule.proofs.KnownRunLaws.{on_again}
 pub use Rattle.mw_rule.proofs.FromLaws.{opened_told, requests_go_on_from_calls, file_tokens_follow_calls, runs_are_sound}

@@ -1,4 +1,4 @@
--- A thread with one worker carries no request.
+-- Defines an idle pass: its thread has one worker, which has no request.
 -- Used by: the contracts of src/passes.rt and src/shared.rt, mw_core. A change here changes what these contracts say.
 use Rattle.std.specs.Prelude.{◌≡◌, Bool, true, [], ◌∷◌, map, is_none}
 use Rattle.mw_rule.specs.declared.views.WorkerToken.{WorkerToken}

@@ -1,6 +1,7 @@
-//! How a pass takes a tenant's file for a call and gives it back.
+//! Lets a pass take a tenant's file for a call and give it back.
 //!
-//! Used by: mw_core, in each call on a file; mw_engine, at its end (`confirm`).
+//! Used by: mw_core, in each call on a file; mw_engine, at its end (`confirm`). Its contracts use
+//! `specs/FileCalls`, `specs/HeldFiles`, `specs/Meet` and others: change them together.
 ghost use Rattle.std.specs.Prelude.{◌≡◌, []};
 ghost use Rattle.mw_rule.specs.Splits.{without_file, takes_files, with_file_given};
 ghost use Rattle.mw_rule.specs.Steps.{LearnsPlainLoad};

@@ -1,6 +1,7 @@
-//! The pass to a tenant's file, as it is kept between calls.
+//! The file pass: the capability to call one tenant's file, as it is kept between calls.
 //!
-//! mw_engine keeps one for each tenant, under the lock of the tenant's file.
+//! mw_engine keeps one for each tenant, under the lock of the tenant's file. Its ghost fields use
+//! `specs/HeldFiles`: change them together.
 ghost use Rattle.std.specs.Prelude.{◌≡◌, true, false, [], ◌∷◌, length, map};
 ghost use Rattle.mw_table.specs.HeldFiles.{is_idle, tenants_held};
 

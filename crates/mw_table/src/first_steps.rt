@@ -1,6 +1,7 @@
-//! The first step of a request, and loads that are no step of one.
+//! Makes the first step of a request, and loads that are no step of a request.
 //!
-//! mw_core begins each request by `begin`. mw_engine loads its figures by `figure`.
+//! mw_core begins each request by `begin`. mw_engine loads its figures by `figure`. Its contracts use
+//! `specs/Origins`, `specs/Passes` and `specs/Said`: change them together.
 ghost use Rattle.std.specs.Prelude.{◌≡◌, true, false};
 ghost use Rattle.mw_look.specs.declared.observations.Got.TheVariants.{Word as Found};
 ghost use Rattle.mw_world.specs.Definition.Extent.{has_place};

@@ -1,6 +1,6 @@
-//! The meeting of two passes.
+//! Lets two passes meet: afterwards each has seen the sealed changes that either had seen.
 //!
-//! Used by: mw_engine.
+//! Used by: mw_engine. Its contracts use `specs/FileCalls`, `specs/Meet` and `specs/Passes`: change them together.
 ghost use Rattle.std.specs.Prelude.{◌≡◌, ℕ, []};
 ghost use Rattle.mw_rule.specs.Steps.{LearnsPlainLoad, LearnsMeeting, IsPrefix};
 ghost use Rattle.mw_rule.specs.Splits.{dealt, merges, learns, left_over, note as said_by};

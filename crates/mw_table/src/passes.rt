@@ -1,6 +1,7 @@
-//! What a pass says of itself.
+//! Tells a pass's worker, its next attempt number and whether it is idle; makes it idle again.
 //!
-//! Used by: mw_core, mw_engine.
+//! Used by: mw_core, mw_engine. Its contracts use `specs/CarriedRequest`, `specs/Passes` and `specs/Idleness`:
+//! change them together.
 ghost use Rattle.std.specs.Prelude.{◌≡◌, ◌≢◌, true, None};
 ghost use Rattle.mw_actor.specs.Program.{replied};
 ghost use Rattle.mw_table.specs.CarriedRequest.{IsCarried};

@@ -1,4 +1,4 @@
-//! The shared word at each index of the table.
+//! Gives the shared word at each index of the table.
 //!
 //! Used by: `at_start`, mw_world_table. It goes back from an index of mw_rule (`index_of`) to the word:
 //! change both together.

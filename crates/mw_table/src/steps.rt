@@ -1,6 +1,6 @@
-//! One step on one word, in each way in which a word is read or changed.
+//! Makes one atomic step on one shared word: a load, a store, an exchange, an attempt or a subtraction.
 //!
-//! Used by: `turns`, `calls`.
+//! Used by: `turns`, `calls`. Its contracts use `specs/Numbers` and `specs/Passes`: change them together.
 ghost use Rattle.std.specs.Prelude.{◌≡◌, ◌+◌, ◌==◌, cond, false};
 ghost use Rattle.mw_look.specs.declared.steps.Kind.TheVariants as kind;
 ghost use Rattle.mw_look.specs.declared.steps.Op.TheVariants.{Load as LoadBits, Change as ChangeBits};

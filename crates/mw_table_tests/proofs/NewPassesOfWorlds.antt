@@ -1,5 +1,5 @@
--- A pass of a new table carries the request that its worker has in the world. Used by: the proofs of request_of,
--- worlds::after and worlds::step.
+-- A pass of a new table carries the request that its worker has in the world.
+-- Used by: the proofs of request_of, worlds::after and worlds::step. It may change freely as long as this crate checks.
 use Rattle.std.specs.Prelude.{ℕ, ◌≡◌, List, [], ◌∷◌, ◌++◌, Option, Some, None, Result, Ok, Err}
 use Rattle.std.proofs.Common.{refl, sym, ap, subst, ◌∙◌}
 use Rattle.mw_actor.specs.ActorState.{ActorState}

@@ -1,4 +1,5 @@
--- A step keeps a read a read. Used by: the proof of turns_back.
+-- A request that is a read is still one after each of its steps.
+-- Used by: the proof of turns_back. It may change freely as long as this crate checks.
 use Rattle.std.specs.Prelude.{ℕ, ◌≡◌, Option, Some, None}
 use Rattle.std.proofs.Common.{sym, ap, subst, ◌∙◌}
 use Rattle.mw_words.specs.declared.replies.Reply.{Reply}

@@ -1,4 +1,4 @@
--- A request is a read, wherever it is in its program.
+-- Defines that a request is a read, wherever it is in its program.
 -- Used by: the contracts of src/reading_tests.rt. A change here changes what these contracts say.
 use Rattle.std.specs.Prelude.{◌≡◌}
 use Rattle.mw_words.specs.declared.jobs.Job.TheVariants.{Get}

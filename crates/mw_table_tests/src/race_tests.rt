@@ -1,6 +1,6 @@
-//! Tests two threads that drive two requests on one table.
+//! Tests two threads that make the steps of two requests on one table (array of shared atomic words).
 //!
-//! Used by: `reading_tests`.
+//! Used by: `reading_tests`. It may change freely as long as this crate checks and its tests pass.
 ghost use Rattle.std.specs.Prelude.{◌≡◌, ◌≤◌, All, IfSome};
 ghost use Rattle.mw_world.specs.Definition.State.{tenant_at};
 ghost use Rattle.mw_core.specs.FromTable.{IsCarried, IsDealt, IsOf, basis_of, config_of};

@@ -1,6 +1,6 @@
-//! What the peers of the sweeps say, and what they are told.
+//! What the peers say in tests that try each place of failure in turn, and what they must be told.
 //!
-//! Used by: mw_engine_tests, mw_serving_tests.
+//! Used by: mw_engine_tests, mw_serving_tests. It may change with these crates.
 
 /// What they say to a tenant `t` of two words, both 0.
 pub const INPUT: &[u8] = b"TENANT t\nCAS 0:0:1\nQUIT\n";

@@ -1,4 +1,5 @@
-//! The door of a tenant, in 64 bits: how many slots the tenant uses, and whether its file has failed.
+//! A tenant's door (its admission counter), in 64 bits: how many slots the tenant uses, and whether its file has
+//! failed.
 //!
 //! mw_actor and mw_look read doors, mw_pool says which moves a door allows, and mw_table and mw_world_memory make the
 //! steps on its bits. Another pattern of bits needs a change in `specs/Patterns`, and in the crates that have one of

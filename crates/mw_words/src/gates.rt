@@ -1,4 +1,5 @@
-//! The gate of a slot, in 64 bits: whether the slot is taken, and how many workers hold a pin of it.
+//! A slot's gate (its reference count with a version), in 64 bits: whether the slot is taken, how many pins
+//! (references) it has, and its sequence number.
 //!
 //! mw_actor and mw_look read gates, mw_pool says which moves a gate allows, and mw_table and mw_world_memory make the
 //! steps on its bits. Another pattern of bits needs a change in `specs/Patterns`, and in the crates that have a pin's

@@ -1,4 +1,5 @@
-//! Jobs: what a tenant may ask for.
+//! Defines a tenant's operations, its *jobs*: to read one word, or to make a change (a multi-word compare-and-swap).
+//! Defines the test whether a job is well formed.
 //!
 //! Every layer uses [`Job`] and [`Entry`]. A new job needs a case wherever a job is matched: CONTRIBUTING lists the
 //! places under *A command*.

@@ -1,5 +1,5 @@
-//! The types of which every layer of the server speaks: its limits, the entries of a change, the jobs that a
-//! tenant may ask for, the replies to them, and the shared words of 64 bits.
+//! Defines the types that every layer of the server uses: limits, entries, jobs, replies, and the shared words of 64
+//! bits.
 //!
 //! Nearly every crate uses these types. Their bounds and bits are in `specs/`: `Change` (jobs), `Name`, and
 //! `Patterns` (the shared words).

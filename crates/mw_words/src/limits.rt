@@ -1,4 +1,4 @@
-//! The limits of the server, each named once.
+//! The server's limits: the greatest value of a word, and the most tenants, words, entries, slots, workers and bytes.
 //!
 //! CONTRIBUTING says under *A limit* what else must change with one, and which of them the format of a file fixes.
 

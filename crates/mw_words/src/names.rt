@@ -1,4 +1,4 @@
-//! Tenants' names.
+//! A tenant's name: its type, and the test whether some bytes are a name.
 //!
 //! Used by the readers of lines, of tenants files and of schedules. A change of [`is_name`] changes the protocol and
 //! the tenants file.

@@ -1,4 +1,4 @@
-//! The replies to jobs.
+//! The replies to a job (a read or a change): a word's value, YES, NO, BUSY, FAULT and WORN.
 //!
 //! Every layer uses it. A new reply needs a case wherever a reply is matched: CONTRIBUTING lists the places under *A
 //! command*.

@@ -1,4 +1,4 @@
-//! A worker's row, in 64 bits: which entry of which change its attempt is for.
+//! A worker's row (its announcement), in 64 bits: which entry of which slot's change its present attempt is for.
 //!
 //! mw_actor and mw_look load rows to see which change an attempt is for. Another pattern of bits needs a change in
 //! `specs/Patterns`. No file has these bits.

@@ -1,4 +1,4 @@
-//! The status of a slot, in 64 bits: how far its change has come.
+//! The status of a slot's change, in 64 bits: being written, open, decided (yes or no), or done.
 //!
 //! Requests (mw_actor, mw_look) load and exchange statuses; mw_table and mw_core do so for a call on a file. Another
 //! pattern of bits needs a change in `specs/Patterns`; a new status needs a case wherever a status is matched, in the

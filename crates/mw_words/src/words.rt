@@ -1,4 +1,4 @@
-//! A tenant's words as workers share them, each in 64 bits.
+//! A tenant's word as workers share it, in 64 bits: its value, or the attempt or the change that has it at present.
 //!
 //! Requests (mw_actor, mw_look) load and exchange these words, in the table of mw_table. Another pattern of bits
 //! needs a change in `specs/Patterns`. A file has values alone, and not these bits.

@@ -1,4 +1,6 @@
-//! Tests how pieces are cut into lines.
+//! Tests how the pieces that a connection brings are cut into lines.
+//!
+//! Nothing else uses it: it may change with what it tests.
 use arrayvec::ArrayVec;
 use mw_frame::*;
 use mw_words::MAX_LINE;

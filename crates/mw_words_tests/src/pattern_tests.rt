@@ -1,4 +1,6 @@
 //! Tests the bits of the shared words, kind by kind.
+//!
+//! Nothing else uses it: it may change with what it tests.
 use mw_words::*;
 use std::process::Abort;
 

@@ -1,4 +1,6 @@
 //! Tests the text of reports.
+//!
+//! Nothing else uses it: it may change with what it tests.
 ghost use Rattle.std.specs.Prelude.{◌≤◌};
 ghost use Rattle.mw_report.specs.Table.{IsWithinLimits};
 

@@ -1,4 +1,6 @@
 //! Tests which changes are well formed, and which texts are names.
+//!
+//! Nothing else uses it: it may change with what it tests.
 use mw_words::*;
 
 fn entry(addr: u16, new: u64) -> Entry {

@@ -1,4 +1,4 @@
--- How often a listener was asked, and where the connections that it gave were put.
+-- Defines how often a listener was asked for a connection, and where the connections that it gave were put.
 -- Used by: the contracts of acceptor.rt, desk.rt and server.rt. A change here changes what is promised of each connection: that
 -- it is put where it waits, and put once.
 use Rattle.std.specs.Prelude.{◌≡◌, ℕ, List, [], ◌∷◌, length, Option, Some, None}

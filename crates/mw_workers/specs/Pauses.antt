@@ -1,4 +1,4 @@
--- How long to wait before a listener is asked again.
+-- Defines how long the server waits before it asks a listener again that had no room for a connection.
 -- Used by: the contracts of patience.rt. The first and the longest wait are constants of patience.rt. A change here changes when
 -- Patient asks again.
 use Rattle.std.specs.Prelude.{◌≡◌, ◌*◌, ℕ, min, Bool, true, false, if◌then◌else◌}

@@ -1,4 +1,4 @@
--- Which connections a worker's service served, and in what order.
+-- Defines which connections a worker served, each by one session, and in what order.
 -- Used by the contracts of worker.rt (`serve_each`) and desk.rt (its intake). A change here changes what a worker promises.
 use Rattle.std.specs.Prelude.{ℕ, List, Option}
 use Rattle.mw_session.specs.declared.session.Ended.{Ended}

@@ -1,6 +1,7 @@
-//! The acceptor: it takes connections and puts them where they wait for a worker.
+//! Takes connections from a listener, and puts each where it waits for a worker.
 //!
-//! `server.rt` calls [`accept_all`] and `desk.rt` [`accept_one`]. Both are promised by `specs/ListenerCalls`.
+//! `server.rt` calls [`accept_all`] and `desk.rt` [`accept_one`]. `specs/ListenerCalls` says what both promise:
+//! change them together. docs/PROMISES cites `accept_all`.
 ghost use Rattle.mw_workers.specs.ListenerCalls.{ArePut, EndsPut, IsPut};
 
 use crate::peer::{Intake, Listener};

@@ -1,7 +1,7 @@
-//! A listener with a worker of its own, beside the listener that the other workers share.
+//! Serves the clients of a second address by a worker of their own, which no other client can take.
 //!
 //! mw_programs calls [`serve_beside`] (`clients.rt`) if the server has a second address, with a worker kept for it.
-//! `serve_desk`, `accept_while` and `Clerk` are known only here.
+//! `serve_desk`, `accept_while` and `Clerk` are known only here, and may change with `specs/ListenerCalls`.
 ghost use Rattle.std.specs.Prelude.{ℕ, ◌<◌, vec_len};
 ghost use Rattle.mw_session.specs.ServiceCalls.{AreAnswered};
 ghost use Rattle.mw_workers.specs.ListenerCalls.{ArePut, EndsSo};

@@ -27,7 +27,8 @@
 //! system refuses that, the client is served all the same.
 //!
 //! mw_programs listens and serves by it. Its proofs are about which connection is put where; of threads and sockets
-//! they say nothing.
+//! they say nothing. What a client or an operator sees of it is in docs/PROTOCOL and docs/OPERATING: change them
+//! together.
 #![tactic(auto)]
 
 mod acceptor;

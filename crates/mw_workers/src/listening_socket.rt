@@ -1,6 +1,7 @@
-//! A listening socket, of TCP or a local one.
+//! A socket at which clients come: of TCP, or a local one.
 //!
-//! Used by `sockets.rt` alone. It has no contracts: nothing is proved of sockets.
+//! Used by `sockets.rt` alone. It has no contracts: nothing is proved of sockets. So it may change freely as long as
+//! this crate checks.
 use std::io;
 use std::net::{TcpListener, TcpStream};
 use std::os::fd::OwnedFd;

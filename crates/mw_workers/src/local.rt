@@ -1,4 +1,4 @@
-//! Listens at local sockets, for clients on the same machine, who come by a path of the file system.
+//! Makes local sockets for clients on the same machine, and replaces a socket file that an ended server left.
 //!
 //! Called by `listen_at` in `sockets.rt`. docs/OPERATING tells users what it does to a socket file: change both
 //! together.

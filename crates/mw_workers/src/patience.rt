@@ -1,4 +1,4 @@
-//! Waits when the system gives no connection.
+//! A listener over another one: it waits, longer each time, while the system has no room for a connection.
 //!
 //! mw_programs puts a [`Patient`] over its listener, and `desk.rt` over the desk's. The two waits may have other
 //! numbers: no proof names these, but docs/OPERATING tells them.

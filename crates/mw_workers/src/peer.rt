@@ -1,4 +1,4 @@
-//! The traits of a listener, of a place where connections wait, and of a client's connection.
+//! Defines the traits of a listener, of a place where connections wait for a worker, and of a client's connection.
 //!
 //! `sockets.rt` implements [`Listener`] and [`Connection`] for clients, `patience.rt` a listener over another one,
 //! `server.rt` and `desk.rt` implement [`Intake`], and tests have peers of their own. A new call needs a body in

@@ -1,4 +1,4 @@
-//! Listeners and connections of TCP and of local sockets.
+//! Implements listeners and connections by TCP sockets and local sockets.
 //!
 //! mw_programs calls [`listen_at`]. No contract says what a socket carries. The limits at the top may have other
 //! numbers; docs/OPERATING and docs/PROTOCOL tell what follows from them.

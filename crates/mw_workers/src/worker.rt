@@ -1,6 +1,7 @@
-//! A worker: it serves one connection after the other.
+//! Serves one connection after the other, each by one session, until no more come.
 //!
-//! `server.rt` calls [`serve_each`] on a thread for each service. It is promised by `specs/Sessions`.
+//! `server.rt` calls [`serve_each`] on a thread for each service. `specs/Sessions` says what it promises: change both
+//! together. docs/PROMISES cites `serve_each`.
 ghost use Rattle.std.specs.Prelude.{List};
 ghost use Rattle.std.specs.Iterator.{Drains, IsFinite};
 ghost use Rattle.mw_session.specs.ServiceCalls.{AreAnswered};

@@ -1,4 +1,4 @@
--- The claims about worlds: what must hold of every run, and runs that are computed.
+-- The claims about worlds: what must hold of every run, and short runs that are computed. This page only lists its modules.
 pub mod Examples
 pub mod Headline
 pub mod Invariant

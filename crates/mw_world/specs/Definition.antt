@@ -1,4 +1,4 @@
--- The definition of a world, and of what may happen to it.
+-- The definition of a world (a transition system over whole servers) and of its events. This page only lists its modules.
 pub mod Calls
 pub mod Cells
 pub mod Changes

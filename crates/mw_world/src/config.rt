@@ -1,4 +1,4 @@
-//! The configuration of a world.
+//! The configuration of a world: its workers, its tenants and its pool of slots.
 //!
 //! mw_schedule makes one from a schedule's lines, mw_engine from a tenants file, and tests make their own.
 //! mw_simulator plays its world. Which ones are valid is said by `IsConfig`, in `specs/Definition/State`. A new field

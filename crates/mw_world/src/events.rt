@@ -1,4 +1,5 @@
-//! The events of a world.
+//! The events of a world: a request comes, a worker makes a step or a call on a file, a reply is handed out, a
+//! restart.
 //!
 //! mw_schedule reads what events are made of, mw_player and tests make events, and mw_simulator plays them.
 //! `specs/Definition/Events` has the same events for proofs: a new kind needs a case there, in

@@ -1,4 +1,5 @@
-//! States facts about the definitions of the world.
+//! States facts about the definition of a world: places are apart, runs extend by events, starts have the
+//! invariant, short runs come out.
 //!
 //! The functions do nothing, and nothing calls them: each contract is a fact, proved in `proofs/laws`. Proofs
 //! of crates above import other pages of `proofs`, by which these facts are proved. To change a fact, change

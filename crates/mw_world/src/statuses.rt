@@ -1,4 +1,4 @@
-//! The status from which each call on a file starts, and the status that it leaves.
+//! Gives the status from which each call on a file starts, and the status that it leaves.
 //!
 //! Used by: mw_table, mw_core, mw_simulator. `specs/Definition/Calls` says the same for proofs: change both
 //! together.

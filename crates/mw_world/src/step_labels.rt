@@ -1,4 +1,4 @@
-//! Labels: what a step of a request means for the history and the marks.
+//! The labels of steps: what a step of a request means for the history and for its tenant's marks.
 //!
 //! mw_world_memory finds the label of a step, and mw_simulator makes the step. A new label needs a case in
 //! `specs/Definition/StepLabels`, in `specs/Definition/LabelEffects`, and in `label_of` of mw_world_memory.

@@ -1,4 +1,4 @@
--- What a call does to a tenant's file, to the book of that file, and to its disk.
+-- Defines what a call does to a tenant's simulated file: to the file, to its book (what is kept beside it) and to its disk.
 -- Used by: the contracts of src/calls.rt, mw_simulator. A change here changes what these contracts say.
 use Rattle.std.specs.Prelude.{◌≡◌, ◌+◌, ℕ, Bool, true, if◌then◌else◌, List, length, slice_index, Option, Some, None, Result, Ok, Err}
 use Rattle.mw_disk.specs.Memory.{Memory as Disk, memory_facts, with_name}

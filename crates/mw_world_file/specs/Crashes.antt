@@ -1,6 +1,5 @@
--- What a crash in the middle of a call leaves of a tenant's file.
--- Used by: the contracts of src/calls.rt, mw_book, mw_core, mw_simulator. A change here changes what these contracts
--- say.
+-- Defines what a crash in the middle of a call leaves of a tenant's file.
+-- Used by: the contracts of src/calls.rt, mw_book, mw_core, mw_simulator. A change here changes what these contracts say.
 use Rattle.std.specs.Prelude.{ℕ, ◌≡◌, ◌⊎◌, List, Some, Result, Ok, Err}
 use Rattle.mw_words.specs.declared.jobs.Entry.{Entry}
 use Rattle.mw_words.specs.Change.{put}

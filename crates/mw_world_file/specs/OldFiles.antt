@@ -1,4 +1,4 @@
--- The bytes of an old file, which no start has opened yet. It has the first layout.
+-- Defines the bytes of an old file, which no start has opened yet. It has the first layout.
 -- Used by: the contracts of src/unopened.rt. A change here changes what these contracts say.
 use Rattle.std.specs.Prelude.{ℕ, ◌-◌, ◌*◌, List, ◌∷◌, ◌++◌, replicate, take}
 use Rattle.mw_words.specs.declared.jobs.Entry.{Entry}

@@ -1,4 +1,5 @@
-//! A tenant's file in memory, and what is kept beside it.
+//! A simulated file: a tenant's file on a disk in memory, and what is kept beside it (words, places, change in
+//! doubt).
 //!
 //! Used by: nearly all modules of this crate, mw_world_memory, mw_simulator. `specs/Books` says which file a
 //! book represents, by its fields: change it with a field.

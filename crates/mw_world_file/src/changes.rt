@@ -1,6 +1,7 @@
-//! Changes, and words after them.
+//! Computes a simulated file's words after a change, and whether two changes share a word.
 //!
-//! Used by: `calls`, `restarts`, `unopened`.
+//! Used by: `calls`, `restarts`, `unopened`. `put` of mw_words (`specs/Change`) and `share_a_word` of `specs/Files`
+//! say the same: change both together.
 ghost use Rattle.std.specs.Prelude.{◌≡◌, ◌==◌, IfOk};
 ghost use Rattle.std.specs.List.{list_any};
 ghost use Rattle.mw_words.specs.Change as change;

@@ -1,4 +1,4 @@
-//! Why a call on a file, or a start of it, is refused.
+//! The reasons for which a call on a simulated file, or a start of it, is refused.
 //!
 //! mw_simulator makes its own fault of it, in `src/faults.rt`: a new kind needs a case there.
 

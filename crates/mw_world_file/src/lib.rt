@@ -1,6 +1,5 @@
-//! A tenant's file in memory, for the simulator: the file itself on a disk in memory, and beside it the words
-//! that it represents, its places and the change in doubt. A book here is such a file with what is kept beside
-//! it, a [`SimulatedFile`].
+//! A tenant's file in memory, for the simulator: on a disk in memory, with the words that it represents, its places
+//! and the change in doubt beside it. A book here is such a file with what is kept beside it, a [`SimulatedFile`].
 //!
 //! A call on a book makes a new book of the file after the call, and leaves the old book unchanged. The caller
 //! says which device call fails, if one does. `restart` makes the book after all stopped, also in the middle of

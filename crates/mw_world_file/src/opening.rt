@@ -1,6 +1,7 @@
-//! The opening of a tenant's file.
+//! Opens a simulated file, also with a device call that fails.
 //!
-//! Used by: `new_books`, `restarts`.
+//! Used by: `new_books`, `restarts`. Its contracts use `specs/Books`, `specs/Devices`, `specs/Files` and others:
+//! change them together.
 ghost use Rattle.std.specs.Prelude.{◌≡◌, ◌<◌, ◌≤◌, ◌^◌, ℕ, List, Some, None, [], length, replicate, true, false, IsTrue, IsSome, IsSomeAnd, IfOk, MatchResult};
 ghost use Rattle.mw_disk.specs.Memory.{memory_facts};
 ghost use Rattle.mw_file.specs.File.{disk_of, states_of, has_failed};

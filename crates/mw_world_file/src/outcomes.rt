@@ -1,4 +1,4 @@
-//! How the device takes a call on a file.
+//! How the device takes a call on a file: no device call fails, or the one with this number.
 //!
 //! mw_world passes it on as a part of an event, and `calls` does what it says. A new kind needs a case there,
 //! and in the definition of a call: `specs/CallEffects`, and `specs/Definition/Calls` of mw_world.

@@ -1,6 +1,7 @@
-//! The places of a tenant's file, as a book keeps them.
+//! The record places of a simulated file, and the change in each.
 //!
-//! Used by: `book`, `calls`, `opened`, `opening`, `stops`.
+//! Used by: `book`, `calls`, `opened`, `opening`, `stops`. Its contracts use `specs/Devices` and `specs/Files`:
+//! change them together.
 ghost use Rattle.std.specs.Prelude.{◌≡◌, IfOk};
 ghost use Rattle.std.specs.List.{list_any};
 ghost use Rattle.mw_world_file.specs.Devices.{told};

@@ -1,6 +1,7 @@
-//! A tenant's file after all stopped and started again.
+//! Stops a simulated file, also in the middle of a call, and opens it again.
 //!
-//! mw_simulator calls `SimulatedFile::restart` for each tenant when all starts again.
+//! mw_simulator calls `SimulatedFile::restart` for each tenant when all starts again. Its contracts use
+//! `specs/Restarts`, `specs/Books` and `specs/Recovery`: change them together.
 ghost use Rattle.std.specs.Prelude.{◌≡◌, ◌≤◌, length, IfOk};
 ghost use Rattle.mw_world_file.specs.Restarts.{takes};
 

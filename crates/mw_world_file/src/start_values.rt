@@ -1,6 +1,8 @@
-//! What a book tells, and what its file gives the shared words at a start.
+//! Tells how many words and places a simulated file has, whether it failed, and what it gives the shared words at a
+//! start.
 //!
-//! Used by: mw_simulator, mw_world_table.
+//! Used by: mw_simulator, mw_world_table. Its contracts use `specs/Books` and `specs/StartValues`: change them
+//! together.
 ghost use Rattle.std.specs.Prelude.{◌≡◌, length, IfOk};
 ghost use Rattle.mw_world_file.specs.Books.{places_of_file};
 ghost use Rattle.mw_world_file.specs.StartValues.{IsGiven};

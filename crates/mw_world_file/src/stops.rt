@@ -1,6 +1,7 @@
-//! What is left of a tenant's file when all stops.
+//! Computes what is left of a simulated file when all stops: its bytes, and the change in doubt.
 //!
-//! Used by: `restarts`.
+//! Used by: `restarts`. Its contracts use `specs/Files`, `specs/Devices`, `specs/Recovery` and others: change them
+//! together.
 ghost use Rattle.std.specs.Prelude.{◌≡◌, ℕ, List, Some, false, slice_get, MatchOption, IfOk};
 ghost use Rattle.mw_disk.specs.Memory.{memory_facts, with_stop};
 ghost use Rattle.mw_record.specs.Records.{Pairs};

@@ -1,4 +1,4 @@
--- Of which shared words a world in memory has the bits.
+-- Defines which shared words a world in memory has bits for.
 -- Used by: the contracts of src/cells/start.rt, mw_simulator. A change here changes what these contracts say.
 use Rattle.std.specs.Prelude.{◌≡◌}
 use Rattle.mw_words.specs.declared.places.At.{At}

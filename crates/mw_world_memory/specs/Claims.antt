@@ -1,6 +1,5 @@
--- What a log keeps of a history: the request that each slot was claimed for, and the changes whose FAULT was decided.
--- Used by: the contracts of src/claims.rt, src/lines.rt and src/workers.rt, mw_simulator. A change here changes what
--- these contracts say.
+-- Defines what a log keeps of a history: the request that each slot was claimed for, and the changes whose FAULT was decided.
+-- Used by: the contracts of src/claims.rt, src/lines.rt and src/workers.rt, mw_simulator. A change here changes what these contracts say.
 use Rattle.std.specs.Prelude.{ℕ, ◌+◌, ◌≡◌, ◌≤◌, ◌==◌, ◌&&◌, Bool, List, reverse, Option, vec_len, vec_capacity}
 use Rattle.std.specs.List.{find, list_any}
 use Rattle.std.specs.Option.{option_map_or}

@@ -1,4 +1,4 @@
--- Room for the marks of a tenant in memory.
+-- Defines that the marks of a tenant in memory have room for more.
 -- Used by: the contracts of src/lines.rt, mw_simulator. A change here changes what these contracts say.
 use Rattle.std.specs.Prelude.{ℕ, ◌+◌, ◌≡◌, ◌≤◌, Bool, false, nat_le, vec_len, vec_capacity}
 use Rattle.mw_world_memory.specs.declared.lines.Lines.{Lines}

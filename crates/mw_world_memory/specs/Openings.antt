@@ -1,4 +1,4 @@
--- What the tenants' files gave at a start.
+-- Defines what the tenants' files gave at a start, as a world in memory keeps it.
 -- Used by: the contracts of src/cells/start.rt, mw_simulator. A change here changes what these contracts say.
 use Rattle.std.specs.Prelude.{ℕ, ◌≡◌, ◌<◌, Bool, true, false, List, [], Vec, length, slice_index_or, MatchOption, IfSome, Some, None}
 use Rattle.std.specs.declared.option.Option.{Option}

@@ -1,4 +1,4 @@
--- A step on the shared words in bits, and that it does what the step does to the shared words.
+-- Defines a step on the bits of shared words, and states that it does what the step does to the shared words.
 -- Used by: the contracts of src/cells/steps.rt, mw_simulator. A change here changes what these contracts say.
 use Rattle.std.specs.Prelude.{ℕ, ◌≡◌, ◌-◌, ◌==◌, Bool, true, false, cond, Some, None}
 use Rattle.std.specs.declared.option.Option.{Option}

@@ -1,4 +1,4 @@
--- What always holds of the tenants' files in memory.
+-- States what always holds of the tenants' files in memory: each represents a file with its tenant's number of words.
 -- Used by: mw_simulator. A change here changes what contracts there say.
 use Rattle.std.specs.Prelude.{ℕ, ◌≡◌, List, slice_get, Some}
 use Rattle.mw_world_file.specs.SoundBooks.{HasSound}

@@ -1,4 +1,4 @@
-//! The request that each slot was claimed for.
+//! Keeps the request that each slot was claimed for.
 //!
 //! A world of mw_simulator has one [`ClaimLog`], and gives it each step's label. `lines` and `workers` ask it
 //! for the request of a change. `specs/Claims` says what the log keeps of a history (`Recalls`): change it

@@ -1,7 +1,6 @@
-//! The parts of a world in memory: the shared words in bits, the request that each slot was claimed for, the
-//! tenants' marks, the workers, and the tenants' files. The calls here make one such change each: a step on the
-//! shared words, one more mark, or a label taken in. `mw_simulator` says which event makes which of these
-//! changes.
+//! The parts of a world in memory: the shared words in bits, each slot's request, the tenants' marks, the workers,
+//! and the tenants' files. The calls here make one such change each: a step on the shared words, one more mark, or
+//! a label taken in. `mw_simulator` says which event makes which of these changes.
 //!
 //! What to read first. `specs/Bits` and `specs/BitsMatch` say which shared words a list of bits represents.
 //! `specs/StepsInBits` says what a step does to them, and `specs/BitPlaces` and `specs/Openings` which words

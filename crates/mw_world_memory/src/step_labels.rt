@@ -1,4 +1,4 @@
-//! The label of a request's step: what the step means for its tenant's marks. It is the label of the
+//! Computes the label of a request's step: what the step means for its tenant's marks. It is the label of the
 //! definition.
 //!
 //! mw_simulator asks for the label of each step (`src/world/turns.rt`). A new label also belongs in `claims`,

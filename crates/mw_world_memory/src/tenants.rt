@@ -1,6 +1,6 @@
-//! The tenants in memory.
+//! The tenants of a world in memory, each with its marks, its file and its quota.
 //!
-//! Used by: mw_simulator.
+//! Used by: mw_simulator. `specs/Representation` there says which tenant it represents: change it with a field.
 
 use crate::lines::Lines;
 use mw_world_file::SimulatedFile;

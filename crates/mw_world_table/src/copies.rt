@@ -1,6 +1,6 @@
-//! Copies of the tenants and the workers of a world in memory, for a table.
+//! Copies the tenants and the workers of a simulated world, for a table.
 //!
-//! Used by: `of_world`.
+//! Used by: `of_world`. Its contracts use `specs/Worlds`: change them together.
 ghost use Rattle.std.specs.Prelude.{◌≡◌, IfOk, map};
 ghost use Rattle.mw_simulator.specs.FromMemory.{worker_state_of};
 ghost use Rattle.mw_table.specs.Runs.{last_start, worker_state_so_far};

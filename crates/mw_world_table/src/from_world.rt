@@ -1,6 +1,6 @@
-//! A table of a world in memory.
+//! Makes a table (array of shared words) of a simulated world, so that threads go on from it.
 //!
-//! Used by: the tests of mw_table_tests.
+//! Used by: the tests of mw_table_tests. Its contracts use `specs/Worlds`: change them together.
 ghost use Rattle.std.specs.Prelude.{◌≡◌, All, IfOk, List, length};
 ghost use Rattle.mw_world.specs.Definition.Events.{WorldEvent};
 ghost use Rattle.mw_world.specs.Definition.State.{State};

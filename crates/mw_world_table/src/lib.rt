@@ -1,4 +1,5 @@
-//! A table of a world in memory. Play a world to some point, and go on with threads.
+//! Makes a table (array of shared atomic words) of a world in memory. Play a world to some point, and go on with
+//! threads.
 //!
 //! [`of_world`] copies the tenants, the workers and the shared words out of the world, and makes the table of
 //! them. `specs/Worlds` says what such a table begins with.

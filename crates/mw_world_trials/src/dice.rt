@@ -1,6 +1,7 @@
 //! Makes random choices.
 //!
-//! Used by: `jobs`, `trial`, and the larger runs.
+//! Used by: `jobs`, `trial`, and the larger runs. It may change freely as long as this crate checks and its tests
+//! pass.
 ghost use Rattle.std.specs.Prelude.{◌<◌, ◌≤◌};
 
 use rand_core::{Rng, SeedableRng};

@@ -1,5 +1,7 @@
 //! Gives the marks of the example runs, which `ComeOut` states, one by one to the store alone, which hands
 //! out the same replies.
+//!
+//! Nothing else uses it: it may change with what it tests.
 
 use mw_line::{Request, Say, behind, field, read_line, value_at};
 use mw_lone::{Lone, Mark};

@@ -1,6 +1,6 @@
-//! Makes random jobs, stops and worlds.
+//! Makes random jobs, stops and worlds for the trials.
 //!
-//! Used by: `trial`, and the larger runs.
+//! Used by: `trial`, and the larger runs. It may change freely as long as this crate checks and its tests pass.
 ghost use Rattle.std.specs.Prelude.{◌≡◌, ◌≤◌, None, IsTrue};
 ghost use Rattle.mw_world.specs.Definition.State.{IsConfig, may_be_old};
 

@@ -1,6 +1,7 @@
-//! Gives a tenant's marks to a store alone, and compares.
+//! Gives a tenant's marks to a store alone (the reference model), and compares its replies and words with the
+//! world's.
 //!
-//! Used by: `trial`, `stale_helper_tests`.
+//! Used by: `trial`, `stale_helper_tests`. It may change freely as long as this crate checks and its tests pass.
 ghost use Rattle.std.specs.Prelude.{◌<◌, length};
 
 use mw_lone::{Lone, LoneFault, Mark};

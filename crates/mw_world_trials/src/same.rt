@@ -1,4 +1,6 @@
 //! Compares what a test found with what it wanted. Used by: `schedule_tests`, `stale_helper_tests`.
+//!
+//! It may change freely as long as this crate checks and its tests pass.
 use std::fmt::Debug;
 use std::process::Abort;
 

@@ -1,4 +1,6 @@
 //! Tests which texts are schedules, and what they say.
+//!
+//! Nothing else uses it: it may change with what it tests.
 use crate::same::{same, same_at};
 use mw_look::{Call, Kind};
 use mw_schedule::*;

@@ -1,6 +1,6 @@
-//! How many slots the tenants of a world may use at a time, and which quotas a start can give them.
+//! Keeps how many slots each tenant of a world may use at a time, and says which quotas a start can give.
 //!
-//! Used by: `trial`, and the larger runs.
+//! Used by: `trial`, and the larger runs. It may change freely as long as this crate checks and its tests pass.
 
 use mw_words::{MAX_PLACES, MAX_QUOTA};
 use mw_world::{Config, Stop};

@@ -1,4 +1,6 @@
-//! Plays twenty thousand trials, and some that are longer.
+//! Plays twenty thousand trials (random runs of small worlds), and some that are longer.
+//!
+//! Nothing else uses it: it may change with what it tests.
 
 use crate::trial::{Tally, play};
 use std::process::Abort;

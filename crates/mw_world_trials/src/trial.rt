@@ -1,6 +1,6 @@
-//! Plays one trial.
+//! Plays one trial: a random run of a small world, whose marks are then judged by the store alone.
 //!
-//! Used by: `tests`.
+//! Used by: `tests`. It may change freely as long as this crate checks and its tests pass.
 ghost use Rattle.std.specs.Prelude.{◌<◌, ◌≤◌, length};
 ghost use Rattle.mw_world.specs.Definition.State.{IsConfig};
 

@@ -1,4 +1,4 @@
-//! The step for which a request asks at each of its points.
+//! Gives the step that a request asks for at each point of its program.
 //!
 //! It has `Actor::ask`, which mw_core and mw_simulator call before each step. A new point needs a case here, in
 //! `specs/Asks` and in `specs/Parts`.

@@ -1,4 +1,4 @@
-//! Where a change goes from each of its points, by what it is told there.
+//! Gives the point to which a change goes from each point of its program, by what its step found.
 //!
 //! Only `actor.rt` calls it. A new point needs a case here and in `specs/Program`, or in the page of it that the
 //! point belongs to.

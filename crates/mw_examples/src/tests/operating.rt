@@ -1,4 +1,6 @@
-//! What an operator asks for by the command line.
+//! Tests what an operator asks the programs for by the command line.
+//!
+//! Nothing else uses it: it may change with what it tests.
 use crate::folders::new_folder;
 use crate::stories::play;
 use std::test::Fail;

@@ -1,4 +1,6 @@
-//! Clients over loopback, and the locks of files that are served.
+//! Tests `mwserve` with clients over loopback, and the locks of files that are served.
+//!
+//! Nothing else uses it: it may change with what it tests.
 use crate::clients::{Caller, Notice, Ports, come_and_go, port_of_server};
 use crate::folders::{command_line, new_folder, path_in, remove_folder};
 use crate::locks::LockWatch;

@@ -1,3 +1,3 @@
--- The proofs about what a request needs for a call on its tenant's file, and what it knows after it.
+-- The proofs about what a request needs for a call on its tenant's file, and what it knows after it. This page only lists its modules.
 pub mod AfterCalls
 pub mod CallGuards

@@ -1,4 +1,5 @@
--- The proofs that the preconditions of the moves of a request's step hold.
+-- The proofs that each move of a request's step (elementary change of the shared words) has its precondition. This page only lists its
+-- modules.
 pub mod Attempts
 pub mod UpdateGuards
 pub mod Gates

@@ -1,4 +1,4 @@
--- The proofs about what a request knows after a step that changes no shared word.
+-- The proofs about what a request knows after a step that changes no shared word. This page only lists its modules.
 pub mod Help
 pub mod Inspection
 pub mod ByPoint

@@ -1,4 +1,4 @@
--- The proofs about what a request knows after a step that changes a shared word.
+-- The proofs about what a request knows after a step that changes a shared word. This page only lists its modules.
 pub mod ByPoint
 pub mod Acquisition
 pub mod Preservation

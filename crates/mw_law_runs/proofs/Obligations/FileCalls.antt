@@ -1,4 +1,5 @@
--- Words keep their releasers over a call on a file. Used by: calls_keep_releasers, FileCalls.
+-- A call on a file keeps each held or written word's releaser: the request that will release or clean the word.
+-- Used by: calls_keep_releasers, FileCalls. It may change freely as long as this crate checks.
 use Rattle.std.specs.Prelude.{ℕ, ◌≡◌, Bool, true, false, [], ◌∷◌, ◌++◌, Some, None}
 use Rattle.std.proofs.Common.{refl, sym, subst, inl}
 use Rattle.mw_words.specs.declared.replies.Reply.TheVariants.{Fault as SaysFault}

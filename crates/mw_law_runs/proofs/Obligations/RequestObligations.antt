@@ -1,5 +1,5 @@
--- If words have releasers among requests with their own changes, they have releasers as the world's invariant requires.
--- Used by: requests_release_their_words, RunsAreSound.
+-- If words have releasers as this crate defines them (`WordsHaveReleasers`), they have them as the world's invariant requires.
+-- Used by: requests_release_their_words, RunsAreSound. It may change freely as long as this crate checks.
 use Rattle.std.specs.Prelude.{ℕ, ◌⊎◌}
 use Rattle.std.proofs.Common.{subst, sym, inl, inr}
 use Rattle.mw_words.specs.declared.statuses.Status.{Status}

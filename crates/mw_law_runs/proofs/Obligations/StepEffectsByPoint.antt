@@ -1,4 +1,5 @@
--- What each step of a request may do to gates, words and statuses, by its point and what it learns. Used by: Obligations/StepObligations.
+-- Which of the effects in `StepEffects` the step of a request may have: one case for each point.
+-- Used by: Obligations/StepObligations. It may change freely as long as this crate checks.
 use Rattle.std.specs.Prelude.{◌≡◌, true, false}
 use Rattle.std.proofs.Common.{refl, sym}
 use Rattle.mw_words.specs.declared.replies.Reply.{Reply}

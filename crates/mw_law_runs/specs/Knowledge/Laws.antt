@@ -1,4 +1,4 @@
--- What is proved of the facts that requests know.
+-- States which steps leave a request's knowledge true, and its slots live (taken under the number by which it knows them).
 -- Used by: the laws of src/knowledge_laws.rt. A change here changes what these laws say.
 use Rattle.std.specs.Prelude.{ℕ, ◌≡◌, ◌≢◌, ◌≤◌, ◌+◌, true}
 use Rattle.mw_actor.specs.declared.points.Point.{Point}

@@ -1,4 +1,4 @@
--- A request after a step, and the world after it.
+-- Defines a request after its step, and the world after that step.
 -- Used by: many specs of this crate, mw_law_store. Contracts use it through these: a change here changes what they say.
 use Rattle.mw_look.specs.declared.observations.Observation.{Observation}
 use Rattle.mw_actor.specs.ActorState.{ActorState}

@@ -1,4 +1,4 @@
--- The part of a request's knowledge that is its worker's own: only a few steps of this worker change it.
+-- Defines the part of a request's knowledge that is its worker's own: only a few steps, all of this worker, change it.
 -- Used by: specs/Knowledge/Laws. Contracts use it through these: a change here changes what they say.
 use Rattle.std.specs.Prelude.{◌≡◌}
 use Rattle.mw_words.specs.declared.statuses.Status.TheVariants.{Draft}

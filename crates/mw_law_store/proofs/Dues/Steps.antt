@@ -1,4 +1,5 @@
--- Each step of a request ends as its label says: all points of the program, one by one. Used by: Dues/Noted.
+-- Each step of a request leaves it as its label (what it adds to the history) says: one case for each point.
+-- Used by: Dues/Noted. It may change freely as long as this crate checks.
 use Rattle.std.specs.Prelude.{ℕ, ◌≡◌, ◌+◌, ◌==◌, ◌||◌, Bool, true, false, nat_lt, Option, Some, None}
 use Rattle.std.proofs.Common.{refl, sym, subst, inl, inr}
 use Rattle.mw_words.specs.declared.limits.TheConstants.{WORN_NUMBER}

@@ -1,5 +1,6 @@
--- The call to which a request has come can be made, and a start finds some words. Used by: the laws calls_can_be_made and
--- starts_find_words, Files/EnabledEvents, mw_law_calls.
+-- If a request has come to a call on its file, the file can make the call. At each start there are words that may be found.
+-- Used by: the laws calls_can_be_made and starts_find_words, Files/EnabledEvents, mw_law_calls. Its statements may change with
+-- mw_law_calls; its proofs may change freely.
 use Rattle.std.specs.Prelude.{ℕ, zero, suc, ◌≡◌, ◌<◌, ◌&&◌, not, Bool, true, false, if◌then◌else◌, nat_lt, List, length, bytes_eq, Some}
 use Rattle.std.proofs.Common.{refl, sym, ap, subst, ◌∙◌, inl, inr, arith}
 use Rattle.std.proofs.lemmas.Bool.Decides.{nat_tests}

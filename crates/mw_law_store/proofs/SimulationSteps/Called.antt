@@ -1,4 +1,5 @@
--- A call on a file is simulated for each tenant, however it ends. Used by: RunSimulation.
+-- Each tenant's store alone simulates a call on a file, however the call ends.
+-- Used by: RunSimulation. It may change freely as long as this crate checks.
 use Rattle.std.specs.Prelude.{ℕ, ◌≡◌, ◌≢◌, Bool, true, false, Option, Some, None}
 use Rattle.std.proofs.Common.{refl, sym, ap, subst, ◌∙◌, inl, inr}
 use Rattle.std.proofs.lemmas.Bool.{cases_eq}

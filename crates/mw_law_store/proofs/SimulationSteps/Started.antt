@@ -1,5 +1,5 @@
--- A store simulates each tenant at the first start, and after each later one; and such a store says what the tenant's words and
--- file are. Used by: RunSimulation.
+-- At each start, the first or a later one, some store alone simulates each tenant, and tells the tenant's words and file.
+-- Used by: RunSimulation. It may change freely as long as this crate checks.
 use Rattle.std.specs.Prelude.{ℕ, ◌≡◌, ◌++◌, Bool, List, [], ◌∷◌, is_none, Option, Some}
 use Rattle.std.specs.FinMap as map
 use Rattle.std.specs.Ordering.{nat_cmp}

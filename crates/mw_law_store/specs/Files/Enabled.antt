@@ -1,4 +1,4 @@
--- What a request or a start asks for can happen: the world's own tests refuse none of it.
+-- States that the world's own tests refuse nothing that a request or a start asks for.
 -- Used by: the laws of src/file_laws.rt. A change here changes what these laws say.
 use Rattle.std.specs.Prelude.{ℕ, ◌≡◌, List, Option, Some}
 use Rattle.mw_actor.specs.ActorState.{ActorState}

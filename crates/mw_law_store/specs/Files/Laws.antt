@@ -1,4 +1,4 @@
--- The facts about files and their places, `HasFiles`: which worlds have them, and what keeps them.
+-- States which worlds have `HasFiles` (the shared words agree with the tenants' files), and that every event keeps it.
 -- Used by: the laws of src/file_laws.rt. A change here changes what these laws say.
 use Rattle.std.specs.Prelude.{ℕ, ◌≡◌, ◌<◌, List, Some}
 use Rattle.mw_words.specs.declared.jobs.Job.{Job}

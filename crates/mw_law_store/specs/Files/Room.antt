@@ -1,4 +1,4 @@
--- A tenant's file has an empty place while a slot is taken for the tenant and the slot's change is not in the file.
+-- States that a tenant's file has an empty record place while a slot is taken for the tenant without its change in the file.
 -- Used by: the laws of src/file_laws.rt. A change here changes what these laws say.
 use Rattle.std.specs.Prelude.{ℕ, ◌≡◌, ◌<◌, ◌≤◌, true, false}
 use Rattle.mw_world_file.specs.Files.{File, is_empty, empty_from}

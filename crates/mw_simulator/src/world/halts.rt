@@ -1,6 +1,7 @@
-//! What was under way on a tenant's file when all stopped.
+//! What was under way on a tenant's file when all stopped: the call, and the request whose change it was sealing.
 //!
-//! `stopped_calls.rt` makes it, and `restarts.rt` uses it.
+//! `stopped_calls.rt` makes it, and `restarts.rt` uses it. `specs/Stops` says what it means: change it with a
+//! field.
 
 use mw_world_file::Cut;
 

@@ -1,6 +1,7 @@
-//! New worlds.
+//! Makes a new world: no worker has a request, and each file is new or an old one.
 //!
-//! mw_player and tests begin with `World::new`. `restarts.rt` uses the rest.
+//! mw_player and tests begin with `World::new`. `restarts.rt` uses the rest. Its contracts use `specs/Invariant`,
+//! `specs/Events`, `specs/ServiceAlone` and others: change them together.
 ghost use Rattle.std.specs.Prelude.{◌≡◌, ℕ, ◌≤◌, [], All, Bool, IfOk, IsTrue, List, length};
 ghost use Rattle.mw_world.specs.Definition.State as spec;
 ghost use Rattle.mw_world.specs.Definition.State.{IsConfig, may_be_old};

@@ -1,6 +1,7 @@
-//! Requests: how they come, make their steps and hand out their replies.
+//! Makes a request come, make its next step, or hand out its reply.
 //!
-//! `World::step` calls these for its events (`events.rt`); `calls.rt` uses some for a call on a file.
+//! `World::step` calls these for its events (`events.rt`); `calls.rt` uses some for a call on a file. Its contracts
+//! use `specs/Representation`, `specs/UnchangedParts` and `specs/StepParts`: change them together.
 ghost use Rattle.std.specs.Prelude.{◌≡◌, ◌<◌, true, IfSome, OnErr, OnOk, length};
 ghost use Rattle.mw_look.specs.Observations.{observation_of};
 ghost use Rattle.mw_look.specs.Steps.{place};

@@ -1,4 +1,4 @@
--- States what comes of some runs of a world by short schedules.
+-- States the results of some short runs of a world, which schedules (which worker goes on, and how far) describe.
 -- Used by: the laws of src/laws.rt. A change here changes what these laws say.
 use Rattle.std.specs.Prelude.{ℕ, ◌≡◌, true, false, List, [], ◌∷◌, is_none, Option, Some, None}
 use Rattle.std.specs.Option.{option_map}

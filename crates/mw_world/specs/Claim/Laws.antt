@@ -1,4 +1,4 @@
--- States laws of the definitions: what a place holds after a write, and what one event more does to a run.
+-- States laws of the definitions: what a shared word holds after a write, and what one event more does to a run.
 -- Used by: the laws of src/laws.rt. A change here changes what these laws say.
 use Rattle.std.specs.Prelude.{◌≡◌, ◌≢◌, List, [], ◌∷◌, ◌++◌}
 use Rattle.std.specs.Option.{option_and_then}

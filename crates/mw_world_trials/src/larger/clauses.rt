@@ -1,6 +1,8 @@
-//! What must hold of the world at every moment, by groups, as far as what is seen shows it.
+//! Checks what must hold of a larger world at every moment, group by group, as far as what is seen shows it.
 //!
-//! Used by: `larger/planted_faults`, `larger/tests`, `larger/watch`.
+//! Used by: `larger/planted_faults`, `larger/tests`, `larger/watch`. Nothing is proved of these checks. They may
+//! change freely if they stay true of every run, and still refuse the planted faults of their groups
+//! (`planted_faults.rt`).
 
 use crate::larger::seen::Seen;
 

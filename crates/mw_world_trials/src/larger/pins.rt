@@ -1,6 +1,8 @@
-//! What a request holds at its point, and what it will release.
+//! Computes what a request holds at its point (program counter): its pins, and the words that it will release or
+//! clean.
 //!
-//! Used by: `larger/clauses/counts`, `larger/clauses/words`.
+//! Used by: `larger/clauses/counts`, `larger/clauses/words`. It may change freely as long as this crate checks and
+//! its tests pass.
 ghost use Rattle.std.specs.Prelude.{◌≤◌};
 
 use crate::larger::seen::{Seen, WorkerState};

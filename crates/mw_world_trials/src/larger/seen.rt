@@ -1,7 +1,8 @@
-//! What can be seen of a world between two events.
+//! Keeps what can be seen of a world between two events.
 //!
 //! Used by: `larger/clauses`, `larger/clauses/changes`, `larger/clauses/counts`, `larger/clauses/files`,
-//! `larger/clauses/references`, `larger/clauses/words`, `larger/past`, other modules.
+//! `larger/clauses/references`, `larger/clauses/words`, `larger/past`, other modules. It may change freely as long
+//! as this crate checks and its tests pass.
 ghost use Rattle.std.specs.Prelude.{◌<◌, ◌≤◌};
 
 use crate::larger::past::Past;

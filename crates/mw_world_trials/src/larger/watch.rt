@@ -1,6 +1,6 @@
-//! A larger world to which random events happen, and what is seen of it.
+//! Plays random events on a larger world, and sees it after each.
 //!
-//! Used by: `larger/tests`.
+//! Used by: `larger/tests`. It may change freely as long as this crate checks and its tests pass.
 ghost use Rattle.std.specs.Prelude.{◌≡◌, ◌<◌, ◌≤◌};
 ghost use Rattle.mw_world.specs.Definition.State.{IsConfig};
 

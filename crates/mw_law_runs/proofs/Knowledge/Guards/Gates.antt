@@ -1,4 +1,5 @@
--- The preconditions of the moves on a door or a gate hold. Used by: Knowledge/Guards/UpdateGuards.
+-- If a request knows the facts of its point, each move (elementary change) of a door or a gate has its precondition (`Guard`).
+-- Used by: Knowledge/Guards/UpdateGuards. It may change freely as long as this crate checks.
 use Rattle.std.specs.Prelude.{ℕ, ◌≡◌, ◌<◌, ◌≤◌, ◌+◌, ◌-◌, Bool, true, false, cond, List}
 use Rattle.std.proofs.Common.{refl, sym, ap, subst, ◌∙◌, arith}
 use Rattle.std.proofs.lemmas.Bool.Decides.{nat_tests}

@@ -1,5 +1,7 @@
--- A step that keeps what is a request's own keeps what the request knows. Used by: KnowledgeOverSteps, ArrivalsAndStarts, FileCalls,
--- Knowledge/Calls/AfterCalls, Knowledge/Updates/Acquisition, other pages, mw_law_store, mw_law_calls, mw_rule.
+-- A step of any worker keeps what a request knows, if it keeps the request's pinned slots and the request's own. The latter (`KeepsOwn`) is
+-- its pin, its draft, its worker's row and next attempt number.
+-- Used by: KnowledgeOverSteps, ArrivalsAndStarts, FileCalls, Knowledge/Calls/AfterCalls, Knowledge/Updates/Acquisition, other pages,
+-- mw_law_store, mw_law_calls, mw_rule. Its statements may change with mw_law_store, mw_law_calls and mw_rule; its proofs may change freely.
 use Rattle.std.specs.Prelude.{ℕ, ◌≡◌, ◌≢◌, ◌≤◌, ◌+◌, Bool, true}
 use Rattle.std.proofs.Common.{ap, ◌∙◌, arith}
 use Rattle.std.proofs.lemmas.Bool.Decides.{nat_tests}

@@ -4,7 +4,7 @@ use Rattle.std.specs.List.{list_all}
 use Rattle.mw_words.specs.Change.{is_in_range, fits}
 use Rattle.mw_lone.proofs.words.fits.Given as goal
 
--- what is left fits just if all of them do
+-- what is left fits exactly if all of them do
 abbrev pub invariant-loop-entry : goal.invariant-loop-entry
 invariant-loop-entry l =
     (fits l.words (drop l.entry-index l.entries) ≡ fits l.words l.entries)

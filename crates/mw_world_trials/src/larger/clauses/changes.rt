@@ -1,4 +1,4 @@
-//! What must hold at every moment of requests, and of changes and their slots.
+//! Checks what must hold at every moment of requests, and of changes and their slots.
 //!
 //! Called by `clauses.rt`, for its groups Requests, Claims and Slots. Tests of larger worlds ask after each event
 //! whether these hold; nothing is proved of them. They may be changed freely if they stay true of every run, and

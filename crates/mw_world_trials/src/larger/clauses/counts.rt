@@ -1,4 +1,6 @@
-//! What must hold of pins, doors and quotas.
+//! Checks what must hold at every moment of pins, doors and quotas.
+//!
+//! `clauses.rt` calls it for its groups Counts and Limits, and says what may change.
 
 use crate::larger::past::Change;
 use crate::larger::pins::{frees, pins_held, waits};

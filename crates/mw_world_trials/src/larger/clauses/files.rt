@@ -1,4 +1,6 @@
-//! What must hold of the tenants' files.
+//! Checks what must hold at every moment of the tenants' files.
+//!
+//! `clauses.rt` calls it for its groups Files and Places, and says what may change.
 
 use crate::larger::past::Change;
 use crate::larger::seen::{Datum, Seen, Written};

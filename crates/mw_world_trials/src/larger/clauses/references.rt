@@ -1,4 +1,6 @@
-//! What must hold of the references in words, and of the attempts in words.
+//! Checks what must hold at every moment of the references to slots in words, and of the attempts in words.
+//!
+//! `clauses.rt` calls it for its groups References and Attempts, and says what may change.
 
 use crate::larger::past::{Change, Held};
 use crate::larger::seen::{Datum, Seen, WorkerState};

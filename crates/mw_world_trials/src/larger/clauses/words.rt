@@ -1,4 +1,6 @@
-//! What must hold of a change's words, and why no stale helper does harm to them.
+//! Checks what must hold at every moment of a change's words, and that no stale helper can harm them.
+//!
+//! `clauses.rt` calls it for its groups Words, Late and Releaser, and says what may change.
 
 use super::references::change_of;
 use crate::larger::past::{Change, Held};
