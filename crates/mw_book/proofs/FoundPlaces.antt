@@ -1,6 +1,7 @@
 -- If a book represents a simulated file (`File` of mw_world_file), the lowest free place of the open file is the lowest empty
 -- place of that file.
--- Used by: FiledCalls, NewBooks, PermittedCalls, the proof of Book::has_place. It may change freely as long as this crate checks.
+-- Used by: FiledCalls, NewBooks, PermittedCalls, the proof of Book::has_place. It may change freely as long as this crate
+-- checks.
 use Rattle.std.proofs.Common.{◌≡◌, ℕ, zero, suc, ◌+◌, ◌<◌, ◌≤◌, ◌||◌, Bool, true, false, List, [], ◌∷◌, length, take, Option, Some, None, nat_lt, if◌then◌else◌, refl, sym, ap, subst, ◌∙◌, inl, inr, arith}
 use Rattle.std.specs.List.{list_any}
 use Rattle.std.proofs.lemmas.Bool.{cond-true, cond-false, lt-ltb, le-ltb, ltb-true, cases_Bool}

@@ -1,5 +1,5 @@
--- The book of a file that just opened, or that didn't open, represents that file. `has_place` tells whether the file has an empty
--- place.
+-- The book of a file that just opened, or that didn't open, represents that file. `has_place` tells whether the file has an
+-- empty place.
 -- Used by: the proofs of Book::new, unopened and has_place. It may change freely as long as this crate checks.
 use Rattle.std.proofs.Common.{◌≡◌, ℕ, ◌<◌, true, false, List, [], length, get_or, Some, None, nat_lt, take, IsTrue, refl, sym, ◌∙◌}
 use Rattle.std.specs.List.{list_any}

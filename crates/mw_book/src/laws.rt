@@ -1,5 +1,5 @@
-//! Laws of books, as contracts of empty functions: which calls may be made, what a crash leaves, which files are
-//! alike.
+//! Laws (theorems, as contracts of empty functions) of books, which are tenants' open files as threads keep them: which
+//! calls may be made, what a crash leaves, and which files a book can't tell apart.
 //!
 //! No code calls them. Proofs of mw_core cite the lemmas behind them: a statement may change with mw_core.
 ghost use Rattle.mw_book.specs.Alike.{RepresentsAlike};

@@ -1,4 +1,4 @@
-//! Reads the command line of `mwserve`.
+//! Reads the command line of `mwserve`, the program of the server.
 //!
 //! mw_programs calls [`read_args`] for `mwserve`. A new option needs a field here, its use in mw_programs, a clause
 //! in `specs/CommandLine` if it has limits, and its row in docs/OPERATING.

@@ -1,4 +1,5 @@
--- A whole call on a file is one event. After it the request, the book and the file pass (the capability to call the file) agree.
+-- A whole call on a file is one event. After it the request, the book and the file pass (the capability to call the file)
+-- agree.
 -- Used by: the proof of Core::file. It may change freely as long as this crate checks.
 use Rattle.std.specs.Prelude.{ℕ, ◌≡◌, ◌++◌, Bool, List, [], ◌∷◌, map, None}
 use Rattle.std.proofs.Common.{refl, sym, ap, subst, ◌∙◌}

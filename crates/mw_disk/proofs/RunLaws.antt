@@ -1,5 +1,5 @@
--- Two runs of device calls, one after the other, make one run: in what they touch, what a crash since leaves, and how their calls
--- are counted.
+-- Two runs of device calls, one after the other, make one run: in what they touch, what a crash since leaves, and how their
+-- calls are counted.
 -- Used by: mw_file, mw_book, mw_world_file, mw_plain, mw_simulator. Its statements may change with mw_book, mw_file, mw_plain,
 -- mw_simulator and mw_world_file; its proofs may change freely.
 use Rattle.std.specs.Prelude.{◌≡◌, ◌<◌, ◌≤◌, ℕ, suc, ◌+◌, ◌-◌, ◌^◌, Bool, true, false, Some, List, [], ◌∷◌, ◌++◌, length, min, replicate, IsTrue}

@@ -1,6 +1,7 @@
--- Defines the facts of a disk of which nothing is known but how often a call on it has failed.
--- Used by: mw_programs, the contracts of file.rt. A real file has these facts (src/file.rt), so contracts promise nothing of its
--- bytes. It may change with `src/file.rt`.
+-- Defines the facts (abstract state) of a disk of which only the number of its failed calls is known. A real file has
+-- these facts, so contracts promise nothing of its bytes.
+-- Used by: the contracts of src/file.rt, proofs of mw_programs. A new field of Facts needs its value here. Another change
+-- changes what a real file promises: check src/file.rt and mw_programs.
 use Rattle.std.specs.Prelude.{ℕ, false, None, []}
 use Rattle.mw_disk.specs.Facts.{Facts}
 

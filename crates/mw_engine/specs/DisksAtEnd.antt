@@ -1,4 +1,5 @@
--- Defines which disks an engine gives at its end, and which words are on them.
+-- Defines which disks an engine (all tenants' words, which threads change at once) gives back when it ends, and which words
+-- are on them.
 -- Used by: the contracts of src/end.rt. A change here changes what these contracts say.
 use Rattle.std.specs.Prelude.{◌≡◌, ℕ, false, List, length, slice_get, Option, Some, None, IsTrue}
 use Rattle.mw_disk.specs.Facts.{Facts}

@@ -1,4 +1,5 @@
--- Defines the migration: how a file that has its first layout alone gets the second one, after the first.
+-- Defines the migration of a tenant's file to a new format: a file that has its first layout alone gets the second layout
+-- after it.
 -- Used by: OpeningEnds, mw_world_file, the contracts of migration.rt and opening.rt. It may change with migration.rt; what
 -- callers are promised of an opening is in OpeningEnds.
 use Rattle.std.specs.Prelude.{◌≡◌, ◌⊎◌, ◌<◌, ◌≤◌, ℕ, ◌+◌, ◌*◌, false, None, List, [], ◌∷◌, length, drop, slice_index, IsTrue}

@@ -1,5 +1,5 @@
-//! Opens a file: reads it, finishes the changes that were sealed and not settled, and adds the second layout if it
-//! has none.
+//! Opens a file: reads it, finishes the changes that were committed (sealed) and not yet written to their words
+//! (settled), and adds the second layout (format version 2) if the file has only the first.
 //!
 //! mw_programs opens each tenant's file by it before a server serves; mw_world_file and tests open files in memory.
 //! `specs/OpeningEnds` says how it ends. A new [`OpenFault`] needs a case there, in mw_programs and in mw_world_file

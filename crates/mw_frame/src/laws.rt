@@ -1,4 +1,5 @@
-//! Laws of a feed's lines, as contracts of empty functions: however the bytes are cut, the same lines are given.
+//! Laws of a feed's lines, as contracts of empty functions: however the bytes are cut, the same lines are given. A feed
+//! is the buffer that takes a connection's bytes in pieces and gives them back as lines.
 //!
 //! No code calls them, and no other crate cites them: they say for readers what the contracts of a feed come to. They
 //! may change with `specs/Given` and `specs/Texts`. docs/PROMISES cites `however_cut`.

@@ -1,6 +1,6 @@
 -- Defines what is true of a tenant's file when a call on it starts.
--- Used by: the laws of src/laws.rt, specs/CallEnds, specs/CallsByToken, specs/StableStatuses, specs/TokensInWorlds, mw_rule, mw_table. A
--- change here changes what these laws say.
+-- Used by: the laws of src/laws.rt, specs/CallEnds, specs/CallsByToken, specs/StableStatuses, specs/TokensInWorlds, mw_rule,
+-- mw_table. A change here changes what these laws say.
 use Rattle.std.specs.Prelude.{ℕ, ◌≡◌, ◌<◌, true, false, List, length, Some}
 use Rattle.mw_words.specs.declared.jobs.Entry.{Entry}
 use Rattle.mw_words.specs.declared.places.At.TheVariants.{Door as AtDoor, Status as AtStatus}

@@ -1,5 +1,5 @@
--- Defines a call by the thread that has the file's token: what stays while it is under way, and how it may end. The token is the ghost
--- capability to call that file.
+-- Defines a call by the thread that has the file's token: what stays while it is under way, and how it may end. The token is
+-- the ghost capability to call that file.
 -- Used by: the laws of src/laws.rt, mw_rule, mw_table, mw_core, mw_engine. A change here changes what these laws say.
 use Rattle.std.specs.Prelude.{ℕ, ◌≡◌, ◌≢◌, Bool, true, false, List, Some}
 use Rattle.mw_words.specs.declared.places.At.TheVariants.{Door as AtDoor, Status as AtStatus}

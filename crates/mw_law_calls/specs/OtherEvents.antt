@@ -1,6 +1,6 @@
 -- States what of a tenant's file stays over all events but a start and calls on that file.
--- Used by: the laws of src/laws.rt, specs/CallsByToken, specs/StableStatuses, specs/TokensInWorlds, mw_rule. A change here changes what
--- these laws say.
+-- Used by: the laws of src/laws.rt, specs/CallsByToken, specs/StableStatuses, specs/TokensInWorlds, mw_rule. A change here
+-- changes what these laws say.
 use Rattle.std.specs.Prelude.{ℕ, ◌≡◌, ◌≢◌, List, [], ◌∷◌, Some}
 use Rattle.mw_actor.specs.ActorState.{ActorState}
 use Rattle.mw_world.specs.declared.config.Config.{Config}

@@ -1,4 +1,5 @@
--- Defines when a file token (the ghost capability to call a file) is true in a world, and states that others' events leave it true.
+-- Defines when a file token (the ghost capability to call a file) is true in a world, and states that others' events leave it
+-- true.
 -- Used by: the laws of src/laws.rt, specs/CallsByToken. A change here changes what these laws say.
 use Rattle.std.specs.Prelude.{ℕ, ◌≡◌, not, true, false, List, length, Some}
 use Rattle.mw_actor.specs.ActorState.{ActorState, own_entries}

@@ -1,6 +1,7 @@
--- The invariant of counts (`CountsStand`): each gate counts its slot's pins, and each door its tenant's slots. Also what the invariant
--- rests on.
--- Used by: specs/Alone, specs/Exact, specs/Laws, mw_law_runs. Contracts use it through these: a change here changes what they say.
+-- The invariant of counts (`CountsStand`): each gate counts its slot's pins, and each door its tenant's slots. Also what the
+-- invariant rests on.
+-- Used by: specs/Alone, specs/Exact, specs/Laws, mw_law_runs. Contracts use it through these: a change here changes what they
+-- say.
 use Rattle.std.specs.Prelude.{ℕ, ◌≡◌, ◌<◌, true, false, Some}
 use Rattle.mw_words.specs.declared.places.At.TheVariants.{Door as AtDoor, Gate as AtGate}
 use Rattle.mw_words.specs.Patterns.{packed_door, packed_gate}

@@ -1,4 +1,5 @@
--- An exchange of a door or gate compares bits. This page states that it finds exactly the expected value, if all values are in range.
+-- An exchange of a door or gate compares bits. This page states that it finds exactly the expected value, if all values are in
+-- range.
 -- Used by: the laws of src/laws.rt, mw_law_runs. A change here changes what these laws say.
 use Rattle.mw_look.specs.Program.{IsPointInRange as IsReadPointInRange}
 use Rattle.mw_actor.specs.declared.points.Point.{Point}

@@ -1,4 +1,5 @@
--- The example of `specs/Examples` comes out: a late mark (put in before other marks) is legal at its place and illegal at the end.
+-- The example of `specs/Examples` comes out: a late mark (put in before other marks) is legal at its place and illegal at the
+-- end.
 -- Used by: a_late_mark_comes_out. It may change freely as long as this crate checks.
 use Rattle.std.proofs.Common.{◌≡◌, ◌≢◌, ℕ, ◌<◌, true, List, [], ◌∷◌, refl, ap, ◌∙◌, arith, Option, Some}
 use Rattle.std.specs.Prelude.{slice_set}

@@ -1,4 +1,5 @@
--- Defines histories with room for late marks: each line is a mark or an empty place. Defines when a place is reserved for a mark.
+-- Defines histories with room for late marks: each line is a mark or an empty place. Defines when a place is reserved for a
+-- mark.
 -- Used by: specs/Examples, specs/Laws, mw_law_store. Contracts use it through these: a change here changes what they say.
 use Rattle.std.specs.Prelude.{ℕ, ◌<◌, ◌≡◌, ◌≢◌, ◌==◌, ◌++◌, Bool, true, false, List, [], ◌∷◌, slice_get, Option, Some, None}
 use Rattle.std.specs.List.{flat_map}

@@ -1,9 +1,11 @@
 //! Proves what each mark does to a store alone, and that a mark may be put in late, at a place reserved for it.
 //!
-//! A mark is one atomic step in a tenant's serial history. A place is a position of that history. It stays empty
-//! until it is known whether the step that belongs there took place.
+//! A store alone (mw_lone) is the sequential specification of one tenant. A mark is one atomic step in its serial
+//! history. A place is a position of that history. It stays empty until it is known whether the step that belongs
+//! there took place.
 //!
-//! Used by: mw_law_store.
+//! Used by: mw_law_store, which changes with `specs`. A new mark needs a case in `specs/MarkEffects` and
+//! `specs/LateMarks`, and in the proofs; CONTRIBUTING lists the rest under *A mark*.
 #![tactic(auto)]
 
 mod laws;

@@ -1,5 +1,6 @@
--- Setting a row, and the elementary changes (moves) of the history alone, keep the invariant of the shared words (`Memory`). Those are a
--- skipped number, a pin left behind, a decided FAULT, and a new intent (an attempt in a word, or a permission to hold one).
+-- Setting a row, and the elementary changes (moves) of the history alone, keep the invariant of the shared words (`Memory`).
+-- Those are a skipped number, a pin left behind, a decided FAULT, and a new intent (an attempt in a word, or a permission to
+-- hold one).
 -- Used by: MovesKeepMemory. It may change freely as long as this crate checks.
 use Rattle.std.proofs.Common.{ℕ, arith}
 use Rattle.std.proofs.lemmas.Bool.Decides.{nat_tests}

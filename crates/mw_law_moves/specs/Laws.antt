@@ -1,5 +1,5 @@
--- The statements that this crate proves of moves, the elementary changes: each start has the invariant of the shared words, and each move
--- keeps it.
+-- The statements that this crate proves of moves, the elementary changes: each start has the invariant of the shared words, and
+-- each move keeps it.
 -- Used by: the laws of src/laws.rt. A change here changes what these laws say.
 use Rattle.std.specs.Prelude.{ℕ, ◌≤◌, List}
 use Rattle.mw_words.specs.declared.limits.TheConstants.{MAX_VALUE}

@@ -1,4 +1,5 @@
--- Defines what other workers may rely on while one worker makes steps (a rely condition), and states that each elementary change keeps it.
+-- Defines what other workers may rely on while one worker makes steps (a rely condition), and states that each elementary
+-- change keeps it.
 -- Used by: the laws of src/laws.rt, specs/Steps, mw_law_runs, mw_law_store. A change here changes what these laws say.
 use Rattle.std.specs.Prelude.{ℕ, ◌≡◌, ◌≢◌, ◌<◌, ◌≤◌, ◌⊎◌, true, List}
 use Rattle.mw_words.specs.declared.statuses.Status.TheVariants.{Draft, Open, Yes, No, DoneYes, DoneNo}

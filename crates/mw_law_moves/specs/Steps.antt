@@ -1,4 +1,5 @@
--- The statements that this crate proves of a world's steps: they keep the invariant of the shared words and what other workers rely on.
+-- The statements that this crate proves of a world's steps: they keep the invariant of the shared words and what other workers
+-- rely on.
 -- Used by: the laws of src/laws.rt, mw_law_runs. A change here changes what these laws say.
 use Rattle.std.specs.Prelude.{ℕ, ◌≡◌, ◌≤◌, ◌==◌, true, List, Some, None}
 use Rattle.mw_words.specs.declared.limits.TheConstants.{MAX_VALUE}

@@ -1,8 +1,8 @@
 //! States what is proved of moves, the elementary changes of which every step on the shared words is made.
 //!
 //! The functions do nothing, and nothing calls them: each contract is a fact, proved in `proofs/laws`. Proofs
-//! of crates above import other pages of `proofs`, by which these facts are proved. To change a fact, change
-//! its definition in `specs`, and then its proof.
+//! of mw_law_runs and mw_law_store import other pages of `proofs`, by which these facts are proved. To change a fact,
+//! change its definition in `specs`, and then its proof.
 ghost use Rattle.mw_law_moves.specs.Laws.{MoveKeepsMemory, MovesKeepMemory, StartsHaveMemory};
 ghost use Rattle.mw_law_moves.specs.Rely.{MovesKeepRely, MoveListsKeepRely, RelyIsTransitive};
 ghost use Rattle.mw_law_moves.specs.StepMoves.{CallsAreMoves, TurnsAreMoves};

@@ -1,5 +1,5 @@
--- Defines the order of the steps of a change's request: admission, claim of a slot, its entries, prepare. Only then does it hold or decide
--- anything.
+-- Defines the order of the steps of a change's request: admission, claim of a slot, its entries, prepare. Only then does it
+-- hold or decide anything.
 -- Used by: the laws of src/laws.rt. A change here changes what these laws say.
 use Rattle.std.specs.Prelude.{ℕ, zero, suc, ◌≡◌, ◌≤◌, true, List, [], ◌∷◌, length}
 use Rattle.arrayvec.specs.ArrayVec.{ArrayVec}

@@ -1,4 +1,5 @@
--- Defines the runs of one request: its steps and what each of them found. States what holds of every such run, of tenant, pins and slots.
+-- Defines the runs of one request: its steps and what each of them found. States what holds of every such run, of tenant, pins
+-- and slots.
 -- Used by: the laws of src/laws.rt, specs/HoldOrder, specs/Order. A change here changes what these laws say.
 use Rattle.std.specs.Prelude.{ℕ, ◌≡◌, ◌+◌, ◌<◌, ◌==◌, false, Some, None, List, [], ◌∷◌, ◌⊎◌}
 use Rattle.arrayvec.specs.ArrayVec.{ArrayVec}

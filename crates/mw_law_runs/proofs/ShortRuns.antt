@@ -1,4 +1,5 @@
--- A run with fewer events than there are numbers uses up no number. Each event raises a slot's or an attempt's number by at most one.
+-- A run with fewer events than there are numbers uses up no number. Each event raises a slot's or an attempt's number by at
+-- most one.
 -- Used by: short_runs_have_numbers. It may change freely as long as this crate checks.
 use Rattle.std.specs.Prelude.{ℕ, ◌≡◌, ◌<◌, ◌≤◌, ◌⊎◌, ◌+◌, ◌==◌, ◌&&◌, ◌++◌, Bool, true, false, not, cond, is_some, List, [], ◌∷◌, length, if◌then◌else◌, Option, Some, None}
 use Rattle.std.specs.Option.{option_and_then}

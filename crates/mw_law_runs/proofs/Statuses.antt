@@ -1,5 +1,5 @@
--- A request is at a call on its file, and its change has the status from which the call starts. Then no other worker changes that status,
--- except by a call on the same file.
+-- A request is at a call on its file, and its change has the status from which the call starts. Then no other worker changes
+-- that status, except by a call on the same file.
 -- Used by: callers_status_stays, mw_law_calls. Its statements may change with mw_law_calls; its proofs may change freely.
 use Rattle.std.specs.Prelude.{ℕ, ◌≡◌, ◌≢◌, ◌⊎◌, ◌==◌, ◌++◌, Bool, true, false, not, cond, ◌&&◌, is_some, if◌then◌else◌, [], ◌∷◌, Option, Some, None}
 use Rattle.std.proofs.Common.{refl, sym, ap, subst, ◌∙◌, inl, inr, arith}

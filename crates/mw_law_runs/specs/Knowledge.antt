@@ -1,4 +1,5 @@
--- What a request knows at its point, what it needs for its next step, and what is proved of both. This page only lists its modules.
+-- What a request knows at its point, what it needs for its next step, and what is proved of both. This page only lists its
+-- modules.
 pub mod Calls
 pub mod Updates
 pub mod Facts

@@ -1,11 +1,13 @@
-//! Proves a property of the world that every event keeps, for all but files and marks: the world is *sound*
-//! (`specs/RunInvariant`).
+//! Proves a property of the world (a model of a whole server) that every event keeps: the world is *sound*
+//! (`specs/RunInvariant`). It says nothing of files, or of marks, the events of a tenant's history.
 //!
-//! One part of it is who releases the words of a change (`specs/Obligations`). A word that is held for a refused
-//! change has a releaser: a request that works on the change. While a change isn't done with, its worker's request is
-//! there, or its pin was left behind. The same holds while a word that the change wrote names its slot.
+//! One part of it is who releases the words of a change (`specs/Obligations`). A slot is a change's descriptor, a pin a
+//! reference to it. A word that is held for a refused change has a releaser: a request that works on the change. While
+//! a change isn't done with, its worker's request is there, or its pin was left behind. The same holds while a word
+//! that the change wrote names its slot.
 //!
-//! Used by: mw_law_store, mw_law_calls.
+//! Used by: mw_law_store, mw_law_calls. A change of `specs` changes what they rest on. A new point of a request's
+//! program needs a case in `specs/Knowledge/Points`.
 #![tactic(auto)]
 
 mod knowledge_laws;

@@ -1,7 +1,7 @@
--- A line added at the end of a tenant's history leaves the abstract states (words and sealed changes) before it. A late mark leaves all of
--- them.
--- Used by: the law words_are_of_marks, HistoryMatchLaws, LastLines, ReplyPlaceLaws, Histories, PlacesAfterLine, other pages, mw_law_calls,
--- mw_rule. Its statements may change with mw_law_calls and mw_rule; its proofs may change freely.
+-- A line added at the end of a tenant's history leaves the abstract states (words and sealed changes) before it. A late mark
+-- leaves all of them.
+-- Used by: the law words_are_of_marks, HistoryMatchLaws, LastLines, ReplyPlaceLaws, Histories, PlacesAfterLine, other pages,
+-- mw_law_calls, mw_rule. Its statements may change with mw_law_calls and mw_rule; its proofs may change freely.
 use Rattle.std.specs.Prelude.{ℕ, zero, suc, ◌≡◌, ◌<◌, ◌≤◌, ◌⊎◌, List, [], ◌∷◌, length, slice_get, slice_set, Option, Some, None}
 use Rattle.std.proofs.Common.{refl, sym, ap, ◌∙◌, inl, inr}
 use Rattle.std.proofs.Math.ListN.{take}

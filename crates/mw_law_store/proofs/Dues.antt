@@ -1,4 +1,5 @@
--- The proofs that after each step the store alone has what is due of the request (`specs/Due`). This page only lists its modules.
+-- The proofs that after each step the store alone has what is due of the request (`specs/Due`). This page only lists its
+-- modules.
 pub mod StepEnds
 pub mod Noted
 pub mod Onward

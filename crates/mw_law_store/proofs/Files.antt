@@ -1,5 +1,5 @@
--- The proofs about `HasFiles`: the shared words agree with each tenant's file, and each change in a file has its own record place there.
--- This page only lists its modules.
+-- The proofs about `HasFiles`: the shared words agree with each tenant's file, and each change in a file has its own record
+-- place there. This page only lists its modules.
 pub mod Apart
 pub mod ArrivalsAndStarts
 pub mod CallFiles

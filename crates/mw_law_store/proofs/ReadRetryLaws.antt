@@ -1,6 +1,6 @@
 -- In every run, a read begins again only for one of the three reasons in `specs/ReadRetries`.
--- Used by: the law reads_turn_back_for_three_reasons, mw_law_calls, mw_rule. Its statements may change with mw_law_calls and mw_rule; its
--- proofs may change freely.
+-- Used by: the law reads_turn_back_for_three_reasons, mw_law_calls, mw_rule. Its statements may change with mw_law_calls and
+-- mw_rule; its proofs may change freely.
 use Rattle.std.specs.Prelude.{ℕ, zero, suc, ◌≡◌, ◌<◌, ◌≤◌, ◌⊎◌, ◌+◌, ◌-◌, ◌*◌, ◌==◌, ◌&&◌, not, Bool, true, false, cond, nat_le, nat_lt, if◌then◌else◌, List, length, Option, Some, None}
 use Rattle.std.proofs.Common.{refl, sym, ap, subst, ◌∙◌, inl, inr, arith}
 use Rattle.std.proofs.lemmas.Bool.Decides.{nat_tests}

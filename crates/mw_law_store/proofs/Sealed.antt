@@ -1,5 +1,5 @@
--- The changes sealed before a place of a tenant's history are a prefix of those sealed later. Put over the first words, they give the words
--- there.
+-- The changes sealed before a place of a tenant's history are a prefix of those sealed later. Put over the first words, they
+-- give the words there.
 -- Used by: SealedLists, the law sealed_come_in_order. It may change freely as long as this crate checks.
 use Rattle.std.specs.Prelude.{ℕ, zero, suc, ◌≡◌, List, [], ◌∷◌, ◌++◌, slice_get, Option, Some, None}
 use Rattle.std.proofs.Common.{refl, sym, ap, ◌∙◌, append_assoc, append-nil}

@@ -1,5 +1,5 @@
--- After a start each tenant's part of the world refines its store alone. What a crash leaves of a tenant's file, and in doubt, is what its
--- store says.
+-- After a start each tenant's part of the world refines its store alone. What a crash leaves of a tenant's file, and in doubt,
+-- is what its store says.
 -- Used by: RestartSimulation, SimulationSteps/Started. It may change freely as long as this crate checks.
 use Rattle.std.specs.Prelude.{ℕ, ◌≡◌, ◌≢◌, ◌<◌, ◌≤◌, ◌==◌, ◌&&◌, not, Bool, true, false, if◌then◌else◌, nat_le, List, [], Option, Some, None}
 use Rattle.std.specs.FinMap as map

@@ -1,4 +1,5 @@
--- Every event keeps the world facts (`specs/WorldFacts`: faults, down tenants, requests that give up, reads), so they hold after every run.
+-- Every event keeps the world facts (`specs/WorldFacts`: faults, down tenants, requests that give up, reads), so they hold
+-- after every run.
 -- Used by: the law runs_have_world_facts, RunSimulation, ReadRetryLaws. It may change freely as long as this crate checks.
 pub mod Calls
 pub mod Histories

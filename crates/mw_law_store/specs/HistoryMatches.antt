@@ -1,5 +1,5 @@
--- Defines when a tenant's history matches its store alone: in the words, in the requests, and in the place of each reply. This says nothing
--- of the world.
+-- Defines when a tenant's history matches its store alone: in the words, in the requests, and in the place of each reply. This
+-- says nothing of the world.
 -- Used by: specs/History, specs/Laws, specs/Simulation. Contracts use it through these: a change here changes what they say.
 use Rattle.std.specs.Prelude.{ℕ, ◌≡◌, ◌<◌, Bool, true, List, length, slice_get, Option, Some, None}
 use Rattle.mw_words.specs.declared.jobs.Job.{Job}

@@ -1,6 +1,7 @@
--- Defines what holds of a place that a worker has reserved in its tenant's history for a late mark. The words there are known in every run;
--- that the mark would be legal there (`IsReservedFor` of mw_law_late) holds in runs with numbers left.
--- Used by: specs/Simulation. Contracts use it through these: a change here changes what they say.
+-- Defines what holds of a reserved place: an empty place in a tenant's history, which a worker fills later with a late mark
+-- (event). In every run, the tenant's words at that place allow the mark. The mark is legal there (`IsReservedFor` of
+-- mw_law_late) in runs that exhaust no version counter.
+-- Used by: specs/Simulation. The laws cite it through specs/Simulation: a change here changes what they say.
 use Rattle.std.specs.Prelude.{ℕ, ◌≡◌, ◌≢◌, Bool, true, false, List, slice_get, Option, Some, None}
 use Rattle.mw_words.specs.declared.jobs.Entry.{Entry}
 use Rattle.mw_words.specs.declared.replies.Reply.TheVariants.{Val, No as SaysNo}

@@ -1,4 +1,5 @@
--- Defines the protocol's grammar: which bytes are a line of a client, and which command each line says. Its limits are in Limits.
+-- Defines the protocol's grammar: which bytes are a line of a client, and which command each line says. Its limits are in
+-- Limits.
 -- Used by: Limits, LineReader, mw_session, mw_client, the contracts of changes.rt, laws.rt and requests.rt. A change here is a
 -- change of the protocol: docs/PROTOCOL, mw_session and both clients change with it.
 use Rattle.std.specs.Prelude.{◌≡◌, ℕ, ◌<◌, List, ◌++◌, length, codes, flat_map, IsTrue}

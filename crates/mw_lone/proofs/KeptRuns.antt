@@ -1,5 +1,5 @@
--- In every run of the store alone (the sequential specification), its words and jobs stay well formed, and no more slots are used
--- than the quota.
+-- In every run of the store alone (the sequential specification), its words and jobs stay well formed, and no more slots are
+-- used than the quota.
 -- Used by: the proofs of words_stay_words and used_stays_within, mw_law_store, among others. Its statements may change with
 -- mw_law_late, mw_law_store and mw_world; its proofs may change freely.
 use Rattle.std.specs.Prelude.{ℕ, ◌≡◌, ◌≤◌, ◌+◌, ◌-◌, ◌&&◌, not, Bool, true, false, List, [], ◌∷◌, ◌++◌, length, Option, Some, None, IsTrue, nat_lt, if◌then◌else◌}

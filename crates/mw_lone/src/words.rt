@@ -1,4 +1,4 @@
-//! Reads and writes a tenant's words, one at a time, for the store alone.
+//! Reads and writes a tenant's words, one at a time, for the store alone (the reference model of a tenant's store).
 //!
 //! Used by `asked.rt` and `store.rt` alone: it may change freely as long as both check.
 ghost use Rattle.std.specs.Prelude.{◌≡◌, ◌<◌, length, IsTrue};

@@ -1,4 +1,4 @@
-//! Tests what playing a schedule (a text of what happens to a world) gives.
+//! Tests what playing a schedule gives. A schedule is a text of the events of a world (a model of a whole server).
 //!
 //! Used by: `restart_tests`. It may change freely as long as this crate checks and its tests pass.
 ghost use Rattle.mw_schedule.specs.Playable.{IsSchedule};

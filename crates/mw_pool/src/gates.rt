@@ -1,5 +1,5 @@
-//! Computes a slot's gate after a move: claim (allocate the slot), pin and unpin (take and give back a reference), or
-//! free.
+//! Computes a slot's gate (its reference count with a version) after a move: claim (allocate the slot), pin and unpin
+//! (take and give back a reference), or free.
 //!
 //! mw_actor calls [`claim`] and [`pin`], and mw_look [`pin`], before they ask for the exchange. Only tests call
 //! [`unpin`] and [`free`], because these steps are made without a load. What a move may do is in `specs/Moves`:

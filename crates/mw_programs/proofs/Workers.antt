@@ -1,5 +1,5 @@
--- When a loop makes a worker of each pass (a thread's handle to the engine), their numbers agree. What holds of all passes holds
--- of the next.
+-- When a loop makes a worker of each pass (a thread's handle to the engine), their numbers agree. What holds of all passes
+-- holds of the next.
 -- Used by: the proofs of workers_for and run_script. It may change freely as long as this crate checks.
 use Rattle.std.proofs.Common.{◌≡◌, ℕ, suc, ◌+◌, List, [], ◌∷◌, ◌++◌, length, All, Result, Ok, Err, is_ok, is_err, false, if◌then◌else◌, ap, ◌∙◌, subst, arith, length-append}
 

@@ -1,7 +1,7 @@
--- What a thread knows of finished requests and sealed changes is right. It stays right when more is sealed, when it is split, and when
--- threads meet.
--- Used by: the law knowledge_stays_right, RequestEvents, SplitLaws, WholeCallLaws, ViewAfterStep, mw_table, mw_core. Its statements may
--- change with mw_table and mw_core; its proofs may change freely.
+-- What a thread knows of finished requests and sealed changes is right. It stays right when more is sealed, when it is split,
+-- and when threads meet.
+-- Used by: the law knowledge_stays_right, RequestEvents, SplitLaws, WholeCallLaws, ViewAfterStep, mw_table, mw_core. Its
+-- statements may change with mw_table and mw_core; its proofs may change freely.
 use Rattle.std.specs.Prelude.{ℕ, ◌+◌, ◌≡◌, ◌≤◌, ◌<◌, List, [], ◌++◌, length}
 use Rattle.std.proofs.Common.{refl, sym, ap, subst, arith}
 use Rattle.std.proofs.lemmas.List.{length-append}

@@ -1,6 +1,7 @@
--- Two laws of the relation "this run extends that one": it is transitive, and an extended run still extends what was known of it.
--- Used by: Preservation, SplitLaws, WordActionLaws, AnyNumber, ViewAfterStep, WholeCallLaws, mw_table, mw_core. Its statements may change
--- with mw_table and mw_core; its proofs may change freely.
+-- Two laws of the relation "this run extends that one": it is transitive, and an extended run still extends what was known of
+-- it.
+-- Used by: Preservation, SplitLaws, WordActionLaws, AnyNumber, ViewAfterStep, WholeCallLaws, mw_table, mw_core. Its statements
+-- may change with mw_table and mw_core; its proofs may change freely.
 use Rattle.std.specs.Prelude.{ℕ, ◌≡◌, List, [], ◌∷◌, ◌++◌, map, Option, Some, None}
 use Rattle.std.proofs.Common.{refl, sym, ap, ◌∙◌, append_assoc, append-nil}
 use Rattle.mw_world_file.specs.declared.outcomes.Outcome.TheVariants.{Fail}

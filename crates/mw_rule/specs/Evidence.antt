@@ -1,5 +1,5 @@
--- Defines the evidence for the replies BUSY, FAULT and WORN, which depend on no word. It is what the request's own steps found, or for WORN
--- also the number of its worker's next attempt.
+-- Defines the evidence for the replies BUSY, FAULT and WORN, which depend on no word. It is what the request's own steps found,
+-- or for WORN also the number of its worker's next attempt.
 -- Used by: specs/Rule, specs/WholeCalls. Contracts use it through these: a change here changes what they say.
 use Rattle.std.specs.Prelude.{ℕ, ◌≡◌, ◌≤◌, ◌⊎◌, true, false, List, slice_get, Some}
 use Rattle.mw_words.specs.declared.doors.Door.{Door}

@@ -1,6 +1,6 @@
 -- Defines what a thread has seen of the tenants' sealed changes, and what a start gave them.
--- Used by: many specs of this crate, mw_table, mw_core, mw_engine, mw_table_bench. Contracts use it through these: a change here changes
--- what they say.
+-- Used by: many specs of this crate, mw_table, mw_core, mw_engine, mw_table_bench. Contracts use it through these: a change
+-- here changes what they say.
 use Rattle.std.specs.Prelude.{ℕ, zero, suc, true, ◌≡◌, ◌≤◌, ◌<◌, List, [], ◌∷◌, ◌++◌, slice_index_or, Option, Some, None}
 use Rattle.mw_actor.specs.ActorState.{ActorState}
 use Rattle.mw_world.specs.Definition.State.{State, TenantStart}

@@ -1,5 +1,5 @@
-//! The rule that ties the shared words of running threads to the world. Between any two steps, some run of the world
-//! leads to the bits in the table, and what each thread knows is true after that run.
+//! The rule that ties the shared words of running threads to the world, a model of a whole server. Between any two
+//! steps, some run of the world leads to the bits in the table, and what each thread knows is true after that run.
 //!
 //! Read in this order:
 //!
@@ -13,7 +13,8 @@
 //!
 //! `mw_table` makes the steps.
 //!
-//! Used by: mw_table, mw_world_table.
+//! Used by: mw_table, mw_world_table. A change of `specs/Rule` or `specs/Steps` changes what the contracts of mw_table
+//! say. A new kind of step needs a case in `specs/Ways` and `way_of` (`src/ways.rt`) if it is a new fetch.
 #![tactic(auto)]
 
 mod indexes;

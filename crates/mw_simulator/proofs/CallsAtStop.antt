@@ -1,5 +1,5 @@
--- The simulator's `cut` and the definition agree on a call on a file that a stop interrupts after `made` device calls. They agree on
--- whether the call makes so many, which change is in doubt, and which request was being sealed.
+-- The simulator's `cut` and the definition agree on a call on a file that a stop interrupts after `made` device calls. They
+-- agree on whether the call makes so many, which change is in doubt, and which request was being sealed.
 -- Used by: the proof of World::cut. It may change freely as long as this crate checks.
 use Rattle.std.specs.Prelude.{ℕ, ◌≡◌, ◌≤◌, ◌&&◌, Bool, true, false, not, if◌then◌else◌, nat_le, Some, None}
 use Rattle.std.proofs.Common.{refl, ap, arith}

@@ -1,5 +1,7 @@
--- The simulated files stay sound (each represents a file with its tenant's number of words) at every change of the simulated world.
--- Used by: the proofs of World::new, restart, file, begin, enter and other functions. It may change freely as long as this crate checks.
+-- The simulated files stay sound (each represents a file with its tenant's number of words) at every change of the simulated
+-- world.
+-- Used by: the proofs of World::new, restart, file, begin, enter and other functions. It may change freely as long as this
+-- crate checks.
 use Rattle.std.specs.Prelude.{ℕ, ◌≡◌, ◌<◌, List, length, slice_index_or, slice_set}
 use Rattle.std.proofs.Common.{subst, sym}
 use Rattle.std.proofs.Math.Logic.{∥∥₁_elim}

@@ -1,4 +1,5 @@
--- States what a crash leaves of a tenant's disk in terms of the tenant's store alone. It is proved from the theorem about every run.
+-- States what a crash leaves of a tenant's disk in terms of the tenant's store alone. It is proved from the theorem about every
+-- run.
 -- Used by: the laws of src/laws.rt. A change here changes what these laws say.
 use Rattle.std.specs.Prelude.{ℕ, ◌≡◌, true, List, Vec, slice_get, Option, Some}
 use Rattle.std.specs.declared.alloc.Global.{Global}

@@ -1,4 +1,5 @@
--- Defines an idle pass: its thread has one worker, which has no request.
+-- Defines an idle pass: its thread has one worker, which has no request. A pass is a thread's capability to make the steps of
+-- one worker.
 -- Used by: the contracts of src/passes.rt and src/shared.rt, mw_core. A change here changes what these contracts say.
 use Rattle.std.specs.Prelude.{◌≡◌, Bool, true, [], ◌∷◌, map, is_none}
 use Rattle.mw_rule.specs.declared.views.WorkerToken.{WorkerToken}

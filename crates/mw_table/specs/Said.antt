@@ -1,4 +1,5 @@
--- Defines what a thread learns from a request's first step, which also announces the request, and which events this adds to a run.
+-- Defines what a thread learns from a request's first step, which also announces the request, and which events this adds to a
+-- run.
 -- Used by: the contracts of src/first_steps.rt. A change here changes what these contracts say.
 use Rattle.std.specs.Prelude.{ℕ}
 use mathlib.Core.Option.{Option, some, none}

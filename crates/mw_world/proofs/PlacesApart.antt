@@ -1,6 +1,6 @@
 -- A shared word has what was last written there, and a write to one word changes no other.
--- Used by: the law places_are_apart, mw_rule, mw_world_memory. Its statements may change with mw_rule and mw_world_memory; its proofs may
--- change freely.
+-- Used by: the law places_are_apart, mw_rule, mw_world_memory. Its statements may change with mw_rule and mw_world_memory; its
+-- proofs may change freely.
 use Rattle.std.specs.Prelude.{ℕ, ◌≡◌, ◌≢◌}
 use Rattle.std.proofs.Common.{refl, ap, arith}
 use Rattle.std.proofs.lemmas.Bool.Decides.{nat_tests}

@@ -1,4 +1,5 @@
--- If a book (a simulated file) finds that a prepared change shares no word with a sealed one, the file may seal that change.
+-- If a book (a simulated file) finds that a prepared change shares no word with a sealed (committed) one, the file may seal
+-- that change.
 -- Used by: SealedFiles. It may change freely as long as this crate checks.
 use Rattle.std.proofs.Common.{◌≡◌, ℕ, zero, suc, ◌<◌, ◌==◌, ◌&&◌, ◌||◌, not, Bool, true, false, List, [], ◌∷◌, length, Some, slice_get, refl, sym, ap, ◌∙◌, inl, inr, arith}
 use Rattle.std.specs.List.{list_all, list_any}

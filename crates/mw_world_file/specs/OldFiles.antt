@@ -1,4 +1,4 @@
--- Defines the bytes of an old file, which no start has opened yet. It has the first layout.
+-- Defines the bytes of an old file: one of the first layout (format version 1) that no start of a server has opened yet.
 -- Used by: the contracts of src/unopened.rt. A change here changes what these contracts say.
 use Rattle.std.specs.Prelude.{ℕ, ◌-◌, ◌*◌, List, ◌∷◌, ◌++◌, replicate, take}
 use Rattle.mw_words.specs.declared.jobs.Entry.{Entry}

@@ -1,4 +1,5 @@
--- States what always holds of the tenants' files in memory: each represents a file with its tenant's number of words.
+-- States what always holds of the books (simulated files) of a world's tenants in memory. Each book represents a file of the
+-- model, and that has as many words as its tenant.
 -- Used by: mw_simulator. A change here changes what contracts there say.
 use Rattle.std.specs.Prelude.{ℕ, ◌≡◌, List, slice_get, Some}
 use Rattle.mw_world_file.specs.SoundBooks.{HasSound}

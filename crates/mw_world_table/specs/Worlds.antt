@@ -1,5 +1,6 @@
 -- Defines what a table (array of shared atomic words) begins with that is made of a simulated world.
--- Used by: the contracts of src/copies.rt and src/from_world.rt, mw_table_tests. A change here changes what these contracts say.
+-- Used by: the contracts of src/copies.rt and src/from_world.rt, mw_table_tests. A change here changes what these contracts
+-- say.
 use Rattle.std.specs.Prelude.{map, Option}
 use Rattle.mw_actor.specs.ActorState.{ActorState}
 use Rattle.mw_world_file.specs.Books.{places_of_file}

@@ -1,6 +1,8 @@
-//! Makes random jobs, stops and worlds for the trials.
+//! Makes random jobs (reads and changes), random stops (each with the next opening), and random worlds (models of a
+//! whole server). The trials, which are random runs, are made of them.
 //!
-//! Used by: `trial`, and the larger runs. It may change freely as long as this crate checks and its tests pass.
+//! Used by: `trial`, `larger/watch`. A new kind of job needs its case here. Else it may change freely as long as this
+//! crate checks and its tests pass.
 ghost use Rattle.std.specs.Prelude.{◌≡◌, ◌≤◌, None, IsTrue};
 ghost use Rattle.mw_world.specs.Definition.State.{IsConfig, may_be_old};
 

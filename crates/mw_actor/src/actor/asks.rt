@@ -1,4 +1,5 @@
-//! Gives the step that a request asks for at each point of its program.
+//! Gives a request's next step: one operation on a shared word, or one call on its tenant's file. The step follows from
+//! the request's point (its program counter).
 //!
 //! It has `Actor::ask`, which mw_core and mw_simulator call before each step. A new point needs a case here, in
 //! `specs/Asks` and in `specs/Parts`.

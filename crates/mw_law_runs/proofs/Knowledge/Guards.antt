@@ -1,5 +1,5 @@
--- The proofs that each move of a request's step (elementary change of the shared words) has its precondition. This page only lists its
--- modules.
+-- The proofs that each move of a request's step (elementary change of the shared words) has its precondition. This page only
+-- lists its modules.
 pub mod Attempts
 pub mod UpdateGuards
 pub mod Gates

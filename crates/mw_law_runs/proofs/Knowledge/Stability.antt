@@ -1,5 +1,5 @@
--- All that a request knows at its point stays true over any worker's steps, if its pinned slots stay taken and its own is kept. Its own
--- (`KeepsOwn`) is its pin, its draft, its worker's row and next attempt number.
+-- All that a request knows at its point stays true over any worker's steps, if its pinned slots stay taken and its own is kept.
+-- Its own (`KeepsOwn`) is its pin, its draft, its worker's row and next attempt number.
 -- Used by: facts_stay, Knowledge/Updates/Preservation, Others. It may change freely as long as this crate checks.
 use Rattle.std.specs.Prelude.{ℕ, ◌≡◌, ◌≢◌, true, length}
 use Rattle.std.proofs.Common.{ap, subst, ◌∙◌, sym}

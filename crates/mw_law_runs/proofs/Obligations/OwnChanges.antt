@@ -1,5 +1,6 @@
 -- At each of its points, a request knows that its worker claimed the slot of its own change for it.
--- Used by: Obligations/StepObligations, mw_law_store. Its statements may change with mw_law_store; its proofs may change freely.
+-- Used by: Obligations/StepObligations, mw_law_store. Its statements may change with mw_law_store; its proofs may change
+-- freely.
 use Rattle.std.specs.Prelude.{◌≡◌, Some}
 use Rattle.std.proofs.Common.{subst}
 use Rattle.mw_actor.specs.declared.points.After.TheVariants.{Work, GiveUp as ThenGiveUp, Reply as ThenReply}

@@ -1,5 +1,5 @@
--- States that an informed request (it knows its point's facts) meets the preconditions of its call on a file, and knows its next point's
--- facts.
+-- States that an informed request (it knows its point's facts) meets the preconditions of its call on a file, and knows its
+-- next point's facts.
 -- Used by: the laws of src/knowledge_laws.rt, specs/ObligationLaws, mw_law_store. A change here changes what these laws say.
 use Rattle.std.specs.Prelude.{◌≡◌, Some}
 use Rattle.mw_look.specs.declared.observations.Observation.{Observation}

@@ -1,4 +1,5 @@
--- States that an informed request (it knows its point's facts) knows those of its next point after a step that changes no shared word.
+-- States that an informed request (it knows its point's facts) knows those of its next point after a step that changes no
+-- shared word.
 -- Used by: the laws of src/knowledge_laws.rt. A change here changes what these laws say.
 use Rattle.mw_look.specs.declared.observations.Observation.{Observation}
 use Rattle.mw_actor.specs.ActorState.{ActorState}

@@ -1,4 +1,5 @@
--- Each tenant's store alone simulates a reply that is handed out: its own store hands out the same, and another tenant's store stays.
+-- Each tenant's store alone simulates a reply that is handed out: its own store hands out the same, and another tenant's store
+-- stays.
 -- Used by: RunSimulation. It may change freely as long as this crate checks.
 use Rattle.std.specs.Prelude.{ℕ, ◌≡◌, ◌≢◌, ◌==◌, Bool, true, false, if◌then◌else◌, Option, Some, None}
 use Rattle.std.specs.Option.{option_and_then, option_map}

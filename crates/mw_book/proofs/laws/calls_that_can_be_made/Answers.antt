@@ -1,4 +1,5 @@
--- The proof of the law calls_that_can_be_made (src/laws.rt). It may change freely as long as the crate checks.
+-- Proves the law `calls_that_can_be_made` (src/laws.rt): if a call can be made on a file, it may be made on each book that
+-- represents the file. Used by: that law alone. It may change freely as long as this crate checks.
 use Rattle.mw_book.proofs.PermittedCalls.{permits}
 use Rattle.mw_book.proofs.laws.calls_that_can_be_made.Goals as goal
 

@@ -1,3 +1,5 @@
+-- Proves goals of `put_line` (src/report.rt) that the check does not prove by itself. Used by: the proof of that function
+-- alone. It may change freely as long as this crate checks.
 use Rattle.std.specs.Prelude.{◌≡◌, ◌≤◌, ◌+◌, ◌∷◌, [], length}
 use Rattle.std.specs.Io.KnownBytes.{Consumes}
 use Rattle.std.proofs.Common.{ap, arith, length-append, refl, subst, sym, ◌∙◌}

@@ -1,4 +1,5 @@
--- Answers to goals of read_path (src/lines.rt). They may change freely as long as the crate checks.
+-- Proves goals of `read_path` (src/lines.rt) that the check does not prove by itself. Used by: the proof of that function
+-- alone. It may change freely as long as this crate checks.
 use Rattle.std.proofs.Common.{sym}
 use Rattle.std.specs.List.{list_all}
 use Rattle.std.proofs.lemmas.Str.{IsUtf8-from_ascii}

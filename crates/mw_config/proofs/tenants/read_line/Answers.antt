@@ -1,4 +1,5 @@
--- Answers to goals of read_line (src/tenants.rt). They may change freely as long as the crate checks.
+-- Proves goals of `read_line` (src/tenants.rt) that the check does not prove by itself. Used by: the proof of that function
+-- alone. It may change freely as long as this crate checks.
 use Rattle.std.proofs.Common.{sym, arith}
 use Rattle.mw_line.specs.LineReader.{narrow}
 use Rattle.mw_config.specs.LineTexts.{lines_of}

@@ -1,4 +1,5 @@
--- The invariants of the loops of read_lines (src/tenants.rt). They may change freely as long as the crate checks.
+-- States what stays true from turn to turn in the loops of `read_lines` (src/tenants.rt). Used by: the proof of that function
+-- alone. It may change freely as long as this crate checks.
 use Rattle.std.proofs.Common.{length}
 use Rattle.mw_config.specs.LineTexts.{lines_of}
 use Rattle.mw_config.specs.Refusals.{Reaches}

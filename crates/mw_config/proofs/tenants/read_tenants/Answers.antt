@@ -1,4 +1,5 @@
--- Answers to goals of read_tenants (src/tenants.rt). They may change freely as long as the crate checks.
+-- Proves goals of `read_tenants` (src/tenants.rt) that the check does not prove by itself. Used by: the proof of that function
+-- alone. It may change freely as long as this crate checks.
 use Rattle.std.proofs.Common.{◌≤◌, length, sum_by, rules}
 use Rattle.mw_config.proofs.FirstLines.{file_of, permitted}
 use Rattle.mw_config.proofs.tenants.read_tenants.Goals as goal

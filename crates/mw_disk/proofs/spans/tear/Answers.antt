@@ -1,4 +1,5 @@
--- Answers to goals of tear (src/spans.rt). They may change freely as long as the crate checks.
+-- Proves goals of `tear` (src/spans.rt) that the check does not prove by itself. Used by: the proof of that function alone. It
+-- may change freely as long as this crate checks.
 use Rattle.std.proofs.Common.{◌∙◌, ap, ℕ, refl, arith}
 use Rattle.mw_disk.specs.Crash.{count_within}
 use Rattle.mw_disk.proofs.TornBytes.{tears_more, tears_all}

@@ -1,3 +1,5 @@
+-- Proves goals of `all_opened` (src/starts.rt) that the check does not prove by itself. Used by: the proof of that function
+-- alone. It may change freely as long as this crate checks.
 use Rattle.std.proofs.Common.{◌+◌, take, subst, sym}
 use Rattle.mw_engine.specs.OpenedFiles.{FitLines}
 use Rattle.mw_engine_tests.proofs.FilesFitLines.{fit_next}

@@ -1,3 +1,5 @@
+-- Proves goals of `opened` (src/starts.rt) that the check does not prove by itself. Used by: the proof of that function alone.
+-- It may change freely as long as this crate checks.
 use Rattle.std.specs.Prelude.{IsTrue}
 use Rattle.std.proofs.Common.{subst, arith}
 use Rattle.mw_engine_tests.proofs.Fresh.{fits}

@@ -1,4 +1,5 @@
--- The invariants of the loops of free_place (src/calls.rt). They may change freely as long as the crate checks.
+-- States what stays true from turn to turn in the loops of `free_place` (src/calls.rt). Used by: the proof of that function
+-- alone. It may change freely as long as this crate checks.
 use Rattle.std.proofs.Common.{◌≡◌, drop}
 use Rattle.mw_file.specs.PlaceStates.{free_from, free_place}
 use Rattle.mw_file.proofs.calls.free_place.Given as goal

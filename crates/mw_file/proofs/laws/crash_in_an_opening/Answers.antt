@@ -1,4 +1,5 @@
--- The proof of the law crash_in_an_opening (src/laws.rt). It may change freely as long as the crate checks.
+-- Proves the law `crash_in_an_opening` (src/laws.rt): a crash at any moment of an opening leaves a file of the same words and
+-- places, however the opening ends. Used by: that law alone. It may change freely as long as this crate checks.
 use Rattle.mw_file.proofs.Reopened.{same_trans, unchanged_of}
 use Rattle.mw_file.proofs.laws.crash_in_an_opening.Goals as goal
 

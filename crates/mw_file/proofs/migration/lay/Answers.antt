@@ -1,4 +1,5 @@
--- Answers to goals of lay (src/migration.rt). They may change freely as long as the crate checks.
+-- Proves goals of `lay` (src/migration.rt) that the check does not prove by itself. Used by: the proof of that function alone.
+-- It may change freely as long as this crate checks.
 use Rattle.std.proofs.Common.{◌≤◌, length, true, false, arith, ap, ◌∙◌}
 use Rattle.mw_disk.specs.Facts.{patched}
 use Rattle.mw_disk.proofs.RunLaws.{good_call, bad_call, good_trans, called_later, still_honest}

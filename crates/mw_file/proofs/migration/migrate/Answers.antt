@@ -1,4 +1,5 @@
--- Answers to goals of migrate (src/migration.rt). They may change freely as long as the crate checks.
+-- Proves goals of `migrate` (src/migration.rt) that the check does not prove by itself. Used by: the proof of that function
+-- alone. It may change freely as long as this crate checks.
 use Rattle.std.proofs.Common.{arith}
 use Rattle.mw_disk.proofs.RunLaws.{still_honest}
 use Rattle.mw_file.proofs.Migrated.{laying_moments, laying_read, switch_fits, switching_moments, switching_read, migrated, low_enough, reaches, laying_grown, switching_grown, all_given}

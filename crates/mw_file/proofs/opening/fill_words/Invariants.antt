@@ -1,4 +1,5 @@
--- The invariants of the loops of fill_words (src/opening.rt). They may change freely as long as the crate checks.
+-- States what stays true from turn to turn in the loops of `fill_words` (src/opening.rt). Used by: the proof of that function
+-- alone. It may change freely as long as this crate checks.
 use Rattle.std.proofs.Common.{◌≡◌, take, vec_len}
 use Rattle.mw_record.specs.Damages.{words_in, words_of}
 use Rattle.mw_file.proofs.opening.fill_words.Given as goal

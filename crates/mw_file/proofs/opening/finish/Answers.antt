@@ -1,4 +1,5 @@
--- Answers to goals of finish (src/opening.rt). They may change freely as long as the crate checks.
+-- Proves goals of `finish` (src/opening.rt) that the check does not prove by itself. Used by: the proof of that function alone.
+-- It may change freely as long as this crate checks.
 use Rattle.std.proofs.Common.{◌≤◌, ℕ, refl, subst}
 use Rattle.mw_disk.specs.Runs.{Touched, LeavesOnly}
 use Rattle.mw_record.specs.Contents.{HasSecond}

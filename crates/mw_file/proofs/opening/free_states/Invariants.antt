@@ -1,4 +1,5 @@
--- The invariants of the loops of free_states (src/opening.rt). They may change freely as long as the crate checks.
+-- States what stays true from turn to turn in the loops of `free_states` (src/opening.rt). Used by: the proof of that function
+-- alone. It may change freely as long as this crate checks.
 use Rattle.std.proofs.Common.{◌≡◌, vec_len, true}
 use Rattle.mw_file.specs.PlaceStates.{all_free}
 use Rattle.mw_file.proofs.opening.free_states.Given as goal

@@ -1,4 +1,5 @@
--- Answers to goals of give_second (src/opening.rt). They may change freely as long as the crate checks.
+-- Proves goals of `give_second` (src/opening.rt) that the check does not prove by itself. Used by: the proof of that function
+-- alone. It may change freely as long as this crate checks.
 use Rattle.std.proofs.Common.{◌*◌, ℕ, ap, ◌∙◌, subst}
 use Rattle.mw_record.specs.declared.layout.Layout.TheVariants.{First}
 use Rattle.mw_record.specs.declared.layout.TheConstants.{PLACES_GROW}

@@ -1,4 +1,5 @@
--- Answers to goals of read_front (src/opening.rt). They may change freely as long as the crate checks.
+-- Proves goals of `read_front` (src/opening.rt) that the check does not prove by itself. Used by: the proof of that function
+-- alone. It may change freely as long as this crate checks.
 use Rattle.std.proofs.Common.{◌≡◌, length, min, arith, sym, ◌∙◌}
 use Rattle.std.proofs.lemmas.Bool.{eqb-false}
 use Rattle.mw_disk.proofs.RunLaws.{touched_none}

@@ -1,4 +1,5 @@
--- The invariants of the loops of recall (src/opening.rt). They may change freely as long as the crate checks.
+-- States what stays true from turn to turn in the loops of `recall` (src/opening.rt). Used by: the proof of that function
+-- alone. It may change freely as long as this crate checks.
 use Rattle.std.proofs.Common.{ℕ, ◌≡◌, ◌≤◌, ◌<◌, length}
 use Rattle.mw_record.specs.Damages.{found_places, records_of}
 use Rattle.mw_file.specs.declared.place_states.Stage.TheVariants.{Prepared, Sealed}

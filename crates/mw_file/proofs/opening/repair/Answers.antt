@@ -1,4 +1,5 @@
--- Answers to goals of repair (src/opening.rt). They may change freely as long as the crate checks.
+-- Proves goals of `repair` (src/opening.rt) that the check does not prove by itself. Used by: the proof of that function alone.
+-- It may change freely as long as this crate checks.
 use Rattle.std.proofs.Common.{◌⊎◌, ◌==◌, ◌≤◌, length, sym, ◌∙◌}
 use Rattle.std.proofs.lemmas.Bool.{eqb-true, not-false}
 use Rattle.mw_disk.proofs.RunLaws.{leaves_same, same_but_refl}

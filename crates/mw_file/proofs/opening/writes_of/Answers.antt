@@ -1,4 +1,5 @@
--- Answers to goals of writes_of (src/opening.rt). They may change freely as long as the crate checks.
+-- Proves goals of `writes_of` (src/opening.rt) that the check does not prove by itself. Used by: the proof of that function
+-- alone. It may change freely as long as this crate checks.
 use Rattle.mw_record.specs.Damages.{pairs_in}
 use Rattle.mw_file.proofs.Recalled.{pairs_more}
 use Rattle.mw_file.proofs.opening.writes_of.Goals as goal

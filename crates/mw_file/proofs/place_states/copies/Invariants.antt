@@ -1,4 +1,5 @@
--- The invariants of the loops of copies (src/place_states.rt). They may change freely as long as the crate checks.
+-- States what stays true from turn to turn in the loops of `copies` (src/place_states.rt). Used by: the proof of that function
+-- alone. It may change freely as long as this crate checks.
 use Rattle.std.proofs.Common.{◌≡◌, take}
 use Rattle.mw_file.proofs.place_states.copies.Given as goal
 

@@ -1,4 +1,5 @@
--- Answers to goals of clear_commit (src/roll.rt). They may change freely as long as the crate checks.
+-- Proves goals of `clear_commit` (src/roll.rt) that the check does not prove by itself. Used by: the proof of that function
+-- alone. It may change freely as long as this crate checks.
 use Rattle.std.proofs.Common.{arith}
 use Rattle.mw_disk.proofs.RunLaws.{touched_write}
 use Rattle.mw_file.specs.RollForward.{AtCommit}

@@ -1,4 +1,5 @@
--- The invariants of the loops of clear_commits (src/roll.rt). They may change freely as long as the crate checks.
+-- States what stays true from turn to turn in the loops of `clear_commits` (src/roll.rt). Used by: the proof of that function
+-- alone. It may change freely as long as this crate checks.
 use Rattle.std.proofs.Common.{ℕ, ◌≡◌, ◌+◌, ◌<◌, length, drop, slice_index, IsTrue, take}
 use Rattle.mw_disk.specs.Runs.{Good, Later, Touched, Fits}
 use Rattle.mw_record.specs.declared.layout.Layout.TheVariants.{Second}

@@ -1,4 +1,5 @@
--- Answers to goals of roll_forward (src/roll.rt). They may change freely as long as the crate checks.
+-- Proves goals of `roll_forward` (src/roll.rt) that the check does not prove by itself. Used by: the proof of that function
+-- alone. It may change freely as long as this crate checks.
 use Rattle.std.proofs.Common.{◌+◌, arith}
 use Rattle.mw_file.specs.PlaceStates.{home_writes, commit_writes, roll_calls}
 use Rattle.mw_disk.proofs.RunLaws.{still_honest}

@@ -1,4 +1,5 @@
--- Answers to goals of write_home (src/roll.rt). They may change freely as long as the crate checks.
+-- Proves goals of `write_home` (src/roll.rt) that the check does not prove by itself. Used by: the proof of that function
+-- alone. It may change freely as long as this crate checks.
 use Rattle.std.proofs.Common.{◌∙◌, Option, drop, ap, sym, subst}
 use Rattle.mw_disk.specs.Runs.{Touched}
 use Rattle.mw_record.specs.Records.{Pairs, home, record_over}

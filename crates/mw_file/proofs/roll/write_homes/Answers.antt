@@ -1,4 +1,5 @@
--- Answers to goals of write_homes (src/roll.rt). They may change freely as long as the crate checks.
+-- Proves goals of `write_homes` (src/roll.rt) that the check does not prove by itself. Used by: the proof of that function
+-- alone. It may change freely as long as this crate checks.
 use Rattle.std.proofs.Common.{◌<◌, ◌+◌, length, take, arith, ap}
 use Rattle.std.proofs.lemmas.List.Sums.{sum_by_more, sum_by_more_le}
 use Rattle.mw_disk.proofs.RunLaws.{later_trans}

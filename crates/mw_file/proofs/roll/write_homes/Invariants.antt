@@ -1,4 +1,5 @@
--- The invariants of the loops of write_homes (src/roll.rt). They may change freely as long as the crate checks.
+-- States what stays true from turn to turn in the loops of `write_homes` (src/roll.rt). Used by: the proof of that function
+-- alone. It may change freely as long as this crate checks.
 use Rattle.std.proofs.Common.{ℕ, ◌≡◌, ◌<◌, take, drop}
 use Rattle.mw_disk.specs.Runs.{Good, Later, Touched}
 use Rattle.mw_record.specs.Records.{home, all_over}

@@ -1,4 +1,5 @@
--- Answers to goals of write_values (src/roll.rt). They may change freely as long as the crate checks.
+-- Proves goals of `write_values` (src/roll.rt) that the check does not prove by itself. Used by: the proof of that function
+-- alone. It may change freely as long as this crate checks.
 use Rattle.std.proofs.Common.{◌≡◌, true, false, drop, ◌^◌, ℕ, ◌≤◌, ◌+◌, ◌<◌, length, take, get_or, ap, ◌∙◌, arith, subst}
 use Rattle.std.proofs.lemmas.List.{take_all}
 use Rattle.mw_disk.proofs.RunLaws.{good_call, called_later, later_trans, still_honest}

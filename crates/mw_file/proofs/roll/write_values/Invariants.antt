@@ -1,4 +1,5 @@
--- The invariants of the loops of write_values (src/roll.rt). They may change freely as long as the crate checks.
+-- States what stays true from turn to turn in the loops of `write_values` (src/roll.rt). Used by: the proof of that function
+-- alone. It may change freely as long as this crate checks.
 use Rattle.std.proofs.Common.{ℕ, take, Some}
 use Rattle.mw_disk.specs.Runs.{Good, Later}
 use Rattle.mw_file.specs.RollForward.{HasHomes, IsBelow}

@@ -1,4 +1,5 @@
--- The proof of the law texts_are_lines (src/laws.rt). It may change freely as long as the crate checks.
+-- Proves the law `texts_are_lines` (src/laws.rt): says what the lines of any bytes are. Used by: that law alone. It may change
+-- freely as long as this crate checks.
 use Rattle.mw_frame.proofs.CutTexts.{each-is-cut, texts-are-lines, too-long-is-last}
 use Rattle.mw_frame.proofs.laws.texts_are_lines.Goals as goal
 

@@ -1,3 +1,5 @@
+-- Proves the law `file_tokens_tell_files` (src/laws.rt): a file token tells of each call on the file which place it is about,
+-- and whether it can be made. Used by: that law alone. It may change freely as long as this crate checks.
 use Rattle.mw_law_calls.proofs.TokensTellCalls.{file_tokens_tell_calls, file_tokens_tell_files, file_tokens_tell_opened_files}
 use Rattle.mw_law_calls.proofs.laws.file_tokens_tell_files.Goals as goal
 

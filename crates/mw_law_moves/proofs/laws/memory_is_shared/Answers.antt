@@ -1,3 +1,6 @@
+-- Proves the law `memory_is_shared` (src/laws.rt): the invariant of the shared words, and what others may rely on, depend on
+-- nothing but the shared words, the history and the numbers of attempts. Used by: that law alone. It may change freely as long
+-- as this crate checks.
 use Rattle.mw_law_moves.proofs.Shared.{memory_is_shared, reliance_is_shared}
 use Rattle.mw_law_moves.proofs.laws.memory_is_shared.Goals as goal
 

@@ -1,3 +1,5 @@
+-- Proves the law `moves_keep_memory` (src/laws.rt): a move whose precondition holds keeps the invariant of the shared words
+-- (`Memory`). Used by: that law alone. It may change freely as long as this crate checks.
 use Rattle.mw_law_moves.proofs.MovesKeepMemory.{move_keeps, moves_keep}
 use Rattle.mw_law_moves.proofs.laws.moves_keep_memory.Goals as goal
 

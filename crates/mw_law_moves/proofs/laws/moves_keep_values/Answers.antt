@@ -1,3 +1,5 @@
+-- Proves the law `moves_keep_values` (src/laws.rt): the shared words tell each word's value as the history does. Used by: that
+-- law alone. It may change freely as long as this crate checks.
 use Rattle.mw_law_moves.proofs.ValuesOverTurns.{turns_keep_values}
 use Rattle.mw_law_moves.proofs.ValuesOverMoves.{moves_keep_values, seals_put_values}
 use Rattle.mw_law_moves.proofs.ValuesFromHistory.{words_tell}

@@ -1,3 +1,6 @@
+-- Proves the law `others_may_rely` (src/laws.rt): others may rely on what `Rely` says while one worker moves: over one move,
+-- over two stretches one after the other, and over several moves. Used by: that law alone. It may change freely as long as this
+-- crate checks.
 use Rattle.mw_law_moves.proofs.Relied.{others_rely, others_rely_on_all, reliance_goes_on}
 use Rattle.mw_law_moves.proofs.laws.others_may_rely.Goals as goal
 

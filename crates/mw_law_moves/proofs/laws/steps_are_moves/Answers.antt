@@ -1,3 +1,5 @@
+-- Proves the law `steps_are_moves` (src/laws.rt): a worker's step changes the shared words, the history and the numbers of
+-- attempts as its moves do. Used by: that law alone. It may change freely as long as this crate checks.
 use Rattle.mw_law_moves.proofs.CallMoves.{calls_are_moves}
 use Rattle.mw_law_moves.proofs.StepsKeepMemory.{comes_leave, hands_leave}
 use Rattle.mw_law_moves.proofs.TurnMoves.{turns_are_moves}

@@ -1,4 +1,5 @@
--- Answers to goals of listing_of (src/changes.rt). They may change freely as long as the crate checks.
+-- Proves goals of `listing_of` (src/changes.rt) that the check does not prove by itself. Used by: the proof of that function
+-- alone. It may change freely as long as this crate checks.
 use Rattle.std.proofs.Common.{◌≡◌, ◌<◌, ℕ, List, Bool, true, false, eqb, length, sym, ◌∙◌, arith}
 use Rattle.std.proofs.lemmas.Bool.{eqb-false, eqb-true}
 use Rattle.mw_line.specs.LineReader.{narrow}

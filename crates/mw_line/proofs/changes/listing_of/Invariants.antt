@@ -1,4 +1,5 @@
--- The invariants of the loops of listing_of (src/changes.rt). They may change freely as long as the crate checks.
+-- States what stays true from turn to turn in the loops of `listing_of` (src/changes.rt). Used by: the proof of that function
+-- alone. It may change freely as long as this crate checks.
 use Rattle.std.proofs.Common.{length}
 use Rattle.mw_line.proofs.ChangeReader.{GoesOn}
 use Rattle.mw_line.proofs.changes.listing_of.Given as goal

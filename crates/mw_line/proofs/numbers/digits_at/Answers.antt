@@ -1,4 +1,5 @@
--- Answers to goals of digits_at (src/numbers.rt). They may change freely as long as the crate checks.
+-- Proves goals of `digits_at` (src/numbers.rt) that the check does not prove by itself. Used by: the proof of that function
+-- alone. It may change freely as long as this crate checks.
 use Rattle.std.proofs.Common.{inl, inr, refl, sym, ◌∙◌, ◌≡◌, ◌+◌, ◌-◌, ◌*◌, get_or, arith}
 use Rattle.mw_line.proofs.Digits.{digit_in_front, capped_step, ended, no_digit_below, no_digit_above, seen_narrowly}
 use Rattle.mw_line.specs.LineReader.{digits_at}

@@ -1,4 +1,5 @@
--- The invariants of the loops of digits_at (src/numbers.rt). They may change freely as long as the crate checks.
+-- States what stays true from turn to turn in the loops of `digits_at` (src/numbers.rt). Used by: the proof of that function
+-- alone. It may change freely as long as this crate checks.
 use Rattle.std.proofs.Common.{◌≡◌, ℕ, length}
 use Rattle.mw_line.specs.LineReader as spec
 use Rattle.mw_line.specs.LineReader.{narrow}

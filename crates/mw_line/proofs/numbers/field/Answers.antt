@@ -1,4 +1,5 @@
--- Answers to goals of field (src/numbers.rt). They may change freely as long as the crate checks.
+-- Proves goals of `field` (src/numbers.rt) that the check does not prove by itself. Used by: the proof of that function alone.
+-- It may change freely as long as this crate checks.
 use Rattle.std.proofs.Common.{◌≡◌, ◌+◌, ◌-◌, ◌∙◌, ap, sym, List, ℕ, Some, length, take, drop, take_all, arith}
 use Rattle.std.proofs.lemmas.List.{length-drop}
 use Rattle.std.specs.Prelude.{option_map}

@@ -1,4 +1,5 @@
--- Answers to goals of cas (src/requests.rt). They may change freely as long as the crate checks.
+-- Proves goals of `cas` (src/requests.rt) that the check does not prove by itself. Used by: the proof of that function alone.
+-- It may change freely as long as this crate checks.
 use Rattle.std.proofs.Common.{◌≡◌, ℕ, List, Bool, false, eqb, length, ap, sym, ◌∙◌}
 use Rattle.std.proofs.lemmas.Bool.{eqb-false}
 use Rattle.std.proofs.lemmas.Result.{err_from_is_err_and}

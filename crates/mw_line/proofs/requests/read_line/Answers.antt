@@ -1,4 +1,5 @@
--- Answers to goals of read_line (src/requests.rt). They may change freely as long as the crate checks.
+-- Proves goals of `read_line` (src/requests.rt) that the check does not prove by itself. Used by: the proof of that function
+-- alone. It may change freely as long as this crate checks.
 use Rattle.mw_line.proofs.Faults.{is_answered, is_read, is_refused, job_fits}
 use Rattle.mw_line.proofs.requests.read_line.Goals as goal
 

@@ -1,3 +1,5 @@
+-- States what stays true from turn to turn in the loops of `are_sums` (src/sums.rt). Used by: the proof of that function alone.
+-- It may change freely as long as this crate checks.
 use Rattle.std.proofs.Common.{◌≡◌, ◌+◌, ◌<◌, ℕ, slice_index}
 use Rattle.mw_load.specs.Sums.{capped, made_beside}
 use Rattle.mw_load.proofs.sums.are_sums.Given as goal

@@ -1,3 +1,5 @@
+-- States what stays true from turn to turn in the loops of `changes_of` (src/sums.rt). Used by: the proof of that function
+-- alone. It may change freely as long as this crate checks.
 use Rattle.std.proofs.Common.{◌≡◌, drop}
 use Rattle.mw_load.specs.Sums.{made_beside}
 use Rattle.mw_load.proofs.sums.changes_of.Given as goal

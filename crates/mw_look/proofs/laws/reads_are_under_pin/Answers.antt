@@ -1,4 +1,5 @@
--- The proof of the law reads_are_under_pin (src/laws.rt). It may change freely as long as the crate checks.
+-- Proves the law `reads_are_under_pin` (src/laws.rt): a read loads a slot's status and entries, and takes a pin back, only
+-- while it holds a pin of that slot. Used by: that law alone. It may change freely as long as this crate checks.
 use Rattle.mw_look.proofs.RunLaws.{reads-are-under-pin, pins-are-held-until-taken-back}
 use Rattle.mw_look.proofs.laws.reads_are_under_pin.Goals as goal
 

@@ -1,4 +1,5 @@
--- The proof of the law replies_are_of_the_word (src/laws.rt). It may change freely as long as the crate checks.
+-- The proof of the law replies_are_of_the_word (src/laws.rt). No other file cites it. It may change freely as long as the
+-- crate checks.
 use Rattle.mw_look.proofs.ValueLaws.{replies-are-of-the-word}
 use Rattle.mw_look.proofs.laws.replies_are_of_the_word.Goals as goal
 

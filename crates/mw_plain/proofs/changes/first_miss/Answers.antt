@@ -1,4 +1,5 @@
--- Answers to goals of first_miss (src/changes.rt). They may change freely as long as the crate checks.
+-- Proves goals of `first_miss` (src/changes.rt) that the check does not prove by itself. Used by: the proof of that function
+-- alone. It may change freely as long as this crate checks.
 use Rattle.std.proofs.Common.{arith}
 use Rattle.std.proofs.lemmas.Grind.{common_steps}
 use Rattle.std.proofs.lemmas.Option.{slice_get-get_or}

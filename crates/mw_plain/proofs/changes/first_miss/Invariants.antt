@@ -1,4 +1,5 @@
--- The invariants of the loops of first_miss (src/changes.rt). They may change freely as long as the crate checks.
+-- States what stays true from turn to turn in the loops of `first_miss` (src/changes.rt). Used by: the proof of that function
+-- alone. It may change freely as long as this crate checks.
 use Rattle.std.proofs.Common.{◌≡◌, take, drop, length, IsTrue}
 use Rattle.std.specs.List.{list_all}
 use Rattle.mw_words.specs.Change.{is_in_range, fits}

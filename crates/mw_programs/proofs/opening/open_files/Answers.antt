@@ -1,3 +1,5 @@
+-- Proves goals of `open_files` (src/opening.rt) that the check does not prove by itself. Used by: the proof of that function
+-- alone. It may change freely as long as this crate checks.
 use Rattle.std.proofs.Common.{sym, arith}
 use Rattle.mw_disk.specs.Unknown.{unknown}
 use Rattle.mw_programs.proofs.FilesFitLines.{fit_next, so_many}

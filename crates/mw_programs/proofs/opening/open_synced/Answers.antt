@@ -1,3 +1,5 @@
+-- Proves goals of `open_synced` (src/opening.rt) that the check does not prove by itself. Used by: the proof of that function
+-- alone. It may change freely as long as this crate checks.
 use Rattle.std.proofs.Common.{IsTrue, subst, sym, ◌∙◌, arith}
 use Rattle.mw_disk.specs.Facts.{IsSynced}
 use Rattle.mw_programs.proofs.FilesFitLines.{is_fresh, of_ok}

@@ -1,3 +1,5 @@
+-- States what stays true from turn to turn in the loops of `serve_files` (src/serving.rt). Used by: the proof of that function
+-- alone. It may change freely as long as this crate checks.
 use Rattle.mw_engine.specs.Parts.{identity_of}
 use Rattle.mw_programs.proofs.serving.serve_files.Given as goal
 

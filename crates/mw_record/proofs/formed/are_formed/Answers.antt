@@ -1,4 +1,5 @@
--- Answers to goals of are_formed (src/formed.rt). They may change freely as long as the crate checks.
+-- Proves goals of `are_formed` (src/formed.rt) that the check does not prove by itself. Used by: the proof of that function
+-- alone. It may change freely as long as this crate checks.
 use Rattle.std.proofs.Common.{sym, ◌∙◌}
 use Rattle.mw_record.specs.Records.{record_at, is_formed}
 use Rattle.mw_record.proofs.TestsBelow.{each_fails}

@@ -1,4 +1,5 @@
--- Answers to goals of is_formed (src/formed.rt). They may change freely as long as the crate checks.
+-- Proves goals of `is_formed` (src/formed.rt) that the check does not prove by itself. Used by: the proof of that function
+-- alone. It may change freely as long as this crate checks.
 use Rattle.std.proofs.Common.{◌≡◌, ◌&&◌, true, false, nat_le, length, ap, sym, ◌∙◌}
 use Rattle.mw_record.specs.Layout.{most_entries}
 use Rattle.mw_record.specs.Records.{Pairs, body_at, is_formed, rises_below}

@@ -1,4 +1,5 @@
--- Answers to goals of body (src/written.rt). They may change freely as long as the crate checks.
+-- Proves goals of `body` (src/written.rt) that the check does not prove by itself. Used by: the proof of that function alone.
+-- It may change freely as long as this crate checks.
 use Rattle.std.proofs.Common.{◌≡◌, ◌+◌, ◌*◌, ◌<◌, List, ◌∷◌, length, get_or, replicate, refl, ap, ◌∙◌, arith}
 use Rattle.mw_words.specs.declared.limits.TheConstants.{MAX_ENTRIES}
 use Rattle.mw_words.specs.declared.jobs.Entry.{Entry}

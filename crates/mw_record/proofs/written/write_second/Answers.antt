@@ -1,4 +1,5 @@
--- Answers to goals of write_second (src/written.rt). They may change freely as long as the crate checks.
+-- Proves goals of `write_second` (src/written.rt) that the check does not prove by itself. Used by: the proof of that function
+-- alone. It may change freely as long as this crate checks.
 use Rattle.std.proofs.Common.{ℕ, ◌+◌, ◌-◌, ◌*◌, List, length, refl, ◌∙◌, arith}
 use Rattle.mw_record.specs.declared.layout.Layout.TheVariants.{Second}
 use Rattle.mw_record.specs.Layout.{header}

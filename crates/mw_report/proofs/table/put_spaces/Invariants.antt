@@ -1,4 +1,5 @@
--- The invariants of the loops of put_spaces (src/table.rt). They may change freely as long as the crate checks.
+-- States what stays true from turn to turn in the loops of `put_spaces` (src/table.rt). Used by: the proof of that function
+-- alone. It may change freely as long as this crate checks.
 use Rattle.std.proofs.Common.{◌≡◌, ◌+◌, ◌++◌, length}
 use Rattle.mw_report.specs.Table.{spaces}
 use Rattle.mw_report.proofs.table.put_spaces.Given as goal

@@ -1,4 +1,5 @@
--- The invariants of the loops of report_text (src/table.rt). They may change freely as long as the crate checks.
+-- States what stays true from turn to turn in the loops of `report_text` (src/table.rt). Used by: the proof of that function
+-- alone. It may change freely as long as this crate checks.
 use Rattle.std.proofs.Common.{◌≡◌, ◌≤◌, ◌*◌, ◌++◌, length, drop, flat_map}
 use Rattle.mw_report.specs.Table.{tenant_line}
 use Rattle.mw_report.proofs.table.report_text.Given as goal

@@ -1,4 +1,5 @@
--- Answers to goals of perform (src/replies.rt). They may change freely as long as the crate checks.
+-- Proofs of goals in the contract of perform (src/replies.rt), which the prover can't close alone. No other file cites them.
+-- They may change freely as long as the crate checks.
 use Rattle.std.proofs.Common.{refl, sym, subst, ap, ◌∙◌}
 use Rattle.mw_report.specs.Table.{report}
 use Rattle.mw_session.specs.declared.steps.Bound.TheVariants.{Tenant, Admin}

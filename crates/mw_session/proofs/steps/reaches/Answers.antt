@@ -1,4 +1,5 @@
--- Answers to goals of reaches (src/steps.rt). They may change freely as long as the crate checks.
+-- Proves goals of `reaches` (src/steps.rt) that the check does not prove by itself. Used by: the proof of that function alone.
+-- It may change freely as long as this crate checks.
 use Rattle.std.proofs.Common.{◌≡◌, ◌-◌, length, Some, slice_get, subst}
 use Rattle.mw_session.proofs.Jobs.{last_tells}
 use Rattle.mw_session.proofs.steps.reaches.Goals as goal

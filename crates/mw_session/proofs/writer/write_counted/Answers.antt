@@ -1,4 +1,5 @@
--- Answers to goals of write_counted (src/writer.rt). They may change freely as long as the crate checks.
+-- Proves goals of `write_counted` (src/writer.rt) that the check does not prove by itself. Used by: the proof of that function
+-- alone. It may change freely as long as this crate checks.
 use Rattle.std.proofs.Common.{sym, subst, take, length, ◌≤◌}
 use Rattle.std.specs.Io.KnownBytes.{Appends}
 use Rattle.mw_session.proofs.WrittenTexts.{sending_starts, sending_more, write_fits, write_takes}

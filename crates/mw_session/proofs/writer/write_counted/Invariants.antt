@@ -1,4 +1,5 @@
--- The invariants of the loops of write_counted (src/writer.rt). They may change freely as long as the crate checks.
+-- States what stays true from turn to turn in the loops of `write_counted` (src/writer.rt). Used by: the proof of that function
+-- alone. It may change freely as long as this crate checks.
 use Rattle.std.proofs.Common.{length}
 use Rattle.mw_session.specs.SessionParts.{Sending}
 use Rattle.mw_session.proofs.writer.write_counted.Given as goal

@@ -1,3 +1,5 @@
+-- Proves goals of `damage_byte` (src/damaged.rt) that the check does not prove by itself. Used by: the proof of that function
+-- alone. It may change freely as long as this crate checks.
 use Rattle.std.proofs.Common.{sym, ◌∙◌, inl, inr}
 use Rattle.std.proofs.lemmas.Bool.{leb-true}
 use Rattle.mw_show.proofs.Parts.{has_all_of_head, layout_known, sizes_known}

@@ -1,3 +1,5 @@
+-- Proves goals of `show_record` (src/lines.rt) that the check does not prove by itself. Used by: the proof of that function
+-- alone. It may change freely as long as this crate checks.
 use Rattle.mw_show.proofs.Written.{item_more}
 use Rattle.mw_record.specs.Damages.{pairs_in}
 use Rattle.mw_show.specs.Text.{entry_line}

@@ -1,3 +1,5 @@
+-- Proves goals of `show_records` (src/lines.rt) that the check does not prove by itself. Used by: the proof of that function
+-- alone. It may change freely as long as this crate checks.
 use Rattle.mw_show.proofs.Written.{text_more}
 use Rattle.mw_show.specs.Text.{record_text}
 use Rattle.mw_show.proofs.lines.show_records.Goals as goal

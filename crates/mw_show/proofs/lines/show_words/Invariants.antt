@@ -1,3 +1,5 @@
+-- States what stays true from turn to turn in the loops of `show_words` (src/lines.rt). Used by: the proof of that function
+-- alone. It may change freely as long as this crate checks.
 use Rattle.std.specs.List.{flat_map, range_with_len}
 use Rattle.std.specs.Io.KnownBytes.{Appends}
 use Rattle.mw_show.specs.Text.{word_at, word_text}

@@ -1,3 +1,5 @@
+-- Proves goals of `words_at_start` (src/at_start.rt) that the check does not prove by itself. Used by: the proof of that
+-- function alone. It may change freely as long as this crate checks.
 use Rattle.std.proofs.Common.{arith}
 use Rattle.mw_table.specs.TableAtStart.{world_given}
 use Rattle.mw_table.proofs.PlacesAtIndexes.{ties_so}

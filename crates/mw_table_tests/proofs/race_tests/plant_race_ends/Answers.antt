@@ -1,3 +1,5 @@
+-- Proves goals of `plant_race_ends` (src/race_tests.rt) that the check does not prove by itself. Used by: the proof of that
+-- function alone. It may change freely as long as this crate checks.
 use Rattle.std.proofs.Common.{ap, ◌∙◌}
 use Rattle.mw_world.specs.Definition.State.{tenant_at}
 use Rattle.mw_core.specs.FromTable.{Basis}

@@ -1,4 +1,5 @@
--- The invariants of the loops of rises (src/jobs.rt). They may change freely as long as the crate checks.
+-- States what stays true from turn to turn in the loops of `rises` (src/jobs.rt). Used by: the proof of that function alone. It
+-- may change freely as long as this crate checks.
 use Rattle.std.proofs.Common.{◌≡◌, drop}
 use Rattle.mw_words.specs.Change.{rises, rises_from}
 use Rattle.mw_words.proofs.jobs.rises.Given as goal

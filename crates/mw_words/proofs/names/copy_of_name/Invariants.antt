@@ -1,4 +1,5 @@
--- The invariants of the loops of copy_of_name (src/names.rt). They may change freely as long as the crate checks.
+-- States what stays true from turn to turn in the loops of `copy_of_name` (src/names.rt). Used by: the proof of that function
+-- alone. It may change freely as long as this crate checks.
 use Rattle.std.proofs.Common.{◌≡◌, take}
 use Rattle.mw_words.proofs.names.copy_of_name.Given as goal
 

@@ -1,4 +1,5 @@
--- Answers to goals of accept_some (src/acceptor.rt). They may change freely as long as the crate checks.
+-- Proves goals of `accept_some` (src/acceptor.rt) that the check does not prove by itself. Used by: the proof of that function
+-- alone. It may change freely as long as this crate checks.
 use Rattle.mw_workers.proofs.ListenerCallLaws.{put_more}
 use Rattle.mw_workers.proofs.acceptor.accept_some.Goals as goal
 

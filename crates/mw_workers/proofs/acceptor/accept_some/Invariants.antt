@@ -1,4 +1,5 @@
--- The invariants of the loops of accept_some (src/acceptor.rt). They may change freely as long as the crate checks.
+-- States what stays true from turn to turn in the loops of `accept_some` (src/acceptor.rt). Used by: the proof of that function
+-- alone. It may change freely as long as this crate checks.
 use Rattle.mw_workers.specs.ListenerCalls.{ArePut}
 use Rattle.mw_workers.proofs.acceptor.accept_some.Given as goal
 

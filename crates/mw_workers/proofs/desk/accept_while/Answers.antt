@@ -1,4 +1,5 @@
--- Answers to goals of accept_while (src/desk.rt). They may change freely as long as the crate checks.
+-- Proves goals of `accept_while` (src/desk.rt) that the check does not prove by itself. Used by: the proof of that function
+-- alone. It may change freely as long as this crate checks.
 use Rattle.std.proofs.Common.{◌+◌}
 use Rattle.mw_workers.proofs.ListenerCallLaws.{put_more}
 use Rattle.mw_workers.proofs.desk.accept_while.Goals as goal

@@ -1,4 +1,5 @@
--- The invariants of the loops of accept_while (src/desk.rt). They may change freely as long as the crate checks.
+-- States what stays true from turn to turn in the loops of `accept_while` (src/desk.rt). Used by: the proof of that function
+-- alone. It may change freely as long as this crate checks.
 use Rattle.std.proofs.Common.{ℕ}
 use Rattle.mw_workers.specs.ListenerCalls.{ArePut}
 use Rattle.mw_workers.proofs.desk.accept_while.Given as goal

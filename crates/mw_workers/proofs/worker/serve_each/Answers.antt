@@ -1,4 +1,5 @@
--- Answers to goals of serve_each (src/worker.rt). They may change freely as long as the crate checks.
+-- Proves goals of `serve_each` (src/worker.rt) that the check does not prove by itself. Used by: the proof of that function
+-- alone. It may change freely as long as this crate checks.
 use Rattle.mw_session.specs.ServiceCalls.{AreAnswered}
 use Rattle.mw_session.proofs.TransitionLaws.{goes_further}
 use Rattle.mw_workers.specs.Sessions.{IsServed}

@@ -1,4 +1,5 @@
--- The invariants of the loops of serve_each (src/worker.rt). They may change freely as long as the crate checks.
+-- States what stays true from turn to turn in the loops of `serve_each` (src/worker.rt). Used by: the proof of that function
+-- alone. It may change freely as long as this crate checks.
 use Rattle.mw_session.specs.ServiceCalls.{AreAnswered}
 use Rattle.mw_workers.specs.Sessions.{AreServed}
 use Rattle.mw_workers.proofs.worker.serve_each.Given as goal

@@ -1,3 +1,5 @@
+-- States what stays true from turn to turn in the loops of `words_of` (src/opening.rt). Used by: the proof of that function
+-- alone. It may change freely as long as this crate checks.
 use Rattle.std.proofs.Common.{◌≡◌, take}
 use Rattle.mw_record.specs.Damages.{words_in}
 use Rattle.mw_world_file.proofs.opening.words_of.Given as goal

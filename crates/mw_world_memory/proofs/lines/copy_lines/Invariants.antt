@@ -1,3 +1,5 @@
+-- States what stays true from turn to turn in the loops of `copy_lines` (src/lines.rt). Used by: the proof of that function
+-- alone. It may change freely as long as this crate checks.
 use Rattle.std.proofs.Common.{◌≡◌, ◌++◌, drop}
 use Rattle.mw_world.specs.Definition.State.{marks_in}
 use Rattle.mw_world_memory.proofs.lines.copy_lines.Given as goal

@@ -1,6 +1,7 @@
 //! Checks what must hold at every moment of a change's words, and that no stale helper can harm them.
 //!
-//! `clauses.rt` calls it for its groups Words, Late and Releaser, and says what may change.
+//! `clauses.rt` calls it for its groups Words, Late and Releaser. Nothing is proved of these checks. They may change
+//! freely if they stay true of every run, and still refuse the planted faults of their groups (`planted_faults.rt`).
 
 use super::references::change_of;
 use crate::larger::past::{Change, Held};

@@ -1,4 +1,5 @@
--- Answers to goals of Actor::after (src/actor.rt). They may change freely as long as the crate checks.
+-- Proves goals of `Actor::after` (src/actor.rt) that the check does not prove by itself. Used by: the proof of that function
+-- alone. It may change freely as long as this crate checks.
 use Rattle.std.proofs.Common.{ap, ◌∙◌}
 use Rattle.mw_actor.proofs.RangeLaws.{goes_as_change}
 use Rattle.mw_actor.proofs.actor.Actor.after.Goals as goal

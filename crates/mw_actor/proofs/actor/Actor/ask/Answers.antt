@@ -1,4 +1,5 @@
--- Answers to goals of Actor::ask (src/actor/asks.rt). They may change freely as long as the crate checks.
+-- Proves goals of `Actor::ask` (src/actor/asks.rt) that the check does not prove by itself. Used by: the proof of that function
+-- alone. It may change freely as long as this crate checks.
 use Rattle.std.specs.Prelude.{◌≡◌, Bool, true, false, cond, Some, None}
 use Rattle.mw_look.specs.declared.steps.Op.{Op}
 use Rattle.mw_look.specs.Steps.{op_of}

@@ -1,4 +1,5 @@
--- Answers to goals of Actor::tell_of (src/actor.rt). They may change freely as long as the crate checks.
+-- Proves goals of `Actor::tell_of` (src/actor.rt) that the check does not prove by itself. Used by: the proof of that function
+-- alone. It may change freely as long as this crate checks.
 use Rattle.std.proofs.Common.{ap, ◌∙◌}
 use Rattle.mw_look.specs.Steps.{place_of}
 use Rattle.mw_look.specs.Observations.{observation_of}

@@ -1,4 +1,5 @@
--- Answers to goals of Book::call (src/calls.rt). They may change freely as long as the crate checks.
+-- Proves goals of `Book::call` (src/calls.rt) that the check does not prove by itself. Used by: the proof of that function
+-- alone. It may change freely as long as this crate checks.
 use Rattle.mw_look.specs.declared.steps.Call.TheVariants.{Seal, Settle, Cancel}
 use Rattle.mw_book.proofs.FiledCalls.{filed_as}
 use Rattle.mw_book.proofs.book.Book.call.Goals as goal

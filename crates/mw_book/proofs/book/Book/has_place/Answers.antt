@@ -1,4 +1,5 @@
--- Answers to goals of Book::has_place (src/queries.rt). They may change freely as long as the crate checks.
+-- Proves goals of `Book::has_place` (src/queries.rt) that the check does not prove by itself. Used by: the proof of that
+-- function alone. It may change freely as long as this crate checks.
 use Rattle.std.proofs.Common.{sym, ap, subst, take, ◌∙◌}
 use Rattle.std.specs.List.{list_any}
 use Rattle.mw_file.specs.PlaceStates.{is_free}

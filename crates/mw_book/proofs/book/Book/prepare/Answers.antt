@@ -1,4 +1,5 @@
--- Answers to goals of Book::prepare (src/calls.rt). They may change freely as long as the crate checks.
+-- Proves goals of `Book::prepare` (src/calls.rt) that the check does not prove by itself. Used by: the proof of that function
+-- alone. It may change freely as long as this crate checks.
 use Rattle.std.proofs.Common.{◌≡◌, refl, ap, ◌∙◌, is_err, arith}
 use Rattle.mw_look.specs.declared.steps.Call.TheVariants.{Prepare as PrepareCall, Cancel as CancelCall}
 use Rattle.mw_book.proofs.FiledCalls.{refused, met_fault, prepare_broken, prepare_made}

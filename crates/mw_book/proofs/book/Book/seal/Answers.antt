@@ -1,4 +1,5 @@
--- Answers to goals of Book::seal (src/calls.rt). They may change freely as long as the crate checks.
+-- Proves goals of `Book::seal` (src/calls.rt) that the check does not prove by itself. Used by: the proof of that function
+-- alone. It may change freely as long as this crate checks.
 use Rattle.std.proofs.Common.{◌≡◌, refl, sym, ◌∙◌, arith}
 use Rattle.mw_look.specs.declared.steps.Call.TheVariants.{Seal as SealCall, Cancel as CancelCall}
 use Rattle.mw_file.specs.declared.place_states.Stage.TheVariants.{Prepared}

@@ -1,4 +1,5 @@
--- Answers to goals of Book::unopened (src/new_books.rt). They may change freely as long as the crate checks.
+-- Proves goals of `Book::unopened` (src/new_books.rt) that the check does not prove by itself. Used by: the proof of that
+-- function alone. It may change freely as long as this crate checks.
 use Rattle.std.proofs.Common.{replicate}
 use Rattle.std.proofs.lemmas.List.{get_or-replicate}
 use Rattle.mw_words.specs.declared.limits.TheConstants.{MAX_POOL}

@@ -1,3 +1,5 @@
+-- Proves goals of `Client::change_patiently` (src/client.rt) that the check does not prove by itself. Used by: the proof of
+-- that function alone. It may change freely as long as this crate checks.
 use Rattle.std.proofs.Common.{◌∙◌, sym}
 use Rattle.mw_client.proofs.Retries.{once_more}
 use Rattle.mw_client.proofs.client.Client.change_patiently.Goals as goal

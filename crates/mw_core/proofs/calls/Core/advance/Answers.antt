@@ -1,3 +1,5 @@
+-- Proves goals of `Core::advance` (src/calls.rt) that the check does not prove by itself. Used by: the proof of that function
+-- alone. It may change freely as long as this crate checks.
 use Rattle.std.specs.Prelude.{Bool, if◌then◌else◌, is_some}
 use Rattle.std.proofs.Common.{ap, sym, ◌∙◌}
 use Rattle.mw_actor.specs.Program.{replied}

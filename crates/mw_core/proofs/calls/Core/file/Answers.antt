@@ -1,3 +1,5 @@
+-- Proves goals of `Core::file` (src/file_calls.rt) that the check does not prove by itself. Used by: the proof of that function
+-- alone. It may change freely as long as this crate checks.
 use Rattle.std.specs.Prelude.{Option}
 use Rattle.std.proofs.Common.{ℕ, ap, subst, sym, ◌∙◌}
 use Rattle.mw_table.specs.declared.shared.Shared.{Shared}

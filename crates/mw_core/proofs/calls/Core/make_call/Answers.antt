@@ -1,3 +1,5 @@
+-- Proves goals of `Core::make_call` (src/file_calls.rt) that the check does not prove by itself. Used by: the proof of that
+-- function alone. It may change freely as long as this crate checks.
 use Rattle.std.proofs.Common.{◌≤◌, sym, subst, ◌∙◌}
 use Rattle.mw_words.specs.declared.limits.TheConstants.{MAX_POOL}
 use Rattle.mw_table.specs.declared.shared.Shared.{Shared}

@@ -1,4 +1,5 @@
--- Answers to goals of MemDisk::crash (src/memory.rt). They may change freely as long as the crate checks.
+-- Proves goals of `MemDisk::crash` (src/memory.rt) that the check does not prove by itself. Used by: the proof of that function
+-- alone. It may change freely as long as this crate checks.
 use Rattle.std.proofs.Common.{rules}
 use Rattle.mw_disk.proofs.Remembered.{reads_left}
 use Rattle.mw_disk.proofs.TornBytes.{tears_left}

@@ -1,4 +1,5 @@
--- Answers to goals of MemDisk::put (src/memory.rt). They may change freely as long as the crate checks.
+-- Proves goals of `MemDisk::put` (src/memory.rt) that the check does not prove by itself. Used by: the proof of that function
+-- alone. It may change freely as long as this crate checks.
 use Rattle.std.proofs.Common.{ℕ, List, [], ◌∷◌, ◌++◌, ap, ◌∙◌}
 use Rattle.mw_disk.specs.declared.event.Call.TheVariants.{Wrote}
 use Rattle.mw_disk.specs.declared.history.History.{History}

@@ -1,4 +1,5 @@
--- Answers to goals of MemDisk::read_at of Disk (src/memory.rt). They may change freely as long as the crate checks.
+-- Proves goals of `MemDisk::read_at of Disk` (src/memory.rt) that the check does not prove by itself. Used by: the proof of
+-- that function alone. It may change freely as long as this crate checks.
 use Rattle.std.proofs.Common.{ℕ, refl, ◌+◌, List, length, ap, ◌∙◌, rules}
 use Rattle.std.specs.List.{slice_range}
 use Rattle.mw_disk.proofs.Remembered.{read_called, read_spared, went_spared, fails_called, fails_nothing, fails_same, quiet_nothing, quiet_same, read_there}

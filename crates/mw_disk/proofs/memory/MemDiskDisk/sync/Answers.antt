@@ -1,4 +1,5 @@
--- Answers to goals of MemDisk::sync of Disk (src/memory.rt). They may change freely as long as the crate checks.
+-- Proves goals of `MemDisk::sync of Disk` (src/memory.rt) that the check does not prove by itself. Used by: the proof of that
+-- function alone. It may change freely as long as this crate checks.
 use Rattle.std.proofs.Common.{refl, rules}
 use Rattle.mw_disk.proofs.Remembered.{went_called, went_spared, fails_called, fails_spared, fails_nothing, fails_same, sync_nothing, sync_same, sync_rest}
 use Rattle.mw_disk.proofs.memory.MemDiskDisk.sync.Goals as goal

@@ -1,4 +1,5 @@
--- Answers to goals of MemDisk::write_at of Disk (src/memory.rt). They may change freely as long as the crate checks.
+-- Proves goals of `MemDisk::write_at of Disk` (src/memory.rt) that the check does not prove by itself. Used by: the proof of
+-- that function alone. It may change freely as long as this crate checks.
 use Rattle.std.proofs.Common.{refl, ◌∙◌, rules}
 use Rattle.mw_disk.proofs.Remembered.{went_called, went_spared, fails_called, fails_spared, refused_called, refused_spared, fails_tears, fails_torn, wrote_tears, wrote_torn, wrote_written}
 use Rattle.mw_disk.proofs.memory.MemDiskDisk.write_at.Goals as goal

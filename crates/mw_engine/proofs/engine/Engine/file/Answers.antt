@@ -1,3 +1,5 @@
+-- Proves goals of `Engine::file` (src/serving.rt) that the check does not prove by itself. Used by: the proof of that function
+-- alone. It may change freely as long as this crate checks.
 use Rattle.std.specs.Prelude.{◌≢◌, None}
 use Rattle.std.proofs.Common.{sym, subst}
 use Rattle.mw_actor.specs.ActorState.{ActorState}

@@ -1,3 +1,5 @@
+-- Proves goals of `Engine::go_on` (src/serving.rt) that the check does not prove by itself. Used by: the proof of that function
+-- alone. It may change freely as long as this crate checks.
 use Rattle.mw_engine.proofs.Branded.{still_of}
 use Rattle.mw_engine.proofs.RequestAfterFileCall.{same_on}
 use Rattle.mw_engine.proofs.StepOrFileCall.{stepped_files, stepped_same, stepped_serves, stepped_to, stepped_way}

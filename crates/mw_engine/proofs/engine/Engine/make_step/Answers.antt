@@ -1,3 +1,5 @@
+-- Proves goals of `Engine::make_step` (src/steps.rt) that the check does not prove by itself. Used by: the proof of that
+-- function alone. It may change freely as long as this crate checks.
 use Rattle.std.proofs.Common.{sym, ◌∙◌, subst}
 use Rattle.mw_core.specs.FromTable.{View}
 use Rattle.mw_engine.specs.History.{IsInProgress}

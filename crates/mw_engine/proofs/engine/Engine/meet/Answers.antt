@@ -1,3 +1,5 @@
+-- Proves goals of `Engine::meet` (src/meet.rt) that the check does not prove by itself. Used by: the proof of that function
+-- alone. It may change freely as long as this crate checks.
 use Rattle.std.proofs.Common.{sym, subst}
 use Rattle.mw_core.specs.FromTable.{IsOf, Shared}
 use Rattle.mw_engine.proofs.Branded.{free_of, in_words}

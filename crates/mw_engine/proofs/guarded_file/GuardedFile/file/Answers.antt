@@ -1,3 +1,5 @@
+-- Proves goals of `GuardedFile::file` (src/file_calls.rt) that the check does not prove by itself. Used by: the proof of that
+-- function alone. It may change freely as long as this crate checks.
 use Rattle.std.proofs.Common.{sym, ◌∙◌}
 use Rattle.mw_engine.proofs.GuardedFileLaws.{keeps_some, kept_over, right_of, there_of}
 use Rattle.mw_engine.proofs.guarded_file.GuardedFile.file.Goals as goal

@@ -1,3 +1,5 @@
+-- Proves goals of `GuardedFile::into_disk` (src/end.rt) that the check does not prove by itself. Used by: the proof of that
+-- function alone. It may change freely as long as this crate checks.
 use Rattle.std.proofs.Common.{subst, sym}
 use Rattle.mw_core.specs.FromTable.{IsRightOf, IsSoOfWorld, Shared, config_of, file_kept, openings_of}
 use Rattle.mw_engine.proofs.Disks.{given_as}

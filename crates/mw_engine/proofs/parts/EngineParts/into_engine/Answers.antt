@@ -1,3 +1,5 @@
+-- Proves goals of `EngineParts::into_engine` (src/start.rt) that the check does not prove by itself. Used by: the proof of that
+-- function alone. It may change freely as long as this crate checks.
 use Rattle.std.proofs.Common.{subst}
 use Rattle.mw_engine.specs.Brand.{Identity}
 use Rattle.mw_engine.specs.GuardedFile.{AreKept}

@@ -1,3 +1,5 @@
+-- Proves goals of `TenantWords::free_slots` (src/figures.rt) that the check does not prove by itself. Used by: the proof of
+-- that function alone. It may change freely as long as this crate checks.
 use Rattle.std.specs.Prelude.{◌≡◌, ◌+◌, cond}
 use Rattle.std.proofs.Common.{sym, ◌∙◌, arith}
 use Rattle.mw_engine.specs.Figures.{is_free}

@@ -1,3 +1,5 @@
+-- Proves goals of `TenantWords::gate` (src/figures.rt) that the check does not prove by itself. Used by: the proof of that
+-- function alone. It may change freely as long as this crate checks.
 use Rattle.std.proofs.Common.{subst, ◌∙◌}
 use Rattle.mw_core.specs.FromTable.{IsOf, Shared}
 use Rattle.mw_engine.proofs.PassAfterCall.{one_on}

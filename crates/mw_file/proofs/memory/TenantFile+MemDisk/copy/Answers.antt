@@ -1,4 +1,5 @@
--- Answers to goals of TenantFile::copy (src/memory.rt). They may change freely as long as the crate checks.
+-- Proves goals of `TenantFile::copy` (src/memory.rt) that the check does not prove by itself. Used by: the proof of that
+-- function alone. It may change freely as long as this crate checks.
 use Rattle.std.proofs.Common.{refl, ◌∙◌}
 use Rattle.mw_disk.specs.Memory.{memory_facts}
 use Rattle.mw_file.proofs.Safety.{keeps_copy}

@@ -1,4 +1,5 @@
--- Answers to goals of TenantFile::cancel (src/calls.rt). They may change freely as long as the crate checks.
+-- Proves goals of `TenantFile::cancel` (src/calls.rt) that the check does not prove by itself. Used by: the proof of that
+-- function alone. It may change freely as long as this crate checks.
 use Rattle.std.proofs.Common.{refl, arith}
 use Rattle.mw_file.specs.declared.place_states.Stage.TheVariants.{Prepared}
 use Rattle.mw_file.proofs.Places.{state_at, state_there, staged_as}

@@ -1,4 +1,5 @@
--- Answers to goals of TenantFile::open (src/opening.rt). They may change freely as long as the crate checks.
+-- Proves goals of `TenantFile::open` (src/opening.rt) that the check does not prove by itself. Used by: the proof of that
+-- function alone. It may change freely as long as this crate checks.
 use Rattle.std.proofs.Common.{◌≡◌, ◌≤◌, ◌+◌, ℕ, List, length, min, take, arith, sym, ap, ◌∙◌, refl, Some, true, false, IsTrue, subst}
 use Rattle.std.proofs.lemmas.List.FromFn.{length-map-range_with_len}
 use Rattle.mw_disk.specs.Facts.{IsSynced}

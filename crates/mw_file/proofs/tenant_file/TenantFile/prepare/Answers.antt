@@ -1,4 +1,5 @@
--- Answers to goals of TenantFile::prepare (src/calls.rt). They may change freely as long as the crate checks.
+-- Proves goals of `TenantFile::prepare` (src/calls.rt) that the check does not prove by itself. Used by: the proof of that
+-- function alone. It may change freely as long as this crate checks.
 use Rattle.std.proofs.Common.{◌≡◌, ◌+◌, ◌∙◌, ◌<◌, [], length, ap, sym, refl, subst, inl, arith, List, slice_set}
 use Rattle.mw_disk.proofs.RunLaws.{leaves_wider}
 use Rattle.mw_record.specs.declared.layout.TheConstants.{BODY_SIZE}

@@ -1,4 +1,5 @@
--- Answers to goals of TenantFile::seal (src/calls.rt). They may change freely as long as the crate checks.
+-- Proves goals of `TenantFile::seal` (src/calls.rt) that the check does not prove by itself. Used by: the proof of that
+-- function alone. It may change freely as long as this crate checks.
 use Rattle.std.proofs.Common.{◌∙◌, sym, refl, arith}
 use Rattle.mw_record.specs.declared.layout.Layout.TheVariants.{Second}
 use Rattle.mw_record.specs.Layout.{place_at}

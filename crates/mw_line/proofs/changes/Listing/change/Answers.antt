@@ -1,4 +1,5 @@
--- Answers to goals of Listing::change (src/changes.rt). They may change freely as long as the crate checks.
+-- Proves goals of `Listing::change` (src/changes.rt) that the check does not prove by itself. Used by: the proof of that
+-- function alone. It may change freely as long as this crate checks.
 use Rattle.std.proofs.Common.{◌≡◌, Bool, true, false, List, refl}
 use Rattle.std.specs.List.{list_all}
 use Rattle.mw_words.specs.declared.jobs.Entry.{Entry}

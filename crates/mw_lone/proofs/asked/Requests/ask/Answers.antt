@@ -1,4 +1,5 @@
--- Answers to goals of Requests::ask (src/asked.rt). They may change freely as long as the crate checks.
+-- Proves goals of `Requests::ask` (src/asked.rt) that the check does not prove by itself. Used by: the proof of that function
+-- alone. It may change freely as long as this crate checks.
 use Rattle.mw_lone.proofs.Numbered.{pushed}
 use Rattle.mw_lone.proofs.asked.Requests.ask.Goals as goal
 

@@ -1,4 +1,5 @@
--- Answers to goals of Requests::hand_out (src/asked.rt). They may change freely as long as the crate checks.
+-- Proves goals of `Requests::hand_out` (src/asked.rt) that the check does not prove by itself. Used by: the proof of that
+-- function alone. It may change freely as long as this crate checks.
 use Rattle.std.proofs.Common.{true, arith}
 use Rattle.mw_lone.proofs.Numbered.{stands_there, if_found, written}
 use Rattle.mw_lone.proofs.asked.Requests.hand_out.Goals as goal

@@ -1,4 +1,5 @@
--- Answers to goals of Requests::retire (src/asked.rt). They may change freely as long as the crate checks.
+-- Proves goals of `Requests::retire` (src/asked.rt) that the check does not prove by itself. Used by: the proof of that
+-- function alone. It may change freely as long as this crate checks.
 use Rattle.std.proofs.Common.{◌≡◌, ◌-◌, true, arith}
 use Rattle.std.proofs.Math.ListN.{length-set}
 use Rattle.mw_lone.specs.Asked.{holds_slot}

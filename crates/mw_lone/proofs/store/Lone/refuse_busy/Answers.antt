@@ -1,4 +1,5 @@
--- Answers to goals of Lone::refuse_busy (src/store.rt). They may change freely as long as the crate checks.
+-- Proves goals of `Lone::refuse_busy` (src/store.rt) that the check does not prove by itself. Used by: the proof of that
+-- function alone. It may change freely as long as this crate checks.
 use Rattle.std.proofs.Common.{sym}
 use Rattle.mw_lone.proofs.Steps.{at_some}
 use Rattle.mw_lone.proofs.SoundStores.{sound-insert}

@@ -1,4 +1,5 @@
--- Answers to goals of Look::tell_observation (src/look.rt). They may change freely as long as the crate checks.
+-- Proves goals of `Look::tell_observation` (src/look.rt) that the check does not prove by itself. Used by: the proof of that
+-- function alone. It may change freely as long as this crate checks.
 use Rattle.std.proofs.Common.{ap}
 use Rattle.mw_look.proofs.RangeLaws.{next_in_range}
 use Rattle.mw_look.proofs.look.Look.tell_observation.Goals as goal

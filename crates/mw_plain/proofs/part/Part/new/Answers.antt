@@ -1,4 +1,5 @@
--- Answers to goals of Part::new (src/opening.rt). They may change freely as long as the crate checks.
+-- Proves goals of `Part::new` (src/opening.rt) that the check does not prove by itself. Used by: the proof of that function
+-- alone. It may change freely as long as this crate checks.
 use Rattle.std.proofs.Common.{Option, subst, ◌∙◌}
 use Rattle.std.specs.Prelude.{Vec, ℕ}
 use Rattle.std.specs.declared.alloc.Global.{Global}

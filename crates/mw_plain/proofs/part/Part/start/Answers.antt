@@ -1,4 +1,5 @@
--- Answers to goals of Part::start (src/serving.rt). They may change freely as long as the crate checks.
+-- Proves goals of `Part::start` (src/serving.rt) that the check does not prove by itself. Used by: the proof of that function
+-- alone. It may change freely as long as this crate checks.
 use Rattle.std.proofs.Common.{Option, Some, sym, ap, subst, ◌∙◌, arith}
 use Rattle.mw_plain.specs.declared.book.LoadedFile.{LoadedFile}
 use Rattle.mw_plain.specs.Books.{words_in, places_in}

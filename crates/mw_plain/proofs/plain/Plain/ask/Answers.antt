@@ -1,4 +1,5 @@
--- Answers to goals of Plain::ask (src/tenants.rt). They may change freely as long as the crate checks.
+-- Proves goals of `Plain::ask` (src/tenants.rt) that the check does not prove by itself. Used by: the proof of that function
+-- alone. It may change freely as long as this crate checks.
 use Rattle.mw_plain.specs.Cases.{AtStart, AtFinish}
 use Rattle.mw_plain.proofs.Asks.{asks_done, asks_on}
 use Rattle.mw_plain.proofs.plain.Plain.ask.Goals as goal

@@ -1,4 +1,5 @@
--- The invariants of the loops of Plain::each_figures (src/tenants.rt). They may change freely as long as the crate checks.
+-- States what stays true from turn to turn in the loops of `Plain::each_figures` (src/tenants.rt). Used by: the proof of that
+-- function alone. It may change freely as long as this crate checks.
 use Rattle.std.proofs.Common.{◌≡◌, take, map}
 use Rattle.mw_plain.specs.Report.{figures_of}
 use Rattle.mw_plain.proofs.plain.Plain.each_figures.Given as goal

@@ -1,4 +1,5 @@
--- Answers to goals of Plain::figures (src/tenants.rt). They may change freely as long as the crate checks.
+-- Proves goals of `Plain::figures` (src/tenants.rt) that the check does not prove by itself. Used by: the proof of that
+-- function alone. It may change freely as long as this crate checks.
 use Rattle.mw_plain.proofs.UsedSlots.{within_limits}
 use Rattle.mw_plain.proofs.plain.Plain.figures.Goals as goal
 

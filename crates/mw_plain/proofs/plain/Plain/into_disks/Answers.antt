@@ -1,4 +1,5 @@
--- Answers to goals of Plain::into_disks (src/opening.rt). They may change freely as long as the crate checks.
+-- Proves goals of `Plain::into_disks` (src/opening.rt) that the check does not prove by itself. Used by: the proof of that
+-- function alone. It may change freely as long as this crate checks.
 use Rattle.std.proofs.Common.{◌++◌, map, sym, ap, ◌∙◌, append-nil}
 use Rattle.std.proofs.lemmas.List.{nil_from_length}
 use Rattle.std.specs.Vec.Iter.{into_iter_items}

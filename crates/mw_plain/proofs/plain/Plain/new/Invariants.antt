@@ -1,4 +1,5 @@
--- The invariants of the loops of Plain::new (src/opening.rt). They may change freely as long as the crate checks.
+-- States what stays true from turn to turn in the loops of `Plain::new` (src/opening.rt). Used by: the proof of that function
+-- alone. It may change freely as long as this crate checks.
 use Rattle.std.proofs.Common.{◌≤◌, ◌+◌, ◌++◌, List, length, drop}
 use Rattle.std.specs.Vec.Iter.{into_iter_items}
 use Rattle.mw_plain.specs.declared.part.Part.{Part}

@@ -1,4 +1,5 @@
--- Answers to goals of Plain::run (src/tenants.rt). They may change freely as long as the crate checks.
+-- Proves goals of `Plain::run` (src/tenants.rt) that the check does not prove by itself. Used by: the proof of that function
+-- alone. It may change freely as long as this crate checks.
 use Rattle.std.proofs.Common.{◌≡◌, ◌+◌, ◌++◌, ◌∷◌, [], length, ap, subst, ◌∙◌, arith}
 use Rattle.std.specs.Prelude.{if◌then◌else◌, is_ok}
 use Rattle.std.proofs.lemmas.List.{drop_all, length-append}

@@ -1,4 +1,5 @@
--- The invariants of the loops of Plain::run (src/tenants.rt). They may change freely as long as the crate checks.
+-- States what stays true from turn to turn in the loops of `Plain::run` (src/tenants.rt). Used by: the proof of that function
+-- alone. It may change freely as long as this crate checks.
 use Rattle.std.proofs.Common.{◌≡◌, ◌≤◌, ◌++◌, List, length, drop, vec_len}
 use Rattle.std.specs.Prelude.{vec_capacity}
 use Rattle.mw_words.specs.declared.replies.Reply.{Reply}

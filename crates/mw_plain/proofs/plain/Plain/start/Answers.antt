@@ -1,4 +1,5 @@
--- Answers to goals of Plain::start (src/tenants.rt). They may change freely as long as the crate checks.
+-- Proves goals of `Plain::start` (src/tenants.rt) that the check does not prove by itself. Used by: the proof of that function
+-- alone. It may change freely as long as this crate checks.
 use Rattle.std.proofs.Common.{refl, ap}
 use Rattle.mw_plain.proofs.Serves.{start_of, serves_one, part_here, starts_here}
 use Rattle.mw_plain.proofs.plain.Plain.start.Goals as goal

@@ -1,4 +1,5 @@
--- Answers to goals of Plain::used (src/tenants.rt). They may change freely as long as the crate checks.
+-- Proves goals of `Plain::used` (src/tenants.rt) that the check does not prove by itself. Used by: the proof of that function
+-- alone. It may change freely as long as this crate checks.
 use Rattle.std.proofs.Common.{arith}
 use Rattle.mw_plain.proofs.UsedSlots.{used_first}
 use Rattle.mw_plain.proofs.plain.Plain.used.Goals as goal

@@ -1,3 +1,5 @@
+-- Proves goals of `Player::go` (src/player.rt) that the check does not prove by itself. Used by: the proof of that function
+-- alone. It may change freely as long as this crate checks.
 use Rattle.std.proofs.Common.{refl, Err}
 use Rattle.mw_player.specs.PlayerSteps.{AreTurns}
 use Rattle.mw_player.proofs.PlayerStepLaws.{plays_call, plays_nothing, plays_step}

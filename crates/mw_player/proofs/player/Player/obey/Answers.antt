@@ -1,3 +1,5 @@
+-- Proves goals of `Player::obey` (src/player.rt) that the check does not prove by itself. Used by: the proof of that function
+-- alone. It may change freely as long as this crate checks.
 use Rattle.mw_player.proofs.player.Player.obey.Goals as goal
 
 pub returns-in-Come-clause-plays : goal.returns-in-Come-clause-plays

@@ -1,4 +1,5 @@
--- Answers to goals of FormedFile::homes_fit (src/formed.rt). They may change freely as long as the crate checks.
+-- Proves goals of `FormedFile::homes_fit` (src/formed.rt) that the check does not prove by itself. Used by: the proof of that
+-- function alone. It may change freely as long as this crate checks.
 use Rattle.std.proofs.Common.{◌||◌, nat_le, sym, ap, ◌∙◌}
 use Rattle.std.proofs.lemmas.Bool.{or_from, lt-leb}
 use Rattle.mw_words.specs.declared.limits.TheConstants.{MAX_VALUE}

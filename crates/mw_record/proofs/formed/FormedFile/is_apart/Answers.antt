@@ -1,4 +1,5 @@
--- Answers to goals of FormedFile::is_apart (src/formed.rt). They may change freely as long as the crate checks.
+-- Proves goals of `FormedFile::is_apart` (src/formed.rt) that the check does not prove by itself. Used by: the proof of that
+-- function alone. It may change freely as long as this crate checks.
 use Rattle.std.proofs.Common.{◌+◌, ◌&&◌, not, Bool, drop, sym, ap, ◌∙◌}
 use Rattle.mw_record.specs.Records.{Pairs, record_at, is_apart}
 use Rattle.mw_record.proofs.Turns.{turn}

@@ -1,4 +1,5 @@
--- Answers to goals of FormedFile::record (src/formed.rt). They may change freely as long as the crate checks.
+-- Proves goals of `FormedFile::record` (src/formed.rt) that the check does not prove by itself. Used by: the proof of that
+-- function alone. It may change freely as long as this crate checks.
 use Rattle.std.proofs.Common.{Some, ap, sym, ◌∙◌, arith}
 use Rattle.mw_record.specs.Records.{record_at, body_at}
 use Rattle.mw_record.proofs.ReadBytes.{record_open, record_shut, length_body}

@@ -1,4 +1,5 @@
--- Answers to goals of FormedFile::records_fit (src/formed.rt). They may change freely as long as the crate checks.
+-- Proves goals of `FormedFile::records_fit` (src/formed.rt) that the check does not prove by itself. Used by: the proof of that
+-- function alone. It may change freely as long as this crate checks.
 use Rattle.std.proofs.Common.{true, sym, ap, ◌∙◌}
 use Rattle.std.specs.Option.{option_map_or}
 use Rattle.mw_record.specs.Records.{record_at, has_values}

@@ -1,4 +1,5 @@
--- Answers to goals of Image::word (src/images.rt). They may change freely as long as the crate checks.
+-- Proves goals of `Image::word` (src/images.rt) that the check does not prove by itself. Used by: the proof of that function
+-- alone. It may change freely as long as this crate checks.
 use Rattle.std.proofs.Common.{Some, ap, sym, ◌∙◌}
 use Rattle.mw_record.proofs.Undamaged.{read_word}
 use Rattle.mw_record.proofs.images.Image.word.Goals as goal

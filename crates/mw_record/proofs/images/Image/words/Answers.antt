@@ -1,4 +1,5 @@
--- Answers to goals of Image::words (src/images.rt). They may change freely as long as the crate checks.
+-- Proves goals of `Image::words` (src/images.rt) that the check does not prove by itself. Used by: the proof of that function
+-- alone. It may change freely as long as this crate checks.
 use Rattle.std.proofs.Common.{arith}
 use Rattle.mw_record.proofs.Undamaged.{sizes}
 use Rattle.mw_record.proofs.images.Image.words.Goals as goal

@@ -1,4 +1,5 @@
--- Answers to goals of Record::entry (src/records.rt). They may change freely as long as the crate checks.
+-- Proves goals of `Record::entry` (src/records.rt) that the check does not prove by itself. Used by: the proof of that function
+-- alone. It may change freely as long as this crate checks.
 use Rattle.std.proofs.Common.{◌≡◌, ℕ, ◌+◌, ◌*◌, ◌<◌, Some, slice_get, ap, ◌∙◌, sym, length, arith, zero-add}
 use Rattle.std.proofs.lemmas.Option.{slice_get-get_or}
 use Rattle.mw_record.specs.Layout.{number_at}

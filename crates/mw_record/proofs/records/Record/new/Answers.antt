@@ -1,4 +1,5 @@
--- Answers to goals of Record::new (src/records.rt). They may change freely as long as the crate checks.
+-- Proves goals of `Record::new` (src/records.rt) that the check does not prove by itself. Used by: the proof of that function
+-- alone. It may change freely as long as this crate checks.
 use Rattle.std.proofs.Common.{ℕ, ◌+◌, ◌-◌, length, slice_index, arith}
 use Rattle.mw_record.specs.Records.{body_at}
 use Rattle.mw_record.proofs.ReadBytes.{pairs_in_part}

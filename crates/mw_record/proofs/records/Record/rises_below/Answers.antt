@@ -1,4 +1,5 @@
--- Answers to goals of Record::rises_below (src/records.rt). They may change freely as long as the crate checks.
+-- Proves goals of `Record::rises_below` (src/records.rt) that the check does not prove by itself. Used by: the proof of that
+-- function alone. It may change freely as long as this crate checks.
 use Rattle.std.proofs.Common.{◌≡◌, ◌+◌, ◌&&◌, ℕ, Bool, false, nat_le, nat_lt, drop, sym, ap, ◌∙◌, arith}
 use Rattle.std.proofs.lemmas.Bool.{le-leb, lt-leb, lt-ltb, le-ltb}
 use Rattle.mw_record.specs.Records.{Pairs, rises_below}

@@ -1,4 +1,5 @@
--- The invariants of the loops of Record::rises_below (src/records.rt). They may change freely as long as the crate checks.
+-- States what stays true from turn to turn in the loops of `Record::rises_below` (src/records.rt). Used by: the proof of that
+-- function alone. It may change freely as long as this crate checks.
 use Rattle.std.proofs.Common.{◌≡◌, drop}
 use Rattle.mw_record.specs.Records as spec
 use Rattle.mw_record.proofs.records.Record.rises_below.Given as goal

@@ -1,4 +1,5 @@
--- Answers to goals of Session::answer_all (src/session.rt). They may change freely as long as the crate checks.
+-- Proves goals of `Session::answer_all` (src/session.rt) that the check does not prove by itself. Used by: the proof of that
+-- function alone. It may change freely as long as this crate checks.
 use Rattle.std.proofs.Common.{sym, subst, ◌∙◌, [], ◌∷◌, ◌++◌}
 use Rattle.mw_session.specs.SessionParts.{Gives}
 use Rattle.mw_session.specs.ServiceCalls.{AreAnswered}

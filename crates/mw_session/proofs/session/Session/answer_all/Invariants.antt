@@ -1,4 +1,5 @@
--- The invariants of the loops of Session::answer_all (src/session.rt). They may change freely as long as the crate checks.
+-- States what stays true from turn to turn in the loops of `Session::answer_all` (src/session.rt). Used by: the proof of that
+-- function alone. It may change freely as long as this crate checks.
 use Rattle.std.proofs.Common.{length}
 use Rattle.mw_frame.specs.Stream.{lines_of}
 use Rattle.mw_session.specs.SessionParts.{Spoken}

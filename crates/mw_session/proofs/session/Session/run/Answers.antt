@@ -1,4 +1,5 @@
--- Answers to goals of Session::run (src/session.rt). They may change freely as long as the crate checks.
+-- Answers to goals of Session::run (src/session.rt): its loop keeps its invariant, and its contract holds however the session
+-- ends. They may change freely as long as the crate checks.
 use Rattle.std.proofs.Common.{sym, subst, ◌∙◌, take, arith}
 use Rattle.mw_frame.specs.Stream.{fed}
 use Rattle.mw_session.specs.SessionParts.{Gives}

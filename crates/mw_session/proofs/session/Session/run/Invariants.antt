@@ -1,4 +1,5 @@
--- The invariants of the loops of Session::run (src/session.rt). They may change freely as long as the crate checks.
+-- States what stays true from turn to turn in the loops of `Session::run` (src/session.rt). Used by: the proof of that function
+-- alone. It may change freely as long as this crate checks.
 use Rattle.mw_session.specs.ServiceCalls.{AreAnswered, IsServed}
 use Rattle.mw_session.specs.UnderWay.{UnderWay}
 use Rattle.mw_session.proofs.session.Session.run.Given as goal

@@ -1,3 +1,5 @@
+-- Proves goals of `World::may_give` (src/world/restarts.rt) that the check does not prove by itself. Used by: the proof of that
+-- function alone. It may change freely as long as this crate checks.
 use Rattle.mw_simulator.proofs.Quotas.{cannot_give, has_room, together_gives}
 use Rattle.mw_simulator.proofs.world.World.may_give.Goals as goal
 

@@ -1,3 +1,5 @@
+-- Proves goals of `World::restart` (src/world/restarts.rt) that the check does not prove by itself. Used by: the proof of that
+-- function alone. It may change freely as long as this crate checks.
 use Rattle.std.specs.Prelude.{◌≡◌}
 use Rattle.std.proofs.Common.{ap, arith, refl, subst, sym, ℕ, ◌∙◌}
 use Rattle.mw_world.specs.Definition.State.{tenants_of}

@@ -1,3 +1,5 @@
+-- Proves goals of `Shared::attempt` (src/steps.rt) that the check does not prove by itself. Used by: the proof of that function
+-- alone. It may change freely as long as this crate checks.
 use Rattle.std.proofs.Common.{◌==◌, cond, ℕ, refl}
 use prog.Atomic.{either}
 use Rattle.mw_look.specs.declared.steps.Kind.TheVariants.{Plant as PlantKind}

@@ -1,3 +1,5 @@
+-- Proves goals of `Shared::merge` (src/meet.rt) that the check does not prove by itself. Used by: the proof of that function
+-- alone. It may change freely as long as this crate checks.
 use Rattle.std.proofs.Common.{[], ap, sym, subst, ◌∙◌}
 use Rattle.atomic_table.specs.Table.{Me}
 use Rattle.mw_actor.specs.ActorState.{ActorState}

@@ -1,3 +1,5 @@
+-- Proves goals of `Shared::note` (src/meet.rt) that the check does not prove by itself. Used by: the proof of that function
+-- alone. It may change freely as long as this crate checks.
 use Rattle.mw_rule.proofs.SplitLaws.{notes_keep}
 use Rattle.mw_table.proofs.Meetings.{some_word}
 use Rattle.mw_table.proofs.shared.Shared.note.Goals as goal

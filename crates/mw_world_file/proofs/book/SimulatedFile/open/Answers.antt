@@ -1,3 +1,5 @@
+-- Proves goals of `SimulatedFile::open` (src/opening.rt) that the check does not prove by itself. Used by: the proof of that
+-- function alone. It may change freely as long as this crate checks.
 use Rattle.std.proofs.Common.{◌∙◌, ℕ, List, ap, arith}
 use Rattle.mw_words.specs.declared.limits.TheConstants.{MAX_POOL}
 use Rattle.mw_disk.specs.Memory.{Memory, memory_facts, scripted}

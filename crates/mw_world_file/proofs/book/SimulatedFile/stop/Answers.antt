@@ -1,3 +1,5 @@
+-- Proves goals of `SimulatedFile::stop` (src/stops.rt) that the check does not prove by itself. Used by: the proof of that
+-- function alone. It may change freely as long as this crate checks.
 use Rattle.std.proofs.Common.{Option, sym, subst}
 use Rattle.mw_world_file.specs.declared.cut.Cut.{Cut}
 use Rattle.mw_world_file.specs.StoppedFiles.{IsStopped}

@@ -1,3 +1,5 @@
+-- Proves goals of `SimulatedFile::stop_preparing` (src/stops.rt) that the check does not prove by itself. Used by: the proof of
+-- that function alone. It may change freely as long as this crate checks.
 use Rattle.std.proofs.Common.{◌∙◌, true, false, sym, ap, refl, arith}
 use Rattle.arrayvec.specs.ArrayVec.{ArrayVec}
 use Rattle.mw_words.specs.declared.jobs.Entry.{Entry}

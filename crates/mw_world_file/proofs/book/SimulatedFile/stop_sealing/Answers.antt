@@ -1,3 +1,5 @@
+-- Proves goals of `SimulatedFile::stop_sealing` (src/stops.rt) that the check does not prove by itself. Used by: the proof of
+-- that function alone. It may change freely as long as this crate checks.
 use Rattle.mw_world_file.specs.Books.{quota_of, places_of_file}
 use Rattle.mw_world_file.specs.Calls.{place_for}
 use Rattle.mw_world_file.proofs.StoppedFiles.{Finds}

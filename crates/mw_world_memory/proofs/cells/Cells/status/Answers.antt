@@ -1,3 +1,5 @@
+-- Proves goals of `Cells::status` (src/cells.rt) that the check does not prove by itself. Used by: the proof of that function
+-- alone. It may change freely as long as this crate checks.
 use Rattle.std.proofs.Common.{ap, ◌∙◌}
 use Rattle.std.specs.Option.{option_and_then}
 use Rattle.mw_words.specs.Patterns.{unpacked_status}
