@@ -61,10 +61,10 @@ agrees_as facts book file_token other given given_there tenant its config config
     (subst (λ (one : Config). Agrees facts book file_token (opening_at given tenant).quota one.pool) same_config agrees)))
 
 -- A pass that has no file takes this one.
-module _ {D : Type 0} (facts : D → Facts) (shared : Shared) (old taken : Pass) (actor : ActorState) (right : FilePass) (free : IsFree old) (same : IsSamePass old taken) (own : IsOf shared taken)
-    (took : taken.seat.me.0 ≡ takes_files old.seat.me.0 right.seat.me.0) (has : HasFile taken.seat.me.0 right.tenant) (whose : right.tenant ≡ actor.tenant) where
-  files_are : taken.seat.me.0.files ≡ right.seat.me.0.files
-  files_are = ap (λ (view : View). view.files) took ∙ ap (λ (files : List HeldFile). files ++ right.seat.me.0.files) free
+module _ {D : Type 0} (facts : D → Facts) (shared : Shared) (old taken : Pass) (actor : ActorState) (file_pass : FilePass) (free : IsFree old) (same : IsSamePass old taken) (own : IsOf shared taken)
+    (took : taken.seat.me.0 ≡ takes_files old.seat.me.0 file_pass.seat.me.0) (has : HasFile taken.seat.me.0 file_pass.tenant) (whose : file_pass.tenant ≡ actor.tenant) where
+  files_are : taken.seat.me.0.files ≡ file_pass.seat.me.0.files
+  files_are = ap (λ (view : View). view.files) took ∙ ap (λ (files : List HeldFile). files ++ file_pass.seat.me.0.files) free
 
   pub carried_taken : IsCarried old actor → IsCarried taken actor
   carried_taken carried = carried_so old taken actor same (ap (λ (view : View). view.tokens) took) (ap (λ (view : View). view.config) took) carried
@@ -72,17 +72,17 @@ module _ {D : Type 0} (facts : D → Facts) (shared : Shared) (old taken : Pass)
   pub has_taken : HasFile taken.seat.me.0 actor.tenant
   has_taken = subst (HasFile taken.seat.me.0) whose has
 
-  pub agrees_taken : (book : Book D) → AgreesThere facts shared book right → AgreesHeld facts book taken.seat.me.0 actor.tenant
+  pub agrees_taken : (book : Book D) → AgreesThere facts shared book file_pass → AgreesHeld facts book taken.seat.me.0 actor.tenant
   agrees_taken book agrees =
-      agrees_as facts book (file_kept right) (file_among taken.seat.me.0.files) (openings_of shared.table.shared.key) taken.seat.me.0.openings right.tenant actor.tenant (config_of shared.table.shared.key)
+      agrees_as facts book (file_kept file_pass) (file_among taken.seat.me.0.files) (openings_of shared.table.shared.key) taken.seat.me.0.openings file_pass.tenant actor.tenant (config_of shared.table.shared.key)
       taken.seat.me.0.config (sym (ap file_among files_are)) (sym own.openings) whose (sym own.config) agrees
 
   -- The call is made.
   module _ (last : Pass) (before after : Book D) (well : Bool) (same_last : IsSamePass taken last) (made : MakesCall facts taken.worker taken.seat.me.0 last.seat.me.0 actor before after well) where
-    known : file_among taken.seat.me.0.files ≡ file_kept right
+    known : file_among taken.seat.me.0.files ≡ file_kept file_pass
     known = ap file_among files_are
 
-    pub may_give_back : HasFile last.seat.me.0 right.tenant
+    pub may_give_back : HasFile last.seat.me.0 file_pass.tenant
     may_give_back = record {
       held = record made.held { file = file_token_by made.end (file_among taken.seat.me.0.files) actor made.called; found = None };
       only = made.went.keeps;
@@ -102,13 +102,13 @@ module _ {D : Type 0} (facts : D → Facts) (shared : Shared) (old taken : Pass)
           (carried_so last back (tells actor (Filed well) last.attempt) same_back (ap (λ (view : View). view.tokens) left) (ap (λ (view : View). view.config) left)
           (carried_on_call taken last actor made.called made.held well (file_token_by made.end (file_among taken.seat.me.0.files) actor made.called) same_last (carried_taken carried) made.comes_to made.went))
 
-      went_on : LearnsFileCall well made.held (file_token_by made.end (file_among taken.seat.me.0.files) actor made.called) (takes_files old.seat.me.0 right.seat.me.0) last.seat.me.0
+      went_on : LearnsFileCall well made.held (file_token_by made.end (file_among taken.seat.me.0.files) actor made.called) (takes_files old.seat.me.0 file_pass.seat.me.0) last.seat.me.0
       went_on = subst (λ (view : View). LearnsFileCall well made.held (file_token_by made.end (file_among taken.seat.me.0.files) actor made.called) view last.seat.me.0) took made.went
 
       filed_then : HasFiled well old.seat.me.0 back.seat.me.0
       filed_then =
           subst (HasFiled well old.seat.me.0) (sym left)
-          (has_filed old.seat.me.0 right.seat.me.0 last.seat.me.0 has.held made.held well (file_token_by made.end (file_among taken.seat.me.0.files) actor made.called) free (sym files_are ∙ has.only) went_on)
+          (has_filed old.seat.me.0 file_pass.seat.me.0 last.seat.me.0 has.held made.held well (file_token_by made.end (file_among taken.seat.me.0.files) actor made.called) free (sym files_are ∙ has.only) went_on)
 
       -- the number of the worker's next attempt
       attempt_of : (first : View) (token : WorkerToken) → Serves first old.seat.me.0 token actor → token.attempt ≡ number
@@ -124,10 +124,10 @@ module _ {D : Type 0} (facts : D → Facts) (shared : Shared) (old taken : Pass)
       serves_then first token serves =
           subst (λ (one : ActorState). Serves first back.seat.me.0 (after_call well token actor) one) (ap (tells actor (Filed well)) (attempt_of first token serves) ∙ sym told)
           (subst (λ (view : View). Serves first view (after_call well token actor) (tells actor (Filed well) token.attempt)) (sym left)
-          (serves_on old.seat.me.0 right.seat.me.0 last.seat.me.0 has.held made.held well (file_token_by made.end (file_among taken.seat.me.0.files) actor made.called) free (sym files_are ∙ has.only) went_on
+          (serves_on old.seat.me.0 file_pass.seat.me.0 last.seat.me.0 has.held made.held well (file_token_by made.end (file_among taken.seat.me.0.files) actor made.called) free (sym files_are ∙ has.only) went_on
           actor made.called made.comes_to first token serves))
 
-      kept_so : file_kept kept ≡ file_token_by made.end (file_kept right) actor made.called
+      kept_so : file_kept kept ≡ file_token_by made.end (file_kept file_pass) actor made.called
       kept_so = is ∙ ap file_among made.went.keeps ∙ ap (λ (file_token : FileToken). file_token_by made.end file_token actor made.called) known
 
       -- what the thread knows of the table is the same over it
@@ -137,9 +137,9 @@ module _ {D : Type 0} (facts : D → Facts) (shared : Shared) (old taken : Pass)
       same_config : last.seat.me.0.config ≡ old.seat.me.0.config
       same_config = made.went.files.goes_on.same_config ∙ ap (λ (view : View). view.config) took
 
-      agreed_then : AgreesThere facts shared before right → AgreesFor facts before old.seat.me.0 actor.tenant (file_kept right)
+      agreed_then : AgreesThere facts shared before file_pass → AgreesFor facts before old.seat.me.0 actor.tenant (file_kept file_pass)
       agreed_then agrees =
-          agrees_as facts before (file_kept right) (file_kept right) (openings_of shared.table.shared.key) old.seat.me.0.openings right.tenant actor.tenant (config_of shared.table.shared.key) old.seat.me.0.config refl
+          agrees_as facts before (file_kept file_pass) (file_kept file_pass) (openings_of shared.table.shared.key) old.seat.me.0.openings file_pass.tenant actor.tenant (config_of shared.table.shared.key) old.seat.me.0.config refl
           (sym own.openings ∙ ap (λ (view : View). view.openings) took) whose (sym own.config ∙ ap (λ (view : View). view.config) took) agrees
 
       agrees_then : AgreesHeld facts after last.seat.me.0 actor.tenant → AgreesFor facts after old.seat.me.0 actor.tenant (file_kept kept)
@@ -147,7 +147,7 @@ module _ {D : Type 0} (facts : D → Facts) (shared : Shared) (old taken : Pass)
           agrees_as facts after (file_among last.seat.me.0.files) (file_kept kept) last.seat.me.0.openings old.seat.me.0.openings actor.tenant actor.tenant last.seat.me.0.config old.seat.me.0.config (sym is) same_openings
           refl same_config agrees
 
-      event_since : IsOneEvent taken.worker made.end made.status (file_among taken.seat.me.0.files) (takes_files old.seat.me.0 right.seat.me.0) last.seat.me.0
+      event_since : IsOneEvent taken.worker made.end made.status (file_among taken.seat.me.0.files) (takes_files old.seat.me.0 file_pass.seat.me.0) last.seat.me.0
       event_since = subst (λ (view : View). IsOneEvent taken.worker made.end made.status (file_among taken.seat.me.0.files) view last.seat.me.0) took made.event
 
       -- with the file that was taken for it
@@ -161,7 +161,7 @@ module _ {D : Type 0} (facts : D → Facts) (shared : Shared) (old taken : Pass)
         went_on = event_since.went_on;
       }
 
-      event_then : IsOneEventWithFile old.worker made.end made.status (file_kept right) (file_kept kept) old.seat.me.0 back.seat.me.0
+      event_then : IsOneEventWithFile old.worker made.end made.status (file_kept file_pass) (file_kept kept) old.seat.me.0 back.seat.me.0
       event_then = record {
         last = last.seat.me.0;
         has = made.went.keeps ∙ ap (λ (file_token : FileToken). held_as file_token None ∷ []) (sym (is ∙ ap file_among made.went.keeps));
@@ -170,7 +170,7 @@ module _ {D : Type 0} (facts : D → Facts) (shared : Shared) (old taken : Pass)
             (subst (λ (worker : ℕ). IsOneEvent worker made.end made.status (file_among taken.seat.me.0.files) old.seat.me.0 last.seat.me.0) same.same_worker event_with_file);
       }
 
-      pub files_once : AgreesThere facts shared before right → AgreesHeld facts after last.seat.me.0 actor.tenant → FilesOnce facts old back actor next before after (file_kept right) (file_kept kept)
+      pub files_once : AgreesThere facts shared before file_pass → AgreesHeld facts after last.seat.me.0 actor.tenant → FilesOnce facts old back actor next before after (file_kept file_pass) (file_kept kept)
       files_once agreed agrees = record {
         called = made.called;
         comes_to = made.comes_to;
@@ -190,7 +190,7 @@ module _ {D : Type 0} (facts : D → Facts) (shared : Shared) (old taken : Pass)
             subst (λ (test : Bool). Serves first back.seat.me.0 (after_call test token actor) next) made.well_is (serves_then first token serves);
       }
 
-      pub agrees_back : IsOf shared last → kept.tenant ≡ right.tenant → AgreesHeld facts after last.seat.me.0 actor.tenant → AgreesThere facts shared after kept
+      pub agrees_back : IsOf shared last → kept.tenant ≡ file_pass.tenant → AgreesHeld facts after last.seat.me.0 actor.tenant → AgreesThere facts shared after kept
       agrees_back own_last its agrees =
           agrees_as facts after (file_among last.seat.me.0.files) (file_kept kept) last.seat.me.0.openings (openings_of shared.table.shared.key) actor.tenant kept.tenant last.seat.me.0.config
           (config_of shared.table.shared.key) (sym is) own_last.openings (sym (its ∙ whose)) own_last.config agrees

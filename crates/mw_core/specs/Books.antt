@@ -42,7 +42,7 @@ AgreesHeld facts book view tenant = AgreesFor facts book view tenant (file_among
 
 -- The book agrees with a file pass of this table.
 abbrev pub AgreesThere : {D : Type 0} → (D → Facts) → Shared → Book D → FilePass → Type 0
-AgreesThere facts shared book right = Agrees facts book (file_kept right) (opening_at (openings_of shared.table.shared.key) right.tenant).quota (config_of shared.table.shared.key).pool
+AgreesThere facts shared book file_pass = Agrees facts book (file_kept file_pass) (opening_at (openings_of shared.table.shared.key) file_pass.tenant).quota (config_of shared.table.shared.key).pool
 
 -- Of a call for the change of a slot, on a file of so many places.
 module _ (call : Call) (file_token : FileToken) (places slot : ℕ) (entries : List Entry) where

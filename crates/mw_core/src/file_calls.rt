@@ -7,7 +7,7 @@ ghost use Rattle.mw_actor.specs.ActorState as acting;
 ghost use Rattle.mw_world.specs.Definition.Calls.{called_at};
 ghost use Rattle.mw_table.specs.CarriedRequest.{IsCarried};
 ghost use Rattle.mw_table.specs.FromRule.{ExtendsKnownRun};
-ghost use Rattle.mw_table.specs.FileCalls.{IsFree, IsRightOf, file_kept};
+ghost use Rattle.mw_table.specs.FileCalls.{IsFree, IsFilePassOf, file_kept};
 ghost use Rattle.mw_table.specs.HeldFiles.{HasFile};
 ghost use Rattle.mw_table.specs.Meet.{IsSamePass};
 ghost use Rattle.mw_table.specs.Passes.{IsOf};
@@ -40,28 +40,28 @@ impl Core {
         pass: &mut Pass,
         actor: &mut Actor,
         book: &mut Book<D>,
-        right: FilePass,
+        file_pass: FilePass,
     ) -> FilePass
         requires own { IsOf self.now.shared pass.old }
         requires carried { IsCarried pass.old actor.old }
         requires call { called_at actor.old.point ≢ None }
         requires free { IsFree pass.old }
-        requires right { IsRightOf self.now.shared right }
-        requires whose { right.tenant ≡ actor.old.tenant }
-        requires agrees { AgreesThere D.facts self.now.shared book.old right }
+        requires file_pass { IsFilePassOf self.now.shared file_pass }
+        requires whose { file_pass.tenant ≡ actor.old.tenant }
+        requires agrees { AgreesThere D.facts self.now.shared book.old file_pass }
         ensures own { IsOf self.now.shared pass.new }
         ensures same { IsSamePass pass.old pass.new }
         ensures free { IsFree pass.new }
         ensures carried { IsCarried pass.new actor.new }
-        ensures files { FilesOnce D.facts pass.old pass.new actor.old actor.new book.old book.new (file_kept right) (file_kept result) }
-        ensures right { IsRightOf self.now.shared result }
-        ensures whose { result.tenant ≡ right.tenant }
-        ensures follows { ExtendsKnownRun right.seat.me.0.known_run result.seat.me.0.known_run }
+        ensures files { FilesOnce D.facts pass.old pass.new actor.old actor.new book.old book.new (file_kept file_pass) (file_kept result) }
+        ensures file_pass { IsFilePassOf self.now.shared result }
+        ensures whose { result.tenant ≡ file_pass.tenant }
+        ensures follows { ExtendsKnownRun file_pass.seat.me.0.known_run result.seat.me.0.known_run }
         ensures known { result.seat.me.0.known_run ≡ pass.new.seat.me.0.known_run }
         ensures agrees { AgreesThere D.facts self.now.shared book.new result }
     {
-        let tenant = right.tenant();
-        self.shared().take(pass, right);
+        let tenant = file_pass.tenant();
+        self.shared().take(pass, file_pass);
         let went_well = self.make_call(pass, actor, book);
         actor.tell(Told {
             got: Got::File(went_well),

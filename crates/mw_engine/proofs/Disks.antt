@@ -42,33 +42,33 @@ module _ {D : Type 0} (facts : D → Facts) (identity : Identity) where
       (by_number (GivenAs facts identity) old one all (subst (λ (n : ℕ). GivenAs facts identity n one) (sym many) so))
 
   -- if there is a file, it represents the words that it has in the world
-  stands_so : (tenant : ℕ) (right : FilePass) (so : IsSoOfWorld identity.config identity.openings right.seat.me.0.known_run tenant (file_kept right)) (file : TenantFile D)
-      → FileRecoversTo facts (Some file) (file_told (file_kept right)).contents (pairs_of (file_told (file_kept right)).doubt)
+  stands_so : (tenant : ℕ) (file_pass : FilePass) (so : IsSoOfWorld identity.config identity.openings file_pass.seat.me.0.known_run tenant (file_kept file_pass)) (file : TenantFile D)
+      → FileRecoversTo facts (Some file) (file_told (file_kept file_pass)).contents (pairs_of (file_told (file_kept file_pass)).doubt)
       → IsTrue (facts (disk_of file)).honest → RecoversTo facts file (so.state.tenant_states tenant).file.contents (pairs_of (so.state.tenant_states tenant).file.doubt)
-  stands_so tenant right so file stands honest =
+  stands_so tenant file_pass so file stands honest =
       subst (λ (words : List ℕ). RecoversTo facts file words (pairs_of (so.state.tenant_states tenant).file.doubt)) (sym so.tells.contents)
-      (subst (λ (change : List Entry). RecoversTo facts file (file_kept right).contents (pairs_of change)) (sym so.tells.doubt) (stands honest))
+      (subst (λ (change : List Entry). RecoversTo facts file (file_kept file_pass).contents (pairs_of change)) (sym so.tells.doubt) (stands honest))
 
   -- what the book that was kept for a tenant gives
-  pub given_as : (book : Book D) (right : FilePass) (tenant : ℕ) (result : Option D) → result ≡ disk_in book.held → IsKept facts identity book right → right.tenant ≡ tenant
-      → IsSoOfWorld identity.config identity.openings right.seat.me.0.known_run right.tenant (file_kept right) → GivenAs facts identity tenant result
-  given_as book right tenant result is kept its so = subst (GivenAs facts identity tenant) (sym is) (by book.held refl)
+  pub given_as : (book : Book D) (file_pass : FilePass) (tenant : ℕ) (result : Option D) → result ≡ disk_in book.held → IsKept facts identity book file_pass → file_pass.tenant ≡ tenant
+      → IsSoOfWorld identity.config identity.openings file_pass.seat.me.0.known_run file_pass.tenant (file_kept file_pass) → GivenAs facts identity tenant result
+  given_as book file_pass tenant result is kept its so = subst (GivenAs facts identity tenant) (sym is) (by book.held refl)
     where
-      here : IsSoOfWorld identity.config identity.openings right.seat.me.0.known_run tenant (file_kept right)
-      here = subst (λ (n : ℕ). IsSoOfWorld identity.config identity.openings right.seat.me.0.known_run n (file_kept right)) its so
+      here : IsSoOfWorld identity.config identity.openings file_pass.seat.me.0.known_run tenant (file_kept file_pass)
+      here = subst (λ (n : ℕ). IsSoOfWorld identity.config identity.openings file_pass.seat.me.0.known_run n (file_kept file_pass)) its so
 
       by : (held : Option (TenantFile D)) → book.held ≡ held → GivenAs facts identity tenant (disk_in held)
       by None none = sym (ap (λ (one : Option (TenantFile D)). is_some one) (sym none) ∙ (kept.opened ∙ ap (λ (n : ℕ). (opening_at identity.openings n).is_up) its))
       by (Some file) there = record {
         book = book;
-        right = right;
+        file_pass = file_pass;
         file = file;
         kept = kept;
         its = its;
         held = there;
         on = refl;
         so = here;
-        stands = stands_so tenant right here file
-            (subst (λ (one : Option (TenantFile D)). FileRecoversTo facts one (file_told (file_kept right)).contents (pairs_of (file_told (file_kept right)).doubt)) there
-            (agrees_of facts book (file_kept right) (opening_at identity.openings right.tenant).quota identity.config.pool kept.agrees).shows.stands);
+        stands = stands_so tenant file_pass here file
+            (subst (λ (one : Option (TenantFile D)). FileRecoversTo facts one (file_told (file_kept file_pass)).contents (pairs_of (file_told (file_kept file_pass)).doubt)) there
+            (agrees_of facts book (file_kept file_pass) (opening_at identity.openings file_pass.tenant).quota identity.config.pool kept.agrees).shows.stands);
       }

@@ -9,7 +9,7 @@ use Rattle.mw_book.specs.declared.book.Book.{Book}
 use Rattle.mw_book.specs.Crashes.{LeavesEither}
 use Rattle.mw_book.specs.OpenFile.{OnDisk, disk_in}
 use Rattle.mw_actor.specs.ActorState.{ActorState}
-use Rattle.mw_core.specs.FromTable.{FilePass, FileToken, IsRightOf, IsSoOfWorld, Pass, Shared, config_of, file_kept, opening_at, openings_of}
+use Rattle.mw_core.specs.FromTable.{FilePass, FileToken, IsFilePassOf, IsSoOfWorld, Pass, Shared, config_of, file_kept, opening_at, openings_of}
 use Rattle.mw_core.specs.FileCalls.{FilesOnce, stake_by}
 use Rattle.mw_core.specs.Books.{AgreesThere}
 use Rattle.mw_engine.specs.Brand.{Identity, identity_on}
@@ -18,59 +18,59 @@ use Rattle.mw_engine.proofs.AgreementForms.{agrees_of, agrees_once}
 
 module _ {D : Type 0} (facts : D → Facts) (shared : Shared) (identity : Identity) (same : identity_on shared identity.lines ≡ identity) where
   -- it is a file pass of the table, and the book agrees with it
-  pub right_of : (book : Book D) (right : FilePass) → IsKept facts identity book right → IsRightOf shared right
-  right_of book right kept = record {
+  pub file_pass_of : (book : Book D) (file_pass : FilePass) → IsKept facts identity book file_pass → IsFilePassOf shared file_pass
+  file_pass_of book file_pass kept = record {
     table = kept.own ∙ sym (ap (λ (one : Identity). one.table) same);
     config = kept.config ∙ sym (ap (λ (one : Identity). one.config) same);
     openings = kept.openings ∙ sym (ap (λ (one : Identity). one.openings) same);
   }
 
-  pub there_of : (book : Book D) (right : FilePass) → IsKept facts identity book right → AgreesThere facts shared book right
-  there_of book right kept =
-      agrees_of facts book (file_kept right) (opening_at (openings_of shared.table.shared.key) right.tenant).quota (config_of shared.table.shared.key).pool
-      (subst (λ (one : Identity). AgreesOnce facts book (file_kept right) (opening_at one.openings right.tenant).quota one.config.pool) (sym same) kept.agrees)
+  pub there_of : (book : Book D) (file_pass : FilePass) → IsKept facts identity book file_pass → AgreesThere facts shared book file_pass
+  there_of book file_pass kept =
+      agrees_of facts book (file_kept file_pass) (opening_at (openings_of shared.table.shared.key) file_pass.tenant).quota (config_of shared.table.shared.key).pool
+      (subst (λ (one : Identity). AgreesOnce facts book (file_kept file_pass) (opening_at one.openings file_pass.tenant).quota one.config.pool) (sym same) kept.agrees)
 
-  pub kept_of : (book : Book D) (right : FilePass) → IsRightOf shared right → is_some book.held ≡ (opening_at identity.openings right.tenant).is_up → AgreesThere facts shared book right
-      → IsKept facts identity book right
-  kept_of book right own opened agrees = record {
+  pub kept_of : (book : Book D) (file_pass : FilePass) → IsFilePassOf shared file_pass → is_some book.held ≡ (opening_at identity.openings file_pass.tenant).is_up → AgreesThere facts shared book file_pass
+      → IsKept facts identity book file_pass
+  kept_of book file_pass own opened agrees = record {
     own = own.table ∙ ap (λ (one : Identity). one.table) same;
     config = own.config ∙ ap (λ (one : Identity). one.config) same;
     openings = own.openings ∙ ap (λ (one : Identity). one.openings) same;
     opened = opened;
-    agrees = subst (λ (one : Identity). AgreesOnce facts book (file_kept right) (opening_at one.openings right.tenant).quota one.config.pool) same
-        (agrees_once facts book (file_kept right) (opening_at (openings_of shared.table.shared.key) right.tenant).quota (config_of shared.table.shared.key).pool agrees);
+    agrees = subst (λ (one : Identity). AgreesOnce facts book (file_kept file_pass) (opening_at one.openings file_pass.tenant).quota one.config.pool) same
+        (agrees_once facts book (file_kept file_pass) (opening_at (openings_of shared.table.shared.key) file_pass.tenant).quota (config_of shared.table.shared.key).pool agrees);
   }
 
 -- What a file pass tells is so in the engine's world.
-pub so_there : (shared : Shared) (identity : Identity) (right : FilePass) → identity_on shared identity.lines ≡ identity
-    → IsSoOfWorld (config_of shared.table.shared.key) (openings_of shared.table.shared.key) right.seat.me.0.known_run right.tenant (file_kept right)
-    → IsSoOfWorld identity.config identity.openings right.seat.me.0.known_run right.tenant (file_kept right)
-so_there shared identity right same so = subst (λ (one : Identity). IsSoOfWorld one.config one.openings right.seat.me.0.known_run right.tenant (file_kept right)) same so
+pub so_there : (shared : Shared) (identity : Identity) (file_pass : FilePass) → identity_on shared identity.lines ≡ identity
+    → IsSoOfWorld (config_of shared.table.shared.key) (openings_of shared.table.shared.key) file_pass.seat.me.0.known_run file_pass.tenant (file_kept file_pass)
+    → IsSoOfWorld identity.config identity.openings file_pass.seat.me.0.known_run file_pass.tenant (file_kept file_pass)
+so_there shared identity file_pass same so = subst (λ (one : Identity). IsSoOfWorld one.config one.openings file_pass.seat.me.0.known_run file_pass.tenant (file_kept file_pass)) same so
 
 module _ {D : Type 0} (facts : D → Facts) (identity : Identity) where
   -- a lock that has this file pass keeps it
-  pub keeps_some : (book : Book D) (right : FilePass) (tenant : ℕ) → IsKept facts identity book right → right.tenant ≡ tenant → KeepsFor facts identity book (Some right) tenant
-  keeps_some book right tenant kept its = record {
+  pub keeps_some : (book : Book D) (file_pass : FilePass) (tenant : ℕ) → IsKept facts identity book file_pass → file_pass.tenant ≡ tenant → KeepsFor facts identity book (Some file_pass) tenant
+  keeps_some book file_pass tenant kept its = record {
     there = refl;
-    kept = λ one is. let same : right ≡ one = cc in subst (λ (r : FilePass). IsKept facts identity book r) same kept;
-    its = λ one is. let same : right ≡ one = cc in sym (ap (λ (r : FilePass). r.tenant) same) ∙ its;
+    kept = λ one is. let same : file_pass ≡ one = cc in subst (λ (r : FilePass). IsKept facts identity book r) same kept;
+    its = λ one is. let same : file_pass ≡ one = cc in sym (ap (λ (r : FilePass). r.tenant) same) ∙ its;
   }
 
   -- books and file passes agree pair by pair, whatever number the first pair has
   abbrev pub ArePaired : List (Book D) → List FilePass → Type 0
-  ArePaired books file_passes = (index : ℕ) (book : Book D) (right : FilePass) → slice_get books index ≡ Some book → slice_get file_passes index ≡ Some right → IsKept facts identity book right
+  ArePaired books file_passes = (index : ℕ) (book : Book D) (file_pass : FilePass) → slice_get books index ≡ Some book → slice_get file_passes index ≡ Some file_pass → IsKept facts identity book file_pass
 
   pub paired : (books : List (Book D)) (file_passes : List FilePass) → AreKept facts identity books file_passes → ArePaired books file_passes
-  paired books file_passes kept = λ index book right is its. (kept index book right is its).1
+  paired books file_passes kept = λ index book file_pass is its. (kept index book file_pass is its).1
 
   -- the first book and file pass that are left are kept, and so are the rest
-  pub first_kept : (book : Book D) (right : FilePass) (books left : List (Book D)) (file_passes others : List FilePass) → books ≡ book ∷ left → file_passes ≡ right ∷ others → ArePaired books file_passes
-      → IsKept facts identity book right
-  first_kept book right books left file_passes others at also kept = kept 0 book right (ap (λ all. slice_get all 0) at) (ap (λ all. slice_get all 0) also)
+  pub first_kept : (book : Book D) (file_pass : FilePass) (books left : List (Book D)) (file_passes others : List FilePass) → books ≡ book ∷ left → file_passes ≡ file_pass ∷ others → ArePaired books file_passes
+      → IsKept facts identity book file_pass
+  first_kept book file_pass books left file_passes others at also kept = kept 0 book file_pass (ap (λ all. slice_get all 0) at) (ap (λ all. slice_get all 0) also)
 
-  pub rest_kept : (book : Book D) (right : FilePass) (books left : List (Book D)) (file_passes others : List FilePass) → books ≡ book ∷ left → file_passes ≡ right ∷ others → ArePaired books file_passes
+  pub rest_kept : (book : Book D) (file_pass : FilePass) (books left : List (Book D)) (file_passes others : List FilePass) → books ≡ book ∷ left → file_passes ≡ file_pass ∷ others → ArePaired books file_passes
       → ArePaired left others
-  rest_kept book right books left file_passes others at also kept =
+  rest_kept book file_pass books left file_passes others at also kept =
       λ tenant one other is its. kept (suc tenant) one other (ap (λ all. slice_get all (suc tenant)) at ∙ is) (ap (λ all. slice_get all (suc tenant)) also ∙ its)
 
 -- if there was a disk, there still is one
@@ -86,16 +86,16 @@ pub still_held : {D : Type 0} (facts : D → Facts) (old new : Pass) (actor next
 still_held facts old new actor next before after file_passes kept once = still_on facts (LeavesEither file_passes.contents (stake_by once.end once.called file_passes)) before.held after.held once.safe
 
 -- The book and the file pass that come back from a call are kept as those of before the call were.
-pub kept_over : {D : Type 0} (facts : D → Facts) (shared : Shared) (identity : Identity) (same : identity_on shared identity.lines ≡ identity) (old new : Pass) (actor next : ActorState) (before after : Book D) (right returned : FilePass)
-    → IsKept facts identity before right → FilesOnce facts old new actor next before after (file_kept right) (file_kept returned) → IsRightOf shared returned → returned.tenant ≡ right.tenant
+pub kept_over : {D : Type 0} (facts : D → Facts) (shared : Shared) (identity : Identity) (same : identity_on shared identity.lines ≡ identity) (old new : Pass) (actor next : ActorState) (before after : Book D) (file_pass returned : FilePass)
+    → IsKept facts identity before file_pass → FilesOnce facts old new actor next before after (file_kept file_pass) (file_kept returned) → IsFilePassOf shared returned → returned.tenant ≡ file_pass.tenant
     → AgreesThere facts shared after returned → IsKept facts identity after returned
-kept_over facts shared identity same old new actor next before after right returned kept once own whose agrees =
+kept_over facts shared identity same old new actor next before after file_pass returned kept once own whose agrees =
     kept_of facts shared identity same after returned own
-    (still_held facts old new actor next before after (file_kept right) (file_kept returned) once ∙ (kept.opened ∙ ap (λ (tenant : ℕ). (opening_at identity.openings tenant).is_up) (sym whose))) agrees
+    (still_held facts old new actor next before after (file_kept file_pass) (file_kept returned) once ∙ (kept.opened ∙ ap (λ (tenant : ℕ). (opening_at identity.openings tenant).is_up) (sym whose))) agrees
 
-none_there : (right : Option FilePass) → is_some right ≡ true → right ≡ None → ⊥
+none_there : (file_pass : Option FilePass) → is_some file_pass ≡ true → file_pass ≡ None → ⊥
 none_there None there is = cc
-none_there (Some right) there is = cc
+none_there (Some file_pass) there is = cc
 
-pub no_right : (right : Option FilePass) → is_some right ≡ true → right ≡ None → ⊥
-no_right right there is = none_there right there is
+pub no_file_pass : (file_pass : Option FilePass) → is_some file_pass ≡ true → file_pass ≡ None → ⊥
+no_file_pass file_pass there is = none_there file_pass there is

@@ -88,17 +88,17 @@ module _ {D : Type 0} (facts : D → Facts) (shared : Shared) (config : Config) 
   a_book_each = (made_counts facts lines files openings books made).1 ∙ sym as_many
 
   module _ (file_passes : List FilePass) (opened : AreOpened shared (basis_of_start config openings) file_passes) where
-    pub a_right_each : length file_passes ≡ length kept
-    a_right_each = opened.count ∙ (tenants_are ∙ sym as_many)
+    pub a_file_pass_each : length file_passes ≡ length kept
+    a_file_pass_each = opened.count ∙ (tenants_are ∙ sym as_many)
 
     -- each file pass is its tenant's, and the book agrees with it
     pub books_agree : AreKept facts (identity_on shared (map line_of kept)) books file_passes
-    books_agree = λ tenant book right at_book at_right.
-        let one = opened.each tenant right at_right in
+    books_agree = λ tenant book file_pass at_book at_file_pass.
+        let one = opened.each tenant file_pass at_file_pass in
         let os = openings_read lines files in
         let both : AgreesWith facts (opening_at os tenant) book tenant config.pool = agrees_at facts lines files openings books tenant tenant config.pool book made at_book in
         let first = both.0 in
-        let told : file_kept right ≡ file_token_opened tenant (opening_at os tenant).quota config.pool (opening_at os tenant).words (not (opening_at os tenant).is_up) =
+        let told : file_kept file_pass ≡ file_token_opened tenant (opening_at os tenant).quota config.pool (opening_at os tenant).words (not (opening_at os tenant).is_up) =
         ap (λ (view : View). file_among view.files) one.view
         ∙ ap (λ (given : List TenantStart). file_token_opened tenant (opening_at given tenant).quota config.pool (opening_at given tenant).words (not (opening_at given tenant).is_up)) given_is in (
           one.whose,
@@ -107,7 +107,7 @@ module _ {D : Type 0} (facts : D → Facts) (shared : Shared) (config : Config) 
             config = one.own.config;
             openings = one.own.openings;
             opened = both.1 ∙ (λ i. (opening_at (sym openings_are i) (sym one.whose i)).is_up);
-            agrees = agrees_once facts book (file_kept right) (opening_at (openings_of shared.table.shared.key) right.tenant).quota (config_of shared.table.shared.key).pool (subst (λ (file_passes : FileToken). Agrees facts book file_passes (opening_at (openings_of shared.table.shared.key) right.tenant).quota (config_of shared.table.shared.key).pool) (sym told)
+            agrees = agrees_once facts book (file_kept file_pass) (opening_at (openings_of shared.table.shared.key) file_pass.tenant).quota (config_of shared.table.shared.key).pool (subst (λ (file_passes : FileToken). Agrees facts book file_passes (opening_at (openings_of shared.table.shared.key) file_pass.tenant).quota (config_of shared.table.shared.key).pool) (sym told)
                 (subst (λ (n : ℕ). Agrees facts book (file_token_opened tenant (opening_at os tenant).quota config.pool (opening_at os tenant).words (not (opening_at os tenant).is_up))
                 (opening_at (openings_of shared.table.shared.key) n).quota (config_of shared.table.shared.key).pool) (sym one.whose)
                 (subst (λ (given : List TenantStart). Agrees facts book (file_token_opened tenant (opening_at os tenant).quota config.pool (opening_at os tenant).words (not (opening_at os tenant).is_up))

@@ -33,7 +33,7 @@ use Rattle.mw_actor.specs.ActorState.{ActorState, first_point}
 use Rattle.mw_actor.specs.Asks.{asks}
 use Rattle.mw_actor.specs.Program.{goes, replied, reply_at, tells}
 use Rattle.mw_disk.specs.Facts.{Facts}
-use Rattle.mw_core.specs.FromTable.{Answered, Each, IsCarried, IsFinished, NotesAs, Pass, WorkerToken, View, finished_as, settled, settled_as, stepped, told as told_by, actor_after, went_well}
+use Rattle.mw_core.specs.FromTable.{Answered, Each, IsCarried, IsFinished, AddsFinishedIf, Pass, WorkerToken, View, finished_as, settled, settled_as, stepped, told as told_by, actor_after, went_well}
 use Rattle.mw_core.proofs.FromTable.{calls_end, requests_go_on_from_calls}
 use Rattle.mw_core.specs.declared.calls.Advance.{Advance}
 use Rattle.mw_core.specs.declared.read_rounds.WhyAgain.{WhyAgain}
@@ -172,7 +172,7 @@ stepped_can old new actor next carried running once change reply is =
     let had : old.seat.me.0.tokens ≡ mine ∷ [] = carried.carries.only ∙ ap (λ (found : Option Reply). settled_as token actor found ∷ []) running in
     let only : new.seat.me.0.tokens ≡ settled after told ∷ [] = once.took.token ∙ ap (map (told_by got)) had in
     let same : told ≡ next = ap (tells actor (observation_of (place (asks actor)) got)) (attempt_now new after told only) ∙ sym once.told in
-    let noted = subst (λ (found : Option Reply). NotesAs after actor.tenant token.begun actor.job found old.seat.me.0.mine new.seat.me.0.mine) (ap replied same ∙ is) (once.took.ends mine actor had refl) in
+    let noted = subst (λ (found : Option Reply). AddsFinishedIf after actor.tenant token.begun actor.job found old.seat.me.0.mine new.seat.me.0.mine) (ap replied same ∙ is) (once.took.ends mine actor had refl) in
     let right = each_last (IsFinished new.seat.me.0) old.seat.me.0.mine (finished_as after actor.tenant actor.job reply noted.place)
     (subst (Each (IsFinished new.seat.me.0)) noted.noted once.took.right.mine) in
     let first : View = record old.seat.me.0 { seen = [] } in

@@ -18,13 +18,13 @@ module _ {D : Type 0} (facts : D → Facts) (identity : Identity) where
   -- represents the words that it has in that world, with the change in doubt there.
   pub record IsGiven (tenant : ℕ) (disk : D) : Type 0 where
     pub book : Book D
-    pub right : FilePass
+    pub file_pass : FilePass
     pub file : TenantFile D
-    pub kept : IsKept facts identity book right
-    pub its : right.tenant ≡ tenant
+    pub kept : IsKept facts identity book file_pass
+    pub its : file_pass.tenant ≡ tenant
     pub held : book.held ≡ Some file
     pub on : disk_of file ≡ disk
-    pub so : IsSoOfWorld identity.config identity.openings right.seat.me.0.known_run tenant (file_kept right)
+    pub so : IsSoOfWorld identity.config identity.openings file_pass.seat.me.0.known_run tenant (file_kept file_pass)
     pub stands : IsTrue (facts disk).honest → RecoversTo facts file (so.state.tenant_states tenant).file.contents (pairs_of (so.state.tenant_states tenant).file.doubt)
 
   -- What is given for a tenant: its disk, or none. None is given only if the tenant's file didn't open at the start.

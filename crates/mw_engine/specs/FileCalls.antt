@@ -16,12 +16,12 @@ use Rattle.mw_engine.specs.GuardedFile.{IsKept}
 pub record FilesOne {D : Type 0} (facts : D → Facts) (identity : Identity) (old new : Pass) (actor next : ActorState) : Type 0 where
   pub before : Book D
   pub after : Book D
-  pub right : FilePass
+  pub file_pass : FilePass
   pub returned : FilePass
-  pub kept_before : IsKept facts identity before right
+  pub kept_before : IsKept facts identity before file_pass
   pub kept_after : IsKept facts identity after returned
-  pub its : right.tenant ≡ actor.tenant
+  pub its : file_pass.tenant ≡ actor.tenant
   pub its_still : returned.tenant ≡ actor.tenant
-  pub follows : ExtendsKnownRun right.seat.me.0.known_run returned.seat.me.0.known_run
+  pub follows : ExtendsKnownRun file_pass.seat.me.0.known_run returned.seat.me.0.known_run
   pub known : returned.seat.me.0.known_run ≡ new.seat.me.0.known_run
-  pub once : FilesOnce facts old new actor next before after (file_kept right) (file_kept returned)
+  pub once : FilesOnce facts old new actor next before after (file_kept file_pass) (file_kept returned)

@@ -56,19 +56,19 @@ module _ {D : Type 0} (facts : D → Facts) where
     -- The file pass is of the engine's table, and knows the world's configuration and what the latest start gave. The
     -- book agrees with it on one file, which has as many places as its tenant may use slots. The book holds a file if
     -- the tenant's file opened.
-    pub record IsKept (book : Book D) (right : FilePass) : Type 0 where
-      pub own : right.seat.table_id ≡ identity.table
-      pub config : right.seat.me.0.config ≡ identity.config
-      pub openings : right.seat.me.0.openings ≡ identity.openings
-      pub opened : is_some book.held ≡ (opening_at identity.openings right.tenant).is_up
-      pub agrees : AgreesOnce book (file_kept right) (opening_at identity.openings right.tenant).quota identity.config.pool
+    pub record IsKept (book : Book D) (file_pass : FilePass) : Type 0 where
+      pub own : file_pass.seat.table_id ≡ identity.table
+      pub config : file_pass.seat.me.0.config ≡ identity.config
+      pub openings : file_pass.seat.me.0.openings ≡ identity.openings
+      pub opened : is_some book.held ≡ (opening_at identity.openings file_pass.tenant).is_up
+      pub agrees : AgreesOnce book (file_kept file_pass) (opening_at identity.openings file_pass.tenant).quota identity.config.pool
 
     -- each book is kept with the file pass of the same number, and that is the file pass of the tenant of that number
     abbrev pub AreKept : List (Book D) → List FilePass → Type 0
-    AreKept books file_passes = (tenant : ℕ) (book : Book D) (right : FilePass) → slice_get books tenant ≡ Some book → slice_get file_passes tenant ≡ Some right → (right.tenant ≡ tenant) × IsKept book right
+    AreKept books file_passes = (tenant : ℕ) (book : Book D) (file_pass : FilePass) → slice_get books tenant ≡ Some book → slice_get file_passes tenant ≡ Some file_pass → (file_pass.tenant ≡ tenant) × IsKept book file_pass
 
     -- A lock keeps this tenant's file pass with its book.
-    pub record KeepsFor (book : Book D) (right : Option FilePass) (tenant : ℕ) : Type 0 where
-      pub there : is_some right ≡ true
-      pub kept : (one : FilePass) → right ≡ Some one → IsKept book one
-      pub its : (one : FilePass) → right ≡ Some one → one.tenant ≡ tenant
+    pub record KeepsFor (book : Book D) (file_pass : Option FilePass) (tenant : ℕ) : Type 0 where
+      pub there : is_some file_pass ≡ true
+      pub kept : (one : FilePass) → file_pass ≡ Some one → IsKept book one
+      pub its : (one : FilePass) → file_pass ≡ Some one → one.tenant ≡ tenant

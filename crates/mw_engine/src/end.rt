@@ -65,12 +65,14 @@ impl<J: EngineBrand, D: Disk> GuardedFile<J, D> {
     {
         let GuardedFile {
             book,
-            right,
+            file_pass,
             tenant: _,
             brand: _,
         } = self;
-        let Some(right) = right else { unreachable!() };
-        core.shared().confirm(right);
+        let Some(file_pass) = file_pass else {
+            unreachable!()
+        };
+        core.shared().confirm(file_pass);
         book.into_disk()
     }
 }

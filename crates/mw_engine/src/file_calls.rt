@@ -35,10 +35,10 @@ impl<J: EngineBrand, D: Disk> GuardedFile<J, D> {
         ensures carried { IsCarried pass.new actor.new }
         ensures files { FilesOne D.facts J.identity pass.old pass.new actor.old actor.new }
     {
-        match self.right.take() {
-            Some(right) => {
-                let right = core.file(pass, actor, &mut self.book, right);
-                self.right = Some(right);
+        match self.file_pass.take() {
+            Some(file_pass) => {
+                let file_pass = core.file(pass, actor, &mut self.book, file_pass);
+                self.file_pass = Some(file_pass);
             }
             None => unreachable!(),
         }

@@ -15,8 +15,8 @@ use std::marker::PhantomData;
 #[derive(Drop)]
 pub(crate) struct GuardedFile<J: EngineBrand, D: Disk> {
     pub(crate) book: Book<D>,
-    pub(crate) right: Option<FilePass>,
+    pub(crate) file_pass: Option<FilePass>,
     pub(crate) tenant: u8,
     pub(crate) brand: PhantomData<J>,
-    ghost kept: { KeepsFor D.facts J.identity book right tenant },
+    ghost kept: { KeepsFor D.facts J.identity book file_pass tenant },
 }

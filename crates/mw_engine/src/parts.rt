@@ -21,5 +21,5 @@ pub struct EngineParts<D: Disk, H> {
     pub(crate) file_passes: Vec<FilePass>,
     ghost kept: { AreKept D.facts (identity_on words.core.shared (lines_told words)) books.items file_passes.items },
     ghost a_book_each: { length books.items ≡ length words.lines.items },
-    ghost a_right_each: { length file_passes.items ≡ length words.lines.items },
+    ghost a_file_pass_each: { length file_passes.items ≡ length words.lines.items },
 }

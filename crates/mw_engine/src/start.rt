@@ -53,13 +53,13 @@ fn locked<J: EngineBrand, D: Disk + Drop>(
     let mut made = Vec::with_capacity(alloc, books.len())?;
     let mut file_passes = file_passes.into_iter();
     for book in books {
-        let Some(right) = file_passes.next() else {
+        let Some(file_pass) = file_passes.next() else {
             unreachable!()
         };
-        let tenant = right.tenant();
+        let tenant = file_pass.tenant();
         let kept = GuardedFile {
             book,
-            right: Some(right),
+            file_pass: Some(file_pass),
             tenant,
             brand: PhantomData,
         };

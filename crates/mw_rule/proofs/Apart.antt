@@ -11,7 +11,7 @@ use Rattle.mw_law_calls.specs.FromLaws.{IsRightAt, SealedChange}
 use Rattle.mw_rule.specs.declared.views.Finished.{Finished}
 use Rattle.mw_rule.specs.declared.views.View.{View}
 use Rattle.mw_rule.specs.Laws.{ChangesAreOwn}
-use Rattle.mw_rule.specs.Rule.{Each, IsFinished, is_of, times_noted, weight, words_given}
+use Rattle.mw_rule.specs.Rule.{Each, IsFinished, is_of, times_finished, weight, words_given}
 use Rattle.mw_rule.specs.Prefixes.{seen_at}
 use Rattle.mw_rule.proofs.Totals.{weight_own}
 
@@ -28,14 +28,14 @@ weight_is one tenant request its same = both (one.tenant == tenant) (one.request
     both true b first second = second
     both false b first second = absurd (omega (arith, first))
 
-some_noted : (tenant request index : ℕ) (mine : List Finished) (one : Finished) → slice_get mine index ≡ Some one → one.tenant ≡ tenant → one.request ≡ request → 1 ≤ times_noted tenant request mine
+some_noted : (tenant request index : ℕ) (mine : List Finished) (one : Finished) → slice_get mine index ≡ Some one → one.tenant ≡ tenant → one.request ≡ request → 1 ≤ times_finished tenant request mine
 some_noted tenant request index [] one at its same = absurd (none-some one at)
 some_noted tenant request zero (first ∷ rest) one at its same =
     let is = same_Some first one at in
     let here = weight_is first tenant request (ap (λ (f : Finished). f.tenant) is ∙ its) (ap (λ (f : Finished). f.request) is ∙ same) in omega (arith, here)
 some_noted tenant request (suc index) (first ∷ rest) one at its same = let more = some_noted tenant request index rest one at its same in omega (arith, more)
 
-one_index : (tenant request index another : ℕ) (mine : List Finished) (one other : Finished) → times_noted tenant request mine ≤ 1 → slice_get mine index ≡ Some one → slice_get mine another ≡ Some other
+one_index : (tenant request index another : ℕ) (mine : List Finished) (one other : Finished) → times_finished tenant request mine ≤ 1 → slice_get mine index ≡ Some one → slice_get mine another ≡ Some other
     → one.tenant ≡ tenant → one.request ≡ request → other.tenant ≡ tenant → other.request ≡ request → index ≡ another
 one_index tenant request index another [] one other few at there its same theirs too = absurd (none-some one at)
 one_index tenant request zero zero (first ∷ rest) one other few at there its same theirs too = refl

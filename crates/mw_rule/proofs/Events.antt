@@ -24,7 +24,7 @@ use Rattle.mw_rule.specs.declared.views.View.{View}
 use Rattle.mw_rule.specs.Steps.{IsNextStep, MayCome, LearnsStep}
 use Rattle.mw_rule.specs.Layout.{index_of}
 use Rattle.mw_rule.specs.WordActions.{Comes, FirstStepsAreEvents, IsFirstStep, IsOneStep, Looks, PlainLoadsAreNoEvents, Steps, StepsAreEvents}
-use Rattle.mw_rule.specs.Rule.{Tied}
+use Rattle.mw_rule.specs.Rule.{TableInvariant}
 use Rattle.mw_rule.specs.Ways.{finds}
 use Rattle.mw_rule.proofs.WordActionLaws.{moves_change_words}
 use Rattle.mw_rule.proofs.StepRule.{same_one}
@@ -67,7 +67,7 @@ door_there config tenant low = grind (arith, nat_tests, low)
 
 module _ (config : Config) (begun : (ℕ → TenantStart) → List WorldEvent → Type 0) where
   -- the thread knows what the world is made of
-  known : (s : Table ActorState View) (tied : Tied config begun s) (id : ℕ) (view : View) (one : WorkerToken) → view.tokens ≡ one ∷ [] → get_elem? s.views id ≡ some view → view.config ≡ config
+  known : (s : Table ActorState View) (tied : TableInvariant config begun s) (id : ℕ) (view : View) (one : WorkerToken) → view.tokens ≡ one ∷ [] → get_elem? s.views id ≡ some view → view.config ≡ config
   known s tied id view one only at =
       (live_fits config tied.past.openings tied.state tied.events view (inr (one, [], only)) (tied.fits id view at)).same_config
 

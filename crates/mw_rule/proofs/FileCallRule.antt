@@ -26,7 +26,7 @@ use Rattle.mw_rule.specs.declared.views.WorkerToken.{WorkerToken}
 use Rattle.mw_rule.specs.declared.views.View.{View}
 use Rattle.mw_rule.specs.FileCalls.{went, went_as}
 use Rattle.mw_rule.specs.Layout.{index_of}
-use Rattle.mw_rule.specs.Rule.{Each, HoldsFile, Tied, Ties, holds_of, times_held}
+use Rattle.mw_rule.specs.Rule.{Each, HoldsFile, TableInvariant, BitsMatch, holds_of, times_held}
 use Rattle.mw_rule.specs.Ways.{made_of_bits}
 use Rattle.mw_rule.proofs.FileCallEvents.{calls}
 use Rattle.mw_rule.proofs.Preservation.{ties_on}
@@ -43,7 +43,7 @@ went_worker went_well token = by token.actor
     by (Some actor) = refl
 
 -- A call with this event, made by a step on one word; `files` is what the thread holds after it.
-module _ (config : Config) (begun : (ℕ → TenantStart) → List WorldEvent → Type 0) (s : Table ActorState View) (tied : Tied config begun s) (id : ℕ) (old : View) (at : get_elem? s.views id ≡ some old)
+module _ (config : Config) (begun : (ℕ → TenantStart) → List WorldEvent → Type 0) (s : Table ActorState View) (tied : TableInvariant config begun s) (id : ℕ) (old : View) (at : get_elem? s.views id ≡ some old)
     (token : WorkerToken) (only : old.tokens ≡ token ∷ []) (actor : ActorState) (carries : token.actor ≡ Some actor) (called : CallOn) (comes_to : called_at actor.point ≡ Some called)
     (outcome : Outcome) (by : Step) (found : Observation) (made : Made) (went_well : Bool) (is_told : made.observation ≡ Filed went_well) (ends : CallEnds config tied.state token.worker actor outcome by found made)
     (own : 1 ≤ holds_of actor.tenant old) where
@@ -69,8 +69,8 @@ module _ (config : Config) (begun : (ℕ → TenantStart) → List WorldEvent �
       let made_so : pack (place by) (read made.cells (place by)) ≡ make bits =
       ap (λ (cells : Cells). pack (place by) (read cells (place by))) (sym ends.words.leaves) ∙ step_packs config by state.cells ends.words.there ends.words.right
       ∙ sym (makes bits ∙ ap (made_of_bits (op_of by)) seen) in
-      let ties : Ties config made.cells (slice_set s.words index (make bits)) =
-      subst (λ n. Ties config made.cells (slice_set s.words n (make bits))) (sym is)
+      let ties : BitsMatch config made.cells (slice_set s.words index (make bits)) =
+      subst (λ n. BitsMatch config made.cells (slice_set s.words n (make bits))) (sym is)
       (ties_on config state.cells made.cells s.words (place by) (make bits) tied.past.played.made there tied.long tied.ties made_so
       (λ other apart. ap (λ (cells : Cells). read cells other) (sym ends.words.leaves) ∙ step_other by state.cells other apart)) in
       let reached = calls config openings before state tied.past.played tied.events token actor carries called comes_to (its_holds config begun s tied id old at token only) outcome made went_well is_told

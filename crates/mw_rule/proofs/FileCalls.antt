@@ -40,7 +40,7 @@ use Rattle.mw_rule.specs.RunEvents.{FileCallsEndOn, FileCallsFindFaultsOn, FileC
 use Rattle.mw_rule.specs.FileCalls.{Calls, LoadedAs, LearnsFileCall, broken_so, fails, filed_so, place_held, places_held, went}
 use Rattle.mw_rule.specs.Laws.{FileCallsEndWell, FileCallsFindFaults, FileCallsLoad, FileCallsMeetFaults}
 use Rattle.mw_rule.specs.Layout.{index_of}
-use Rattle.mw_rule.specs.Rule.{Each, HoldsFile, Tied, WentOnFor}
+use Rattle.mw_rule.specs.Rule.{Each, HoldsFile, TableInvariant, WentOnFor}
 use Rattle.mw_rule.specs.Ways.{made_of_bits}
 use Rattle.mw_rule.proofs.FileCallRule.{call_moves}
 use Rattle.mw_rule.proofs.Known.{at_call, held_after, held_file, own_file, same_quota, same_right, starts_so, status_is, tells, tells_call, words}
@@ -48,7 +48,7 @@ use Rattle.mw_rule.proofs.SplitLaws.{looks_as}
 use Rattle.mw_rule.proofs.ViewAfterStep.{Moved}
 
 -- what the thread learns from a call
-went_of : (config : Config) (begun : (ℕ → TenantStart) → List WorldEvent → Type 0) (s : Table ActorState View) (tied : Tied config begun s) (more : List WorldEvent) (id index bits : ℕ) (old : View) (went_well : Bool)
+went_of : (config : Config) (begun : (ℕ → TenantStart) → List WorldEvent → Type 0) (s : Table ActorState View) (tied : TableInvariant config begun s) (more : List WorldEvent) (id index bits : ℕ) (old : View) (went_well : Bool)
     (held : HeldFile) (after : FileToken)
     → (moved : Moved config begun s tied more id index bits old (went went_well) (record held { file = after; found = None } ∷ []) (λ noted. noted ≡ [])) → LearnsFileCall went_well held after old moved.view
 went_of config begun s tied more id index bits old went_well held after moved = record {
@@ -63,13 +63,13 @@ went_of config begun s tied more id index bits old went_well held after moved = 
 }
 
 -- What a load of a status leaves, and what the thread learns from it.
-record LoadsSo (config : Config) (begun : (ℕ → TenantStart) → List WorldEvent → Type 0) (s : Table ActorState View) (tied : Tied config begun s) (more : List WorldEvent) (id index bits : ℕ) (Tells : View → Type 0) : Type 0 where
+record LoadsSo (config : Config) (begun : (ℕ → TenantStart) → List WorldEvent → Type 0) (s : Table ActorState View) (tied : TableInvariant config begun s) (more : List WorldEvent) (id index bits : ℕ) (Tells : View → Type 0) : Type 0 where
   pub view : View
   pub run : WentOnFor config begun s tied more (record { words = slice_set s.words index bits; homes = s.homes; views = slice_set s.views id view }) view
   pub told : Tells view
 
 -- The thread's token gives the worker.
-run_of : (config : Config) (begun : (ℕ → TenantStart) → List WorldEvent → Type 0) (s next : Table ActorState View) (tied : Tied config begun s) (one worker : ℕ) (outcome : Outcome) (view : View) → one ≡ worker
+run_of : (config : Config) (begun : (ℕ → TenantStart) → List WorldEvent → Type 0) (s next : Table ActorState View) (tied : TableInvariant config begun s) (one worker : ℕ) (outcome : Outcome) (view : View) → one ≡ worker
     → WentOnFor config begun s tied (FileEvent one outcome ∷ []) next view → WentOnFor config begun s tied (FileEvent worker outcome ∷ []) next view
 run_of config begun s next tied one worker outcome view same run = subst (λ (its : ℕ). WentOnFor config begun s tied (FileEvent its outcome ∷ []) next view) same run
 
@@ -80,7 +80,7 @@ file_token_tenant SealCall file_token slot place entries = refl
 file_token_tenant SettleCall file_token slot place entries = refl
 file_token_tenant CancelCall file_token slot place entries = refl
 
-module _ (config : Config) (begun : (ℕ → TenantStart) → List WorldEvent → Type 0) (s : Table ActorState View) (tied : Tied config begun s) (id : ℕ) (old : View) (at : get_elem? s.views id ≡ some old)
+module _ (config : Config) (begun : (ℕ → TenantStart) → List WorldEvent → Type 0) (s : Table ActorState View) (tied : TableInvariant config begun s) (id : ℕ) (old : View) (at : get_elem? s.views id ≡ some old)
     (worker : ℕ) (actor : ActorState) (called : CallOn) (held : HeldFile) (by : Calls old worker actor called held) where
   abbrev quota : ℕ
   quota = (tied.state.tenant_states actor.tenant).quota

@@ -10,7 +10,7 @@ use Rattle.mw_rule.specs.declared.views.WorkerToken.{WorkerToken}
 use Rattle.mw_rule.specs.declared.views.View.{View}
 use Rattle.mw_rule.specs.Splits.{dealt, head_of, of_head, of_others, of_rest, of_worker, rest_of}
 use Rattle.mw_rule.specs.Laws.{MergedPartsAgain, NotesLoseNothing}
-use Rattle.mw_rule.specs.Rule.{Each, IsOfThese, IsRight, is_of, times_noted, weight}
+use Rattle.mw_rule.specs.Rule.{Each, IsOfThese, IsRight, is_of, times_finished, weight}
 use Rattle.mw_rule.proofs.Totals.{each_on, own_once, weight_none}
 
 is_own : (one other : ℕ) → one ≡ other → (one == other) ≡ true
@@ -65,16 +65,16 @@ rest_own (one ∷ rest) mine own =
 
 -- A request is in the two parts together as often as in the whole list.
 parted_sum : (tenant request : ℕ) (own : Bool) (one : Finished) (its others : List Finished)
-    → times_noted tenant request (cond own others (one ∷ others)) + times_noted tenant request (cond own (one ∷ its) its) ≡ weight (is_of tenant request one) + (times_noted tenant request others + times_noted tenant request its)
+    → times_finished tenant request (cond own others (one ∷ others)) + times_finished tenant request (cond own (one ∷ its) its) ≡ weight (is_of tenant request one) + (times_finished tenant request others + times_finished tenant request its)
 parted_sum tenant request true one its others = omega arith
 parted_sum tenant request false one its others = omega arith
 
-worker_sum : (tenant request worker : ℕ) (mine : List Finished) → times_noted tenant request (of_others worker mine) + times_noted tenant request (of_worker worker mine) ≡ times_noted tenant request mine
+worker_sum : (tenant request worker : ℕ) (mine : List Finished) → times_finished tenant request (of_others worker mine) + times_finished tenant request (of_worker worker mine) ≡ times_finished tenant request mine
 worker_sum tenant request worker [] = refl
 worker_sum tenant request worker (one ∷ mine) =
     let here = parted_sum tenant request (one.worker == worker) one (of_worker worker mine) (of_others worker mine) in let rest = worker_sum tenant request worker mine in omega (arith, here, rest)
 
-pub parts_sum : (tenant request : ℕ) (token : List WorkerToken) (mine : List Finished) → times_noted tenant request (of_rest token mine) + times_noted tenant request (of_head token mine) ≡ times_noted tenant request mine
+pub parts_sum : (tenant request : ℕ) (token : List WorkerToken) (mine : List Finished) → times_finished tenant request (of_rest token mine) + times_finished tenant request (of_head token mine) ≡ times_finished tenant request mine
 parts_sum tenant request [] mine = omega arith
 parts_sum tenant request (one ∷ rest) mine = worker_sum tenant request one.worker mine
 

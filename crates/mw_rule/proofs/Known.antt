@@ -24,11 +24,11 @@ use Rattle.mw_law_calls.proofs.FromLaws.{upd_here}
 use Rattle.mw_rule.specs.declared.views.HeldFile.{HeldFile}
 use Rattle.mw_rule.specs.declared.views.View.{View}
 use Rattle.mw_rule.specs.FileCalls.{Calls, places_held}
-use Rattle.mw_rule.specs.Rule.{Each, Fits, Holds, HoldsFile, Tied, Waits, WaitsIf, holds_of, times_held, weight}
+use Rattle.mw_rule.specs.Rule.{Each, Fits, Holds, HoldsFile, TableInvariant, Waits, WaitsIf, holds_of, times_held, weight}
 use Rattle.mw_rule.proofs.StepRule.{its_fits, its_holds}
 use Rattle.mw_rule.proofs.Totals.{weight_own}
 
-module _ (config : Config) (begun : (ℕ → TenantStart) → List WorldEvent → Type 0) (s : Table ActorState View) (tied : Tied config begun s) (id : ℕ) (old : View) (at : get_elem? s.views id ≡ some old)
+module _ (config : Config) (begun : (ℕ → TenantStart) → List WorldEvent → Type 0) (s : Table ActorState View) (tied : TableInvariant config begun s) (id : ℕ) (old : View) (at : get_elem? s.views id ≡ some old)
     (worker : ℕ) (actor : ActorState) (called : CallOn) (held : HeldFile) (by : Calls old worker actor called held) where
   abbrev before : List WorldEvent
   before = tied.past.before ++ tied.events

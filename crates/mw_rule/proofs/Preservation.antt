@@ -21,7 +21,7 @@ use Rattle.mw_law_calls.specs.OtherEvents.{AreBesideFile}
 use Rattle.mw_rule.specs.declared.views.View.{View}
 use Rattle.mw_rule.specs.KnownRuns.{KnownRun, ExtendsKnownRun, known_run_of}
 use Rattle.mw_rule.specs.Layout.{index_of, words_of}
-use Rattle.mw_rule.specs.Rule.{Fits, IsRunOf, Tied, Ties, WentOnFor, has, holds_of, notes_of, total}
+use Rattle.mw_rule.specs.Rule.{Fits, IsRunOf, TableInvariant, BitsMatch, WentOnFor, has, holds_of, notes_of, total}
 use Rattle.mw_rule.proofs.KnownRunLaws.{run_with_more, stays}
 use Rattle.mw_rule.proofs.Layouts.{index_injective, places_within, places_in_table}
 use Rattle.mw_rule.proofs.HeldFiles.{all_held_on}
@@ -30,8 +30,8 @@ use Rattle.mw_rule.proofs.Totals.{total_set, total_two}
 
 -- The word of one place gets the same new bits in the table and in the world.
 pub ties_on : (config : Config) (cells after : Cells) (words : List ℕ) (place : At) (bits : ℕ) → IsConfig config → has_place config place ≡ true → length words ≡ words_of config
-    → Ties config cells words → pack place (read after place) ≡ bits → ((other : At) → other ≢ place → read after other ≡ read cells other)
-    → Ties config after (slice_set words (index_of config.pool place) bits)
+    → BitsMatch config cells words → pack place (read after place) ≡ bits → ((other : At) → other ≢ place → read after other ≡ read cells other)
+    → BitsMatch config after (slice_set words (index_of config.pool place) bits)
 ties_on config cells after words place bits is_config there long ties here else other its = elim (same_or_other (index_of config.pool other) (index_of config.pool place)) [
   | inl same ↦
       let one : other ≡ place = index_injective config.pool other place (places_within config other is_config its) (places_within config place is_config there) same in
@@ -43,9 +43,9 @@ ties_on config cells after words place bits is_config there long ties here else 
       ∙ ap (pack other) (sym (else other (λ e. apart (ap (index_of config.pool) e))))
 ]
 
-pub keep : (config : Config) (begun : (ℕ → TenantStart) → List WorldEvent → Type 0) (s : Table ActorState View) (tied : Tied config begun s) (id index bits worker : ℕ) (old new : View) (after : State)
+pub keep : (config : Config) (begun : (ℕ → TenantStart) → List WorldEvent → Type 0) (s : Table ActorState View) (tied : TableInvariant config begun s) (id index bits worker : ℕ) (old new : View) (after : State)
     (more : List WorldEvent) → get_elem? s.views id ≡ some old → 1 ≤ has worker old → ((one : ℕ) → has one new ≡ has one old) → Leads config tied.state worker after more
-    → Fits config tied.past.openings after (tied.events ++ more) new → Ties config after.cells (slice_set s.words index bits)
+    → Fits config tied.past.openings after (tied.events ++ more) new → BitsMatch config after.cells (slice_set s.words index bits)
     → ((tenant request : ℕ) → total (notes_of tenant request) s.views + notes_of tenant request new ≤ 1 + notes_of tenant request old)
     → ((tenant : ℕ) → AreBesideFile config tenant tied.state more ⊎ (1 ≤ holds_of tenant old)) → ((tenant : ℕ) → holds_of tenant new ≡ holds_of tenant old)
     → new.known_run ≡ Some (known_run_of config tied.past.openings tied.past.before (tied.events ++ more)) → new.learned_run ≡ old.learned_run
@@ -63,7 +63,7 @@ keep config begun s tied id index bits worker old new after more at own same lea
       told = subst (λ (told : Option KnownRun). ExtendsKnownRun told (Some (known_run_of config tied.past.openings tied.past.before (tied.events ++ more)))) (sym same_told) (on_so id old at).told;
     }
 
-    kept : Tied config begun (record { words = slice_set s.words index bits; homes = s.homes; views = slice_set s.views id new })
+    kept : TableInvariant config begun (record { words = slice_set s.words index bits; homes = s.homes; views = slice_set s.views id new })
     kept = record {
       state = after;
       events = tied.events ++ more;

@@ -36,10 +36,10 @@ use Rattle.mw_rule.specs.declared.views.WorkerEvent.{WorkerEvent}
 use Rattle.mw_rule.specs.declared.views.WorkerEvent.TheVariants.{Came, Stepped, Handed}
 use Rattle.mw_rule.specs.declared.views.Finished.{Finished}
 use Rattle.mw_rule.specs.declared.views.WorkerToken.{WorkerToken}
-use Rattle.mw_rule.specs.Steps.{IsNoted, Notes, NotesAs, comes, finished_as, settled, settled_as, stepped, told_as, actor_after}
+use Rattle.mw_rule.specs.Steps.{AddsFinished, Notes, AddsFinishedIf, comes, finished_as, settled, settled_as, stepped, told_as, actor_after}
 use Rattle.mw_rule.specs.RunEvents.{hand_out}
 use Rattle.mw_rule.specs.Evidence.{HasEvidence}
-use Rattle.mw_rule.specs.Rule.{Each, HasEvidenceFor, Holds, IsOver, worker_event_if, is_of, events_of_worker, times_noted}
+use Rattle.mw_rule.specs.Rule.{Each, HasEvidenceFor, Holds, IsOver, worker_event_if, is_of, events_of_worker, times_finished}
 use Rattle.mw_rule.specs.Prefixes.{CameAfter, HasBegunFor}
 use Rattle.mw_rule.proofs.EvidenceSteps.{evidence_of, whole_evidence}
 use Rattle.mw_rule.proofs.EvidenceInRuns.{first_with_evidence, evidence_told, quota_so}
@@ -94,8 +94,8 @@ pub record Reached (config : Config) (openings : ℕ → TenantStart) (old : Sta
   pub right : Each (IsRightIn config openings after) noted
   pub own : Each (λ one. one.worker ≡ worker) noted
   pub ends : IsSo noted
-  pub few : (tenant request : ℕ) → times_noted tenant request noted ≤ 1
-  pub fresh : (other : Finished) → IsOver old other → times_noted other.tenant other.request noted ≡ 0
+  pub few : (tenant request : ℕ) → times_finished tenant request noted ≤ 1
+  pub fresh : (other : Finished) → IsOver old other → times_finished other.tenant other.request noted ≡ 0
   pub over : Each (IsOver after) noted
 
 -- The world after a step, after a reply is handed out, and after a request came.
@@ -238,7 +238,7 @@ module _ (config : Config) (openings : ℕ → TenantStart) (before : List World
   unfolding the_finished
   is_own = refl
 
-  is_noted : IsNoted token next.tenant token.begun next.job reply [] (the_finished ∷ [])
+  is_noted : AddsFinished token next.tenant token.begun next.job reply [] (the_finished ∷ [])
   unfolding the_finished
   is_noted = let fewer = holds.begun.no_fewer in let later = since.no_smaller in record { place = since.place; no_smaller = omega (arith, fewer, later); noted = refl }
 
@@ -270,26 +270,26 @@ module _ (config : Config) (openings : ℕ → TenantStart) (before : List World
         ];
       }
 
-  is_fresh : (other : Finished) → IsOver state other → times_noted other.tenant other.request (the_finished ∷ []) ≡ 0
+  is_fresh : (other : Finished) → IsOver state other → times_finished other.tenant other.request (the_finished ∷ []) ≡ 0
   unfolding the_finished
   is_fresh other over = times_none other.tenant other.request (the_finished ∷ []) (
     λ its same. over.left token.worker next holds.actor its (holds.request ∙ same),
     tt,
   )
 
-  is_few : (tenant request : ℕ) → times_noted tenant request (the_finished ∷ []) ≤ 1
+  is_few : (tenant request : ℕ) → times_finished tenant request (the_finished ∷ []) ≤ 1
   is_few tenant request = let few = weight_few (is_of tenant request the_finished) in omega (arith, few)
 
 -- the reply is handed out, if it is there
 pub settles : (config : Config) (openings : ℕ → TenantStart) (before : List WorldEvent) (old state : State) (played : IsExecution config openings before state) (events more : List WorldEvent) (token : WorkerToken) (next : ActorState)
     → Leads config old token.worker state more → Holds config openings state (events ++ more) (record token { actor = Some next })
-    → Reached config openings old token.worker events (more ++ hand_out token.worker (replied next)) (settled token next) state.cells (NotesAs token next.tenant token.begun next.job (replied next) [])
+    → Reached config openings old token.worker events (more ++ hand_out token.worker (replied next)) (settled token next) state.cells (AddsFinishedIf token next.tenant token.begun next.job (replied next) [])
 settles config openings before old state played events more token next leads holds = by (replied next) refl
   where
     by : (reply : Option Reply) → replied next ≡ reply
-        → Reached config openings old token.worker events (more ++ hand_out token.worker reply) (settled_as token next reply) state.cells (NotesAs token next.tenant token.begun next.job reply [])
+        → Reached config openings old token.worker events (more ++ hand_out token.worker reply) (settled_as token next reply) state.cells (AddsFinishedIf token next.tenant token.begun next.job reply [])
     by None stands =
-        subst (λ all. Reached config openings old token.worker events all (settled_as token next None) state.cells (NotesAs token next.tenant token.begun next.job None [])) (sym (append-nil more))
+        subst (λ all. Reached config openings old token.worker events all (settled_as token next None) state.cells (AddsFinishedIf token next.tenant token.begun next.job None [])) (sym (append-nil more))
         (record { after = state; leads = leads; holds = holds; same_cells = refl; noted = []; right = tt; own = tt; ends = refl; few = λ tenant request. omega arith; fresh = λ other over. refl; over = tt })
     by (Some reply) stands = record {
       after = after_hand state token.worker next;

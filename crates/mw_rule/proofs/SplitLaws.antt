@@ -30,7 +30,7 @@ use Rattle.mw_rule.specs.Layout.{index_of}
 use Rattle.mw_rule.specs.Splits.{without_file, takes_files, dealt, with_file_given, first_held, merges, head_of, learns, left_over, maker, meets, note, of_head, of_rest, other_held, tokens_from, token_of, rest_of, spent}
 use Rattle.mw_rule.specs.Laws.{TakingFilesKeepsTheRule, SplitsKeepTheRule, GivingFilesKeepsTheRule, MergingKeepsTheRule, LearningKeepsTheRule, PlainLoadsKeepTheRule, MeetingKeepsTheRule, NotesKeepTheRule, StartsUnderTheRule}
 use Rattle.mw_rule.specs.KnownRuns.{ExtendsKnownRun, known_run_of}
-use Rattle.mw_rule.specs.Rule.{Continues, Each, Fits, has, HasEvidenceFor, Holds, holds_of, HoldsFile, IsLive, IsOver, IsRight, IsRunOf, IsSpent, notes_of, Tied, Ties, times, times_held, total, weight, WentOnFor}
+use Rattle.mw_rule.specs.Rule.{Continues, Each, Fits, has, HasEvidenceFor, Holds, holds_of, HoldsFile, IsLive, IsOver, IsRight, IsRunOf, IsSpent, notes_of, TableInvariant, BitsMatch, times, times_held, total, weight, WentOnFor}
 use Rattle.mw_rule.specs.Prefixes.{Gave, HasBegunFor, opening_at, seen_at}
 use Rattle.mw_rule.proofs.KnownRunLaws.{stays}
 use Rattle.mw_rule.proofs.KnowledgeIsRight.{without_file_right, takes_files_right, dealt_right, with_file_given_right, merges_right, learns_right, left_right, meets_right, mine_in, note_right, nothing_right, sees_right}
@@ -39,19 +39,19 @@ use Rattle.mw_rule.proofs.FinishedRequests.{each_of_head, each_of_rest, parts_su
 use Rattle.mw_rule.proofs.ViewAfterStep.{all_at, all_seen, live_fits, sees, sees_on}
 
 -- the rule of the same words, when threads know other things of the same world
-other_views : (config : Config) (begun : (ℕ → TenantStart) → List WorldEvent → Type 0) (s now : Table ActorState View) (tied : Tied config begun s) → now.words ≡ s.words
+other_views : (config : Config) (begun : (ℕ → TenantStart) → List WorldEvent → Type 0) (s now : Table ActorState View) (tied : TableInvariant config begun s) → now.words ≡ s.words
     → ((id : ℕ) (view : View) → get_elem? now.views id ≡ some view → IsSpent view ⊎ Fits config tied.past.openings tied.state tied.events view)
     → ((id : ℕ) (view : View) → get_elem? now.views id ≡ some view → IsRunOf config tied.past.openings tied.past.before tied.events view) → ((worker : ℕ) → total (has worker) now.views ≤ 1)
     → ((tenant request : ℕ) → total (notes_of tenant request) now.views ≤ 1) → ((tenant : ℕ) → total (holds_of tenant) now.views ≤ 1) → Continues config begun s tied [] now
 other_views config begun s now tied same fits known alone once one_hand = record { after = kept; same_openings = refl; same_before = refl; events = sym (append-nil tied.events) }
   where
-    kept : Tied config begun now
+    kept : TableInvariant config begun now
     kept = record {
       state = tied.state;
       events = tied.events;
       past = tied.past;
       long = ap length same ∙ tied.long;
-      ties = subst (Ties config tied.state.cells) (sym same) tied.ties;
+      ties = subst (BitsMatch config tied.state.cells) (sym same) tied.ties;
       fits = fits;
       known = known;
       alone = alone;
@@ -75,7 +75,7 @@ stood_there config openings events state view index bits same played gave all is
 }
 
 -- a thread that knows a table's run knows it when nothing has happened
-for_looker : (config : Config) (begun : (ℕ → TenantStart) → List WorldEvent → Type 0) (s : Table ActorState View) (tied : Tied config begun s) (next : Table ActorState View) (view : View)
+for_looker : (config : Config) (begun : (ℕ → TenantStart) → List WorldEvent → Type 0) (s : Table ActorState View) (tied : TableInvariant config begun s) (next : Table ActorState View) (view : View)
     → view.known_run ≡ Some (known_run_of config tied.past.openings tied.past.before tied.events) → Continues config begun s tied [] next → WentOnFor config begun s tied [] next view
 for_looker config begun s tied next view known_run on = record {
   on = on;
@@ -83,7 +83,7 @@ for_looker config begun s tied next view known_run on = record {
 }
 
 -- A load that is no event, after which the thread holds these files and has these loads.
-pub record LooksAs (config : Config) (begun : (ℕ → TenantStart) → List WorldEvent → Type 0) (s : Table ActorState View) (tied : Tied config begun s) (id index bits : ℕ) (old : View) (files : List HeldFile) (plain_loads : List PlainLoad) : Type 0 where
+pub record LooksAs (config : Config) (begun : (ℕ → TenantStart) → List WorldEvent → Type 0) (s : Table ActorState View) (tied : TableInvariant config begun s) (id index bits : ℕ) (old : View) (files : List HeldFile) (plain_loads : List PlainLoad) : Type 0 where
   pub view : View
   pub goes_on : ExtendsWithLearned old view
   pub learned_run : ExtendsKnownRun old.learned_run view.known_run
@@ -96,7 +96,7 @@ pub record LooksAs (config : Config) (begun : (ℕ → TenantStart) → List Wor
   pub run : WentOnFor config begun s tied [] (record { words = slice_set s.words index bits; homes = s.homes; views = slice_set s.views id view }) view
 
 pub looks_as : (config : Config) (begun : (ℕ → TenantStart) → List WorldEvent → Type 0) (id index : ℕ) (view : View) (make : ℕ → ℕ) (files : List HeldFile) (plain_loads : List PlainLoad) → IsLive view → ((bits : ℕ) → make bits ≡ bits)
-    → (s : Table ActorState View) (tied : Tied config begun s) → get_elem? s.views id ≡ some view → ((tenant : ℕ) → times_held tenant files ≡ holds_of tenant view) → Each (HoldsFile config tied.state) files
+    → (s : Table ActorState View) (tied : TableInvariant config begun s) → get_elem? s.views id ≡ some view → ((tenant : ℕ) → times_held tenant files ≡ holds_of tenant view) → Each (HoldsFile config tied.state) files
     → LooksAs config begun s tied id index (make (slice_index s.words index)) view files plain_loads
 looks_as config begun id index view make files plain_loads live makes s tied at same_file_token hold_files =
     let openings = tied.past.openings in
@@ -166,7 +166,7 @@ parts_on : (config : Config) (begun : (ℕ → TenantStart) → List WorldEvent 
     → ((openings : ℕ → TenantStart) (before events : List WorldEvent) → IsRunOf config openings before events view → IsRunOf config openings before events left × IsRunOf config openings before events right)
     → ((worker : ℕ) → has worker left + has worker right ≡ has worker view)
     → ((tenant request : ℕ) → notes_of tenant request left + notes_of tenant request right ≡ notes_of tenant request view)
-    → ((tenant : ℕ) → holds_of tenant left + holds_of tenant right ≡ holds_of tenant view) → (s : Table ActorState View) (tied : Tied config begun s) → get_elem? s.views id ≡ some view
+    → ((tenant : ℕ) → holds_of tenant left + holds_of tenant right ≡ holds_of tenant view) → (s : Table ActorState View) (tied : TableInvariant config begun s) → get_elem? s.views id ≡ some view
     → Continues config begun s tied [] (record { words = s.words; homes = s.homes; views = slice_set s.views id left ++ right ∷ [] })
 parts_on config begun id view left right fit follow sums notes holds s tied at =
     let both = fit tied.past.openings tied.state tied.events (tied.fits id view at) in
@@ -283,7 +283,7 @@ joins_on : (config : Config) (begun : (ℕ → TenantStart) → List WorldEvent 
     → ((tenant : ℕ) → holds_of tenant both ≤ holds_of tenant view + holds_of tenant its)
     → ((openings : ℕ → TenantStart) (state : State) (events : List WorldEvent) → ((tenant request : ℕ) → notes_of tenant request view + notes_of tenant request its ≤ 1)
     → ((worker : ℕ) → has worker view + has worker its ≤ 1) → Fits config openings state events view → Fits config openings state events its → Fits config openings state events both)
-    → ((openings : ℕ → TenantStart) (before events : List WorldEvent) → IsRunOf config openings before events view → IsRunOf config openings before events its → IsRunOf config openings before events both) → (s : Table ActorState View) (tied : Tied config begun s) → get_elem? s.views id ≡ some view → ¬ (other ≡ id)
+    → ((openings : ℕ → TenantStart) (before events : List WorldEvent) → IsRunOf config openings before events view → IsRunOf config openings before events its → IsRunOf config openings before events both) → (s : Table ActorState View) (tied : TableInvariant config begun s) → get_elem? s.views id ≡ some view → ¬ (other ≡ id)
     → get_elem? (slice_set s.views id both) other ≡ some its → Continues config begun s tied [] (record { words = s.words; homes = s.homes; views = slice_set (slice_set s.views id both) other spent })
 joins_on config begun id other view its both live its_live notes sums holds fit follow s tied at apart its_at =
     let openings = tied.past.openings in

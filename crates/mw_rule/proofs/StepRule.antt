@@ -39,11 +39,11 @@ use Rattle.mw_law_calls.proofs.FromLaws.{reads_find_their_way, runs_are_bit_exac
 use Rattle.mw_rule.specs.declared.views.Finished.{Finished}
 use Rattle.mw_rule.specs.declared.views.WorkerToken.{WorkerToken}
 use Rattle.mw_rule.specs.declared.views.View.{View}
-use Rattle.mw_rule.specs.Steps.{FindsWayAt, IsFound, Notes, NotesAs, LearnsStep, comes, stepped, told, told_as, actor_after}
+use Rattle.mw_rule.specs.Steps.{FindsWayAt, IsFound, Notes, AddsFinishedIf, LearnsStep, comes, stepped, told, told_as, actor_after}
 use Rattle.mw_rule.specs.RunEvents.{FirstStepsGoOn, StepsGoOn, events_of}
 use Rattle.mw_rule.specs.Laws.{FirstStepsKeepTheRule, StepsKeepTheRule}
 use Rattle.mw_rule.specs.Layout.{index_of}
-use Rattle.mw_rule.specs.Rule.{Each, Fits, Holds, Tied, Ties, WentOnFor}
+use Rattle.mw_rule.specs.Rule.{Each, Fits, Holds, TableInvariant, BitsMatch, WentOnFor}
 use Rattle.mw_rule.specs.Prefixes.{seen_at}
 use Rattle.mw_rule.specs.Ways.{finds, made_of_bits}
 use Rattle.mw_rule.proofs.HeldFiles.{all_held_on, come_beside, step_beside}
@@ -71,7 +71,7 @@ way_at config openings events state worker actor played sits = by_point actor.po
     by_point (Read look) is = reads_find_their_way config openings events state worker actor look played sits is
     by_point point is = tt
 
-module _ (config : Config) (begun : (ℕ → TenantStart) → List WorldEvent → Type 0) (s : Table ActorState View) (tied : Tied config begun s) (id : ℕ) (old : View) (at : get_elem? s.views id ≡ some old)
+module _ (config : Config) (begun : (ℕ → TenantStart) → List WorldEvent → Type 0) (s : Table ActorState View) (tied : TableInvariant config begun s) (id : ℕ) (old : View) (at : get_elem? s.views id ≡ some old)
     (token : WorkerToken) (only : old.tokens ≡ token ∷ []) where
   pub its_fits : Fits config tied.past.openings tied.state tied.events old
   its_fits = live_fits config tied.past.openings tied.state tied.events old (inr (token, [], only)) (tied.fits id old at)
@@ -112,8 +112,8 @@ module _ (config : Config) (begun : (ℕ → TenantStart) → List WorldEvent �
         ap (λ b. observation_of (place step) (finds (op_of step) b)) seen ∙ step_tells config step state.cells may (bit_exact.fit (place step)) in
         let made : pack (place step) (read (cells_after step state.cells) (place step)) ≡ make bits =
         step_packs config step state.cells may right ∙ sym (makes bits ∙ ap (made_of_bits (op_of step)) seen) in
-        let ties : Ties config (cells_after step state.cells) (slice_set s.words index (make bits)) =
-        subst (λ n. Ties config (cells_after step state.cells) (slice_set s.words n (make bits))) (sym is)
+        let ties : BitsMatch config (cells_after step state.cells) (slice_set s.words index (make bits)) =
+        subst (λ n. BitsMatch config (cells_after step state.cells) (slice_set s.words n (make bits))) (sym is)
         (ties_on config state.cells (cells_after step state.cells) s.words (place step) (make bits) tied.past.played.made there tied.long tied.ties made (λ other apart. step_other step state.cells other apart)) in
         let reached = steps config openings before state state tied.past.played tied.events [] token actor (finds (op_of step) bits) (stays_there config state token.worker)
         (subst (λ all. Holds config openings state all token) (sym (append-nil tied.events)) its_holds) carries running may told_so in
@@ -126,7 +126,7 @@ module _ (config : Config) (begun : (ℕ → TenantStart) → List WorldEvent �
         (λ tenant few. step_beside config tenant state token.worker (replied (actor_after (finds (op_of step) bits) token.attempt actor))) its_fits.files)
 
 -- A finished request is added after those from before.
-notes_behind : (token : WorkerToken) (tenant begun : ℕ) (job : Job) (reply : Option Reply) (old more : List Finished) → NotesAs token tenant begun job reply [] more → NotesAs token tenant begun job reply old (old ++ more)
+notes_behind : (token : WorkerToken) (tenant begun : ℕ) (job : Job) (reply : Option Reply) (old more : List Finished) → AddsFinishedIf token tenant begun job reply [] more → AddsFinishedIf token tenant begun job reply old (old ++ more)
 notes_behind token tenant begun job None old more none = ap (λ (all : List Finished). old ++ all) none ∙ append-nil old
 notes_behind token tenant begun job (Some reply) old more one = record { place = one.place; no_smaller = one.no_smaller; noted = ap (λ (all : List Finished). old ++ all) one.noted }
 
@@ -202,7 +202,7 @@ first_way cells worker tenant quota pool (Cas entries) = tt
 no_shorter : (first all : List SealedChange) → IsBeginning first all → length first ≤ length all
 no_shorter first all begins = let long = ap (λ changes. length changes) begins.parted in omega (arith, long, length-append first begins.rest)
 
-module _ (config : Config) (begun : (ℕ → TenantStart) → List WorldEvent → Type 0) (s : Table ActorState View) (tied : Tied config begun s) (id : ℕ) (old : View) (at : get_elem? s.views id ≡ some old)
+module _ (config : Config) (begun : (ℕ → TenantStart) → List WorldEvent → Type 0) (s : Table ActorState View) (tied : TableInvariant config begun s) (id : ℕ) (old : View) (at : get_elem? s.views id ≡ some old)
     (token : WorkerToken) (only : old.tokens ≡ token ∷ []) (idle : token.actor ≡ None) (tenant : ℕ) (job : Job) (low : tenant < tenants_of config)
     (may_ask : is_well_formed (tenant_at config tenant).words job ≡ true) (make : ℕ → ℕ) (makes : (bits : ℕ) → make bits ≡ bits) where
   the_first : ActorState

@@ -11,7 +11,7 @@ use Rattle.mw_rule.specs.declared.views.Finished.{Finished}
 use Rattle.mw_rule.specs.declared.views.WorkerToken.{WorkerToken}
 use Rattle.mw_rule.specs.declared.views.View.{View}
 use Rattle.mw_rule.specs.Splits.{head_of, rest_of}
-use Rattle.mw_rule.specs.Rule.{Each, is_of, times, times_noted, weight, total}
+use Rattle.mw_rule.specs.Rule.{Each, is_of, times, times_finished, weight, total}
 
 pub total_set : (count : View → ℕ) (views : List View) (id : ℕ) (old new : View) → get_elem? views id ≡ some old → total count (slice_set views id new) + count old ≡ total count views + count new
 total_set count [] id old new is = absurd (some-ne-none old (sym is))
@@ -80,7 +80,7 @@ total_none count [] none = refl
 total_none count (one ∷ views) none = let first = none zero one refl in let rest = total_none count views (λ id view is. none (suc id) view is) in omega (arith, first, rest)
 
 -- Requests that are added after others.
-pub times_more : (tenant request : ℕ) (mine more : List Finished) → times_noted tenant request (mine ++ more) ≡ times_noted tenant request mine + times_noted tenant request more
+pub times_more : (tenant request : ℕ) (mine more : List Finished) → times_finished tenant request (mine ++ more) ≡ times_finished tenant request mine + times_finished tenant request more
 times_more tenant request [] more = omega arith
 times_more tenant request (one ∷ mine) more = let rest = times_more tenant request mine more in omega (arith, rest)
 
@@ -104,6 +104,6 @@ weight_few true = omega arith
 weight_few false = omega arith
 
 -- If each of these is another request, it isn't among them.
-pub times_none : (tenant request : ℕ) (mine : List Finished) → Each (λ one. one.tenant ≡ tenant → one.request ≢ request) mine → times_noted tenant request mine ≡ 0
+pub times_none : (tenant request : ℕ) (mine : List Finished) → Each (λ one. one.tenant ≡ tenant → one.request ≢ request) mine → times_finished tenant request mine ≡ 0
 times_none tenant request [] apart = refl
 times_none tenant request (one ∷ mine) apart = let here = weight_at one tenant request apart.0 in let rest = times_none tenant request mine apart.1 in omega (arith, here, rest)

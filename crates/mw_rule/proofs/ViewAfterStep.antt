@@ -27,7 +27,7 @@ use Rattle.mw_rule.specs.declared.views.WorkerToken.{WorkerToken}
 use Rattle.mw_rule.specs.declared.views.View.{View}
 use Rattle.mw_rule.specs.Steps.{ExtendsWithLearned, IsReady, IsReadyAt, IsReadyFor, settled_as, stepped, told, told_as, actor_after}
 use Rattle.mw_rule.specs.KnownRuns.{KnownRun, ExtendsKnownRun, known_run_of}
-use Rattle.mw_rule.specs.Rule.{Each, Fits, has, Holds, holds_of, HoldsFile, IsLive, IsOfThese, IsOver, IsRight, IsSpent, notes_of, Tied, Ties, times, times_held, times_noted, total, weight, WentOnFor}
+use Rattle.mw_rule.specs.Rule.{Each, Fits, has, Holds, holds_of, HoldsFile, IsLive, IsOfThese, IsOver, IsRight, IsSpent, notes_of, TableInvariant, BitsMatch, times, times_held, times_finished, total, weight, WentOnFor}
 use Rattle.mw_rule.specs.Prefixes.{ArePrefixes, all_of, opening_at, seen_at}
 use Rattle.mw_rule.proofs.KnownRunLaws.{run_with_more}
 use Rattle.mw_rule.proofs.Preservation.{keep}
@@ -133,7 +133,7 @@ times_map f same worker [] = refl
 times_map f same worker (one ∷ rest) = let first = ap (λ n. weight (n == worker)) (same one) in let more = times_map f same worker rest in omega (arith, first, more)
 
 -- What a thread knows after these events of its worker, and the rule of the table then.
-pub record Moved (config : Config) (begun : (ℕ → TenantStart) → List WorldEvent → Type 0) (s : Table ActorState View) (tied : Tied config begun s) (more : List WorldEvent) (id index bits : ℕ) (old : View) (f : WorkerToken → WorkerToken)
+pub record Moved (config : Config) (begun : (ℕ → TenantStart) → List WorldEvent → Type 0) (s : Table ActorState View) (tied : TableInvariant config begun s) (more : List WorldEvent) (id index bits : ℕ) (old : View) (f : WorkerToken → WorkerToken)
     (files : List HeldFile) (IsSo : List Finished → Type 0) : Type 0 where
   pub view : View
   pub run : WentOnFor config begun s tied more (record { words = slice_set s.words index bits; homes = s.homes; views = slice_set s.views id view }) view
@@ -147,27 +147,27 @@ pub record Moved (config : Config) (begun : (ℕ → TenantStart) → List World
   pub same_files : view.files ≡ files
 
 -- Requests that are none of those that are over, none of them twice, are among no view's finished ones.
-module _ (config : Config) (begun : (ℕ → TenantStart) → List WorldEvent → Type 0) (s : Table ActorState View) (tied : Tied config begun s) (noted : List Finished)
-    (few : (tenant request : ℕ) → times_noted tenant request noted ≤ 1) (fresh : (other : Finished) → IsOver tied.state other → times_noted other.tenant other.request noted ≡ 0) where
-  none_in : (tenant request many : ℕ) (view : View) → times_noted tenant request noted ≡ suc many → IsSpent view ⊎ Fits config tied.past.openings tied.state tied.events view → notes_of tenant request view ≡ 0
-  none_in tenant request many view is (inl spent) = ap (times_noted tenant request) spent.no_mine
+module _ (config : Config) (begun : (ℕ → TenantStart) → List WorldEvent → Type 0) (s : Table ActorState View) (tied : TableInvariant config begun s) (noted : List Finished)
+    (few : (tenant request : ℕ) → times_finished tenant request noted ≤ 1) (fresh : (other : Finished) → IsOver tied.state other → times_finished other.tenant other.request noted ≡ 0) where
+  none_in : (tenant request many : ℕ) (view : View) → times_finished tenant request noted ≡ suc many → IsSpent view ⊎ Fits config tied.past.openings tied.state tied.events view → notes_of tenant request view ≡ 0
+  none_in tenant request many view is (inl spent) = ap (times_finished tenant request) spent.no_mine
   none_in tenant request many view is (inr fits) =
       times_none tenant request view.mine (each_on (IsOver tied.state) (λ one. one.tenant ≡ tenant → one.request ≢ request)
-      (λ one over its same. let none = sym (λ i. times_noted (its i) (same i) noted) ∙ fresh one over in absurd (omega (arith, is, none))) view.mine fits.over)
+      (λ one over its same. let none = sym (λ i. times_finished (its i) (same i) noted) ∙ fresh one over in absurd (omega (arith, is, none))) view.mine fits.over)
 
-  noted_few : (tenant request : ℕ) → total (notes_of tenant request) s.views + times_noted tenant request noted ≤ 1
-  noted_few tenant request = by (times_noted tenant request noted) refl
+  noted_few : (tenant request : ℕ) → total (notes_of tenant request) s.views + times_finished tenant request noted ≤ 1
+  noted_few tenant request = by (times_finished tenant request noted) refl
     where
-      by : (many : ℕ) → times_noted tenant request noted ≡ many → total (notes_of tenant request) s.views + many ≤ 1
+      by : (many : ℕ) → times_finished tenant request noted ≡ many → total (notes_of tenant request) s.views + many ≤ 1
       by zero is = let all = tied.once tenant request in omega (arith, all)
       by (suc many) is =
           let none = total_none (notes_of tenant request) s.views (λ id view at. none_in tenant request many view is (tied.fits id view at)) in
           let low = few tenant request in omega (arith, none, low, is)
 
-pub moves : (config : Config) (begun : (ℕ → TenantStart) → List WorldEvent → Type 0) (s : Table ActorState View) (tied : Tied config begun s) (more : List WorldEvent) (id index bits : ℕ) (old : View) (token : WorkerToken) (f : WorkerToken → WorkerToken) (cells : Cells)
+pub moves : (config : Config) (begun : (ℕ → TenantStart) → List WorldEvent → Type 0) (s : Table ActorState View) (tied : TableInvariant config begun s) (more : List WorldEvent) (id index bits : ℕ) (old : View) (token : WorkerToken) (f : WorkerToken → WorkerToken) (cells : Cells)
     (files : List HeldFile) (IsSo : List Finished → Type 0)
     → get_elem? s.views id ≡ some old → old.tokens ≡ token ∷ [] → Fits config tied.past.openings tied.state tied.events old → ((one : WorkerToken) → (f one).worker ≡ one.worker)
-    → (reached : Reached config tied.past.openings tied.state token.worker tied.events more (f token) cells IsSo) → Ties config cells (slice_set s.words index bits)
+    → (reached : Reached config tied.past.openings tied.state token.worker tied.events more (f token) cells IsSo) → BitsMatch config cells (slice_set s.words index bits)
     → ((tenant : ℕ) → AreBesideFile config tenant tied.state more ⊎ (1 ≤ holds_of tenant old)) → ((tenant : ℕ) → times_held tenant files ≡ holds_of tenant old)
     → Each (HoldsFile config reached.after) files → Moved config begun s tied more id index bits old f files IsSo
 moves config begun s tied more id index bits old token f cells files IsSo at only fits same reached ties beside same_files hold_files =
@@ -209,7 +209,7 @@ moves config begun s tied more id index bits old token f cells files IsSo at onl
     record {
       view = new;
       run = keep config begun s tied id index bits token.worker old new reached.after more at (omega (arith, own)) (λ one. times_map f same one old.tokens) reached.leads new_fits
-          (subst (λ all. Ties config all (slice_set s.words index bits)) (sym reached.same_cells) ties)
+          (subst (λ all. BitsMatch config all (slice_set s.words index bits)) (sym reached.same_cells) ties)
           (λ tenant request.
           let all = noted_few config begun s tied reached.noted reached.few reached.fresh tenant request in
           let sum = times_more tenant request old.mine reached.noted in omega (arith, all, sum)) beside same_files refl refl;

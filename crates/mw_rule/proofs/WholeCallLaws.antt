@@ -17,7 +17,7 @@ use Rattle.mw_rule.specs.declared.views.HeldFile.{HeldFile}
 use Rattle.mw_rule.specs.declared.views.WorkerToken.{WorkerToken}
 use Rattle.mw_rule.specs.declared.views.View.{View}
 use Rattle.mw_rule.specs.WholeCalls.{CallsBegin, CallsTakeFiles, CallsDealt, CallsEnd, CallsFile, CallsGiveBack, CallsGoOn, CallsMeet, CallsOverPlainLoads, CallsStart}
-use Rattle.mw_rule.specs.Steps.{ExtendsWithLearned, ExtendsView, NotesAs, comes, finished_as, settled, settled_as, stepped, told, actor_after}
+use Rattle.mw_rule.specs.Steps.{ExtendsWithLearned, ExtendsView, AddsFinishedIf, comes, finished_as, settled, settled_as, stepped, told, actor_after}
 use Rattle.mw_rule.specs.KnownRuns.{KnownRun}
 use Rattle.mw_rule.specs.Splits.{without_file, takes_files, other_held, token_of}
 use Rattle.mw_rule.specs.FileCalls.{after_call, went}
@@ -50,7 +50,7 @@ keeps_files : (view : View) (files : List HeldFile) (told : Option KnownRun) →
 keeps_files view files told = record { same_config = refl; same_openings = refl; seen = λ tenant low. begins_itself (seen_at view.seen tenant); known_run = stays view.known_run }
 
 -- A position that is at least one number is at least each lower number.
-notes_from : (token : WorkerToken) (tenant begun lower : ℕ) (job : Job) (reply : Option Reply) (old new : List Finished) → lower ≤ begun → NotesAs token tenant begun job reply old new → NotesAs token tenant lower job reply old new
+notes_from : (token : WorkerToken) (tenant begun lower : ℕ) (job : Job) (reply : Option Reply) (old new : List Finished) → lower ≤ begun → AddsFinishedIf token tenant begun job reply old new → AddsFinishedIf token tenant lower job reply old new
 notes_from token tenant begun lower job None old new low noted = noted
 notes_from token tenant begun lower job (Some reply) old new low noted = let no_smaller = noted.no_smaller in record { place = noted.place; no_smaller = omega (arith, low, no_smaller); noted = noted.noted }
 
@@ -78,14 +78,14 @@ calls_go_on first old new token actor got serves running took =
     let had : old.tokens ≡ carried ∷ [] = serves.only ∙ ap (λ (one : WorkerToken). one ∷ []) (running_so token actor running) in
     let lower = length (seen_at first.seen actor.tenant) in
     let begun = serves.begun in
-    let same : old.mine ≡ first.mine = subst (λ (reply : Option Reply). NotesAs token actor.tenant lower actor.job reply first.mine old.mine) running serves.noted in
+    let same : old.mine ≡ first.mine = subst (λ (reply : Option Reply). AddsFinishedIf token actor.tenant lower actor.job reply first.mine old.mine) running serves.noted in
     let reply = replied (actor_after got token.attempt actor) in
     record {
       only = took.token ∙ ap (map (told got)) had;
       keeps = keeps_on first old new serves.keeps (keeps_so old new took.goes_on);
       right = took.right;
       begun = begun;
-      noted = subst (λ (mine : List Finished). NotesAs (stepped got token actor) actor.tenant lower actor.job reply mine new.mine) same
+      noted = subst (λ (mine : List Finished). AddsFinishedIf (stepped got token actor) actor.tenant lower actor.job reply mine new.mine) same
           (notes_from (stepped got token actor) actor.tenant token.begun lower actor.job reply old.mine new.mine begun (took.ends carried actor had refl));
     }
 
@@ -96,13 +96,13 @@ calls_file first old new token actor called went_well held after serves comes_to
     let lower = length (seen_at first.seen actor.tenant) in
     let next = tells actor (Filed went_well) token.attempt in
     let silent : replied next ≡ None = on.onward went_well token.attempt in
-    let same : old.mine ≡ first.mine = subst (λ (reply : Option Reply). NotesAs token actor.tenant lower actor.job reply first.mine old.mine) on.unreplied serves.noted in
+    let same : old.mine ≡ first.mine = subst (λ (reply : Option Reply). AddsFinishedIf token actor.tenant lower actor.job reply first.mine old.mine) on.unreplied serves.noted in
     record {
       only = made.token ∙ ap (map (went went_well)) had ∙ ap (λ (one : WorkerToken). one ∷ []) (sym (running_so (after_call went_well token actor) next silent));
       keeps = keeps_on first old new serves.keeps (keeps_so old new made.files.goes_on);
       right = made.files.right;
       begun = serves.begun;
-      noted = subst (λ (reply : Option Reply). NotesAs (after_call went_well token actor) actor.tenant lower actor.job reply first.mine new.mine) (sym silent) (made.files.same_mine ∙ same);
+      noted = subst (λ (reply : Option Reply). AddsFinishedIf (after_call went_well token actor) actor.tenant lower actor.job reply first.mine new.mine) (sym silent) (made.files.same_mine ∙ same);
     }
 
 pub calls_meet : CallsMeet
@@ -111,7 +111,7 @@ calls_meet first old new token actor serves met = record {
   keeps = keeps_on first old new serves.keeps met.keeps;
   right = met.right;
   begun = serves.begun;
-  noted = subst (λ (mine : List Finished). NotesAs token actor.tenant (length (seen_at first.seen actor.tenant)) actor.job (replied actor) first.mine mine) (sym met.same_mine) serves.noted;
+  noted = subst (λ (mine : List Finished). AddsFinishedIf token actor.tenant (length (seen_at first.seen actor.tenant)) actor.job (replied actor) first.mine mine) (sym met.same_mine) serves.noted;
 }
 
 pub calls_stand : CallsOverPlainLoads
@@ -139,7 +139,7 @@ calls_dealt config openings known_run worker worker_state actor carries running 
       keeps = keeps_all _;
       right = right;
       begun = omega arith;
-      noted = subst (λ (reply : Option Reply). NotesAs token actor.tenant 0 actor.job reply [] []) (sym running) refl;
+      noted = subst (λ (reply : Option Reply). AddsFinishedIf token actor.tenant 0 actor.job reply [] []) (sym running) refl;
     }
 
 -- what holds of each holds of the last
@@ -150,7 +150,7 @@ each_last P (one ∷ all) last holds = each_last P all last holds.1
 pub calls_end : CallsEnd
 calls_end first now token actor reply serves stands =
     let lower = length (seen_at first.seen actor.tenant) in
-    let ended = subst (λ (one : Option Reply). NotesAs token actor.tenant lower actor.job one first.mine now.mine) stands serves.noted in
+    let ended = subst (λ (one : Option Reply). AddsFinishedIf token actor.tenant lower actor.job one first.mine now.mine) stands serves.noted in
     let one : Finished = finished_as token actor.tenant actor.job reply ended.place in
     let right = each_last (IsFinished now) first.mine one (subst (Each (IsFinished now)) ended.noted serves.right.mine) in
     record { place = ended.place; noted = ended.noted; no_smaller = ended.no_smaller; within = right.within; right = right.right; evidence = right.evidence }

@@ -25,7 +25,7 @@ use Rattle.mw_rule.specs.KnownRuns.{KnownRun, ExtendsKnownRun, known_run_of}
 use Rattle.mw_rule.specs.FileCalls.{LoadedAs, went}
 use Rattle.mw_rule.specs.Layout.{index_of, words_of}
 use Rattle.mw_rule.specs.WordActions.{Breaks, Comes, Exchanges, FindsFault, Loads, Looks, WordAction, ActionsAreAllowed, ActionsChangeWords, ActionsExtendRuns, StandsAt, Steps, WentOn, WentOnAt, events_by, index_by, bits_left, told_by}
-use Rattle.mw_rule.specs.Rule.{Fits, IsLive, IsRunOf, Tied, Ties, WentOnFor}
+use Rattle.mw_rule.specs.Rule.{Fits, IsLive, IsRunOf, TableInvariant, BitsMatch, WentOnFor}
 use Rattle.mw_rule.specs.Ways.{finds}
 use Rattle.mw_rule.proofs.KnownRunLaws.{on_with_more}
 use Rattle.mw_rule.proofs.Layouts.{places_in_table}
@@ -91,13 +91,13 @@ played_so config its openings other state events all one two three played =
     (subst (λ (o : ℕ → TenantStart). IsExecution config o all state) two (subst (λ (e : List WorldEvent). IsExecution config openings e state) three played))
 
 -- the world has what the table has at an index
-stands_so : (config its : Config) (state : State) (words : List ℕ) (index : ℕ) → config ≡ its → Ties config state.cells words → StandsAt its state index (slice_index words index)
+stands_so : (config its : Config) (state : State) (words : List ℕ) (index : ℕ) → config ≡ its → BitsMatch config state.cells words → StandsAt its state index (slice_index words index)
 stands_so config its state words index same ties at there is =
     sym (ap (slice_index words) (ap (λ (c : Config). index_of c.pool at) same ∙ is)) ∙ ties at (ap (λ (c : Config). has_place c at) same ∙ there)
 
 -- and it has what was set there
 set_stands : (config its : Config) (state : State) (words : List ℕ) (index bits : ℕ) → config ≡ its → IsConfig config → length words ≡ words_of config
-    → Ties config state.cells (slice_set words index bits) → StandsAt its state index bits
+    → BitsMatch config state.cells (slice_set words index bits) → StandsAt its state index bits
 set_stands config its state words index bits same is_config long ties at there is =
     let here : index_of config.pool at ≡ index = ap (λ (c : Config). index_of c.pool at) same ∙ is in
     let low : index_of config.pool at < length words =
@@ -110,7 +110,7 @@ told_on more old new went =
     subst (λ (known : Option KnownRun). ExtendsKnownRun old.learned_run known) (sym went.known_run) (on_with_more old.config old.learned_run went.openings went.before went.events more went.follows.told)
 
 module _ (config : Config) (begun : (ℕ → TenantStart) → List WorldEvent → Type 0) where
-  went_on : (s : Table ActorState View) (tied : Tied config begun s) (id index bits : ℕ) (old new : View) (more : List WorldEvent) → get_elem? s.views id ≡ some old → IsLive old → IsLive new
+  went_on : (s : Table ActorState View) (tied : TableInvariant config begun s) (id index bits : ℕ) (old new : View) (more : List WorldEvent) → get_elem? s.views id ≡ some old → IsLive old → IsLive new
       → WentOnFor config begun s tied more (record { words = slice_set s.words index bits; homes = s.homes; views = slice_set s.views id new }) new → WentOnAt index (slice_index s.words index) bits more old new
   went_on s tied id index bits old new more at live live_on went =
       let run = went.on in

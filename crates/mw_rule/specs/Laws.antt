@@ -29,7 +29,7 @@ use Rattle.mw_rule.specs.Splits.{without_file, takes_files, dealt, with_file_giv
 use Rattle.mw_rule.specs.FileCalls.{broken_so, Calls, fails, filed_so, Loaded, place_held, LearnsFileCall}
 use Rattle.mw_rule.specs.declared.views.WorkerToken.{WorkerToken}
 use Rattle.mw_rule.specs.Layout.{index_of, words_of}
-use Rattle.mw_rule.specs.Rule.{Each, HoldsFile, IsLive, IsRight, Ties, Tied, times_held}
+use Rattle.mw_rule.specs.Rule.{Each, HoldsFile, IsLive, IsRight, BitsMatch, TableInvariant, times_held}
 use Rattle.mw_rule.specs.Prefixes.{Gave, opening_at}
 use Rattle.mw_rule.specs.Ways.{made_of_bits, finds}
 
@@ -42,68 +42,68 @@ module _ (config : Config) (begun : (ℕ → TenantStart) → List WorldEvent �
       → begun openings before → ExtendsKnownRun known_run (Some (known_run_of config openings before [])) → IsExecution config openings before state → ((tenant : ℕ) → tenant < tenants_of config → Gave openings state tenant (opening_at given tenant))
       → ((worker : ℕ) → worker < config.workers → worker_states worker ≡ state.worker_states worker)
       → Each (HoldsFile config state) files → ((tenant : ℕ) → times_held tenant files ≤ 1)
-      → length words ≡ words_of config → Ties config state.cells words → Tied config begun (opening words [] (maker config given known_run worker_states files))
+      → length words ≡ words_of config → BitsMatch config state.cells words → TableInvariant config begun (opening words [] (maker config given known_run worker_states files))
 
   -- A step of the request that a thread carries keeps the rule. The thread learns the step and what it found.
   abbrev pub StepsKeepTheRule : Type 0
   StepsKeepTheRule = (slots id worker : ℕ) (me : Me ActorState View) (op : Op) (make : ℕ → ℕ) → IsNextStep me.0 worker op → ((bits : ℕ) → make bits ≡ made_of_bits op bits)
-      → Allows (Tied config begun) slots id me (index_of config.pool (place_of op)) make (λ bits next. LearnsStep (finds op bits) me.0 next.0)
+      → Allows (TableInvariant config begun) slots id me (index_of config.pool (place_of op)) make (λ bits next. LearnsStep (finds op bits) me.0 next.0)
 
   -- A request's first step, with which it comes, keeps the rule. It is a load of its tenant's door.
   abbrev pub FirstStepsKeepTheRule : Type 0
   FirstStepsKeepTheRule = (slots id worker : ℕ) (me : Me ActorState View) (actor : ActorState) (make : ℕ → ℕ) → MayCome me.0 worker actor → ((bits : ℕ) → make bits ≡ bits)
-      → Allows (Tied config begun) slots id me (index_of config.pool (AtDoor actor.tenant)) make (λ bits next. LearnsFirstStep actor (Bits bits) me.0 next.0)
+      → Allows (TableInvariant config begun) slots id me (index_of config.pool (AtDoor actor.tenant)) make (λ bits next. LearnsFirstStep actor (Bits bits) me.0 next.0)
 
   -- A load that is no step of a request keeps the rule. The thread learns the bits that it found.
   abbrev pub PlainLoadsKeepTheRule : Type 0
   PlainLoadsKeepTheRule = (slots id index : ℕ) (me : Me ActorState View) (make : ℕ → ℕ) → IsLive me.0 → ((bits : ℕ) → make bits ≡ bits)
-      → Allows (Tied config begun) slots id me index make (λ bits next. LearnsPlainLoad index bits me.0 next.0)
+      → Allows (TableInvariant config begun) slots id me index make (λ bits next. LearnsPlainLoad index bits me.0 next.0)
 
   -- A thread may give its first token to a new thread, with the requests that its worker finished.
   abbrev pub SplitsKeepTheRule : Type 0
-  SplitsKeepTheRule = (id : ℕ) (view : View) → Splits {S = ActorState} (Tied config begun) id view (left_over view) (dealt view)
+  SplitsKeepTheRule = (id : ℕ) (view : View) → Splits {S = ActorState} (TableInvariant config begun) id view (left_over view) (dealt view)
 
   -- A thread may make a note of what it saw.
   abbrev pub NotesKeepTheRule : Type 0
-  NotesKeepTheRule = (id : ℕ) (view : View) → IsLive view → Splits {S = ActorState} (Tied config begun) id view view (note view)
+  NotesKeepTheRule = (id : ℕ) (view : View) → IsLive view → Splits {S = ActorState} (TableInvariant config begun) id view view (note view)
 
   -- A thread may learn what a note says.
   abbrev pub LearningKeepsTheRule : Type 0
-  LearningKeepsTheRule = (id other : ℕ) (view its : View) → IsLive view → IsLive its → its.tokens ≡ [] → Joins {S = ActorState} (Tied config begun) id view other its (learns view its) spent
+  LearningKeepsTheRule = (id other : ℕ) (view its : View) → IsLive view → IsLive its → its.tokens ≡ [] → Joins {S = ActorState} (TableInvariant config begun) id view other its (learns view its) spent
 
   -- A thread that saw no more than a note says may take the note as seen by itself.
   abbrev pub MeetingKeepsTheRule : Type 0
   MeetingKeepsTheRule = (id other : ℕ) (view its : View) → IsLive view → IsLive its → its.tokens ≡ [] → IsPrefix (tenants_of view.config) view.seen its.seen
-      → Joins {S = ActorState} (Tied config begun) id view other its (meets view its) spent
+      → Joins {S = ActorState} (TableInvariant config begun) id view other its (meets view its) spent
 
   -- A thread may merge all that another knew, if that one had seen no less. Two threads meet so: one makes a note,
   -- the other learns it and makes a load; the first merges all that the other knows, makes a load itself, and gives
   -- each its own again. At the end one thread can so know all finished requests.
   abbrev pub MergingKeepsTheRule : Type 0
   MergingKeepsTheRule = (id other : ℕ) (view its : View) → IsLive view → IsLive its → IsPrefix (tenants_of view.config) view.seen its.seen
-      → Joins {S = ActorState} (Tied config begun) id view other its (merges view its) spent
+      → Joins {S = ActorState} (TableInvariant config begun) id view other its (merges view its) spent
 
   -- A thread may give its first file to another, which makes no steps.
   abbrev pub GivingFilesKeepsTheRule : Type 0
-  GivingFilesKeepsTheRule = (id : ℕ) (view : View) → IsLive view → Splits {S = ActorState} (Tied config begun) id view (without_file view) (with_file_given view)
+  GivingFilesKeepsTheRule = (id : ℕ) (view : View) → IsLive view → Splits {S = ActorState} (TableInvariant config begun) id view (without_file view) (with_file_given view)
 
   -- A thread may take the files of another. Nothing else of the other is kept: not what it saw, nor its tokens and
   -- finished requests, if it had any.
   abbrev pub TakingFilesKeepsTheRule : Type 0
-  TakingFilesKeepsTheRule = (id other : ℕ) (view its : View) → IsLive view → IsLive its → Joins {S = ActorState} (Tied config begun) id view other its (takes_files view its) spent
+  TakingFilesKeepsTheRule = (id other : ℕ) (view its : View) → IsLive view → IsLive its → Joins {S = ActorState} (TableInvariant config begun) id view other its (takes_files view its) spent
 
   -- The first step of a call on a file, by the thread that has the file, is a load of the status of its change. If
   -- the call doesn't start from the status, this load is the whole call, and it does nothing.
   abbrev pub FileCallsLoad : Type 0
   FileCallsLoad = (slots id worker : ℕ) (me : Me ActorState View) (actor : ActorState) (called : CallOn) (held : HeldFile) (make : ℕ → ℕ) → Calls me.0 worker actor called held → ((bits : ℕ) → make bits ≡ bits)
-      → Allows (Tied config begun) slots id me (index_of config.pool (AtStatus called.change.slot)) make (λ bits next. Loaded worker actor called held bits me.0 next.0)
+      → Allows (TableInvariant config begun) slots id me (index_of config.pool (AtStatus called.change.slot)) make (λ bits next. Loaded worker actor called held bits me.0 next.0)
 
   -- If it starts, and the file has not failed, the thread may end it as a call that went well, by the exchange of the
   -- status. The exchange wins: the word still has the status that was found.
   abbrev pub FileCallsEndWell : Type 0
   FileCallsEndWell = (slots id worker : ℕ) (me : Me ActorState View) (actor : ActorState) (called : CallOn) (held : HeldFile) (status : Status) (make : ℕ → ℕ) → Calls me.0 worker actor called held
       → held.found ≡ Some (record { worker = worker; status = status }) → fails me.0 called held ≡ false → ((bits : ℕ) → make bits ≡ made_of_bits (op_of (exchange_of called status)) bits)
-      → Allows (Tied config begun) slots id me (index_of config.pool (AtStatus called.change.slot)) make
+      → Allows (TableInvariant config begun) slots id me (index_of config.pool (AtStatus called.change.slot)) make
       (λ bits next. (bits ≡ pack (AtStatus called.change.slot) status) × LearnsFileCall true held (filed_so me.0 actor called held) me.0 next.0)
 
   -- Or it may end it as a call in which the device failed, by the fault at the tenant's door. It may name any of the
@@ -112,13 +112,13 @@ module _ (config : Config) (begun : (ℕ → TenantStart) → List WorldEvent �
   FileCallsMeetFaults = (slots id worker number : ℕ) (me : Me ActorState View) (actor : ActorState) (called : CallOn) (held : HeldFile) (status : Status) (make : ℕ → ℕ) → Calls me.0 worker actor called held
       → held.found ≡ Some (record { worker = worker; status = status }) → fails me.0 called held ≡ false
       → is_made (device_calls called.call (entries_at (file_told held.file) (place_held me.0 called held))) number ≡ true → ((bits : ℕ) → make bits ≡ made_of_bits (op_of (fault_of actor)) bits)
-      → Allows (Tied config begun) slots id me (index_of config.pool (AtDoor actor.tenant)) make (λ bits next. LearnsFileCall false held (broken_so me.0 called held) me.0 next.0)
+      → Allows (TableInvariant config begun) slots id me (index_of config.pool (AtDoor actor.tenant)) make (λ bits next. LearnsFileCall false held (broken_so me.0 called held) me.0 next.0)
 
   -- If the file had failed before, it may end the call by the fault alone, and what it knows of the file stays.
   abbrev pub FileCallsFindFaults : Type 0
   FileCallsFindFaults = (slots id worker : ℕ) (me : Me ActorState View) (actor : ActorState) (called : CallOn) (held : HeldFile) (status : Status) (make : ℕ → ℕ) → Calls me.0 worker actor called held
       → held.found ≡ Some (record { worker = worker; status = status }) → fails me.0 called held ≡ true → ((bits : ℕ) → make bits ≡ made_of_bits (op_of (fault_of actor)) bits)
-      → Allows (Tied config begun) slots id me (index_of config.pool (AtDoor actor.tenant)) make (λ bits next. LearnsFileCall false held held.file me.0 next.0)
+      → Allows (TableInvariant config begun) slots id me (index_of config.pool (AtDoor actor.tenant)) make (λ bits next. LearnsFileCall false held held.file me.0 next.0)
 
 -- Facts of views alone.
 

@@ -34,8 +34,8 @@ use Rattle.mw_rule.specs.Layout.{index_of, words_of}
 use Rattle.mw_rule.specs.Prefixes.{ArePrefixes, Gave, HasBegunFor, opening_at, seen_at}
 
 -- The table has, at the index of each place of the world, the bits of what the world has at that place.
-abbrev pub Ties : Config → Cells → List ℕ → Type 0
-Ties config cells words = (at : At) → has_place config at ≡ true → slice_index words (index_of config.pool at) ≡ pack at (read cells at)
+abbrev pub BitsMatch : Config → Cells → List ℕ → Type 0
+BitsMatch config cells words = (at : At) → has_place config at ≡ true → slice_index words (index_of config.pool at) ≡ pack at (read cells at)
 
 -- The property holds of every item of the list.
 abbrev pub Each : {A : Type 0} → (A → Type 0) → List A → Type 0
@@ -136,13 +136,13 @@ abbrev pub is_of : ℕ → ℕ → Finished → Bool
 is_of tenant request one = (one.tenant == tenant) && (one.request == request)
 
 -- how often that request is in a list of finished ones
-abbrev pub times_noted : ℕ → ℕ → List Finished → ℕ
-times_noted tenant request [] = 0
-times_noted tenant request (one ∷ rest) = weight (is_of tenant request one) + times_noted tenant request rest
+abbrev pub times_finished : ℕ → ℕ → List Finished → ℕ
+times_finished tenant request [] = 0
+times_finished tenant request (one ∷ rest) = weight (is_of tenant request one) + times_finished tenant request rest
 
 -- how often it is among the finished ones of a view
 abbrev pub notes_of : ℕ → ℕ → View → ℕ
-notes_of tenant request view = times_noted tenant request view.mine
+notes_of tenant request view = times_finished tenant request view.mine
 
 -- The worker of a finished request has a token in this list.
 abbrev pub IsOfThese : List WorkerToken → Finished → Type 0
@@ -222,13 +222,13 @@ IsLive view = (view.is_spent ≡ false) ⊎ ((one : WorkerToken) × (rest : List
 -- - the words of the table are those of the world after it (`ties`);
 -- - what each thread knows is true after it, unless its view is spent (`fits`);
 -- - the run extends what each thread knows of it (`known`);
--- - no worker has two tokens, no request is finished twice, and no tenant's file is held twice (`alone`, `once`,   `one_hand`).
-pub record Tied (config : Config) (begun : (ℕ → TenantStart) → List WorldEvent → Type 0) (s : Table ActorState View) : Type 0 where
+-- - no worker has two tokens, no request is finished twice, and no tenant's file is held twice (`alone`, `once`, `one_hand`).
+pub record TableInvariant (config : Config) (begun : (ℕ → TenantStart) → List WorldEvent → Type 0) (s : Table ActorState View) : Type 0 where
   pub state : State
   pub events : List WorldEvent
   pub past : Past config begun state events
   pub long : length s.words ≡ words_of config
-  pub ties : Ties config state.cells s.words
+  pub ties : BitsMatch config state.cells s.words
   pub fits : (id : ℕ) (view : View) → get_elem? s.views id ≡ some view → IsSpent view ⊎ Fits config past.openings state events view
   pub known : (id : ℕ) (view : View) → get_elem? s.views id ≡ some view → IsRunOf config past.openings past.before events view
   pub alone : (worker : ℕ) → total (has worker) s.views ≤ 1
@@ -236,13 +236,13 @@ pub record Tied (config : Config) (begun : (ℕ → TenantStart) → List WorldE
   pub one_hand : (tenant : ℕ) → total (holds_of tenant) s.views ≤ 1
 
 -- The next table is under the rule by the same run with these events added.
-pub record Continues (config : Config) (begun : (ℕ → TenantStart) → List WorldEvent → Type 0) (s : Table ActorState View) (tied : Tied config begun s) (more : List WorldEvent) (next : Table ActorState View) : Type 0 where
-  pub after : Tied config begun next
+pub record Continues (config : Config) (begun : (ℕ → TenantStart) → List WorldEvent → Type 0) (s : Table ActorState View) (tied : TableInvariant config begun s) (more : List WorldEvent) (next : Table ActorState View) : Type 0 where
+  pub after : TableInvariant config begun next
   pub same_openings : after.past.openings ≡ tied.past.openings
   pub same_before : after.past.before ≡ tied.past.before
   pub events : after.events ≡ tied.events ++ more
 
 -- The same, and the thread with this view knows the whole new run.
-pub record WentOnFor (config : Config) (begun : (ℕ → TenantStart) → List WorldEvent → Type 0) (s : Table ActorState View) (tied : Tied config begun s) (more : List WorldEvent) (next : Table ActorState View) (view : View) : Type 0 where
+pub record WentOnFor (config : Config) (begun : (ℕ → TenantStart) → List WorldEvent → Type 0) (s : Table ActorState View) (tied : TableInvariant config begun s) (more : List WorldEvent) (next : Table ActorState View) (view : View) : Type 0 where
   pub on : Continues config begun s tied more next
   pub known_run : view.known_run ≡ Some (known_run_of config on.after.past.openings on.after.past.before on.after.events)

@@ -164,19 +164,19 @@ finished_as token tenant job reply place = record {
 
 -- The token's request is added to the finished ones, after those from before, with this reply. Its position is at
 -- least `begun`: what is known to have been sealed when it came.
-pub record IsNoted (token : WorkerToken) (tenant begun : ℕ) (job : Job) (reply : Reply) (old new : List Finished) : Type 0 where
+pub record AddsFinished (token : WorkerToken) (tenant begun : ℕ) (job : Job) (reply : Reply) (old new : List Finished) : Type 0 where
   pub place : ℕ
   pub no_smaller : begun ≤ place
   pub noted : new ≡ old ++ finished_as token tenant job reply place ∷ []
 
 -- If there is a reply, the request is added with it; else the finished requests stay the same.
-abbrev pub NotesAs : (token : WorkerToken) (tenant begun : ℕ) (job : Job) → Option Reply → List Finished → List Finished → Type 0
-NotesAs token tenant begun job None old new = new ≡ old
-NotesAs token tenant begun job (Some reply) old new = IsNoted token tenant begun job reply old new
+abbrev pub AddsFinishedIf : (token : WorkerToken) (tenant begun : ℕ) (job : Job) → Option Reply → List Finished → List Finished → Type 0
+AddsFinishedIf token tenant begun job None old new = new ≡ old
+AddsFinishedIf token tenant begun job (Some reply) old new = AddsFinished token tenant begun job reply old new
 
 -- what the finished requests become when this token's request is told what its step found
 abbrev pub Notes : Got → WorkerToken → ActorState → List Finished → List Finished → Type 0
-Notes got token actor old new = NotesAs (stepped got token actor) actor.tenant token.begun actor.job (replied (actor_after got token.attempt actor)) old new
+Notes got token actor old new = AddsFinishedIf (stepped got token actor) actor.tenant token.begun actor.job (replied (actor_after got token.attempt actor)) old new
 
 -- The same over a step of the request that the thread carries.
 abbrev pub Ends : Got → View → View → Type 0

@@ -16,7 +16,7 @@ use Rattle.mw_law_calls.specs.FromLaws.{IsRightAt}
 use Rattle.mw_rule.specs.declared.views.HeldFile.{HeldFile}
 use Rattle.mw_rule.specs.declared.views.WorkerToken.{WorkerToken}
 use Rattle.mw_rule.specs.declared.views.View.{View}
-use Rattle.mw_rule.specs.Steps.{LearnsFirstStep, ExtendsView, LearnsPlainLoad, MayCome, LearnsMeeting, NotesAs, LearnsStep, comes, finished_as, settled, stepped, actor_after}
+use Rattle.mw_rule.specs.Steps.{LearnsFirstStep, ExtendsView, LearnsPlainLoad, MayCome, LearnsMeeting, AddsFinishedIf, LearnsStep, comes, finished_as, settled, stepped, actor_after}
 use Rattle.mw_rule.specs.KnownRuns.{KnownRun}
 use Rattle.mw_rule.specs.Splits.{without_file, takes_files, knows, token_of}
 use Rattle.mw_rule.specs.FileCalls.{Starts, LearnsFileCall, after_call}
@@ -32,7 +32,7 @@ pub record Serves (first now : View) (token : WorkerToken) (actor : ActorState) 
   pub keeps : ExtendsView first now
   pub right : IsRight now
   pub begun : length (seen_at first.seen actor.tenant) ≤ token.begun
-  pub noted : NotesAs token actor.tenant (length (seen_at first.seen actor.tenant)) actor.job (replied actor) first.mine now.mine
+  pub noted : AddsFinishedIf token actor.tenant (length (seen_at first.seen actor.tenant)) actor.job (replied actor) first.mine now.mine
 
 -- The request was answered with this reply. It is the one request that was added to the finished ones. The reply is
 -- right at its position among the changes that the thread has seen, which is at least what the thread had seen at

@@ -33,7 +33,7 @@ use Rattle.mw_rule.specs.RunEvents.{StepsOn, events_loaded, events_of, starts_by
 use Rattle.mw_rule.specs.KnownRuns.{known_run_of}
 use Rattle.mw_rule.specs.FileCalls.{Calls, Loaded, LearnsFileCall, broken_so, fails, filed_so, place_held}
 use Rattle.mw_rule.specs.Layout.{index_of}
-use Rattle.mw_rule.specs.Rule.{Fits, IsLive, IsRunOf, Tied}
+use Rattle.mw_rule.specs.Rule.{Fits, IsLive, IsRunOf, TableInvariant}
 use Rattle.mw_rule.specs.Ways.{finds, made_of_bits}
 
 -- What a thread with this view may do to a word. `Steps`: a step of the request that it carries. `Comes`: the first
@@ -153,35 +153,35 @@ AddsNoEvent index bits old new = WentOnAt index bits bits [] old new
 module _ (config : Config) (begun : (ℕ → TenantStart) → List WorldEvent → Type 0) where
   -- In every table under the rule, each of the thread's actions extends the table's run by the action's events.
   abbrev pub ActionsExtendRuns : Type 0
-  ActionsExtendRuns = (id : ℕ) (view : View) (move : WordAction view) (make : ℕ → ℕ) → ((bits : ℕ) → make bits ≡ bits_left view move bits) → (s : Table ActorState View) (tied : Tied config begun s)
+  ActionsExtendRuns = (id : ℕ) (view : View) (move : WordAction view) (make : ℕ → ℕ) → ((bits : ℕ) → make bits ≡ bits_left view move bits) → (s : Table ActorState View) (tied : TableInvariant config begun s)
       → get_elem? s.views id ≡ some view → StepsOn config begun s tied id (index_by config view move) make (events_by view move) (told_by view move)
 
   -- The rule allows each action. What the thread knows then is true after a run that is extended by the action's events.
   abbrev pub ActionsAreAllowed : Type 0
   ActionsAreAllowed = (slots id : ℕ) (me : Me ActorState View) (move : WordAction me.0) (make : ℕ → ℕ) → ((bits : ℕ) → make bits ≡ bits_left me.0 move bits)
-      → Allows (Tied config begun) slots id me (index_by config me.0 move) make (λ bits next. told_by me.0 move bits next.0 × WentOn (events_by me.0 move bits) me.0 next.0)
+      → Allows (TableInvariant config begun) slots id me (index_by config me.0 move) make (λ bits next. told_by me.0 move bits next.0 × WentOn (events_by me.0 move bits) me.0 next.0)
 
   -- And over these events the action's word changes from the bits that were found to the bits that are left.
   abbrev pub ActionsChangeWords : Type 0
   ActionsChangeWords = (slots id : ℕ) (me : Me ActorState View) (move : WordAction me.0) (make : ℕ → ℕ) → ((bits : ℕ) → make bits ≡ bits_left me.0 move bits)
-      → Allows (Tied config begun) slots id me (index_by config me.0 move) make (λ bits next. told_by me.0 move bits next.0
+      → Allows (TableInvariant config begun) slots id me (index_by config me.0 move) make (λ bits next. told_by me.0 move bits next.0
       × WentOnAt (index_by config me.0 move) bits (bits_left me.0 move bits) (events_by me.0 move bits) me.0 next.0)
 
   -- The rule allows each step of a request, and the step extends a run by its own events.
   abbrev pub StepsAreEvents : Type 0
   StepsAreEvents = (slots id worker : ℕ) (me : Me ActorState View) (op : Op) (make : ℕ → ℕ) (got : ℕ → Got) → IsNextStep me.0 worker op → ((bits : ℕ) → make bits ≡ made_of_bits op bits)
       → ((bits : ℕ) → got bits ≡ finds op bits)
-      → Allows (Tied config begun) slots id me (index_of config.pool (place_of op)) make (λ bits next. LearnsStep (got bits) me.0 next.0 × AddsStepEvent (got bits) me.0 next.0)
+      → Allows (TableInvariant config begun) slots id me (index_of config.pool (place_of op)) make (λ bits next. LearnsStep (got bits) me.0 next.0 × AddsStepEvent (got bits) me.0 next.0)
 
   -- The same for a request's first step.
   abbrev pub FirstStepsAreEvents : Type 0
   FirstStepsAreEvents = (slots id worker : ℕ) (me : Me ActorState View) (actor : ActorState) (make : ℕ → ℕ) → MayCome me.0 worker actor → ((bits : ℕ) → make bits ≡ bits)
-      → Allows (Tied config begun) slots id me (index_of config.pool (AtDoor actor.tenant)) make (λ bits next. LearnsFirstStep actor (Bits bits) me.0 next.0 × AddsFirstStepEvents actor (Bits bits) me.0 next.0)
+      → Allows (TableInvariant config begun) slots id me (index_of config.pool (AtDoor actor.tenant)) make (λ bits next. LearnsFirstStep actor (Bits bits) me.0 next.0 × AddsFirstStepEvents actor (Bits bits) me.0 next.0)
 
   -- The same for a load that is no step, which adds no event.
   abbrev pub PlainLoadsAreNoEvents : Type 0
   PlainLoadsAreNoEvents = (slots id index : ℕ) (me : Me ActorState View) (make : ℕ → ℕ) → IsLive me.0 → ((bits : ℕ) → make bits ≡ bits)
-      → Allows (Tied config begun) slots id me index make (λ bits next. LearnsPlainLoad index bits me.0 next.0 × AddsNoEvent index bits me.0 next.0)
+      → Allows (TableInvariant config begun) slots id me index make (λ bits next. LearnsPlainLoad index bits me.0 next.0 × AddsNoEvent index bits me.0 next.0)
 
 -- The thread says which of the call's device calls failed: if a run can be extended with one of them, it can with any other.
 abbrev pub AnyNumberFails : Type 0

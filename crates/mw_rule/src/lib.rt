@@ -29,7 +29,7 @@ pub use laws::{
     moves_are_of_the_run, places_stand_apart, steps_keep_the_rule, tables_start_under_the_rule,
     the_run_goes_on, what_is_known_is_parted,
 };
-pub use rule::{Begins, Deals, GivesFile, Learns, Meets, Merges, Notes, TakesFiles, Tie};
+pub use rule::{Begins, Deals, GivesFile, Learns, Meets, Merges, Notes, TakesFiles, WorldRule};
 pub use views::{
     Finding, Finished, FoundStatus, HeldFile, KnownRun, KnownStart, PlainLoad, Sealed, View,
     WorkerEvent, WorkerToken,

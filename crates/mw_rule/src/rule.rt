@@ -8,7 +8,7 @@ ghost use Rattle.mw_world.specs.declared.config.Config.{Config};
 ghost use Rattle.mw_world.specs.Definition.Events.{WorldEvent};
 ghost use Rattle.mw_world.specs.Definition.State.{TenantStart};
 ghost use Rattle.mw_rule.specs.Splits.{without_file, takes_files, dealt, with_file_given, merges, learns, left_over, meets, note, spent};
-ghost use Rattle.mw_rule.specs.Rule.{Tied};
+ghost use Rattle.mw_rule.specs.Rule.{TableInvariant};
 ghost use Rattle.mw_rule.specs.declared.views.View.{View};
 
 use crate::views::View;
@@ -28,10 +28,10 @@ pub trait Begins {
 }
 
 /// The rule of the table: the words and what the threads know are those of the world after some run.
-pub struct Tie;
+pub struct WorldRule;
 
-impl<B: Begins> TableRule<Actor, View, B> for Tie {
-    ghost holds = { λ key. Tied (B.config key) (B.begun key) };
+impl<B: Begins> TableRule<Actor, View, B> for WorldRule {
+    ghost holds = { λ key. TableInvariant (B.config key) (B.begun key) };
 
     ghost first = { λ key. B.first key };
 }

@@ -20,7 +20,7 @@ use Rattle.mw_rule.specs.FromLaws.{after_marks, first_abstract_state}
 use Rattle.mw_rule.specs.Steps.{IsReadyAt, IsReadyFor}
 use Rattle.mw_rule.specs.Splits.{maker}
 use Rattle.mw_rule.specs.Layout.{words_of}
-use Rattle.mw_rule.specs.Rule.{Tied}
+use Rattle.mw_rule.specs.Rule.{TableInvariant}
 use Rattle.mw_rule.specs.Prefixes.{Gave, opening_at}
 use Rattle.mw_rule.proofs.SplitLaws.{starts}
 use Rattle.mw_table.specs.declared.new_table.PassState.{PassState}
@@ -86,7 +86,7 @@ gave_so config lasts worker_states before led one_each tenant low = by_last (sli
 
 -- the rule holds of the new table
 pub first_table : (config : Config) (lasts : List LastStart) (worker_states : List WorkerState) (words : List ℕ) → IsConfig config → length lasts ≡ tenants_of config → length words ≡ words_of config
-    → AreAfterRun config lasts worker_states words → Tied config (LedTo config lasts worker_states) (opening {S = ActorState} words [] (maker config (openings_from config 0 lasts) None (worker_state_at worker_states) []))
+    → AreAfterRun config lasts worker_states words → TableInvariant config (LedTo config lasts worker_states) (opening {S = ActorState} words [] (maker config (openings_from config 0 lasts) None (worker_state_at worker_states) []))
 first_table config lasts worker_states words made one_each long run =
     let led = run.led in
     starts config (LedTo config lasts worker_states) (first_openings config) run.before led.state (openings_from config 0 lasts) None (worker_state_at worker_states) [] words led tt

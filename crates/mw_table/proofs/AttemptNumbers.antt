@@ -27,7 +27,7 @@ use Rattle.mw_rule.specs.declared.views.View.{View}
 use Rattle.mw_rule.specs.Steps.{IsNextStep, LearnsStep, told}
 use Rattle.mw_rule.specs.Layout.{index_of}
 use Rattle.mw_rule.specs.WordActions.{AddsStepEvent}
-use Rattle.mw_rule.specs.Rule.{Each, Holds, IsLive, Tied}
+use Rattle.mw_rule.specs.Rule.{Each, Holds, IsLive, TableInvariant}
 use Rattle.mw_rule.specs.Ways.{finds, made_of_bits}
 use Rattle.mw_rule.proofs.ViewAfterStep.{live_fits}
 use Rattle.mw_table.specs.declared.shared.Pass.{Pass}
@@ -61,7 +61,7 @@ each_numbered config openings state events sound (one ∷ rest) hold = (
 )
 
 -- and of each request that a thread carries
-numbered_so : (config : Config) (begun : (ℕ → TenantStart) → List WorldEvent → Type 0) (s : Table ActorState View) (id : ℕ) (view : View) → IsLive view → Tied config begun s
+numbered_so : (config : Config) (begun : (ℕ → TenantStart) → List WorldEvent → Type 0) (s : Table ActorState View) (id : ℕ) (view : View) → IsLive view → TableInvariant config begun s
     → get_elem? s.views id ≡ some view → AreNumbered view
 numbered_so config begun s id view lives tied at =
     let openings = tied.past.openings in

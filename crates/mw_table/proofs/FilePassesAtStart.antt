@@ -80,15 +80,15 @@ by_index_more P [] one all so (suc k) x is = absurd (cc)
 by_index_more P (first ∷ rest) one all so zero x is = all zero x is
 by_index_more P (first ∷ rest) one all so (suc k) x is = by_index_more (λ j. P (suc j)) rest one (λ j. all (suc j)) so k x is
 
-pub more_opened : (shared : Shared) (basis : Basis) (old new : List FilePass) (right : FilePass) (tenant : ℕ) → new ≡ old ++ right ∷ [] → length old ≡ tenant
-    → ((k : ℕ) (one : FilePass) → slice_get old k ≡ Some one → IsOpened shared basis k one) → IsOpened shared basis tenant right
+pub more_opened : (shared : Shared) (basis : Basis) (old new : List FilePass) (file_pass : FilePass) (tenant : ℕ) → new ≡ old ++ file_pass ∷ [] → length old ≡ tenant
+    → ((k : ℕ) (one : FilePass) → slice_get old k ≡ Some one → IsOpened shared basis k one) → IsOpened shared basis tenant file_pass
     → (k : ℕ) (one : FilePass) → slice_get new k ≡ Some one → IsOpened shared basis k one
-more_opened shared basis old new right tenant is many all own =
+more_opened shared basis old new file_pass tenant is many all own =
     subst (λ (file_passes : List FilePass). (k : ℕ) (one : FilePass) → slice_get file_passes k ≡ Some one → IsOpened shared basis k one) (sym is)
-    (by_index_more (IsOpened shared basis) old right all (subst (λ (k : ℕ). IsOpened shared basis k right) (sym many) own))
+    (by_index_more (IsOpened shared basis) old file_pass all (subst (λ (k : ℕ). IsOpened shared basis k file_pass) (sym many) own))
 
-pub one_more_right : (old new : List FilePass) (right : FilePass) (count : ℕ) → new ≡ old ++ right ∷ [] → length old ≡ count → length new ≡ count + 1
-one_more_right old new right count is many = omega (arith, ap length is, length-append old (right ∷ []), many)
+pub one_more_file_pass : (old new : List FilePass) (file_pass : FilePass) (count : ℕ) → new ≡ old ++ file_pass ∷ [] → length old ≡ count → length new ≡ count + 1
+one_more_file_pass old new file_pass count is many = omega (arith, ap length is, length-append old (file_pass ∷ []), many)
 
 pub files_left_live : (basis : Basis) (tenants tenant : ℕ) (me : Me ActorState View) → me ≡ files_from basis tenants tenant → IsLive me.0
 files_left_live basis tenants tenant me left = inl (ap (λ (one : Me ActorState View). one.0.is_spent) left)

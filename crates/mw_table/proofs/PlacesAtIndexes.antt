@@ -9,7 +9,7 @@ use Rattle.mw_world.specs.Definition.Cells.{Cells, read}
 use Rattle.mw_world.specs.Definition.Extent.{has_place}
 use Rattle.mw_world.specs.Definition.State.{IsConfig}
 use Rattle.mw_rule.specs.Layout.{index_of, words_of}
-use Rattle.mw_rule.specs.Rule.{Ties}
+use Rattle.mw_rule.specs.Rule.{BitsMatch}
 use Rattle.mw_table.specs.Places.{IsAt, place_at}
 use Rattle.mw_table.proofs.WordsAtPlaces.{finds_place}
 use Rattle.mw_rule.proofs.Layouts.{places_in_table, places_within}
@@ -26,5 +26,5 @@ pub none_is : (config : Config) (cells : Cells) (index bits : ℕ) (place : At) 
 none_is config cells index bits place made is gone at there here =
     let same : has_place config place ≡ has_place config at = ap (has_place config) (same_place config index place at made is there here) in absurd (cc)
 
-pub ties_so : (config : Config) (cells : Cells) (words : List ℕ) → IsConfig config → ((k : ℕ) → k < words_of config → IsAt config cells k (slice_index words k)) → Ties config cells words
+pub ties_so : (config : Config) (cells : Cells) (words : List ℕ) → IsConfig config → ((k : ℕ) → k < words_of config → IsAt config cells k (slice_index words k)) → BitsMatch config cells words
 ties_so config cells words made placed at there = placed (index_of config.pool at) (places_in_table config at made there) at there refl

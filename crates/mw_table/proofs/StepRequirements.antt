@@ -20,7 +20,7 @@ use Rattle.mw_rule.specs.declared.views.View.{View}
 use Rattle.mw_rule.specs.Steps.{LearnsFirstStep, IsNextStep, LearnsPlainLoad, MayCome, LearnsStep}
 use Rattle.mw_rule.specs.Layout.{index_of}
 use Rattle.mw_rule.specs.WordActions.{AddsFirstStepEvents, AddsNoEvent, AddsStepEvent}
-use Rattle.mw_rule.specs.Rule.{IsLive, Tied}
+use Rattle.mw_rule.specs.Rule.{IsLive, TableInvariant}
 use Rattle.mw_rule.specs.Ways.{finds, made_of_bits}
 use Rattle.mw_table.specs.declared.shared.Pass.{Pass}
 use Rattle.mw_table.specs.declared.shared.Shared.{Shared}
@@ -32,7 +32,7 @@ use Rattle.mw_rule.proofs.Layouts.{places_in_table}
 
 -- the rule of a table
 abbrev pub rule_of : Shared → Table ActorState View → Type 0
-rule_of shared = Tied (config_of shared.table.shared.key) (begun_of shared.table.shared.key)
+rule_of shared = TableInvariant (config_of shared.table.shared.key) (begun_of shared.table.shared.key)
 
 -- what the table requires of a step
 abbrev pub Asks : Shared → Pass → ℕ → (ℕ → ℕ) → (ℕ → Me ActorState View → Type 0) → Type 0

@@ -11,7 +11,7 @@ use Rattle.mw_world.specs.declared.config.Tenant.{Tenant}
 use Rattle.mw_world.specs.Definition.State.{IsConfig, IsStart, TenantStart, idle_worker_state, tenants_of, words_given}
 use Rattle.mw_rule.specs.Splits.{maker}
 use Rattle.mw_rule.specs.Layout.{words_of}
-use Rattle.mw_rule.specs.Rule.{Tied, Ties}
+use Rattle.mw_rule.specs.Rule.{TableInvariant, BitsMatch}
 use Rattle.mw_rule.specs.Prefixes.{opening_at}
 use Rattle.mw_rule.proofs.KnownRunLaws.{stays}
 use Rattle.mw_rule.proofs.SplitLaws.{starts}
@@ -46,8 +46,8 @@ value_so (first ∷ tenants) (one ∷ found) (suc tenant) address long = value_s
 
 -- the rule holds of the new table
 pub fresh_table : (config : Config) (found : List FileOpening) (words : List ℕ) → IsConfig config → IsStart config (start_given config found) → length words ≡ words_of config
-    → Ties config (world_given config found).cells words
-    → Tied config (StartedWith config found) (opening {S = ActorState} words [] (maker config (openings_given config.tenants.items found) (basis_of_start config found).known_run (λ worker. idle_worker_state) (basis_of_start config found).files))
+    → BitsMatch config (world_given config found).cells words
+    → TableInvariant config (StartedWith config found) (opening {S = ActorState} words [] (maker config (openings_given config.tenants.items found) (basis_of_start config found).known_run (λ worker. idle_worker_state) (basis_of_start config found).files))
 fresh_table config found words made start long ties =
     starts config (StartedWith config found) (start_given config found) [] (world_given config found) (openings_given config.tenants.items found) (basis_of_start config found).known_run (λ worker. idle_worker_state) (basis_of_start config found).files words
     (record { given = refl; nothing = refl }) (stays (basis_of_start config found).known_run) (record { made = made; starts = start; runs = refl }) (λ tenant low. record { quota = refl; places = refl; words = refl; is_up = refl }) (λ worker low. refl)

@@ -38,11 +38,11 @@ has_file_so view (held ∷ []) tenant are its idle = record { held = held; only 
 has_file_so view (held ∷ other ∷ rest) tenant are its idle = absurd (cc)
 
 -- what a file pass knows
-pub right_has : (right : FilePass) → HasFile right.seat.me.0 right.tenant
-right_has right = has_file_so right.seat.me.0 right.seat.me.0.files right.tenant refl right.its right.idle
+pub file_pass_has : (file_pass : FilePass) → HasFile file_pass.seat.me.0 file_pass.tenant
+file_pass_has file_pass = has_file_so file_pass.seat.me.0 file_pass.seat.me.0.files file_pass.tenant refl file_pass.its file_pass.idle
 
-pub right_lives : (right : FilePass) → IsLive right.seat.me.0
-right_lives right = inl right.live
+pub file_pass_lives : (file_pass : FilePass) → IsLive file_pass.seat.me.0
+file_pass_lives file_pass = inl file_pass.live
 
 -- the pass that took a file has it
 pub taken_has : (view its : View) (tenant : ℕ) → view.files ≡ [] → HasFile its tenant → HasFile (takes_files view its) tenant
@@ -64,25 +64,25 @@ given_file [] = refl
 given_file (held ∷ rest) = refl
 
 -- what a file pass knows is this, of its tenant's file
-pub right_is : (right : FilePass) → right.seat.me.0.files ≡ record { file = file_kept right; found = None } ∷ []
-right_is right =
-    let has = right_has right in
+pub file_pass_is : (file_pass : FilePass) → file_pass.seat.me.0.files ≡ record { file = file_kept file_pass; found = None } ∷ []
+file_pass_is file_pass =
+    let has = file_pass_has file_pass in
     has.only ∙ ap (λ (held : HeldFile). held ∷ []) (λ i. record { file = sym (ap file_among has.only) i; found = has.idle i })
 
-pub right_its : (right : FilePass) → (file_kept right).tenant ≡ right.tenant
-right_its right = let has = right_has right in ap (λ (files : List HeldFile). (file_among files).tenant) has.only ∙ has.its
+pub file_pass_its : (file_pass : FilePass) → (file_kept file_pass).tenant ≡ file_pass.tenant
+file_pass_its file_pass = let has = file_pass_has file_pass in ap (λ (files : List HeldFile). (file_among files).tenant) has.only ∙ has.its
 
 -- what a file pass from a start knows
-pub opened_kept : (shared : Shared) (basis : Basis) (tenant : ℕ) (right : FilePass) → IsOpened shared basis tenant right → file_kept right ≡ (held_given basis.config.pool basis.openings tenant).file
-opened_kept shared basis tenant right opened = ap (λ (view : View). file_among view.files) opened.view
+pub opened_kept : (shared : Shared) (basis : Basis) (tenant : ℕ) (file_pass : FilePass) → IsOpened shared basis tenant file_pass → file_kept file_pass ≡ (held_given basis.config.pool basis.openings tenant).file
+opened_kept shared basis tenant file_pass opened = ap (λ (view : View). file_among view.files) opened.view
 
 -- What a file pass knows is true of a world, by a run that is extended by no event.
-pub so_of_world : (config : Config) (given : List TenantStart) (right : FilePass) (new : View) → right.seat.me.0.config ≡ config → right.seat.me.0.openings ≡ given → WentOn [] right.seat.me.0 new
-    → IsSoOfWorld config given right.seat.me.0.known_run right.tenant (file_kept right)
-so_of_world config given right new same also went =
-    let view = right.seat.me.0 in
-    let holds = subst (λ (files : List HeldFile). Each (HoldsFile view.config went.state) files) (right_is right) went.knew.files in
-    let so : IsSoOfWorld view.config view.openings view.known_run (file_kept right).tenant (file_kept right) = record {
+pub so_of_world : (config : Config) (given : List TenantStart) (file_pass : FilePass) (new : View) → file_pass.seat.me.0.config ≡ config → file_pass.seat.me.0.openings ≡ given → WentOn [] file_pass.seat.me.0 new
+    → IsSoOfWorld config given file_pass.seat.me.0.known_run file_pass.tenant (file_kept file_pass)
+so_of_world config given file_pass new same also went =
+    let view = file_pass.seat.me.0 in
+    let holds = subst (λ (files : List HeldFile). Each (HoldsFile view.config went.state) files) (file_pass_is file_pass) went.knew.files in
+    let so : IsSoOfWorld view.config view.openings view.known_run (file_kept file_pass).tenant (file_kept file_pass) = record {
       openings = went.openings;
       before = went.before;
       events = went.events;
@@ -93,6 +93,6 @@ so_of_world config given right new same also went =
       there = holds.0.there;
       tells = holds.0.tells;
     } in
-    subst (λ (c : Config). IsSoOfWorld c given view.known_run right.tenant (file_kept right)) same
-    (subst (λ (all : List TenantStart). IsSoOfWorld view.config all view.known_run right.tenant (file_kept right)) also
-    (subst (λ (n : ℕ). IsSoOfWorld view.config view.openings view.known_run n (file_kept right)) (right_its right) so))
+    subst (λ (c : Config). IsSoOfWorld c given view.known_run file_pass.tenant (file_kept file_pass)) same
+    (subst (λ (all : List TenantStart). IsSoOfWorld view.config all view.known_run file_pass.tenant (file_kept file_pass)) also
+    (subst (λ (n : ℕ). IsSoOfWorld view.config view.openings view.known_run n (file_kept file_pass)) (file_pass_its file_pass) so))

@@ -28,14 +28,14 @@ use Rattle.mw_table.specs.HeldFiles.{file_among}
 use Rattle.mw_table.specs.Origins.{config_of, openings_of}
 
 -- The file pass is one of this table, and knows what its world is made of and what the latest start gave.
-pub record IsRightOf (shared : Shared) (right : FilePass) : Type 0 where
-  pub table : right.seat.table_id ≡ shared.table.shared.table_id
-  pub config : right.seat.me.0.config ≡ config_of shared.table.shared.key
-  pub openings : right.seat.me.0.openings ≡ openings_of shared.table.shared.key
+pub record IsFilePassOf (shared : Shared) (file_pass : FilePass) : Type 0 where
+  pub table : file_pass.seat.table_id ≡ shared.table.shared.table_id
+  pub config : file_pass.seat.me.0.config ≡ config_of shared.table.shared.key
+  pub openings : file_pass.seat.me.0.openings ≡ openings_of shared.table.shared.key
 
 -- what is known of the file by whoever has its pass
 abbrev pub file_kept : FilePass → FileToken
-file_kept right = file_among right.seat.me.0.files
+file_kept file_pass = file_among file_pass.seat.me.0.files
 
 -- What is known of a tenant's file is true in a world of this configuration, after some run. That run's latest start
 -- gave the tenants this, and the run extends the one that was known, if one was.

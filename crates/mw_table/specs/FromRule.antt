@@ -1,7 +1,7 @@
 -- Definitions of mw_rule that crates above need too, passed on so that they name this crate alone.
 -- Used by: mw_core, whose `specs/FromTable` passes some on. Add and take out names as these crates need them.
 pub use Rattle.mw_rule.specs.WholeCalls.{Answered, Serves}
-pub use Rattle.mw_rule.specs.Steps.{LearnsFirstStep, FindsWayAt, ExtendsWithLearned, HasToken, IsFound, IsReady, IsReadyAt, IsReadyFor, ExtendsView, LearnsPlainLoad, MayCome, LearnsMeeting, NotesAs, LearnsStep, comes, finished_as, settled, settled_as, stepped, told, actor_after}
+pub use Rattle.mw_rule.specs.Steps.{LearnsFirstStep, FindsWayAt, ExtendsWithLearned, HasToken, IsFound, IsReady, IsReadyAt, IsReadyFor, ExtendsView, LearnsPlainLoad, MayCome, LearnsMeeting, AddsFinishedIf, LearnsStep, comes, finished_as, settled, settled_as, stepped, told, actor_after}
 pub use Rattle.mw_rule.specs.RunEvents.{events_loaded, starts_by}
 pub use Rattle.mw_rule.specs.KnownRuns.{KnownRun, ExtendsKnownRun, known_run_of}
 pub use Rattle.mw_rule.specs.Splits.{without_file, takes_files, with_file_given, first_held, other_held, token_of}

@@ -8,7 +8,7 @@ use Rattle.mw_world.specs.Definition.Events.{WorldEvent}
 use Rattle.mw_world.specs.Definition.State.{TenantState, TenantStart, WorkerState, State, first_openings, idle_worker_state, new_world}
 use Rattle.mw_world.specs.Definition.World.{run}
 use Rattle.mw_rule.specs.FromLaws.{after_marks, first_abstract_state}
-use Rattle.mw_rule.specs.Rule.{Ties}
+use Rattle.mw_rule.specs.Rule.{BitsMatch}
 use Rattle.mw_table.specs.declared.origin.TenantSoFar.{TenantSoFar}
 use Rattle.mw_table.specs.declared.origin.WorkerSoFar.{WorkerSoFar}
 use Rattle.mw_table.specs.Basis.{Basis}
@@ -76,4 +76,4 @@ pub record LedTo (config : Config) (lasts : List LastStart) (worker_states : Lis
 pub record AreAfterRun (config : Config) (lasts : List LastStart) (worker_states : List WorkerState) (words : List ℕ) : Type 0 where
   pub before : List WorldEvent
   pub led : LedTo config lasts worker_states (first_openings config) before
-  pub ties : Ties config led.state.cells words
+  pub ties : BitsMatch config led.state.cells words

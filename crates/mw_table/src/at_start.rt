@@ -7,7 +7,7 @@ ghost use Rattle.mw_look.specs.Places.{pack};
 ghost use Rattle.mw_world.specs.Definition.Cells.{read};
 ghost use Rattle.mw_world.specs.Definition.State.{IsConfig, IsStart, idle_worker_state, tenants_of};
 ghost use Rattle.mw_rule.specs.Layout.{words_of};
-ghost use Rattle.mw_rule.specs.Rule.{Ties};
+ghost use Rattle.mw_rule.specs.Rule.{BitsMatch};
 ghost use Rattle.mw_table.specs.NewPasses.{ArePassStates, AreInOrder, IsDealt};
 ghost use Rattle.mw_table.specs.TableAtStart.{basis_of_start, door_given, start_given, value_given, word_given, world_given};
 ghost use Rattle.mw_table.specs.NewFilePasses.{AreOpened};
@@ -80,7 +80,7 @@ fn words_at_start(
     requires config { IsConfig config.now }
     requires one_each { length openings.now ≡ tenants_of config.now }
     ensures long { IfOk result (λ words. length words.items ≡ words_of config.now) }
-    ensures ties { IfOk result (λ words. Ties config.now (world_given config.now openings.now).cells words.items) }
+    ensures ties { IfOk result (λ words. BitsMatch config.now (world_given config.now openings.now).cells words.items) }
 {
     let past = At::Data {
         tenant: config.tenants.len() as u8,

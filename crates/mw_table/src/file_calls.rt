@@ -6,7 +6,7 @@ ghost use Rattle.std.specs.Prelude.{◌≡◌, []};
 ghost use Rattle.mw_rule.specs.Splits.{without_file, takes_files, with_file_given};
 ghost use Rattle.mw_rule.specs.Steps.{LearnsPlainLoad};
 ghost use Rattle.mw_rule.specs.WordActions.{WentOn};
-ghost use Rattle.mw_table.specs.FileCalls.{IsFree, IsRightOf, IsSoOfWorld, file_kept};
+ghost use Rattle.mw_table.specs.FileCalls.{IsFree, IsFilePassOf, IsSoOfWorld, file_kept};
 ghost use Rattle.mw_table.specs.HeldFiles.{HasFile, file_among};
 ghost use Rattle.mw_table.specs.Meet.{IsSamePass};
 ghost use Rattle.mw_table.specs.Origins.{config_of, openings_of};
@@ -38,18 +38,18 @@ impl FilePass {
 impl Shared {
     /// Takes a file for a call. The pass must have none, and gives this one back after the call. That is no step of a
     /// request.
-    pub fn take(&self, pass: &mut Pass, right: FilePass)
+    pub fn take(&self, pass: &mut Pass, file_pass: FilePass)
         requires own { IsOf self.now pass.old }
-        requires right { IsRightOf self.now right }
+        requires file_pass { IsFilePassOf self.now file_pass }
         requires free { IsFree pass.old }
         ensures own { IsOf self.now pass.new }
         ensures same { IsSamePass pass.old pass.new }
-        ensures took { pass.new.seat.me.0 ≡ takes_files pass.old.seat.me.0 right.seat.me.0 }
-        ensures has { HasFile pass.new.seat.me.0 right.tenant }
+        ensures took { pass.new.seat.me.0 ≡ takes_files pass.old.seat.me.0 file_pass.seat.me.0 }
+        ensures has { HasFile pass.new.seat.me.0 file_pass.tenant }
     {
         self.table
             .shared
-            .join_seat::<TakesFiles>(&mut pass.seat, right.seat);
+            .join_seat::<TakesFiles>(&mut pass.seat, file_pass.seat);
     }
 
     /// Gives this tenant's file back, with what is known of the file by now. The pass has no file then. That is no
@@ -61,7 +61,7 @@ impl Shared {
         ensures same { IsSamePass pass.old pass.new }
         ensures left { pass.new.seat.me.0 ≡ without_file pass.old.seat.me.0 }
         ensures free { IsFree pass.new }
-        ensures right { IsRightOf self.now result }
+        ensures file_pass { IsFilePassOf self.now result }
         ensures whose { result.tenant ≡ tenant }
         ensures is { result.seat.me.0 ≡ with_file_given pass.old.seat.me.0 }
         ensures file { file_kept result ≡ file_among pass.old.seat.me.0.files }
@@ -73,14 +73,14 @@ impl Shared {
     /// Confirms what is known of a file that nobody calls, and gives up its pass: it is true in a world of the table,
     /// after a run that extends the one known with the file. It loads a word to find that, which is no step of a
     /// request.
-    pub fn confirm(&self, right: FilePass)
-        requires right { IsRightOf self.now right }
-        ensures { IsSoOfWorld (config_of self.now.table.shared.key) (openings_of self.now.table.shared.key) right.seat.me.0.known_run right.tenant (file_kept right) }
+    pub fn confirm(&self, file_pass: FilePass)
+        requires file_pass { IsFilePassOf self.now file_pass }
+        ensures { IsSoOfWorld (config_of self.now.table.shared.key) (openings_of self.now.table.shared.key) file_pass.seat.me.0.known_run file_pass.tenant (file_kept file_pass) }
     {
         let FilePass {
             mut seat,
             tenant: _,
-        } = right;
+        } = file_pass;
         self.table.shared.load::<Confirms>(&mut seat, 0);
     }
 }

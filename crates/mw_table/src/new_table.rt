@@ -7,7 +7,7 @@ ghost use Rattle.mw_actor.specs.ActorState.{ActorState};
 ghost use Rattle.atomic_table.specs.Table.{opening};
 ghost use Rattle.mw_world.specs.Definition.State.{IsConfig, tenants_of};
 ghost use Rattle.mw_rule.specs.Steps.{IsReadyFor};
-ghost use Rattle.mw_rule.specs.Rule.{Tied};
+ghost use Rattle.mw_rule.specs.Rule.{TableInvariant};
 ghost use Rattle.mw_table.specs.NewPasses.{ArePassStates, AreInOrder, IsDealt, left_of};
 ghost use Rattle.mw_table.specs.TableAtStart.{held_from};
 ghost use Rattle.mw_table.specs.NewFilePasses.{AreOpened};
@@ -43,7 +43,7 @@ impl Shared {
     ) -> Result<(Shared, Vec<Pass>, Seat<Actor, View>), AllocError>
         requires made { IsConfig config.now }
         requires config { config.now ≡ config_of origin.now }
-        requires tied { Tied (config_of origin.now) (begun_of origin.now) (opening {S = ActorState} words.now [] (first_of origin.now)) }
+        requires tied { TableInvariant (config_of origin.now) (begun_of origin.now) (opening {S = ActorState} words.now [] (first_of origin.now)) }
         requires pass_states { ArePassStates (basis_of origin.now).worker_states config.now.workers pass_states.now }
         requires ready { (worker : ℕ) → worker < config.now.workers → IsReadyFor config.now ((basis_of origin.now).worker_states worker).actor }
         ensures table { IfOk result (λ made. made.0.table.shared.key ≡ origin.now) }

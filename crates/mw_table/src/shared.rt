@@ -12,14 +12,14 @@ ghost use Rattle.mw_table.specs.Idleness.{IsIdle};
 use crate::origin::Origin;
 use atomic_table::{Seat, Table};
 use mw_actor::Actor;
-use mw_rule::{Tie, View};
+use mw_rule::{View, WorldRule};
 use std::alloc::Global;
 
 /// The shared words: a door for each tenant, a row for each worker, the words of each slot, and the tenants' words.
 /// Threads share it by reference.
 #[derive(Drop)]
 pub struct Shared {
-    pub(crate) table: Table<Actor, View, Origin, Tie, Global>,
+    pub(crate) table: Table<Actor, View, Origin, WorldRule, Global>,
     pub(crate) pool: u16,
     ghost pool_is: { pool ≡ (config_of table.shared.key).pool },
     ghost made: { IsConfig (config_of table.shared.key) },

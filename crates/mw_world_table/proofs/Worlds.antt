@@ -7,7 +7,7 @@ use Rattle.std.proofs.lemmas.Option.{slice_get_cases}
 use Rattle.mw_actor.specs.ActorState.{ActorState}
 use Rattle.mw_world.specs.Definition.Events.{WorldEvent}
 use Rattle.mw_world.specs.Definition.State.{TenantState, WorkerState, State, idle_worker_state}
-use Rattle.mw_rule.specs.Rule.{Ties}
+use Rattle.mw_rule.specs.Rule.{BitsMatch}
 use Rattle.mw_simulator.specs.FromMemory.{TenantState as TenantStateInMemory, WorkerState as WorkerStateInMemory, worker_state_of}
 use Rattle.mw_simulator.specs.declared.world.World.{World}
 use Rattle.mw_simulator.specs.Events.{IsAfterRun}
@@ -58,7 +58,7 @@ told_so (one ∷ tenant_states) zero last tenant_state told is = subst (IsToldOf
 told_so (one ∷ tenant_states) (suc tenant) last tenant_state told is = told_so tenant_states tenant last tenant_state told is
 
 -- the run that led to the world led to what the table begins with
-pub after_run : (world : World) (before : List WorldEvent) (words : List ℕ) → IsAfterRun world before → ((state : State) → Represents world state → Ties world.config state.cells words)
+pub after_run : (world : World) (before : List WorldEvent) (words : List ℕ) → IsAfterRun world before → ((state : State) → Represents world state → BitsMatch world.config state.cells words)
     → AreAfterRun world.config (map last_start_of world.tenant_states.items) (map worker_state_of world.worker_states.items) words
 after_run world before words stands ties =
     let state = stands.state in

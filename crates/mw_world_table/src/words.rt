@@ -4,7 +4,7 @@
 ghost use Rattle.std.specs.Prelude.{◌≡◌, ◌<◌, IfOk, length};
 ghost use Rattle.mw_world.specs.Definition.State.{State};
 ghost use Rattle.mw_rule.specs.Layout as layout;
-ghost use Rattle.mw_rule.specs.Rule.{Ties};
+ghost use Rattle.mw_rule.specs.Rule.{BitsMatch};
 ghost use Rattle.mw_simulator.specs.Representation.{Represents};
 ghost use Rattle.mw_table.specs.Places.{IsAt};
 
@@ -17,7 +17,7 @@ use std::alloc::{AllocError, Global};
 /// Copies the bits of the table's words, by index. The only error is that memory is out.
 pub(crate) fn words_of(alloc: Global, world: &World) -> Result<Vec<u64>, AllocError>
     ensures long { IfOk result (λ words. length words.items ≡ layout.words_of world.now.config) }
-    ensures ties { IfOk result (λ words. (state : State) → Represents world.now state → Ties world.now.config state.cells words.items) }
+    ensures ties { IfOk result (λ words. (state : State) → Represents world.now state → BitsMatch world.now.config state.cells words.items) }
 {
     let config = world.config();
     let past = At::Data {

@@ -27,17 +27,17 @@ loop-book-init g c =
 
 pub invariant_of-kept : goal.invariant_of-kept
 invariant_of-kept g c =
-    let right = c.in-Some-next.right in
+    let file_pass = c.in-Some-next.file_pass in
     let also = c.next-in-loop-book.ensures.items ∙ ap (λ (found : Option FilePass). option_to_list found ++ into_iter_items c.next-in-loop-book.new.self) c.in-Some-next.is in
     record {
-      kept = keeps_some g.D.Disk.facts g.J.EngineBrand.identity c.in-Some.book right c.tenant-tenant.result
-          (first_kept g.D.Disk.facts g.J.EngineBrand.identity c.in-Some.book right (into_iter_items c.loop-book.book-iterator) (into_iter_items c.next.new.self) (into_iter_items c.loop-book.file_passes)
+      kept = keeps_some g.D.Disk.facts g.J.EngineBrand.identity c.in-Some.book file_pass c.tenant-tenant.result
+          (first_kept g.D.Disk.facts g.J.EngineBrand.identity c.in-Some.book file_pass (into_iter_items c.loop-book.book-iterator) (into_iter_items c.next.new.self) (into_iter_items c.loop-book.file_passes)
           (into_iter_items c.next-in-loop-book.new.self) c.in-Some.ensures.steps.0 also c.loop-book.invariant.kept) (sym c.tenant-tenant.ensures);
     }
 
 pub loop-book-preserved : goal.loop-book-preserved
 loop-book-preserved g c =
-    let right = c.in-Some-next.right in
+    let file_pass = c.in-Some-next.file_pass in
     let at = c.in-Some.ensures.steps.0 in
     let also = c.next-in-loop-book.ensures.items ∙ ap (λ (found : Option FilePass). option_to_list found ++ into_iter_items c.next-in-loop-book.new.self) c.in-Some-next.is in
     let inv = c.loop-book.invariant in
@@ -47,7 +47,7 @@ loop-book-preserved g c =
     let of_file_passes = ap length also in
     let more : length c.push.new.self.items ≡ length c.loop-book.made.items + 1 = ap length c.in_ok-push.ensures.items ∙ length-append c.loop-book.made.items (c.new.result ∷ []) in
     record {
-      kept = rest_kept g.D.Disk.facts g.J.EngineBrand.identity c.in-Some.book right (into_iter_items c.loop-book.book-iterator) (into_iter_items c.next.new.self) (into_iter_items c.loop-book.file_passes)
+      kept = rest_kept g.D.Disk.facts g.J.EngineBrand.identity c.in-Some.book file_pass (into_iter_items c.loop-book.book-iterator) (into_iter_items c.next.new.self) (into_iter_items c.loop-book.file_passes)
           (into_iter_items c.next-in-loop-book.new.self) at also inv.kept;
       even = omega (arith, even, of_books, of_file_passes);
       all = omega (arith, all, of_books, more);

@@ -3,7 +3,7 @@
 use Rattle.std.proofs.Common.{ℕ, List, ap, map, subst, sym, ◌∙◌}
 use Rattle.mw_world.specs.declared.config.Config.{Config}
 use Rattle.mw_world.specs.Definition.State.{WorkerState}
-use Rattle.mw_rule.specs.Rule.{Ties}
+use Rattle.mw_rule.specs.Rule.{BitsMatch}
 use Rattle.mw_simulator.specs.FromMemory.{worker_state_of}
 use Rattle.mw_table.specs.Runs.{AreAfterRun, LastStart, last_start, worker_state_so_far}
 use Rattle.mw_world_table.specs.Worlds.{actor_of, last_start_of}
@@ -18,7 +18,7 @@ of_run-requires-clause-run c =
     (subst (λ (lasts : List LastStart). AreAfterRun world.config lasts (map worker_state_so_far c.in_ok-workers.workers.items) words) (sym (c.in_ok-tenants.ensures ∙ ap (map last_start_of) c.tenant_states.ensures))
     (subst (λ (worker_states : List WorkerState). AreAfterRun world.config (map last_start_of world.tenant_states.items) worker_states words) (sym (c.in_ok-workers.ensures ∙ ap (map worker_state_of) c.worker_states.ensures))
     (after_run world c.requires.0 words c.requires.1
-    (λ state shows. subst (λ (bits : List ℕ). Ties world.config state.cells bits) (sym c.deref.ensures.value) (c.in_ok-words.ensures.ties state shows)))))
+    (λ state shows. subst (λ (bits : List ℕ). BitsMatch world.config state.cells bits) (sym c.deref.ensures.value) (c.in_ok-words.ensures.ties state shows)))))
 
 pub returns-clause-actors : goal.returns-clause-actors
 returns-clause-actors c = λ state shows.

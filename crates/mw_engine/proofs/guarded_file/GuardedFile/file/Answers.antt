@@ -1,54 +1,54 @@
 -- Proves goals of `GuardedFile::file` (src/file_calls.rt) that the check does not prove by itself. Used by: the proof of that
 -- function alone. It may change freely as long as this crate checks.
 use Rattle.std.proofs.Common.{sym, ◌∙◌}
-use Rattle.mw_engine.proofs.GuardedFileLaws.{keeps_some, kept_over, right_of, there_of}
+use Rattle.mw_engine.proofs.GuardedFileLaws.{keeps_some, kept_over, file_pass_of, there_of}
 use Rattle.mw_engine.proofs.guarded_file.GuardedFile.file.Goals as goal
 
-pub file-right-requires-clause-right : goal.file-right-requires-clause-right
-file-right-requires-clause-right g c =
+pub file-file_pass-requires-clause-file_pass : goal.file-file_pass-requires-clause-file_pass
+file-file_pass-requires-clause-file_pass g c =
     let old = c.args.self.now in
-    let right = c.in-Some.right in
-    right_of g.D.Disk.facts c.args.core.now.shared g.J.EngineBrand.identity c.requires.engine old.book right (old.kept.kept right (sym c.take.ensures.value ∙ c.in-Some.is))
+    let file_pass = c.in-Some.file_pass in
+    file_pass_of g.D.Disk.facts c.args.core.now.shared g.J.EngineBrand.identity c.requires.engine old.book file_pass (old.kept.kept file_pass (sym c.take.ensures.value ∙ c.in-Some.is))
 
-pub file-right-requires-clause-agrees : goal.file-right-requires-clause-agrees
-file-right-requires-clause-agrees g c =
+pub file-file_pass-requires-clause-agrees : goal.file-file_pass-requires-clause-agrees
+file-file_pass-requires-clause-agrees g c =
     let old = c.args.self.now in
-    let right = c.in-Some.right in
-    there_of g.D.Disk.facts c.args.core.now.shared g.J.EngineBrand.identity c.requires.engine old.book right (old.kept.kept right (sym c.take.ensures.value ∙ c.in-Some.is))
+    let file_pass = c.in-Some.file_pass in
+    there_of g.D.Disk.facts c.args.core.now.shared g.J.EngineBrand.identity c.requires.engine old.book file_pass (old.kept.kept file_pass (sym c.take.ensures.value ∙ c.in-Some.is))
 
 pub invariant_of-self : goal.invariant_of-self
 invariant_of-self g c =
     let old = c.args.self.now in
-    let right = c.in-Some.right in
+    let file_pass = c.in-Some.file_pass in
     let facts = g.D.Disk.facts in
     let identity = g.J.EngineBrand.identity in
-    let made = c.file-right in
+    let made = c.file-file_pass in
     let taken = sym c.take.ensures.value ∙ c.in-Some.is in
     record {
       kept = keeps_some facts identity made.new.book made.result old.tenant
-          (kept_over facts c.args.core.now.shared identity c.requires.engine c.args.pass.now made.new.pass c.args.actor.now made.new.actor old.book made.new.book right made.result (old.kept.kept right taken)
-          made.ensures.files made.ensures.right made.ensures.whose made.ensures.agrees)
-          (made.ensures.whose ∙ old.kept.its right taken);
+          (kept_over facts c.args.core.now.shared identity c.requires.engine c.args.pass.now made.new.pass c.args.actor.now made.new.actor old.book made.new.book file_pass made.result (old.kept.kept file_pass taken)
+          made.ensures.files made.ensures.file_pass made.ensures.whose made.ensures.agrees)
+          (made.ensures.whose ∙ old.kept.its file_pass taken);
     }
 
 pub returns-clause-files : goal.returns-clause-files
 returns-clause-files g c =
     let old = c.args.self.now in
-    let right = c.in-Some.right in
+    let file_pass = c.in-Some.file_pass in
     let facts = g.D.Disk.facts in
     let identity = g.J.EngineBrand.identity in
-    let made = c.file-right in
+    let made = c.file-file_pass in
     let taken = sym c.take.ensures.value ∙ c.in-Some.is in
-    let its = old.kept.its right taken ∙ c.requires.whose in
-    let kept = old.kept.kept right taken in
+    let its = old.kept.its file_pass taken ∙ c.requires.whose in
+    let kept = old.kept.kept file_pass taken in
     record {
       before = old.book;
       after = made.new.book;
-      right = right;
+      file_pass = file_pass;
       returned = made.result;
       kept_before = kept;
-      kept_after = kept_over facts c.args.core.now.shared identity c.requires.engine c.args.pass.now made.new.pass c.args.actor.now made.new.actor old.book made.new.book right made.result kept
-          made.ensures.files made.ensures.right made.ensures.whose made.ensures.agrees;
+      kept_after = kept_over facts c.args.core.now.shared identity c.requires.engine c.args.pass.now made.new.pass c.args.actor.now made.new.actor old.book made.new.book file_pass made.result kept
+          made.ensures.files made.ensures.file_pass made.ensures.whose made.ensures.agrees;
       its = its;
       its_still = made.ensures.whose ∙ its;
       follows = made.ensures.follows;

@@ -8,7 +8,7 @@ use Rattle.mw_world.specs.Definition.State.{IsStart, TenantStart}
 use Rattle.mw_core.specs.FromTable.{AreOpened, IsDealt, Shared, basis_of, basis_of_start, opening_at, openings_given}
 use Rattle.mw_engine.specs.OpenedFiles.{HaveFewPlaces, places_found, tenant_read}
 use Rattle.mw_engine.proofs.Configured.{configured, starts_so, world_is}
-use Rattle.mw_engine.proofs.PartsAgree.{a_book_each, a_right_each, books_agree, config_is, lines_agree, new_passes, openings_are, places_agree}
+use Rattle.mw_engine.proofs.PartsAgree.{a_book_each, a_file_pass_each, books_agree, config_is, lines_agree, new_passes, openings_are, places_agree}
 use Rattle.mw_engine.proofs.OpenedParts.{few_all, files_are, given_all, made_counts}
 use Rattle.mw_engine.proofs.parts.EngineParts.new.Goals as goal
 
@@ -77,7 +77,7 @@ invariant_of-parts g c =
           c.requires.fit c.in_ok-openings.ensures c.listed.ensures.lines file_passes opened;
       a_book_each = a_book_each g.D.Disk.facts shared config.result lines c.args.files.items openings books c.listed.result.items c.args.pool basis config.ensures.tenants config.ensures.pool
           c.requires.fit c.in_ok-openings.ensures c.listed.ensures.lines;
-      a_right_each = a_right_each g.D.Disk.facts shared config.result lines c.args.files.items openings books c.listed.result.items c.args.pool basis config.ensures.tenants config.ensures.pool
+      a_file_pass_each = a_file_pass_each g.D.Disk.facts shared config.result lines c.args.files.items openings books c.listed.result.items c.args.pool basis config.ensures.tenants config.ensures.pool
           c.requires.fit c.in_ok-openings.ensures c.listed.ensures.lines file_passes opened;
     }
 

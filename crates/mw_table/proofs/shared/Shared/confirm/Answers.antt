@@ -3,14 +3,14 @@
 use Rattle.std.proofs.Common.{refl}
 use Rattle.mw_rule.specs.WordActions.{Looks}
 use Rattle.mw_rule.proofs.WordActionLaws.{moves_are_allowed}
-use Rattle.mw_table.proofs.TakenFiles.{right_lives, so_of_world}
+use Rattle.mw_table.proofs.TakenFiles.{file_pass_lives, so_of_world}
 use Rattle.mw_table.proofs.Meetings.{some_word}
 use Rattle.mw_table.proofs.shared.Shared.confirm.Goals as goal
 
 pub load-requires : goal.load-requires
 load-requires c =
-    let right = c.args.right in
-    (c.requires.right.table, some_word c.args.self.now, moves_are_allowed _ _ _ right.seat.id right.seat.me (Looks 0 (right_lives right)) (λ bits. bits) (λ bits. refl))
+    let file_pass = c.args.file_pass in
+    (c.requires.file_pass.table, some_word c.args.self.now, moves_are_allowed _ _ _ file_pass.seat.id file_pass.seat.me (Looks 0 (file_pass_lives file_pass)) (λ bits. bits) (λ bits. refl))
 
 pub returns : goal.returns
-returns c = so_of_world _ _ c.args.right c.load.new.seat.me.0 c.requires.right.config c.requires.right.openings c.load.ensures.2.1
+returns c = so_of_world _ _ c.args.file_pass c.load.new.seat.me.0 c.requires.file_pass.config c.requires.file_pass.openings c.load.ensures.2.1

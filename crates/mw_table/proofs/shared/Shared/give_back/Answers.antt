@@ -27,8 +27,8 @@ invariant_of-pass c =
 pub returns-clause-file : goal.returns-clause-file
 returns-clause-file c = ap (λ (me : Me ActorState View). file_among me.0.files) c.split_seat-seat.ensures.4 ∙ given_file c.args.pass.now.seat.me.0.files
 
-pub returns-clause-right : goal.returns-clause-right
-returns-clause-right c =
+pub returns-clause-file_pass : goal.returns-clause-file_pass
+returns-clause-file_pass c =
     let is = c.split_seat-seat.ensures.4 in record {
       table = c.split_seat-seat.ensures.3 ∙ c.requires.own.table;
       config = ap (λ (me : Me ActorState View). me.0.config) is ∙ c.requires.own.config;

@@ -7,7 +7,7 @@ use Rattle.mw_rule.specs.declared.views.View.{View}
 use Rattle.mw_rule.proofs.SplitLaws.{giving_files_keeps}
 use Rattle.mw_table.specs.HeldFiles.{is_idle, tenants_held}
 use Rattle.mw_table.specs.Origins.{basis_of, begun_of}
-use Rattle.mw_table.proofs.FilePassesAtStart.{file_given, files_left_live, files_next, more_opened, one_more_right}
+use Rattle.mw_table.proofs.FilePassesAtStart.{file_given, files_left_live, files_next, more_opened, one_more_file_pass}
 use Rattle.mw_table.proofs.shared.Shared.give_file.Goals as goal
 
 pub split_seat-own-requires : goal.split_seat-own-requires
@@ -36,7 +36,7 @@ loop-tenant-preserved c =
     record {
       same_table = c.split_seat-own.ensures.0 ∙ c.loop-tenant.invariant.same_table;
       left = files_next basis c.args.tenants tenant c.loop-tenant.seat.me c.split_seat-own.new.seat.me c.loop-tenant-test.true c.loop-tenant.invariant.left c.split_seat-own.ensures.2;
-      count = one_more_right c.loop-tenant.file_passes.items c.push.new.self.items _ tenant c.in_ok-push.ensures.items c.loop-tenant.invariant.count;
+      count = one_more_file_pass c.loop-tenant.file_passes.items c.push.new.self.items _ tenant c.in_ok-push.ensures.items c.loop-tenant.invariant.count;
       each =
           more_opened c.args.self.now basis c.loop-tenant.file_passes.items c.push.new.self.items _ tenant c.in_ok-push.ensures.items c.loop-tenant.invariant.count c.loop-tenant.invariant.each
           (record {

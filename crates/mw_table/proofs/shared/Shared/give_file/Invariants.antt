@@ -12,5 +12,5 @@ invariant-loop-tenant l = record {
   same_table : l.seat.table_id ≡ l.self.table.shared.table_id;
   left : l.seat.me ≡ files_from (basis_of l.self.table.shared.key) l.tenants l.tenant;
   count : length l.file_passes.items ≡ l.tenant;
-  each : (k : ℕ) (right : FilePass) → slice_get l.file_passes.items k ≡ Some right → IsOpened l.self (basis_of l.self.table.shared.key) k right;
+  each : (k : ℕ) (file_pass : FilePass) → slice_get l.file_passes.items k ≡ Some file_pass → IsOpened l.self (basis_of l.self.table.shared.key) k file_pass;
 }

@@ -8,7 +8,7 @@ use Rattle.mw_actor.specs.ActorState.{ActorState}
 use Rattle.mw_world.specs.declared.config.Config.{Config}
 use Rattle.mw_rule.specs.Steps.{IsReadyFor}
 use Rattle.mw_rule.specs.Splits.{maker}
-use Rattle.mw_rule.specs.Rule.{Tied}
+use Rattle.mw_rule.specs.Rule.{TableInvariant}
 use Rattle.mw_table.specs.declared.new_table.PassState.{PassState}
 use Rattle.mw_table.specs.declared.origin.TenantSoFar.{TenantSoFar}
 use Rattle.mw_table.specs.declared.origin.WorkerSoFar.{WorkerSoFar}
@@ -20,7 +20,7 @@ use Rattle.mw_table.proofs.shared.Shared.of_run.Goals as goal
 -- the rule of a table that these begin with
 abbrev IsTied : List ℕ → Config → List TenantSoFar → List WorkerSoFar → Type 0
 IsTied words config tenants workers =
-    Tied config (LedTo config (map last_start tenants) (map worker_state_so_far workers)) (opening {S = ActorState} words []
+    TableInvariant config (LedTo config (map last_start tenants) (map worker_state_so_far workers)) (opening {S = ActorState} words []
     (maker config (openings_from config 0 (map last_start tenants)) None (worker_state_at (map worker_state_so_far workers)) []))
 
 pub open-requires-clause-tied : goal.open-requires-clause-tied
