@@ -10,8 +10,8 @@ from .reader import Contents, Damage, read
 
 SIZES = ((1, 1), (1, 32), (2, 1), (3, 2), (9, 3), (17, 5), (40, 32), (300, 4), (4095, 1), (4096, 31), (4096, 32))
 """Numbers of words and places, from the least to the greatest."""
-AT_ONCE = 10
-"""For how many seconds a program is waited for."""
+AT_ONCE = 60
+"""For how many seconds a program is waited for. What needs longer hangs."""
 
 
 class Disagreement(Exception):

@@ -25,7 +25,7 @@ SHARE_OF_FAILING_FILES = 0.15
 SHARE_OF_EARLY_KILLS = 0.1
 SHARE_OF_HOLD_UPS = 0.15
 SHARE_OF_REPORTS = 0.3
-PATIENCE_WITH_SLOTS = 5.0
+PATIENCE_WITH_SLOTS = 60.0
 """For how many seconds changes may stay under way whose clients have broken off."""
 
 
@@ -80,6 +80,15 @@ class Lives:
         end = time.monotonic() + seconds
         while time.monotonic() < end and not self.found.complaints:
             self.live(min(self.dice.uniform(0.0, LONGEST_LIFE), max(end - time.monotonic(), 0.1)))
+        if not self.found.complaints:
+            self.live(None)
+
+    def run_kills(self, count: int) -> None:
+        """So many lives, each ended by a kill, whatever time they take; and then one to look at the words. It ends at the
+        first complaint."""
+        for _ in range(count):
+            if not self.found.complaints:
+                self.live(self.dice.uniform(0.0, LONGEST_LIFE))
         if not self.found.complaints:
             self.live(None)
 

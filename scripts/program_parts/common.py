@@ -1,0 +1,125 @@
+"""What each part of scripts/check-programs needs: the built programs, a server over tenants' files, a peer that says what it is
+told to, and how a difference is told.
+
+Used by: scripts/check-programs, the other files of this folder.
+"""
+import os
+import random
+import shutil
+import signal
+import socket
+import subprocess
+import sys
+import threading
+import time
+from pathlib import Path
+
+TOP = Path(__file__).resolve().parent.parent.parent
+sys.path[:0] = [str(TOP / "clients/python"), str(TOP / "clients/python/examples")]
+
+PROGRAMS = ("mwinit", "mwserve", "mwshow", "mwreplay", "mwbench")
+BUILT = {name: TOP / "crates" / name / "out" / name for name in PROGRAMS}
+MWINIT, MWSERVE, MWBENCH = (BUILT[name] for name in ("mwinit", "mwserve", "mwbench"))
+HOST = "127.0.0.1"
+QUOTA = 5
+WORDS = 26
+PATIENCE = 60
+"""For how many seconds what has to come is waited for. What needs longer hangs."""
+HOLD_UP = 0.5
+
+
+def wrong(text):
+    raise SystemExit(f"check-programs: {text}")
+
+
+def has(command):
+    """Whether a program of this name can be called here."""
+    return shutil.which(command) is not None
+
+
+def is_built(program):
+    return os.access(BUILT[program], os.X_OK)
+
+
+def same(found, wanted, what):
+    if found != wanted:
+        wrong(f"{what}: {found!r} in place of {wanted!r}")
+
+
+def raises(kind, what, call, *arguments, **named):
+    """The exception of just this kind that the call raises."""
+    try:
+        given = call(*arguments, **named)
+    except Exception as error:
+        if type(error) is kind:
+            return error
+        wrong(f"{what}: {type(error).__name__} ({error}) in place of {kind.__name__}")
+    wrong(f"{what}: {given!r} in place of {kind.__name__}")
+
+
+def at(port):
+    return f"{HOST}:{port}"
+
+
+class Server:
+    """mwserve over the tenants of a folder: at a local socket, or at a port that isn't among those given to clients."""
+
+    def __init__(self, folder, tenants, local):
+        self.folder, self.local = folder, local
+        lines = ""
+        for name, words in tenants.items():
+            made = subprocess.run([MWINIT, f"{name}.mw", str(words), str(QUOTA)], cwd=folder, stdout=subprocess.PIPE, check=True)
+            same(made.stdout.decode(), f"made {32 + 8 * words + 136 * QUOTA}\n", "mwinit")
+            same((folder / f"{name}.mw").stat().st_mode & 0o777, 0o600, "the mode of a new file")
+            lines += f"{name} {words} {QUOTA} {name}.mw\n"
+        (folder / "tenants").write_text(lines + "away 2 1 away.mw\n")
+        if local:
+            self.at = self.ready = f"unix:{folder / 'socket'}"
+            same(self.start(), True, "a server at a local socket")
+            return
+        self.ready = random.randrange(20000, 30000)
+        self.at = at(self.ready)
+        while not self.start():
+            self.ready += 1
+            self.at = at(self.ready)
+
+    def start(self):
+        """Whether it listens; it doesn't where another program has the port."""
+        self.process = subprocess.Popen([MWSERVE, "--tenants", "tenants", "--workers", "32", "--listen", self.at], cwd=self.folder,
+                                        stdin=subprocess.DEVNULL, stdout=subprocess.PIPE, stderr=subprocess.DEVNULL)
+        said = self.process.stdout.readline().decode()
+        if said != f"ready {self.ready}\n":
+            self.process.wait()
+        return bool(said)
+
+    def hold_up(self):
+        self.process.send_signal(signal.SIGSTOP)
+        time.sleep(HOLD_UP)
+        self.process.send_signal(signal.SIGCONT)
+
+    def kill(self):
+        self.process.kill()
+        self.process.wait()
+        self.process.stdout.close()
+
+
+class Peer:
+    """A server of one connection, which says the texts given, one for each line that it is sent; then it closes, or, where
+    it is to hold, is silent until the client closes."""
+
+    def __init__(self, *texts, holds=False):
+        self.listener = socket.create_server((HOST, 0))
+        self.at = at(self.listener.getsockname()[1])
+        self.lines = []
+        self.thread = threading.Thread(target=self.serve, args=(texts, holds), daemon=True)
+        self.thread.start()
+
+    def serve(self, texts, holds):
+        connection, _ = self.listener.accept()
+        self.listener.close()
+        with connection, connection.makefile("rb") as lines:
+            for text in texts:
+                self.lines.append(lines.readline())
+                connection.sendall(text.encode())
+            if holds:
+                lines.read()

@@ -1,0 +1,157 @@
+"""Eight processes run each example of the client in Python against a server that is killed, started again and held up.
+
+Used by: scripts/check-programs. How much they get done depends on the machine, and less than a little is told as wrong, so
+that these are no part of `--gate`.
+"""
+import json
+import multiprocessing
+import os
+import random
+import time
+
+from .common import QUOTA, same, wrong
+
+import allocator  # noqa: E402
+import lock_table  # noqa: E402
+import mondlexi  # noqa: E402
+
+PROCESSES = 8
+# More processes than the quota allows share each tenant, so on a slow disk one may be told BUSY for long.
+PATIENCE = 30
+KILLS = 4
+BETWEEN = 1.0
+TIMEOUT = 0.3
+LOCKS = 3
+BLOCKS = 20
+
+
+def count_doubts():
+    """From here on each Unknown of this process is counted, in the list given back, and no client waits for long."""
+    doubts, cas = [], mondlexi.Client.cas
+    mondlexi.Client.__init__.__kwdefaults__["timeout"] = TIMEOUT
+
+    def counted(client, entries):
+        try:
+            return cas(client, entries)
+        except mondlexi.Unknown:
+            doubts.append(1)
+            raise
+
+    mondlexi.Client.cas = counted
+    return doubts
+
+
+def begun(server, tenant):
+    """A client, once the server answers."""
+    while True:
+        try:
+            return mondlexi.Client(server, tenant, patience=PATIENCE)
+        except mondlexi.Lost:
+            time.sleep(0.05)
+
+
+def take_locks(number, server, stop, folder):
+    """Tells the file of this number which lock it had, under which token, from when to when, in milliseconds."""
+    doubts, held, dice = count_doubts(), [], random.Random(number)
+    client = begun(server, "locks")
+    table = lock_table.LockTable(client, number + 1)
+    while not stop.is_set():
+        lease = table.acquire(dice.randrange(LOCKS), dice.uniform(0.05, 0.5))
+        since = time.time() * 1000
+        if lease is None:
+            time.sleep(dice.uniform(0, 0.02))
+            continue
+        if dice.random() < 0.4:
+            lease = table.renew(lease, 0.4) or lease
+        time.sleep(dice.uniform(0, 0.03))
+        until = lease.until
+        if dice.random() < 0.8:
+            until = min(until, time.time() * 1000)
+            table.release(lease)
+        if since < until:
+            held.append((lease.lock, lease.token, since, until))
+    client.close()
+    (folder / f"{number}.json").write_text(json.dumps([len(doubts), held]))
+
+
+def use_blocks(number, server, stop, folder):
+    """Holds up to four blocks, each with a file of its name that nobody else may have; at last tells which it holds."""
+    doubts, held, used, dice = count_doubts(), [], 0, random.Random(number)
+    client = begun(server, "blocks")
+    own = allocator.Allocator(client, BLOCKS, number)
+    while not stop.is_set():
+        if held and dice.randrange(5) < len(held):
+            block = held.pop(dice.randrange(len(held)))
+            (folder / f"block-{block}").unlink()
+            own.free(block)
+        else:
+            block = own.allocate()
+            if block is None:
+                time.sleep(0.005)
+                continue
+            os.close(os.open(folder / f"block-{block}", os.O_CREAT | os.O_EXCL))
+            held.append(block)
+            used += 1
+        if dice.random() < 0.05:
+            client.close()
+            client = begun(server, "blocks")
+            own = allocator.Allocator(client, BLOCKS, number)
+            same(own.mine(), sorted(held), "blocks that an owner finds as its own")
+    client.close()
+    (folder / f"{number}.json").write_text(json.dumps([len(doubts), used, held]))
+
+
+def run_eight(server, work, folder):
+    """What eight processes tell that do this work, while the server is killed, started again and held up."""
+    folder.mkdir()
+    context = multiprocessing.get_context("fork")
+    stop = context.Event()
+    processes = [context.Process(target=work, args=(k, server.at, stop, folder), daemon=True) for k in range(PROCESSES)]
+    for process in processes:
+        process.start()
+    for _ in range(KILLS):
+        time.sleep(BETWEEN * random.uniform(0.5, 1.5))
+        server.kill()
+        time.sleep(random.uniform(0, 0.2))
+        while not server.start():
+            time.sleep(0.05)
+        time.sleep(BETWEEN * random.uniform(0.5, 1.5))
+        server.hold_up()
+    time.sleep(BETWEEN)
+    stop.set()
+    for process in processes:
+        process.join(60)
+        same(process.exitcode, 0, f"the status of a process, {work.__name__}")
+    return [json.loads((folder / f"{k}.json").read_text()) for k in range(PROCESSES)]
+
+
+def check_locks(server, folder):
+    told = run_eight(server, take_locks, folder)
+    doubts = sum(count for count, _ in told)
+    leases = sorted((tuple(lease) for _, held in told for lease in held))
+    for (lock, token, _, until), (next_lock, next_token, since, _) in zip(leases, leases[1:]):
+        if lock == next_lock and (token == next_token or since < until):
+            wrong(f"lock {lock} was held twice at once, under the tokens {token} and {next_token}")
+    with mondlexi.Client(server.at, "locks") as client:
+        for lock in range(LOCKS):
+            tokens = [lease[1] for lease in leases if lease[0] == lock]
+            same(bool(tokens) and max(tokens) <= client.get(3 * lock + 2), True, f"tokens of lock {lock}")
+    same(len(leases) >= 50, True, "enough leases")
+    print(f"lock table: {len(leases)} leases, {KILLS} kills, {doubts} changes in doubt; no lock held twice at once")
+
+
+def check_blocks(server, folder):
+    told = run_eight(server, use_blocks, folder)
+    doubts, used = (sum(one[k] for one in told) for k in (0, 1))
+    with mondlexi.Client(server.at, "blocks") as client:
+        first, ever, *words = (client.get(a) for a in range(2 + BLOCKS))
+    free = list(range(ever + 1, BLOCKS + 1))
+    while first and len(free) <= BLOCKS:
+        free.append(first)
+        first = words[first - 1]
+    for number, (_, _, held) in enumerate(told):
+        found = [b for b in range(1, BLOCKS + 1) if words[b - 1] == allocator.USED + number]
+        same(found, sorted(held), f"blocks of owner {number}")
+    same(sorted(free + [b for one in told for b in one[2]]), list(range(1, BLOCKS + 1)), "free blocks and held ones")
+    same(used >= 50, True, "enough blocks")
+    print(f"allocator: {used} blocks given out, {KILLS} kills, {doubts} changes in doubt; none given twice, none lost")
