@@ -2,8 +2,9 @@
 
 A write changes the cache, and its pages are dirty. A sync that goes well brings each dirty page to the disk, whole. A sync that
 fails brings some of them there, wholly or in part, or none, and all count as clean from then on: the cache gives bytes that the
-disk hasn't got, and no later sync brings them there, but where a page is written again. At a power cut each unit of a dirty
-page is there or not, and the cache is lost.
+disk hasn't got, and no later sync brings them there, but where a page is written again. A drop takes the clean pages out of the
+cache, and the next read of them is from the disk. At a power cut each unit of a dirty page is there or not, and the cache is
+lost.
 
 Used by: scripts/check-cache. It models what was seen of Linux; a change of it changes what that script shows.
 """
@@ -55,6 +56,12 @@ class Cached:
         """A sync that goes well."""
         self.bring(self.units())
         self.dirty = set()
+
+    def drop(self) -> None:
+        """The clean pages are dropped from the cache."""
+        for at in range(0, len(self.cache), PAGE):
+            if at // PAGE not in self.dirty:
+                self.cache[at:at + PAGE] = self.disk[at:at + PAGE]
 
 
 def choices(units: List[int], dice: random.Random) -> Iterator[List[int]]:

@@ -5,6 +5,7 @@
                        sync NAME TIME                    before a sync
                        end NAME TIME                     a write or a sync went well
                        fail NAME TIME                    a call was let fail: a write, a sync or a read
+                       drop NAME TIME                    the system was asked to drop its copies of the whole file
                        open NAME TIME                    the first read of the file, behind the sync at the start
    RECORDER_FILES  NAME:FAIL_AT words with commas between: the files NAME.mw, of which the call of number FAIL_AT fails, from 1
                    on; 0 for none. Writes, syncs and reads count. A write that fails has written the first half of its bytes.
@@ -46,6 +47,7 @@ static pthread_mutex_t line_lock = PTHREAD_MUTEX_INITIALIZER;
 static ssize_t (*next_pwrite)(int, const void *, size_t, off_t);
 static ssize_t (*next_pread)(int, void *, size_t, off_t);
 static int (*next_fdatasync)(int);
+static int (*next_fadvise)(int, off_t, off_t, int);
 
 __attribute__((constructor)) static void begin(void) {
     const char *log = getenv("RECORDER_LOG"), *named = getenv("RECORDER_FILES");
@@ -54,6 +56,7 @@ __attribute__((constructor)) static void begin(void) {
     next_pwrite = (ssize_t (*)(int, const void *, size_t, off_t))dlsym(RTLD_NEXT, "pwrite64");
     next_pread = (ssize_t (*)(int, void *, size_t, off_t))dlsym(RTLD_NEXT, "pread64");
     next_fdatasync = (int (*)(int))dlsym(RTLD_NEXT, "fdatasync");
+    next_fadvise = (int (*)(int, off_t, off_t, int))dlsym(RTLD_NEXT, "posix_fadvise64");
     pause_up_to = pause ? (unsigned)atoi(pause) : 0;
     lies = lie && strcmp(lie, "1") == 0;
     while (named && file_count < MOST_FILES) {
@@ -66,7 +69,7 @@ __attribute__((constructor)) static void begin(void) {
         if (*named++ != ',') break;
     }
     if (log) records = open(log, O_WRONLY | O_CREAT | O_APPEND | O_CLOEXEC, 0600);
-    if (records < 0 || !next_pwrite || !next_pread || !next_fdatasync) abort();
+    if (records < 0 || !next_pwrite || !next_pread || !next_fdatasync || !next_fadvise) abort();
 }
 
 /* The tenant's file that is open so; NULL for all other files. */
@@ -170,4 +173,18 @@ int fdatasync(int descriptor) {
     pthread_mutex_unlock(&file->lock);
     errno = error;
     return synced;
+}
+
+int posix_fadvise64(int descriptor, off_t offset, off_t length, int advice) {
+    struct tenant_file *file = file_of(descriptor);
+    if (file && offset == 0 && length == 0 && advice == POSIX_FADV_DONTNEED) {
+        pthread_mutex_lock(&file->lock);
+        record("drop", file, 0, NULL, 0);
+        pthread_mutex_unlock(&file->lock);
+    }
+    return next_fadvise(descriptor, offset, length, advice);
+}
+
+int posix_fadvise(int descriptor, off_t offset, off_t length, int advice) {
+    return posix_fadvise64(descriptor, offset, length, advice);
 }

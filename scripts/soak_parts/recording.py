@@ -17,10 +17,11 @@ SOURCE = Path(__file__).resolve().parent / "recorder.c"
 
 
 class Kind(Enum):
-    """What was asked of the device. A READ is written down only where it failed."""
+    """What was asked of the device, or of the system's cache (DROP). A READ is written down only where it failed."""
     WRITE = "write"
     SYNC = "sync"
     READ = "read"
+    DROP = "drop"
 
 
 @dataclass
@@ -94,6 +95,8 @@ def add_record(log: FileLog, what: str, time: int, rest: Sequence[str]) -> None:
         log.calls.append(Call(Kind.WRITE, time, int(rest[0]), bytes.fromhex(rest[1])))
     elif what == "sync":
         log.calls.append(Call(Kind.SYNC, time))
+    elif what == "drop":
+        log.calls.append(Call(Kind.DROP, time, went_well=True))
     elif what == "open":
         log.opened = len(log.calls)
     elif what == "end":
