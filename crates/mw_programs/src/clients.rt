@@ -5,15 +5,14 @@
 ghost use Rattle.std.specs.Prelude.{◌≡◌, ◌<◌, All, IfOk, vec_len};
 ghost use Rattle.mw_engine.specs.Passes.{IsNew};
 
-use crate::notes::note_cause;
 use crate::serving::ServeFault;
 use crate::tenants::FaultWatch;
-use crate::watched_file::WatchedFile;
 use crate::worker::Worker;
 use log::{Log, warn};
 use mw_config::Listening;
 use mw_disk::{Disk, FileDisk};
 use mw_engine::{Engine, EngineBrand, NoHold, Pass};
+use mw_opening::{WatchedFile, note_cause};
 use mw_session::Service;
 use mw_workers::{
     ClientListener, Closer, Desk, Patient, RoomWatch, ServeEnd, listen_at, port_of, serve_all,

@@ -10,16 +10,16 @@ ghost use Rattle.mw_engine.specs.Passes.{IsNew};
 ghost use Rattle.mw_engine.specs.Parts.{identity_of};
 
 use crate::clients::serve_clients;
-use crate::notes::{Notes, note_cause};
-use crate::opening::{Cause, Opened, TenantsFault, are_all_open, open_files, read_tenants_file};
-use crate::plain_file::{ReadFault, open_plain};
 use crate::tenants::{FaultWatch, TenantNotes};
-use crate::watched_file::{LastErrors, WatchedFile};
 use crate::worker::Worker;
 use log::{Log, warn};
 use mw_config::{ArgFault, Args, Mode, Refusal, TenantLine, read_args};
 use mw_disk::{Disk, FileDisk};
 use mw_engine::{Engine, EngineBrand, EngineParts, NoHold, Pass};
+use mw_opening::{
+    Cause, LastErrors, Notes, Opened, ReadFault, TenantsFault, WatchedFile, are_all_open,
+    note_cause, open_files, open_plain, read_tenants_file,
+};
 use mw_session::Ended;
 use mw_words::MAX_WORKERS;
 use std::alloc::AllocError;

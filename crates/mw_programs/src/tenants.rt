@@ -5,11 +5,9 @@
 ghost use Rattle.std.specs.Prelude.{◌<◌};
 ghost use Rattle.mw_words.specs.declared.limits.TheConstants.{MAX_TENANTS};
 
-use crate::notes::{note_cause, note_place};
-use crate::opening::Opened;
-use crate::watched_file::LastErrors;
 use log::{Log, warn};
 use mw_config::TenantLine;
+use mw_opening::{LastErrors, Opened, note_cause, note_place};
 use mw_words::MAX_TENANTS;
 use std::str;
 use std::sync::{Mutex, Wait};

@@ -1,7 +1,7 @@
 //! A tenant's file of the system, which keeps the last error that a call on it gave, for a note.
 //!
-//! Used by: `opening`, which makes one of each opened file; `serving`, `clients`, `tenants`. It may change as long as
-//! each call gives what the file's call gave.
+//! Used by: `opening`, which makes one of each opened file; mw_programs. It may change as long as each call gives what
+//! the file's call gave.
 ghost use Rattle.std.specs.Prelude.{◌≡◌, ◌<◌};
 ghost use Rattle.mw_words.specs.declared.limits.TheConstants.{MAX_TENANTS};
 

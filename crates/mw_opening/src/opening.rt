@@ -1,7 +1,7 @@
 //! Opens what a server needs before it serves: the tenants file and each tenant's own file, under a lock.
 //!
-//! Used by: `serving`, which calls these before it serves; `tenants`. docs/OPERATING.md lists the texts of the notes:
-//! change both together. A new kind of [`Cause`] needs a case in `Cause::tell`. docs/PROMISES cites `open_files`.
+//! Used by: mw_programs, which calls these before it serves. docs/OPERATING.md lists the texts of the notes: change
+//! both together. A new kind of [`Cause`] needs a case in `Cause::tell`. docs/PROMISES cites `open_files`.
 ghost use Rattle.std.specs.Prelude.{◌≡◌, ◌≤◌, length, is_some, IfOk, Some};
 ghost use Rattle.std.specs.List.{list_all};
 ghost use Rattle.mw_config.specs.Limits.{ArePermitted};
