@@ -8,9 +8,10 @@ ghost use Rattle.mw_config.specs.Limits.{ArePermitted};
 ghost use Rattle.mw_words.specs.declared.limits.TheConstants.{MAX_TENANTS};
 ghost use Rattle.mw_engine.specs.OpenedFiles.{FitsLine, FitLines};
 
+use crate::file_state::{FileState, FileStates};
 use crate::notes::{note_cause, note_place};
 use crate::plain_file::{ReadFault, open_plain};
-use crate::watched_file::{LastError, LastErrors, WatchedFile};
+use crate::watched_file::WatchedFile;
 use arrayvec::ArrayVec;
 use log::{Log, info, warn};
 use mw_config::{FormRule, Refusal, TenantLine, broken_rule, read_tenants};
@@ -154,11 +155,11 @@ enum FileFault {
 }
 
 impl FileFault {
-    /// Gives the fault of a failed opening. `last` has what the system told last, in the opening or before it.
-    fn of_opening(fault: OpenFault, last: &LastError) -> Self {
+    /// Gives the fault of a failed opening. `state` has what the system told last, in the opening or before it.
+    fn of_opening(fault: OpenFault, state: &FileState) -> Self {
         match fault {
             OpenFault::Memory => FileFault::Memory,
-            OpenFault::Disk => FileFault::Disk(last.error()),
+            OpenFault::Disk => FileFault::Disk(state.error()),
             OpenFault::Damage(damage) => FileFault::Damage(damage.number()),
         }
     }
@@ -183,14 +184,14 @@ pub fn open_files<'a, R: Files<File = File> + AllocGlobal, L: Log>(
     rt: &R,
     notes: &L,
     lines: &[TenantLine],
-    errors: &'a LastErrors,
+    states: &'a FileStates,
 ) -> Result<Vec<Option<Opened<'a>>>, AllocError>
     requires { length lines.now ≤ MAX_TENANTS }
-    ensures { IfOk result (λ files. FitLines ⟦<FileDisk<WatchedFile<'a>> as Disk>⟧.facts lines.now files.items) }
+    ensures { IfOk result (λ files. FitLines ⟦<FileDisk<WatchedFile<'a, File>> as Disk>⟧.facts lines.now files.items) }
 {
     let mut files = Vec::with_capacity(rt.alloc(), lines.len())?;
     for line in lines {
-        let file = open_file(rt, notes, line, errors.of(files.len()))?;
+        let file = open_file(rt, notes, line, states.of(files.len()))?;
         files.push(file)?;
     }
     Ok(files)
@@ -204,7 +205,7 @@ pub fn are_all_open(files: &[Option<Opened<'_>>]) -> bool
 }
 
 /// A tenant's file, and the words that it had when it was opened.
-pub type Opened<'a> = (TenantFile<FileDisk<WatchedFile<'a>>>, Vec<u64>);
+pub type Opened<'a> = (TenantFile<FileDisk<WatchedFile<'a, File>>>, Vec<u64>);
 
 /// Opens the file of a tenant. Gives None, and writes a note, if the file doesn't open, is in use or isn't
 /// as the tenants file says. Then every request of the tenant is answered FAULT.
@@ -216,11 +217,11 @@ pub fn open_file<'a, R: Files<File = File> + AllocGlobal, L: Log>(
     rt: &R,
     notes: &L,
     line: &TenantLine,
-    last: &'a LastError,
+    state: &'a FileState,
 ) -> Result<Option<Opened<'a>>, AllocError>
-    ensures { IfOk result (λ file. FitsLine ⟦<FileDisk<WatchedFile<'a>> as Disk>⟧.facts line.now file) }
+    ensures { IfOk result (λ file. FitsLine ⟦<FileDisk<WatchedFile<'a, File>> as Disk>⟧.facts line.now file) }
 {
-    match open_fitting(rt, line, last) {
+    match open_fitting(rt, line, state) {
         Ok(opened) => Ok(Some(opened)),
         Err(FileFault::Memory) => Err(AllocError),
         Err(fault) => {
@@ -240,16 +241,16 @@ pub fn open_file<'a, R: Files<File = File> + AllocGlobal, L: Log>(
 fn open_fitting<'a, R: Files<File = File> + AllocGlobal>(
     rt: &R,
     line: &TenantLine,
-    last: &'a LastError,
+    state: &'a FileState,
 ) -> Result<Opened<'a>, FileFault>
-    ensures { IfOk result (λ opened. FitsLine ⟦<FileDisk<WatchedFile<'a>> as Disk>⟧.facts line.now (Some opened)) }
+    ensures { IfOk result (λ opened. FitsLine ⟦<FileDisk<WatchedFile<'a, File>> as Disk>⟧.facts line.now (Some opened)) }
 {
     let file = open_locked(rt, line.path.as_str())?;
     open_synced(
         rt.alloc(),
-        FileDisk::new(WatchedFile::new(file, last)),
+        FileDisk::new(WatchedFile::new(file, state)),
         line,
-        last,
+        state,
     )
 }
 
@@ -265,13 +266,13 @@ fn open_synced<D: Disk + Drop>(
     alloc: Global,
     disk: D,
     line: &TenantLine,
-    last: &LastError,
+    state: &FileState,
 ) -> Result<(TenantFile<D>, Vec<u64>), FileFault>
     ensures { IfOk result (λ opened. FitsLine D.facts line.now (Some opened)) }
 {
     let mut disk = disk;
     if disk.sync().is_err() {
-        return Err(FileFault::Disk(last.error()));
+        return Err(FileFault::Disk(state.error()));
     }
     match TenantFile::open(alloc, disk) {
         Ok((file, words)) => {
@@ -280,7 +281,7 @@ fn open_synced<D: Disk + Drop>(
             }
             Ok((file, words))
         }
-        Err((fault, _)) => Err(FileFault::of_opening(fault, last)),
+        Err((fault, _)) => Err(FileFault::of_opening(fault, state)),
     }
 }
 

@@ -1,1 +1,3 @@
+pub mod Descriptors
+pub mod Replaced
 pub mod Served

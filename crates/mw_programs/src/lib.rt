@@ -4,6 +4,8 @@
 #![tactic(auto)]
 
 mod clients;
+mod descriptors;
+mod replaced;
 mod served;
 mod serving;
 mod tenants;
