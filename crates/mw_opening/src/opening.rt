@@ -186,7 +186,7 @@ pub fn open_files<'a, R: Files<File = File> + AllocGlobal, L: Log>(
     errors: &'a LastErrors,
 ) -> Result<Vec<Option<Opened<'a>>>, AllocError>
     requires { length lines.now ≤ MAX_TENANTS }
-    ensures { IfOk result (λ files. FitLines ⟦<FileDisk<WatchedFile<'a>> as Disk>⟧.facts lines.now files.items) }
+    ensures { IfOk result (λ files. FitLines ⟦<FileDisk<WatchedFile<'a, File>> as Disk>⟧.facts lines.now files.items) }
 {
     let mut files = Vec::with_capacity(rt.alloc(), lines.len())?;
     for line in lines {
@@ -204,7 +204,7 @@ pub fn are_all_open(files: &[Option<Opened<'_>>]) -> bool
 }
 
 /// A tenant's file, and the words that it had when it was opened.
-pub type Opened<'a> = (TenantFile<FileDisk<WatchedFile<'a>>>, Vec<u64>);
+pub type Opened<'a> = (TenantFile<FileDisk<WatchedFile<'a, File>>>, Vec<u64>);
 
 /// Opens the file of a tenant. Gives None, and writes a note, if the file doesn't open, is in use or isn't
 /// as the tenants file says. Then every request of the tenant is answered FAULT.
@@ -218,7 +218,7 @@ pub fn open_file<'a, R: Files<File = File> + AllocGlobal, L: Log>(
     line: &TenantLine,
     last: &'a LastError,
 ) -> Result<Option<Opened<'a>>, AllocError>
-    ensures { IfOk result (λ file. FitsLine ⟦<FileDisk<WatchedFile<'a>> as Disk>⟧.facts line.now file) }
+    ensures { IfOk result (λ file. FitsLine ⟦<FileDisk<WatchedFile<'a, File>> as Disk>⟧.facts line.now file) }
 {
     match open_fitting(rt, line, last) {
         Ok(opened) => Ok(Some(opened)),
@@ -242,7 +242,7 @@ fn open_fitting<'a, R: Files<File = File> + AllocGlobal>(
     line: &TenantLine,
     last: &'a LastError,
 ) -> Result<Opened<'a>, FileFault>
-    ensures { IfOk result (λ opened. FitsLine ⟦<FileDisk<WatchedFile<'a>> as Disk>⟧.facts line.now (Some opened)) }
+    ensures { IfOk result (λ opened. FitsLine ⟦<FileDisk<WatchedFile<'a, File>> as Disk>⟧.facts line.now (Some opened)) }
 {
     let file = open_locked(rt, line.path.as_str())?;
     open_synced(

@@ -123,7 +123,7 @@ fn workers_for<'a, J: EngineBrand, D: Disk, H, R: AllocGlobal, T>(
 /// for the administrator, the last of these workers serves only the clients of that address.
 pub(crate) fn serve_clients<'e, 'a, J, R, O: Write, L: Log + Sync, T: FaultWatch + Sync>(
     rt: &'e R,
-    engine: &'e Engine<J, FileDisk<WatchedFile<'_>>, NoHold>,
+    engine: &'e Engine<J, FileDisk<WatchedFile<'_, File>>, NoHold>,
     passes: Vec<Pass>,
     listening: &'a Listening,
     out: &mut O,

@@ -211,7 +211,7 @@ where
         + Sync,
     requires args { ArePermittedArgs args.now }
     requires lines { ArePermitted args.now.pool lines.now }
-    requires files { FitLines ⟦<FileDisk<WatchedFile<'f>> as Disk>⟧.facts lines.now files.items }
+    requires files { FitLines ⟦<FileDisk<WatchedFile<'f, File>> as Disk>⟧.facts lines.now files.items }
 {
     let (parts, passes) = EngineParts::new(
         rt.alloc(),
@@ -238,7 +238,7 @@ fn workers_of(args: &Args) -> u8
 /// Starts the engine, and serves what the command line asks for.
 fn serve_engine<'a, J: EngineBrand + Send + Sync, R, O: Write, L: Log + Sync, T: FaultWatch + Sync>(
     rt: &R,
-    parts: EngineParts<FileDisk<WatchedFile<'_>>, NoHold>,
+    parts: EngineParts<FileDisk<WatchedFile<'_, File>>, NoHold>,
     passes: Vec<Pass>,
     mode: &'a Mode,
     out: &mut O,
@@ -269,7 +269,7 @@ where
 /// Runs one session, from the script to `out`, by the first worker.
 fn run_script<'e, 'a, J: EngineBrand, R, O: Write, T: FaultWatch>(
     rt: &'e R,
-    engine: &'e Engine<J, FileDisk<WatchedFile<'_>>, NoHold>,
+    engine: &'e Engine<J, FileDisk<WatchedFile<'_, File>>, NoHold>,
     passes: Vec<Pass>,
     path: &'a str,
     out: &mut O,
