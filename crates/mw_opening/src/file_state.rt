@@ -1,15 +1,15 @@
-//! What is known of a tenant's file while it is served: the system's last error, which file it is, and how long.
+//! Which file of the system a tenant's file is, how long it must be, and whether it was given up.
 //!
-//! Used by: `watched_file`, which keeps it; `opening`; mw_programs, for its notes. Many threads may share it. It may
-//! change with them.
-ghost use Rattle.std.specs.Prelude.{◌≡◌, ◌<◌};
+//! Used by: `tracked_file`, which keeps it; `opening`; mw_programs, which looks whether the file was replaced. Many
+//! threads may share it. It may change with them.
+ghost use Rattle.std.specs.Prelude.{◌<◌};
 ghost use Rattle.mw_words.specs.declared.limits.TheConstants.{MAX_TENANTS};
 
 use mw_words::MAX_TENANTS;
 use std::fs::Metadata;
-use std::io::{self, ErrorKind};
+use std::io;
 use std::os::unix::fs::MetadataExt;
-use std::sync::atomic::{AtomicBool, AtomicI32, AtomicU64, Ordering};
+use std::sync::atomic::{AtomicBool, AtomicU64, Ordering};
 
 /// The number of the system's error for a file that was replaced: a stale file handle.
 const REPLACED: i32 = 116;
@@ -36,11 +36,9 @@ impl SeenFile {
     }
 }
 
-/// What is known of a tenant's file.
+/// Which file a tenant's file is, how long it must be, and whether it was given up.
 #[derive(Drop)]
 pub struct FileState {
-    /// The number of the last error that the system told, or 0 if it told none.
-    error: AtomicI32,
     device: AtomicU64,
     inode: AtomicU64,
     /// The size that the file must have, in bytes: what the system told of it, or more if it was written to past that.
@@ -52,19 +50,10 @@ impl FileState {
     /// Makes the state of a file of which nothing is known.
     pub fn new() -> Self {
         FileState {
-            error: AtomicI32::new(0),
             device: AtomicU64::new(0),
             inode: AtomicU64::new(0),
             size: AtomicU64::new(0),
             is_given_up: AtomicBool::new(false),
-        }
-    }
-
-    /// Gives the last error that the system told of the file, if it told one.
-    pub fn error(&self) -> Option<io::Error> {
-        match self.error.load(Ordering::SeqCst) {
-            0 => None,
-            code => Some(io::Error::from_raw_os_error(code)),
         }
     }
 
@@ -87,54 +76,33 @@ impl FileState {
     ///
     /// # Errors
     ///
-    /// The file was given up. The error is kept as the last one.
+    /// The file was given up.
     pub(crate) fn may_be_called(&self) -> io::Result<()> {
         if self.is_given_up.load(Ordering::SeqCst) {
-            return self.keep(Err(io::Error::from_raw_os_error(REPLACED)));
+            return Err(io::Error::from_raw_os_error(REPLACED));
         }
         Ok(())
     }
 
-    /// Keeps the error of an outcome. An interrupted call is made again, so its error isn't kept.
-    pub(crate) fn keep<T: Drop>(&self, outcome: io::Result<T>) -> io::Result<T>
-        ensures { result ≡ outcome }
-    {
-        if let Err(error) = &outcome {
-            if error.kind() != ErrorKind::Interrupted {
-                let code = error.raw_os_error().unwrap_or(0);
-                self.error.store(code, Ordering::SeqCst);
-            }
-        }
-        outcome
-    }
-
     /// Keeps what the system told of the file.
-    pub(crate) fn keep_seen(&self, told: &io::Result<Metadata>) {
-        if let Ok(told) = told {
-            let seen = SeenFile::of(told);
-            self.device.store(seen.device, Ordering::SeqCst);
-            self.inode.store(seen.inode, Ordering::SeqCst);
-            self.size.store(seen.size, Ordering::SeqCst);
-        }
+    pub(crate) fn keep_seen(&self, seen: SeenFile) {
+        self.device.store(seen.device, Ordering::SeqCst);
+        self.inode.store(seen.inode, Ordering::SeqCst);
+        self.size.store(seen.size, Ordering::SeqCst);
     }
 
-    /// Keeps that so many bytes were written at this offset.
-    pub(crate) fn keep_written(&self, offset: u64, written: &io::Result<usize>) {
-        if let Ok(count) = written {
-            let end = offset.saturating_add(*count as u64);
-            self.size.fetch_max(end, Ordering::SeqCst);
-        }
+    /// Keeps that the file was written to up to this byte.
+    pub(crate) fn keep_end(&self, end: u64) {
+        self.size.fetch_max(end, Ordering::SeqCst);
     }
 
     /// Keeps that the file was given this size.
-    pub(crate) fn keep_size(&self, size: u64, set: &io::Result<()>) {
-        if set.is_ok() {
-            self.size.store(size, Ordering::SeqCst);
-        }
+    pub(crate) fn keep_size(&self, size: u64) {
+        self.size.store(size, Ordering::SeqCst);
     }
 }
 
-/// What is known of each tenant's file.
+/// The state of each tenant's file.
 #[derive(Drop)]
 pub struct FileStates([FileState; MAX_TENANTS]);
 

@@ -11,7 +11,8 @@ ghost use Rattle.mw_engine.specs.OpenedFiles.{FitsLine, FitLines};
 use crate::file_state::{FileState, FileStates};
 use crate::notes::{note_cause, note_place};
 use crate::plain_file::{ReadFault, open_plain};
-use crate::watched_file::WatchedFile;
+use crate::tracked_file::TrackedFile;
+use crate::watched_file::{LastError, LastErrors, WatchedFile};
 use arrayvec::ArrayVec;
 use log::{Log, info, warn};
 use mw_config::{FormRule, Refusal, TenantLine, broken_rule, read_tenants};
@@ -155,11 +156,11 @@ enum FileFault {
 }
 
 impl FileFault {
-    /// Gives the fault of a failed opening. `state` has what the system told last, in the opening or before it.
-    fn of_opening(fault: OpenFault, state: &FileState) -> Self {
+    /// Gives the fault of a failed opening. `last` has what the system told last, in the opening or before it.
+    fn of_opening(fault: OpenFault, last: &LastError) -> Self {
         match fault {
             OpenFault::Memory => FileFault::Memory,
-            OpenFault::Disk => FileFault::Disk(state.error()),
+            OpenFault::Disk => FileFault::Disk(last.error()),
             OpenFault::Damage(damage) => FileFault::Damage(damage.number()),
         }
     }
@@ -184,14 +185,16 @@ pub fn open_files<'a, R: Files<File = File> + AllocGlobal, L: Log>(
     rt: &R,
     notes: &L,
     lines: &[TenantLine],
+    errors: &'a LastErrors,
     states: &'a FileStates,
 ) -> Result<Vec<Option<Opened<'a>>>, AllocError>
     requires { length lines.now ≤ MAX_TENANTS }
-    ensures { IfOk result (λ files. FitLines ⟦<FileDisk<WatchedFile<'a, File>> as Disk>⟧.facts lines.now files.items) }
+    ensures { IfOk result (λ files. FitLines ⟦<FileDisk<WatchedFile<'a, TrackedFile<'a, File>>> as Disk>⟧.facts lines.now files.items) }
 {
     let mut files = Vec::with_capacity(rt.alloc(), lines.len())?;
     for line in lines {
-        let file = open_file(rt, notes, line, states.of(files.len()))?;
+        let tenant = files.len();
+        let file = open_file(rt, notes, line, errors.of(tenant), states.of(tenant))?;
         files.push(file)?;
     }
     Ok(files)
@@ -205,7 +208,10 @@ pub fn are_all_open(files: &[Option<Opened<'_>>]) -> bool
 }
 
 /// A tenant's file, and the words that it had when it was opened.
-pub type Opened<'a> = (TenantFile<FileDisk<WatchedFile<'a, File>>>, Vec<u64>);
+pub type Opened<'a> = (
+    TenantFile<FileDisk<WatchedFile<'a, TrackedFile<'a, File>>>>,
+    Vec<u64>,
+);
 
 /// Opens the file of a tenant. Gives None, and writes a note, if the file doesn't open, is in use or isn't
 /// as the tenants file says. Then every request of the tenant is answered FAULT.
@@ -217,11 +223,12 @@ pub fn open_file<'a, R: Files<File = File> + AllocGlobal, L: Log>(
     rt: &R,
     notes: &L,
     line: &TenantLine,
+    last: &'a LastError,
     state: &'a FileState,
 ) -> Result<Option<Opened<'a>>, AllocError>
-    ensures { IfOk result (λ file. FitsLine ⟦<FileDisk<WatchedFile<'a, File>> as Disk>⟧.facts line.now file) }
+    ensures { IfOk result (λ file. FitsLine ⟦<FileDisk<WatchedFile<'a, TrackedFile<'a, File>>> as Disk>⟧.facts line.now file) }
 {
-    match open_fitting(rt, line, state) {
+    match open_fitting(rt, line, last, state) {
         Ok(opened) => Ok(Some(opened)),
         Err(FileFault::Memory) => Err(AllocError),
         Err(fault) => {
@@ -241,16 +248,17 @@ pub fn open_file<'a, R: Files<File = File> + AllocGlobal, L: Log>(
 fn open_fitting<'a, R: Files<File = File> + AllocGlobal>(
     rt: &R,
     line: &TenantLine,
+    last: &'a LastError,
     state: &'a FileState,
 ) -> Result<Opened<'a>, FileFault>
-    ensures { IfOk result (λ opened. FitsLine ⟦<FileDisk<WatchedFile<'a, File>> as Disk>⟧.facts line.now (Some opened)) }
+    ensures { IfOk result (λ opened. FitsLine ⟦<FileDisk<WatchedFile<'a, TrackedFile<'a, File>>> as Disk>⟧.facts line.now (Some opened)) }
 {
     let file = open_locked(rt, line.path.as_str())?;
     open_synced(
         rt.alloc(),
-        FileDisk::new(WatchedFile::new(file, state)),
+        FileDisk::new(WatchedFile::new(TrackedFile::new(file, state), last)),
         line,
-        state,
+        last,
     )
 }
 
@@ -266,13 +274,13 @@ fn open_synced<D: Disk + Drop>(
     alloc: Global,
     disk: D,
     line: &TenantLine,
-    state: &FileState,
+    last: &LastError,
 ) -> Result<(TenantFile<D>, Vec<u64>), FileFault>
     ensures { IfOk result (λ opened. FitsLine D.facts line.now (Some opened)) }
 {
     let mut disk = disk;
     if disk.sync().is_err() {
-        return Err(FileFault::Disk(state.error()));
+        return Err(FileFault::Disk(last.error()));
     }
     match TenantFile::open(alloc, disk) {
         Ok((file, words)) => {
@@ -281,7 +289,7 @@ fn open_synced<D: Disk + Drop>(
             }
             Ok((file, words))
         }
-        Err((fault, _)) => Err(FileFault::of_opening(fault, state)),
+        Err((fault, _)) => Err(FileFault::of_opening(fault, last)),
     }
 }
 

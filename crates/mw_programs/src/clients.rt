@@ -13,7 +13,7 @@ use log::{Log, warn};
 use mw_config::Listening;
 use mw_disk::{Disk, FileDisk};
 use mw_engine::{Engine, EngineBrand, NoHold, Pass};
-use mw_opening::{WatchedFile, note_cause};
+use mw_opening::{TrackedFile, WatchedFile, note_cause};
 use mw_session::Service;
 use mw_workers::{
     ClientListener, Closer, Desk, Patient, RoomWatch, ServeEnd, listen_at, port_of, serve_all,
@@ -125,7 +125,7 @@ fn workers_for<'a, J: EngineBrand, D: Disk, H, R: AllocGlobal, T>(
 /// thread looks at the tenants' files.
 pub(crate) fn serve_clients<'e, 'a, J, R, O: Write, L: Log + Sync, T: FaultWatch + FileLook + Sync>(
     rt: &'e R,
-    engine: &'e Engine<J, FileDisk<WatchedFile<'_, File>>, NoHold>,
+    engine: &'e Engine<J, FileDisk<WatchedFile<'_, TrackedFile<'_, File>>>, NoHold>,
     passes: Vec<Pass>,
     listening: &'a Listening,
     out: &mut O,

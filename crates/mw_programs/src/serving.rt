@@ -19,8 +19,8 @@ use mw_config::{ArgFault, Args, Mode, Refusal, TenantLine, read_args};
 use mw_disk::{Disk, FileDisk};
 use mw_engine::{Engine, EngineBrand, EngineParts, NoHold, Pass};
 use mw_opening::{
-    Cause, FileStates, Notes, Opened, ReadFault, TenantsFault, WatchedFile, are_all_open,
-    note_cause, open_files, open_plain, read_tenants_file,
+    Cause, FileStates, LastErrors, Notes, Opened, ReadFault, TenantsFault, TrackedFile,
+    WatchedFile, are_all_open, note_cause, open_files, open_plain, read_tenants_file,
 };
 use mw_session::Ended;
 use mw_words::MAX_WORKERS;
@@ -190,15 +190,15 @@ where
     requires { ArePermittedArgs args.now }
 {
     let lines = read_tenants_file(rt, args.tenants.as_str(), args.pool)?;
-    let states = FileStates::new();
-    let files = open_files(rt, notes, &lines, &states)?;
+    let (errors, states) = (LastErrors::new(), FileStates::new());
+    let files = open_files(rt, notes, &lines, &errors, &states)?;
     if args.strict && !are_all_open(&files) {
         return Err(ServeFault::NotAll);
     }
     if !has_room(notes, args, lines.len()) && args.strict {
         return Err(ServeFault::FewDescriptors);
     }
-    let watch = TenantNotes::new(rt, notes, &lines, &states, &files, args.strict);
+    let watch = TenantNotes::new(rt, notes, &lines, &errors, &states, &files, args.strict);
     serve_files(rt, args, &lines, files, out, notes, &watch)
 }
 
@@ -239,7 +239,7 @@ where
         + Sync,
     requires args { ArePermittedArgs args.now }
     requires lines { ArePermitted args.now.pool lines.now }
-    requires files { FitLines ⟦<FileDisk<WatchedFile<'f, File>> as Disk>⟧.facts lines.now files.items }
+    requires files { FitLines ⟦<FileDisk<WatchedFile<'f, TrackedFile<'f, File>>> as Disk>⟧.facts lines.now files.items }
 {
     let (parts, passes) = EngineParts::new(
         rt.alloc(),
@@ -273,7 +273,7 @@ fn serve_engine<
     T: FaultWatch + FileLook + Sync,
 >(
     rt: &R,
-    parts: EngineParts<FileDisk<WatchedFile<'_, File>>, NoHold>,
+    parts: EngineParts<FileDisk<WatchedFile<'_, TrackedFile<'_, File>>>, NoHold>,
     passes: Vec<Pass>,
     mode: &'a Mode,
     out: &mut O,
@@ -304,7 +304,7 @@ where
 /// Runs one session, from the script to `out`, by the first worker.
 fn run_script<'e, 'a, J: EngineBrand, R, O: Write, T: FaultWatch>(
     rt: &'e R,
-    engine: &'e Engine<J, FileDisk<WatchedFile<'_, File>>, NoHold>,
+    engine: &'e Engine<J, FileDisk<WatchedFile<'_, TrackedFile<'_, File>>>, NoHold>,
     passes: Vec<Pass>,
     path: &'a str,
     out: &mut O,

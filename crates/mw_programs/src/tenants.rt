@@ -8,7 +8,7 @@ ghost use Rattle.mw_words.specs.declared.limits.TheConstants.{MAX_TENANTS};
 use crate::replaced::{FileLook, leads_elsewhere};
 use log::{Log, warn};
 use mw_config::TenantLine;
-use mw_opening::{FileStates, Opened, note_cause, note_place};
+use mw_opening::{FileStates, LastErrors, Opened, note_cause, note_place};
 use mw_words::MAX_TENANTS;
 use std::rt::Files;
 use std::str;
@@ -26,6 +26,7 @@ pub struct TenantNotes<'r, 'n, 'l, 'e, L, R> {
     rt: &'r R,
     notes: &'n L,
     lines: &'l [TenantLine],
+    errors: &'e LastErrors,
     states: &'e FileStates,
     /// Whether a file that was replaced is given up.
     strict: bool,
@@ -42,6 +43,7 @@ impl<'r, 'n, 'l, 'e, L: Log, R: Wait> TenantNotes<'r, 'n, 'l, 'e, L, R> {
         rt: &'r R,
         notes: &'n L,
         lines: &'l [TenantLine],
+        errors: &'e LastErrors,
         states: &'e FileStates,
         files: &[Option<Opened<'_>>],
         strict: bool,
@@ -54,6 +56,7 @@ impl<'r, 'n, 'l, 'e, L: Log, R: Wait> TenantNotes<'r, 'n, 'l, 'e, L, R> {
             rt,
             notes,
             lines,
+            errors,
             states,
             strict,
             told: Mutex::new(told),
@@ -70,7 +73,7 @@ impl<L: Log, R: Wait> TenantNotes<'_, '_, '_, '_, L, R> {
         let name = str::from_utf8(&line.name).unwrap_or("?");
         warn!(self.notes; "tenant {name}: failed");
         let path = line.path.as_str();
-        match self.states.of(tenant).error() {
+        match self.errors.of(tenant).error() {
             Some(error) => note_cause(self.notes, path, &error),
             None => note_place(self.notes, path),
         }
