@@ -9,4 +9,6 @@ mod fake_file;
 #[cfg(test)]
 mod same;
 #[cfg(test)]
+mod tracked_tests;
+#[cfg(test)]
 mod watched_tests;

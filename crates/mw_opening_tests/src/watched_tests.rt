@@ -1,7 +1,7 @@
 //! Tests that a watched file makes each call on the file below it once, gives its outcome and keeps its error, and that
 //! a disk over it syncs.
 //!
-//! Nothing else uses it: it may change with what it tests.
+//! Used by: `tracked_tests`, which makes the same calls. It may change with what it tests.
 use crate::fake_file::{Call, Calls, DEVICE, FakeFile, INTERRUPTED, calls_of};
 use crate::same::same_at;
 use mw_disk::{Disk, DiskFault, FileDisk};
@@ -11,13 +11,13 @@ use std::io;
 use std::os::unix::fs::FileExt;
 
 /// How a call ended: with a number, or with the system's error of a number.
-type Ended = Result<u64, Option<i32>>;
+pub(crate) type Ended = Result<u64, Option<i32>>;
 
 /// The bytes of the file.
-const BYTES: &[u8] = b"abcdef";
+pub(crate) const BYTES: &[u8] = b"abcdef";
 
 /// Each call, and the number that it gives of a file of six bytes; 0 if it gives none.
-const CASES: [(Call, u64); 6] = [
+pub(crate) const CASES: [(Call, u64); 6] = [
     (Call::Metadata, 6),
     (Call::SetLen(3), 0),
     (Call::SyncAll, 0),
@@ -48,7 +48,7 @@ fn done(outcome: io::Result<()>) -> Ended {
 }
 
 /// Makes this call on a file. It reads or writes at most four bytes.
-fn make<F: FileExt + OpenFile>(file: &F, call: Call) -> Ended {
+pub(crate) fn make<F: FileExt + OpenFile>(file: &F, call: Call) -> Ended {
     let mut room = *b"wxyz";
     match call {
         Call::Metadata => told(file.metadata()),
