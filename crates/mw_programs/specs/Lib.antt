@@ -1,3 +1,4 @@
 pub mod Descriptors
 pub mod Replaced
 pub mod Served
+pub mod WorkerCount

@@ -8,6 +8,7 @@ ghost use Rattle.mw_words.specs.declared.limits.TheConstants.{MAX_TENANTS, MAX_W
 ghost use Rattle.mw_engine.specs.OpenedFiles.{FitLines};
 ghost use Rattle.mw_engine.specs.Passes.{IsNew};
 ghost use Rattle.mw_engine.specs.Parts.{identity_of};
+ghost use Rattle.mw_programs.specs.WorkerCount.{worker_count};
 
 use crate::clients::serve_clients;
 use crate::descriptors::{has_descriptors, needed};
@@ -252,10 +253,12 @@ where
     serve_engine::<Brand, _, _, _, _>(rt, parts, passes, &args.mode, out, notes, watch)
 }
 
-/// Gives the number of workers, at most [`MAX_WORKERS`]. That of the administrator's listener is counted.
+/// Gives the number of workers: as many as were asked for, or with a listener for the administrator one more, but at
+/// most [`MAX_WORKERS`].
 fn workers_of(args: &Args) -> u8
     requires { ArePermittedArgs args.now }
-    ensures { (1 ≤ result) × (result ≤ MAX_WORKERS) }
+    ensures range { (1 ≤ result) × (result ≤ MAX_WORKERS) }
+    ensures count { result ≡ worker_count args.now }
 {
     match &args.mode {
         Mode::Listen(listening) if listening.admin.is_some() => MAX_WORKERS.min(args.workers + 1),
