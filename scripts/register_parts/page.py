@@ -69,8 +69,8 @@ mw_file 52.
 """,
         ("crate", "refused", "survive", "which"),
         """
-Laws, mw_programs and mw_world_trials were not planted in. A body that always reports that memory is out is refused by tests
-only.
+Laws, mw_init, mw_opening, mw_programs and mw_world_trials were not planted in. A body that always reports that memory is
+out is refused by tests only.
 """,
     ),
 }

@@ -1,7 +1,7 @@
 //! Clients over loopback for the tests, and how they learn where the server listens. What they wait for
 //! comes within a limit.
 //!
-//! Used by: `tests/serving`. It may change freely as long as this crate checks and its tests pass.
+//! Used by: `tests/serving`, `tests/replaced`. It may change freely as long as this crate checks and its tests pass.
 use std::alloc::Global;
 use std::io::{ErrorKind, Read, Write};
 use std::net::{Net, TcpListener, TcpStream};
@@ -71,6 +71,52 @@ fn port_in(text: &[u8], word: &str) -> Option<u16> {
     let (_, told) = str::from_utf8(text).ok()?.split_once(word)?;
     let (port, _) = told.split_once('\n')?;
     port.parse().ok()
+}
+
+/// An error output of a server. It counts the lines that were told.
+#[derive(Drop)]
+pub struct Told<'a> {
+    text: Vec<u8>,
+    lines: &'a AtomicU16,
+}
+
+impl<'a> Told<'a> {
+    pub fn new(alloc: Global, lines: &'a AtomicU16) -> Self {
+        Told {
+            text: Vec::new(alloc),
+            lines,
+        }
+    }
+
+    /// Gives what was told.
+    pub fn into_text(self) -> Vec<u8> {
+        self.text
+    }
+}
+
+impl Write for Told<'_> {
+    fn write(&mut self, buf: &[u8]) -> io::Result<usize> {
+        let written = self.text.write(buf)?;
+        if buf.ends_with(b"\n") {
+            self.lines.fetch_add(1, Ordering::SeqCst);
+        }
+        Ok(written)
+    }
+
+    fn flush(&mut self) -> io::Result<()> {
+        Ok(())
+    }
+}
+
+/// Waits until so many lines were told.
+pub fn waits_for<R: Clock>(rt: &R, lines: &AtomicU16, count: u16) -> io::Result<()> {
+    for _ in 0..LOOKS {
+        if lines.load(Ordering::SeqCst) >= count {
+            return Ok(());
+        }
+        thread::sleep(rt, Duration::from_millis(PAUSE));
+    }
+    Err(io::Error::from(ErrorKind::TimedOut))
 }
 
 /// Waits until the server is ready, and gives its port.

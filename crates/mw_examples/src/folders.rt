@@ -2,7 +2,8 @@
 //!
 //! Used by: `stories`, `tests`, `tests/operating`, `tests/serving`. It may change freely as long as this crate
 //! checks and its tests pass.
-use mw_programs::{init, serve};
+use mw_init::init;
+use mw_programs::serve;
 use std::alloc::{AllocError, Global};
 use std::fs::File;
 use std::net::{Net, TcpListener, TcpStream};

@@ -2,6 +2,7 @@
 //!
 //! Nothing else uses it: it may change with what it tests.
 mod operating;
+mod replaced;
 mod serving;
 
 use crate::folders::{new_folder, path_in, remove_folder};

@@ -8,7 +8,7 @@ ghost use Rattle.mw_player.specs.PlayerSteps.{IsSame, ObeysAll, Plays};
 ghost use Rattle.mw_player.specs.Replayed.{MayPrint, PrintsAll, Replays, fault_at, halt_of, status_after, status_of};
 
 use crate::player::{PlayFault, Player};
-use mw_file_command::{AskedFile, FileCommand};
+use mw_file_command::{AskedFile, FileCommand, FileFault, open_plain};
 use mw_schedule::{Schedule, ScheduleFault, ScheduleLine, read_schedule};
 use std::alloc::{AllocError, Global};
 use std::fs::File;
@@ -85,6 +85,15 @@ impl From<ScheduleFault> for ReplayFault {
     }
 }
 
+impl From<FileFault> for ReplayFault {
+    fn from(fault: FileFault) -> Self {
+        match fault {
+            FileFault::System(error) => ReplayFault::from(error),
+            FileFault::NotPlain => ReplayFault::CannotRead,
+        }
+    }
+}
+
 impl From<io::Error> for ReplayFault {
     fn from(fault: io::Error) -> Self {
         match fault.kind() {
@@ -109,7 +118,7 @@ const COMMAND: FileCommand = FileCommand {
 /// file was opened. For help and the version it is 0, or 1 if `out` failed. What went wrong is written to
 /// `err`. The contract of [`replay_file`] says what is played of a file; no contract says which command line
 /// asks for what.
-pub fn replay_args<R: Files + AllocGlobal, O: Write, E: Write>(
+pub fn replay_args<R: Files<File = File> + AllocGlobal, O: Write, E: Write>(
     rt: &R,
     args: &[String],
     out: &mut O,
@@ -123,9 +132,9 @@ pub fn replay_args<R: Files + AllocGlobal, O: Write, E: Write>(
 
 /// Plays the schedule in the file at `path`, as [`replay`] does, and has its contract.
 ///
-/// Returns the exit status: that of [`replay`], or 1 if the file can't be opened; nothing is then written to
-/// `out`. What went wrong is written to `err`.
-pub fn replay_file<R: Files + AllocGlobal, O: Write, E: Write>(
+/// Returns the exit status: that of [`replay`], or 1 if the file can't be opened or isn't a plain one; nothing is
+/// then written to `out`. What went wrong is written to `err`.
+pub fn replay_file<R: Files<File = File> + AllocGlobal, O: Write, E: Write>(
     rt: &R,
     path: &str,
     trace: bool,
@@ -134,7 +143,7 @@ pub fn replay_file<R: Files + AllocGlobal, O: Write, E: Write>(
 ) -> u8
     ensures { Replays trace (O.contents out.old) (O.contents out.new) result }
 {
-    match File::open(rt, path) {
+    match open_plain(rt, path) {
         Ok(mut file) => replay(rt, &mut file, trace, out, err),
         Err(fault) => tell(&ReplayFault::from(fault), err),
     }

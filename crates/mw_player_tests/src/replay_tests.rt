@@ -16,6 +16,7 @@ use mw_look::Kind;
 use mw_player::{PlayFault, Player, replay, replay_args, replay_schedule};
 use mw_schedule::{Command, Schedule, StepKind, read_schedule};
 use std::alloc::{AllocError, Global};
+use std::fs::File;
 use std::io::{self, ErrorKind, Read, Write};
 use std::process::Abort;
 use std::rt::Files;
@@ -48,7 +49,7 @@ impl Played {
     }
 
     /// Runs a command line.
-    fn of_args<R: Files + AllocGlobal>(rt: &R, args: &[&str]) -> Result<Played, Fail> {
+    fn of_args<R: Files<File = File> + AllocGlobal>(rt: &R, args: &[&str]) -> Result<Played, Fail> {
         let args = strings(rt.alloc(), args)?;
         let mut out = Vec::new(rt.alloc());
         let mut err = Vec::new(rt.alloc());
@@ -96,6 +97,16 @@ fn strings(alloc: Global, texts: &[&str]) -> Result<Vec<String>, AllocError> {
 fn an_absent_schedule(rt: HostRuntime) -> Result<(), Fail> {
     let absent = Played::of_args(&rt, &["mwreplay", "no-such-schedule"])?;
     absent.is(&rt, "no schedule", 1, "", "mwreplay: cannot read\n");
+    Ok(())
+}
+
+/// A device may have no end. This one is empty, and would be a wrong schedule if it was read.
+#[test]
+fn a_schedule_that_is_no_plain_file(rt: HostRuntime) -> Result<(), Fail> {
+    for path in ["/dev/null", "."] {
+        let refused = Played::of_args(&rt, &["mwreplay", path])?;
+        refused.is(&rt, path, 1, "", "mwreplay: cannot read\n");
+    }
     Ok(())
 }
 

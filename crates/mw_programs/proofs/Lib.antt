@@ -1,3 +1,2 @@
-pub mod FilesFitLines
 pub mod Sessions
 pub mod Workers

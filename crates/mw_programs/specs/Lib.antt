@@ -1,1 +1,4 @@
+pub mod Descriptors
+pub mod Replaced
 pub mod Served
+pub mod WorkerCount

@@ -5,15 +5,15 @@
 ghost use Rattle.std.specs.Prelude.{◌≡◌, ◌<◌, All, IfOk, vec_len};
 ghost use Rattle.mw_engine.specs.Passes.{IsNew};
 
-use crate::notes::note_cause;
+use crate::replaced::{FileLook, PERIOD, Stop, look_on};
 use crate::serving::ServeFault;
 use crate::tenants::FaultWatch;
-use crate::watched_file::WatchedFile;
 use crate::worker::Worker;
 use log::{Log, warn};
 use mw_config::Listening;
 use mw_disk::{Disk, FileDisk};
 use mw_engine::{Engine, EngineBrand, NoHold, Pass};
+use mw_opening::{TrackedFile, WatchedFile, note_cause};
 use mw_session::Service;
 use mw_workers::{
     ClientListener, Closer, Desk, Patient, RoomWatch, ServeEnd, listen_at, port_of, serve_all,
@@ -27,7 +27,7 @@ use std::io::Write;
 use std::net::{Net, TcpListener, TcpStream};
 use std::rt::Files;
 use std::sync::Wait;
-use std::thread::Threads;
+use std::thread::{self, Threads};
 use std::time::Clock;
 
 /// Writes a note when there is no room for connections, with the address.
@@ -121,10 +121,11 @@ fn workers_for<'a, J: EngineBrand, D: Disk, H, R: AllocGlobal, T>(
 }
 
 /// Writes to `out` where it listens, and serves clients by a worker for each pass. If there is an address
-/// for the administrator, the last of these workers serves only the clients of that address.
-pub(crate) fn serve_clients<'e, 'a, J, R, O: Write, L: Log + Sync, T: FaultWatch + Sync>(
+/// for the administrator, the last of these workers serves only the clients of that address. Meanwhile a
+/// thread looks at the tenants' files.
+pub(crate) fn serve_clients<'e, 'a, J, R, O: Write, L: Log + Sync, T: FaultWatch + FileLook + Sync>(
     rt: &'e R,
-    engine: &'e Engine<J, FileDisk<WatchedFile<'_>>, NoHold>,
+    engine: &'e Engine<J, FileDisk<WatchedFile<'_, TrackedFile<'_, File>>>, NoHold>,
     passes: Vec<Pass>,
     listening: &'a Listening,
     out: &mut O,
@@ -144,6 +145,45 @@ where
     requires some { 0 < vec_len passes }
 {
     let workers = workers_for(rt, engine, passes, watch)?;
+    let stop = Stop::new();
+    let stop = &stop;
+    thread::scope(
+        thread::scope_env(),
+        rt,
+        |scope| -> Result<(), ServeFault>
+            requires { 0 < vec_len workers }
+        {
+            if scope
+                .spawn(move || look_on(rt, watch, PERIOD, stop))
+                .is_err()
+            {
+                return Err(ServeFault::Memory);
+            }
+            let ended = serve_workers(rt, workers, listening, out, notes);
+            stop.ask(rt);
+            ended
+        },
+    )
+}
+
+/// Serves the clients of the one address or of both.
+fn serve_workers<'a, S: Service + Send + Drop, R, O: Write, L: Log + Sync>(
+    rt: &R,
+    workers: Vec<S>,
+    listening: &'a Listening,
+    out: &mut O,
+    notes: &L,
+) -> Result<(), ServeFault<'a>>
+where
+    R: Files<File = File>
+        + AllocGlobal
+        + Net<Listener = TcpListener, Stream = TcpStream>
+        + Threads
+        + Wait
+        + Clock
+        + Sync,
+    requires { 0 < vec_len workers }
+{
     match &listening.admin {
         Some(admin) => serve_both(rt, workers, listening, admin.as_str(), out, notes),
         None => serve_one(rt, workers, listening, out, notes),

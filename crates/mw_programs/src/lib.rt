@@ -1,18 +1,14 @@
-//! Implements two programs: `mwinit` makes a tenant's file, and `mwserve` serves tenants' words.
+//! Implements `mwserve`: serves tenants' words, from a script or to the clients that connect.
 //!
-//! Used by: mwinit, mwserve, mw_examples. docs/OPERATING describes both programs for users: change them together.
+//! Used by: mwserve, mw_examples. docs/OPERATING describes the program for users: change them together.
 #![tactic(auto)]
 
 mod clients;
-mod new_file;
-mod notes;
-mod opening;
-mod plain_file;
+mod descriptors;
+mod replaced;
 mod served;
 mod serving;
 mod tenants;
-mod watched_file;
 mod worker;
 
-pub use new_file::init;
 pub use serving::serve;

@@ -4,22 +4,25 @@
 ghost use Rattle.std.specs.Prelude.{◌≡◌, ◌<◌, ◌≤◌, All, IfOk, vec_len};
 ghost use Rattle.mw_config.specs.CommandLine.{ArePermittedArgs};
 ghost use Rattle.mw_config.specs.Limits.{ArePermitted};
-ghost use Rattle.mw_words.specs.declared.limits.TheConstants.{MAX_WORKERS};
+ghost use Rattle.mw_words.specs.declared.limits.TheConstants.{MAX_TENANTS, MAX_WORKERS};
 ghost use Rattle.mw_engine.specs.OpenedFiles.{FitLines};
 ghost use Rattle.mw_engine.specs.Passes.{IsNew};
 ghost use Rattle.mw_engine.specs.Parts.{identity_of};
+ghost use Rattle.mw_programs.specs.WorkerCount.{worker_count};
 
 use crate::clients::serve_clients;
-use crate::notes::{Notes, note_cause};
-use crate::opening::{Cause, Opened, TenantsFault, are_all_open, open_files, read_tenants_file};
-use crate::plain_file::{ReadFault, open_plain};
+use crate::descriptors::{has_descriptors, needed};
+use crate::replaced::FileLook;
 use crate::tenants::{FaultWatch, TenantNotes};
-use crate::watched_file::{LastErrors, WatchedFile};
 use crate::worker::Worker;
 use log::{Log, warn};
 use mw_config::{ArgFault, Args, Mode, Refusal, TenantLine, read_args};
 use mw_disk::{Disk, FileDisk};
 use mw_engine::{Engine, EngineBrand, EngineParts, NoHold, Pass};
+use mw_opening::{
+    Cause, FileStates, LastErrors, Notes, Opened, ReadFault, TenantsFault, TrackedFile,
+    WatchedFile, are_all_open, note_cause, open_files, open_plain, read_tenants_file,
+};
 use mw_session::Ended;
 use mw_words::MAX_WORKERS;
 use std::alloc::AllocError;
@@ -43,6 +46,9 @@ pub(crate) enum ServeFault<'a> {
     /// A tenant's file didn't open, and `--strict` asks for all of them. Notes tell which file.
     #[error("")]
     NotAll,
+    /// The limit of descriptors is too low, and `--strict` asks for room. A note tells it.
+    #[error("")]
+    FewDescriptors,
     /// The script at this path can't be opened, or isn't a plain file.
     #[error("mwserve: cannot read")]
     CannotRead(&'a str, ReadFault),
@@ -64,6 +70,7 @@ impl ServeFault<'_> {
         match self {
             ServeFault::Refused(..) => 2,
             ServeFault::NotAll
+            | ServeFault::FewDescriptors
             | ServeFault::CannotRead(..)
             | ServeFault::CannotListen(..)
             | ServeFault::Ended
@@ -73,7 +80,7 @@ impl ServeFault<'_> {
 
     /// Writes the fault, and what more is known of it. `tenants` is the path of the tenants file.
     fn tell<L: Log>(&self, notes: &L, tenants: &str) {
-        if let ServeFault::NotAll | ServeFault::Ended = self {
+        if let ServeFault::NotAll | ServeFault::FewDescriptors | ServeFault::Ended = self {
             return;
         }
         warn!(notes; "{self}");
@@ -110,12 +117,14 @@ impl From<TenantsFault> for ServeFault<'_> {
 /// Gives the exit status:
 /// - 0 if the session ended by `QUIT`, with the script, or at a line that was too long, or if all
 ///   connections were served;
-/// - 1 if the session ended otherwise, if a tenant's file didn't open and `--strict` was given, if the
-///   script couldn't be opened, if nobody can listen at an address, or if memory was refused;
+/// - 1 if the session ended otherwise, if a tenant's file didn't open or the limit of descriptors is too low
+///   and `--strict` was given, if the script couldn't be opened, if nobody can listen at an address, or if memory was refused;
 /// - 2 if the command line or the tenants file is wrong.
 ///
 /// Writes to `err` what went wrong before the first session. It also writes a note on each tenant whose
-/// file doesn't open, is in use or fails, and a note when there is no room for connections. The files stay
+/// file doesn't open, is in use or fails, and a note when there is no room for connections. With `--listen`
+/// it also writes a note on each tenant whose file is replaced, and one if the limit of descriptors is too
+/// low. The files stay
 /// locked until it returns.
 pub fn serve<R, O: Write, E: Write + Send>(rt: &R, args: &[String], out: &mut O, err: &mut E) -> u8
 where
@@ -182,17 +191,37 @@ where
     requires { ArePermittedArgs args.now }
 {
     let lines = read_tenants_file(rt, args.tenants.as_str(), args.pool)?;
-    let errors = LastErrors::new();
-    let files = open_files(rt, notes, &lines, &errors)?;
+    let (errors, states) = (LastErrors::new(), FileStates::new());
+    let files = open_files(rt, notes, &lines, &errors, &states)?;
     if args.strict && !are_all_open(&files) {
         return Err(ServeFault::NotAll);
     }
-    let watch = TenantNotes::new(rt, notes, &lines, &errors, &files);
+    if !has_room(notes, args, lines.len()) && args.strict {
+        return Err(ServeFault::FewDescriptors);
+    }
+    let watch = TenantNotes::new(rt, notes, &lines, &errors, &states, &files, args.strict);
     serve_files(rt, args, &lines, files, out, notes, &watch)
 }
 
+/// Tells whether the limit of descriptors leaves room for the clients of so many tenants, and writes a note if not. A
+/// script has no clients.
+fn has_room<L: Log>(notes: &L, args: &Args, tenants: usize) -> bool
+    requires args { ArePermittedArgs args.now }
+    requires tenants { tenants ≤ MAX_TENANTS }
+{
+    match &args.mode {
+        Mode::Script(_) => true,
+        Mode::Listen(listening) => {
+            has_descriptors(
+                notes,
+                needed(tenants, workers_of(args), listening.admin.is_some()),
+            )
+        }
+    }
+}
+
 /// Serves the tenants with these lines from their files. A tenant whose file didn't open answers FAULT.
-fn serve_files<'a, 'f, R, O: Write, L: Log + Sync, T: FaultWatch + Sync>(
+fn serve_files<'a, 'f, R, O: Write, L: Log + Sync, T: FaultWatch + FileLook + Sync>(
     rt: &R,
     args: &'a Args,
     lines: &[TenantLine],
@@ -211,7 +240,7 @@ where
         + Sync,
     requires args { ArePermittedArgs args.now }
     requires lines { ArePermitted args.now.pool lines.now }
-    requires files { FitLines ⟦<FileDisk<WatchedFile<'f>> as Disk>⟧.facts lines.now files.items }
+    requires files { FitLines ⟦<FileDisk<WatchedFile<'f, TrackedFile<'f, File>>> as Disk>⟧.facts lines.now files.items }
 {
     let (parts, passes) = EngineParts::new(
         rt.alloc(),
@@ -224,10 +253,12 @@ where
     serve_engine::<Brand, _, _, _, _>(rt, parts, passes, &args.mode, out, notes, watch)
 }
 
-/// Gives the number of workers, at most [`MAX_WORKERS`]. That of the administrator's listener is counted.
+/// Gives the number of workers: as many as were asked for, or with a listener for the administrator one more, but at
+/// most [`MAX_WORKERS`].
 fn workers_of(args: &Args) -> u8
     requires { ArePermittedArgs args.now }
-    ensures { (1 ≤ result) × (result ≤ MAX_WORKERS) }
+    ensures range { (1 ≤ result) × (result ≤ MAX_WORKERS) }
+    ensures count { result ≡ worker_count args.now }
 {
     match &args.mode {
         Mode::Listen(listening) if listening.admin.is_some() => MAX_WORKERS.min(args.workers + 1),
@@ -236,9 +267,16 @@ fn workers_of(args: &Args) -> u8
 }
 
 /// Starts the engine, and serves what the command line asks for.
-fn serve_engine<'a, J: EngineBrand + Send + Sync, R, O: Write, L: Log + Sync, T: FaultWatch + Sync>(
+fn serve_engine<
+    'a,
+    J: EngineBrand + Send + Sync,
+    R,
+    O: Write,
+    L: Log + Sync,
+    T: FaultWatch + FileLook + Sync,
+>(
     rt: &R,
-    parts: EngineParts<FileDisk<WatchedFile<'_>>, NoHold>,
+    parts: EngineParts<FileDisk<WatchedFile<'_, TrackedFile<'_, File>>>, NoHold>,
     passes: Vec<Pass>,
     mode: &'a Mode,
     out: &mut O,
@@ -269,7 +307,7 @@ where
 /// Runs one session, from the script to `out`, by the first worker.
 fn run_script<'e, 'a, J: EngineBrand, R, O: Write, T: FaultWatch>(
     rt: &'e R,
-    engine: &'e Engine<J, FileDisk<WatchedFile<'_>>, NoHold>,
+    engine: &'e Engine<J, FileDisk<WatchedFile<'_, TrackedFile<'_, File>>>, NoHold>,
     passes: Vec<Pass>,
     path: &'a str,
     out: &mut O,

@@ -1,16 +1,16 @@
-//! Writes a note, once, on each tenant whose file fails while it is served.
+//! Writes a note, once, on each tenant whose file fails while it is served, and on each whose file is replaced.
 //!
-//! `serving` makes the notes. `served` tells of each FAULT, on behalf of a worker. docs/OPERATING tells the note's
-//! text: change both together.
+//! `serving` makes the notes. `served` tells of each FAULT, on behalf of a worker. `clients` has the files looked at.
+//! docs/OPERATING tells the notes' texts: change both together.
 ghost use Rattle.std.specs.Prelude.{◌<◌};
 ghost use Rattle.mw_words.specs.declared.limits.TheConstants.{MAX_TENANTS};
 
-use crate::notes::{note_cause, note_place};
-use crate::opening::Opened;
-use crate::watched_file::LastErrors;
+use crate::replaced::{FileLook, leads_elsewhere};
 use log::{Log, warn};
 use mw_config::TenantLine;
+use mw_opening::{FileStates, LastErrors, Opened, note_cause, note_place};
 use mw_words::MAX_TENANTS;
+use std::rt::Files;
 use std::str;
 use std::sync::{Mutex, Wait};
 
@@ -20,26 +20,33 @@ pub trait FaultWatch {
     fn fault(&self, tenant: u8);
 }
 
-/// Writes a note on each tenant whose file has failed while it was served, once.
+/// Writes a note on each tenant whose file has failed while it was served, once, and on each whose file was replaced.
 #[derive(Drop)]
 pub struct TenantNotes<'r, 'n, 'l, 'e, L, R> {
     rt: &'r R,
     notes: &'n L,
     lines: &'l [TenantLine],
     errors: &'e LastErrors,
-    /// The tenants on which a note was written already.
+    states: &'e FileStates,
+    /// Whether a file that was replaced is given up.
+    strict: bool,
+    /// The tenants on which it was written already that they are down.
     told: Mutex<[bool; MAX_TENANTS]>,
+    /// The tenants whose files are no longer looked at: they didn't open, or were replaced.
+    left_out: Mutex<[bool; MAX_TENANTS]>,
 }
 
 impl<'r, 'n, 'l, 'e, L: Log, R: Wait> TenantNotes<'r, 'n, 'l, 'e, L, R> {
     /// Makes the notes on the tenants with these lines. A tenant whose file didn't open has its note
-    /// already.
+    /// already. If it is strict, a file that was replaced is given up.
     pub fn new(
         rt: &'r R,
         notes: &'n L,
         lines: &'l [TenantLine],
         errors: &'e LastErrors,
+        states: &'e FileStates,
         files: &[Option<Opened<'_>>],
+        strict: bool,
     ) -> Self {
         let mut told = [false; MAX_TENANTS];
         for (told, file) in told.iter_mut().zip(files) {
@@ -50,7 +57,10 @@ impl<'r, 'n, 'l, 'e, L: Log, R: Wait> TenantNotes<'r, 'n, 'l, 'e, L, R> {
             notes,
             lines,
             errors,
+            states,
+            strict,
             told: Mutex::new(told),
+            left_out: Mutex::new(told),
         }
     }
 }
@@ -68,6 +78,13 @@ impl<L: Log, R: Wait> TenantNotes<'_, '_, '_, '_, L, R> {
             None => note_place(self.notes, path),
         }
     }
+
+    /// Writes that the file of the tenant with this line was replaced.
+    fn tell_replaced(&self, line: &TenantLine) {
+        let name = str::from_utf8(&line.name).unwrap_or("?");
+        warn!(self.notes; "tenant {name}: replaced");
+        note_place(self.notes, line.path.as_str());
+    }
 }
 
 impl<L: Log, R: Wait> FaultWatch for TenantNotes<'_, '_, '_, '_, L, R> {
@@ -80,6 +97,23 @@ impl<L: Log, R: Wait> FaultWatch for TenantNotes<'_, '_, '_, '_, L, R> {
         all_told[tenant] = true;
         if let Some(line) = self.lines.get(tenant) {
             self.tell(tenant, line);
+        }
+    }
+}
+
+impl<L: Log, R: Wait + Files> FileLook for TenantNotes<'_, '_, '_, '_, L, R> {
+    fn look(&self) {
+        let mut all_left_out = self.left_out.lock(self.rt);
+        let files = self.lines.iter().zip(self.states.all());
+        for ((line, state), left_out) in files.zip(all_left_out.iter_mut()) {
+            if *left_out || !leads_elsewhere(self.rt, line.path.as_str(), &state.seen()) {
+                continue;
+            }
+            *left_out = true;
+            if self.strict {
+                state.give_up();
+            }
+            self.tell_replaced(line);
         }
     }
 }

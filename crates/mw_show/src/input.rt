@@ -4,9 +4,10 @@
 ghost use Rattle.std.specs.Prelude.{◌≡◌, ◌≤◌};
 ghost use Rattle.mw_show.specs.Statuses.{status_of};
 
+use mw_file_command::{FileFault, open_plain};
 use mw_record::MAX_FILE;
 use std::alloc::{AllocError, Global};
-use std::fs::{self, File, TryLockError};
+use std::fs::{File, TryLockError};
 use std::io::{self, Read};
 use std::rt::Files;
 use thiserror::Error;
@@ -70,23 +71,17 @@ pub fn read_file<R: Files<File = File> + AllocGlobal>(
     rt: &R,
     path: &str,
 ) -> Result<Vec<u8>, ShowFault> {
-    // Opening a pipe would wait for its writer.
-    match fs::metadata(rt, path) {
-        Ok(data) if data.is_file() => read_plain(rt, path),
-        Ok(_) => Err(ShowFault::NotPlain),
-        Err(_) => Err(ShowFault::CannotRead),
+    match open_plain(rt, path) {
+        Ok(file) => read_locked(rt.alloc(), file),
+        Err(FileFault::NotPlain) => Err(ShowFault::NotPlain),
+        Err(FileFault::System(_)) => Err(ShowFault::CannotRead),
     }
 }
 
-fn read_plain<R: Files<File = File> + AllocGlobal>(
-    rt: &R,
-    path: &str,
-) -> Result<Vec<u8>, ShowFault> {
-    let Ok(file) = File::open(rt, path) else {
-        return Err(ShowFault::CannotRead);
-    };
+/// Locks the file, reads the bytes that are looked at, and closes it.
+fn read_locked(alloc: Global, file: File) -> Result<Vec<u8>, ShowFault> {
     match file.try_lock_shared() {
-        Ok(()) => read_front(rt.alloc(), file),
+        Ok(()) => read_front(alloc, file),
         Err(TryLockError::WouldBlock) => Err(ShowFault::InUse),
         Err(TryLockError::Error(_)) => Err(ShowFault::CannotRead),
     }

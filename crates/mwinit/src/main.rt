@@ -1,10 +1,10 @@
 //! `mwinit PATH WORDS PLACES` makes a tenant's file.
 //!
-//! mw_programs does the work (`init`). Here are only the program's name, and what it says if it can't begin.
+//! mw_init does the work (`init`). Here are only the program's name, and what it says if it can't begin.
 #![tactic(auto)]
 
+use mw_init::init;
 use mw_main::{Program, run};
-use mw_programs::init;
 use std::process::ExitCode;
 
 const PROGRAM: Program = Program {

@@ -2,8 +2,8 @@
 -- alone. It may change freely as long as this crate checks.
 use Rattle.std.proofs.Common.{IsTrue, subst, sym, ◌∙◌, arith}
 use Rattle.mw_disk.specs.Facts.{IsSynced}
-use Rattle.mw_programs.proofs.FilesFitLines.{is_fresh, of_ok}
-use Rattle.mw_programs.proofs.opening.open_synced.Goals as goal
+use Rattle.mw_opening.proofs.FilesFitLines.{is_fresh, of_ok}
+use Rattle.mw_opening.proofs.opening.open_synced.Goals as goal
 
 pub returns-in-Ok : goal.returns-in-Ok
 returns-in-Ok g c =

@@ -2,8 +2,8 @@
 -- alone. It may change freely as long as this crate checks.
 use Rattle.std.proofs.Common.{sym, arith}
 use Rattle.mw_disk.specs.Unknown.{unknown}
-use Rattle.mw_programs.proofs.FilesFitLines.{fit_next, so_many}
-use Rattle.mw_programs.proofs.opening.open_files.Goals as goal
+use Rattle.mw_opening.proofs.FilesFitLines.{fit_next, so_many}
+use Rattle.mw_opening.proofs.opening.open_files.Goals as goal
 
 pub of-requires : goal.of-requires
 of-requires g c =

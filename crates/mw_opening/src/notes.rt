@@ -1,6 +1,6 @@
 //! Writes notes for whoever runs the server, each on a line of its own.
 //!
-//! Used by: `serving`, `opening`, `clients`, `tenants`. It has no contracts, and may change freely.
+//! Used by: `opening`; mw_programs. It has no contracts, and may change freely.
 
 use log::kv::Source;
 use log::span::Spans;

@@ -1,12 +1,12 @@
-//! A tenant's file of the system, which keeps the last error that a call on it gave, for a note.
+//! A tenant's file, which keeps the last error that a call on it gave, for a note.
 //!
-//! Used by: `opening`, which makes one of each opened file; `serving`, `clients`, `tenants`. It may change as long as
-//! each call gives what the file's call gave.
+//! Used by: `opening`, which makes one of each opened file; mw_programs. It may change as long as each call gives what
+//! the file's call gave.
 ghost use Rattle.std.specs.Prelude.{◌≡◌, ◌<◌};
 ghost use Rattle.mw_words.specs.declared.limits.TheConstants.{MAX_TENANTS};
 
 use mw_words::MAX_TENANTS;
-use std::fs::{File, Metadata, OpenFile};
+use std::fs::{Metadata, OpenFile};
 use std::io::{self, ErrorKind};
 use std::os::unix::fs::FileExt;
 use std::sync::atomic::{AtomicI32, Ordering};
@@ -61,21 +61,22 @@ impl LastErrors {
     }
 }
 
-/// A file that keeps the last error that the system told of it.
+/// A file that keeps the last error that the system told of it. Each call is one call of the file below, and gives what
+/// that gave.
 #[derive(Drop)]
-pub struct WatchedFile<'a> {
-    file: File,
+pub struct WatchedFile<'a, F> {
+    file: F,
     last: &'a LastError,
 }
 
-impl<'a> WatchedFile<'a> {
+impl<'a, F> WatchedFile<'a, F> {
     /// Makes a file that keeps its errors in `last`.
-    pub fn new(file: File, last: &'a LastError) -> Self {
+    pub fn new(file: F, last: &'a LastError) -> Self {
         WatchedFile { file, last }
     }
 }
 
-impl FileExt for WatchedFile<'_> {
+impl<F: FileExt> FileExt for WatchedFile<'_, F> {
     fn read_at(&self, buf: &mut [u8], offset: u64) -> io::Result<usize> {
         let read = self.file.read_at(buf, offset);
         self.last.keep(read)
@@ -87,7 +88,7 @@ impl FileExt for WatchedFile<'_> {
     }
 }
 
-impl OpenFile for WatchedFile<'_> {
+impl<F: OpenFile> OpenFile for WatchedFile<'_, F> {
     fn metadata(&self) -> io::Result<Metadata> {
         let told = self.file.metadata();
         self.last.keep(told)

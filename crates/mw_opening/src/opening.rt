@@ -1,15 +1,17 @@
 //! Opens what a server needs before it serves: the tenants file and each tenant's own file, under a lock.
 //!
-//! Used by: `serving`, which calls these before it serves; `tenants`. docs/OPERATING.md lists the texts of the notes:
-//! change both together. A new kind of [`Cause`] needs a case in `Cause::tell`. docs/PROMISES cites `open_files`.
+//! Used by: mw_programs, which calls these before it serves. docs/OPERATING.md lists the texts of the notes: change
+//! both together. A new kind of [`Cause`] needs a case in `Cause::tell`. docs/PROMISES cites `open_files`.
 ghost use Rattle.std.specs.Prelude.{◌≡◌, ◌≤◌, length, is_some, IfOk, Some};
 ghost use Rattle.std.specs.List.{list_all};
 ghost use Rattle.mw_config.specs.Limits.{ArePermitted};
 ghost use Rattle.mw_words.specs.declared.limits.TheConstants.{MAX_TENANTS};
 ghost use Rattle.mw_engine.specs.OpenedFiles.{FitsLine, FitLines};
 
+use crate::file_state::{FileState, FileStates};
 use crate::notes::{note_cause, note_place};
 use crate::plain_file::{ReadFault, open_plain};
+use crate::tracked_file::TrackedFile;
 use crate::watched_file::{LastError, LastErrors, WatchedFile};
 use arrayvec::ArrayVec;
 use log::{Log, info, warn};
@@ -184,13 +186,15 @@ pub fn open_files<'a, R: Files<File = File> + AllocGlobal, L: Log>(
     notes: &L,
     lines: &[TenantLine],
     errors: &'a LastErrors,
+    states: &'a FileStates,
 ) -> Result<Vec<Option<Opened<'a>>>, AllocError>
     requires { length lines.now ≤ MAX_TENANTS }
-    ensures { IfOk result (λ files. FitLines ⟦<FileDisk<WatchedFile<'a>> as Disk>⟧.facts lines.now files.items) }
+    ensures { IfOk result (λ files. FitLines ⟦<FileDisk<WatchedFile<'a, TrackedFile<'a, File>>> as Disk>⟧.facts lines.now files.items) }
 {
     let mut files = Vec::with_capacity(rt.alloc(), lines.len())?;
     for line in lines {
-        let file = open_file(rt, notes, line, errors.of(files.len()))?;
+        let tenant = files.len();
+        let file = open_file(rt, notes, line, errors.of(tenant), states.of(tenant))?;
         files.push(file)?;
     }
     Ok(files)
@@ -204,7 +208,10 @@ pub fn are_all_open(files: &[Option<Opened<'_>>]) -> bool
 }
 
 /// A tenant's file, and the words that it had when it was opened.
-pub type Opened<'a> = (TenantFile<FileDisk<WatchedFile<'a>>>, Vec<u64>);
+pub type Opened<'a> = (
+    TenantFile<FileDisk<WatchedFile<'a, TrackedFile<'a, File>>>>,
+    Vec<u64>,
+);
 
 /// Opens the file of a tenant. Gives None, and writes a note, if the file doesn't open, is in use or isn't
 /// as the tenants file says. Then every request of the tenant is answered FAULT.
@@ -217,10 +224,11 @@ pub fn open_file<'a, R: Files<File = File> + AllocGlobal, L: Log>(
     notes: &L,
     line: &TenantLine,
     last: &'a LastError,
+    state: &'a FileState,
 ) -> Result<Option<Opened<'a>>, AllocError>
-    ensures { IfOk result (λ file. FitsLine ⟦<FileDisk<WatchedFile<'a>> as Disk>⟧.facts line.now file) }
+    ensures { IfOk result (λ file. FitsLine ⟦<FileDisk<WatchedFile<'a, TrackedFile<'a, File>>> as Disk>⟧.facts line.now file) }
 {
-    match open_fitting(rt, line, last) {
+    match open_fitting(rt, line, last, state) {
         Ok(opened) => Ok(Some(opened)),
         Err(FileFault::Memory) => Err(AllocError),
         Err(fault) => {
@@ -241,13 +249,14 @@ fn open_fitting<'a, R: Files<File = File> + AllocGlobal>(
     rt: &R,
     line: &TenantLine,
     last: &'a LastError,
+    state: &'a FileState,
 ) -> Result<Opened<'a>, FileFault>
-    ensures { IfOk result (λ opened. FitsLine ⟦<FileDisk<WatchedFile<'a>> as Disk>⟧.facts line.now (Some opened)) }
+    ensures { IfOk result (λ opened. FitsLine ⟦<FileDisk<WatchedFile<'a, TrackedFile<'a, File>>> as Disk>⟧.facts line.now (Some opened)) }
 {
     let file = open_locked(rt, line.path.as_str())?;
     open_synced(
         rt.alloc(),
-        FileDisk::new(WatchedFile::new(file, last)),
+        FileDisk::new(WatchedFile::new(TrackedFile::new(file, state), last)),
         line,
         last,
     )

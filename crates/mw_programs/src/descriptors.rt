@@ -1,0 +1,58 @@
+//! Finds out whether the limit of descriptors leaves room for what a server needs.
+//!
+//! `serving` asks before it serves clients. docs/OPERATING tells how many are needed: change both together.
+ghost use Rattle.std.specs.Prelude.{◌≡◌, ◌≤◌};
+ghost use Rattle.mw_programs.specs.Descriptors.{needed};
+ghost use Rattle.mw_words.specs.declared.limits.TheConstants.{MAX_TENANTS};
+
+use log::{Log, info, warn};
+use mw_words::MAX_TENANTS;
+use mw_workers::QUEUE;
+
+/// How many standard streams a program has.
+pub(crate) const STREAMS: u64 = 3;
+
+/// How many more are needed for the administrator's address: its listener, what ends the wait there, and a connection
+/// that is being accepted.
+pub(crate) const FOR_ADMIN: u64 = 3;
+
+/// Gives how many descriptors a server needs: for the standard streams, the tenants' files, the listener, a connection
+/// of each worker, the connections that wait for one, and one that is being accepted. With an address for the
+/// administrator it needs more.
+pub(crate) fn needed(tenants: usize, workers: u8, has_admin: bool) -> u64
+    requires { tenants ≤ MAX_TENANTS }
+    ensures { result ≡ needed tenants workers has_admin }
+{
+    let connections = u64::from(workers) + QUEUE as u64 + 1;
+    let clients = STREAMS + tenants as u64 + 1 + connections;
+    if has_admin {
+        clients + FOR_ADMIN
+    } else {
+        clients
+    }
+}
+
+/// Gives how many descriptors the system lets this program have, or None if it doesn't tell.
+fn limit() -> Option<u64> {
+    let mut limit = libc::types::rlimit {
+        rlim_cur: 0,
+        rlim_max: 0,
+    };
+    if libc::getrlimit(libc::RLIMIT_NOFILE, &mut limit) == 0 {
+        Some(limit.rlim_cur)
+    } else {
+        None
+    }
+}
+
+/// Tells whether the program may have so many descriptors, and writes a note if not.
+pub(crate) fn has_descriptors<L: Log>(notes: &L, needed: u64) -> bool {
+    match limit() {
+        Some(limit) if limit < needed => {
+            warn!(notes; "mwserve: too few descriptors");
+            info!(notes; "limit {limit}, needed {needed}");
+            false
+        }
+        _ => true,
+    }
+}

@@ -1,0 +1,89 @@
+//! Looks, while clients are served, whether each tenant's path still leads to the file that was opened.
+//!
+//! `clients` has it done once a second, by a thread; `tenants` writes the notes. docs/OPERATING tells what comes of a
+//! file that was replaced: change both together.
+ghost use Rattle.std.specs.Prelude.{◌≡◌, ◌↔◌, false};
+ghost use Rattle.mw_programs.specs.Replaced.{LeadsTo};
+
+use mw_opening::SeenFile;
+use std::fs;
+use std::io::ErrorKind;
+use std::rt::Files;
+use std::sync::{Condvar, Mutex, Wait};
+use std::time::{Clock, Duration};
+
+/// The time from one look to the next, in milliseconds.
+pub(crate) const PERIOD: u64 = 1000;
+
+/// Looks at the files of all tenants.
+pub trait FileLook {
+    /// Looks once at each tenant's path, and does what has to be done about a file that was replaced.
+    fn look(&self);
+}
+
+/// Ends the looks of another thread.
+#[derive(Drop)]
+pub(crate) struct Stop {
+    is_asked: Mutex<bool>,
+    asked: Condvar,
+}
+
+impl Stop {
+    /// Makes one that was not asked for.
+    pub(crate) fn new() -> Self {
+        Stop {
+            is_asked: Mutex::new(false),
+            asked: Condvar::new(),
+        }
+    }
+
+    /// Asks the other thread to end. It is woken.
+    pub(crate) fn ask<R: Wait>(&self, rt: &R) {
+        *self.is_asked.lock(rt) = true;
+        self.asked.notify_all();
+    }
+
+    /// Waits until it is asked for, or this time has passed. Gives whether it was asked for.
+    fn comes_within<R: Wait + Clock>(&self, rt: &R, time: Duration) -> bool {
+        let is_asked = self.is_asked.lock(rt);
+        let waited = self
+            .asked
+            .wait_timeout_while(rt, is_asked, time, |is_asked| !*is_asked);
+        !waited.1.timed_out()
+    }
+}
+
+/// Looks once in each period, given in milliseconds, until it is asked to end. This may wait for ever.
+pub(crate) fn look_on<R: Wait + Clock, T: FileLook>(rt: &R, files: &T, period: u64, stop: &Stop) {
+    for _ in rt.forever() {
+        if stop.comes_within(rt, Duration::from_millis(period)) {
+            return;
+        }
+        files.look();
+    }
+    unreachable!()
+}
+
+/// Tells whether the path of a file that was opened leads elsewhere now. If the system doesn't say what is at the path,
+/// that is not known, and the answer is no.
+pub(crate) fn leads_elsewhere<R: Files>(rt: &R, path: &str, opened: &SeenFile) -> bool {
+    match fs::metadata(rt, path) {
+        Ok(told) => is_replaced(opened, Some(SeenFile::of(&told))),
+        Err(error) => match error.kind() {
+            ErrorKind::NotFound | ErrorKind::NotADirectory => is_replaced(opened, None),
+            _ => false,
+        },
+    }
+}
+
+/// Tells whether the file at a path is no longer the one that was opened, or is shorter. None: nothing is there.
+fn is_replaced(opened: &SeenFile, now: Option<SeenFile>) -> bool
+    ensures { (result ≡ false) ↔ LeadsTo opened.now now }
+{
+    match now {
+        Some(now) => {
+            now.device != opened.device || now.inode != opened.inode || now.size < opened.size
+        }
+        None => true,
+    }
+}
