@@ -1,7 +1,7 @@
 //! Makes folders for the tests, and runs the programs in them.
 //!
-//! Used by: `stories`, `tests`, `tests/operating`, `tests/serving`. It may change freely as long as this crate
-//! checks and its tests pass.
+//! Used by: `servers`, `stories`, `tests` and all of its modules. It may change freely as long as this crate checks
+//! and its tests pass.
 use mw_init::init;
 use mw_programs::serve;
 use std::alloc::{AllocError, Global};
@@ -49,6 +49,15 @@ impl Outcome {
         }
     }
 
+    /// Gives true if the program gave just this status and output, and its other output begins as this text
+    /// says: `STATUS OUT|ERR`.
+    pub fn begins(&self, text: &str) -> bool {
+        match text.split_once(' ') {
+            Some((status, texts)) => self.has_status(status) && self.wrote_first(texts),
+            None => false,
+        }
+    }
+
     fn has_status(&self, text: &str) -> bool {
         match text.parse::<u8>() {
             Ok(status) => self.status == status,
@@ -59,6 +68,13 @@ impl Outcome {
     fn wrote(&self, texts: &str) -> bool {
         match texts.split_once('|') {
             Some((out, err)) => self.out.as_str() == out && self.err.as_str() == err,
+            None => false,
+        }
+    }
+
+    fn wrote_first(&self, texts: &str) -> bool {
+        match texts.split_once('|') {
+            Some((out, err)) => self.out.as_str() == out && self.err.as_str().starts_with(err),
             None => false,
         }
     }

@@ -8,6 +8,12 @@ mod folders;
 #[cfg(test)]
 mod locks;
 #[cfg(test)]
+mod outputs;
+#[cfg(test)]
+mod runtimes;
+#[cfg(test)]
+mod servers;
+#[cfg(test)]
 mod stories;
 #[cfg(test)]
 mod tests;

@@ -1,17 +1,21 @@
 //! Plays stories: what is done in a folder and what comes of it, a line each.
 //!
 //! - `mwinit ARGS` and `mwserve ARGS` run a program. - `serve OPTIONS` has `mwserve` serve the script of the folder
-//! to the tenants of its tenants file. - `gives STATUS OUT|ERR` is what the program gave that ran last. - `write
-//! NAME TEXT` writes a file of the folder. - `new NAME` says that a file has two words, one place, and no change.
-//! It may change freely as long as this crate checks and its tests pass.
+//! to the tenants of its tenants file.
+//! - `gives STATUS OUT|ERR` is what the program gave that ran last. - `begins STATUS OUT|ERR` says this too, but of
+//! its other output only how it begins.
+//! - `write NAME TEXT` writes a file of the folder.
+//! - `new NAME` says that a file has two words, one place, and no change. - `has NAME TEXT` says that a file has just
+//! this text, `size NAME BYTES` how long a file is, and `absent NAME` that nothing has this name.
 //!
 //! `DIR` means the folder, and in a text `;` means a line's end.
 //!
-//! Used by: `tests`, `tests/operating`, `tests/serving`.
+//! Used by: `tests` and all of its modules. It may change freely as long as this crate checks and its tests pass.
 use crate::folders::{Outcome, path_in, remove_folder, run_init, run_serve};
 use std::alloc::{AllocError, Global};
 use std::fs;
 use std::fs::File;
+use std::io::ErrorKind;
 use std::net::{Net, TcpListener, TcpStream};
 use std::rt::Files;
 use std::sync::Wait;
@@ -119,8 +123,35 @@ fn looks<R: Files + AllocGlobal>(
 ) -> Result<bool, Fail> {
     match verb {
         "gives" => Ok(ran.suits(spelled(rt.alloc(), folder, rest)?.as_str())),
+        "begins" => Ok(ran.begins(spelled(rt.alloc(), folder, rest)?.as_str())),
         "new" => is_new(rt, path_in(rt.alloc(), folder, rest)?.as_str()),
+        "has" => has(rt, folder, rest),
+        "size" => has_size(rt, folder, rest),
+        "absent" => is_absent(rt, path_in(rt.alloc(), folder, rest)?.as_str()),
         _ => Ok(false),
+    }
+}
+
+/// Gives true if a file of a folder has just this text: `NAME TEXT`.
+fn has<R: Files + AllocGlobal>(rt: &R, folder: &str, file: &str) -> Result<bool, Fail> {
+    let (name, text) = file.split_once(' ').unwrap_or((file, ""));
+    let found = fs::read(rt, path_in(rt.alloc(), folder, name)?.as_str())?;
+    let text = spelled(rt.alloc(), folder, text)?;
+    Ok(found.as_slice() == text.as_bytes())
+}
+
+/// Gives true if a file of a folder has so many bytes: `NAME BYTES`.
+fn has_size<R: Files + AllocGlobal>(rt: &R, folder: &str, file: &str) -> Result<bool, Fail> {
+    let (name, bytes) = file.split_once(' ').unwrap_or((file, ""));
+    let found = fs::metadata(rt, path_in(rt.alloc(), folder, name)?.as_str())?;
+    Ok(bytes.parse() == Ok(found.len()))
+}
+
+/// Gives true if nothing has this path.
+fn is_absent<R: Files>(rt: &R, path: &str) -> Result<bool, Fail> {
+    match fs::symlink_metadata(rt, path) {
+        Ok(_) => Ok(false),
+        Err(error) => Ok(error.kind() == ErrorKind::NotFound),
     }
 }
 

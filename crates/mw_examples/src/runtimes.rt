@@ -1,0 +1,145 @@
+//! A runtime for the tests, under which some files can't be read or written, and some addresses give no connection.
+//!
+//! Used by: `tests/file_faults`, `tests/room`. It may change freely as long as this crate checks and its tests pass.
+use std::alloc::{Allocator, Global};
+use std::fs::{File, Metadata, OpenOptions, Permissions};
+use std::io;
+use std::net::{Net, SocketAddr, TcpListener, TcpStream, UdpSocket};
+use std::os::fd::{BorrowedFd, OwnedFd};
+use std::os::unix::net;
+use std::rt::Files;
+use std::sync::Wait;
+use std::thread::Threads;
+use std::time::{Clock, Duration};
+
+/// The address at which a listener gives no connection.
+pub const NO_ROOM: [u8; 4] = [127, 0, 0, 2];
+
+/// A runtime that does what another one does, but for this:
+/// - It opens a file whose path ends with `.read-only` for reading alone, so that each write fails.
+/// - It opens a file whose path ends with `.write-only` for writing alone, so that each read fails.
+/// - At [`NO_ROOM`] it gives a listener of which each accept fails. Nobody can connect there.
+#[derive(Drop)]
+pub struct FaultyRuntime<'a, R> {
+    rt: &'a R,
+}
+
+impl<'a, R> FaultyRuntime<'a, R> {
+    /// Makes a runtime over this one.
+    pub fn new(rt: &'a R) -> Self {
+        FaultyRuntime { rt }
+    }
+}
+
+impl<R: Files<File = File>> Files for FaultyRuntime<'_, R> {
+    type File = File;
+
+    type Dir = R::Dir;
+
+    fn open_file(&self, how: &OpenOptions, path: &str) -> io::Result<File> {
+        let mut options = OpenOptions::new();
+        if path.ends_with(".read-only") {
+            options.read(true);
+            return self.rt.open_file(&options, path);
+        }
+        if path.ends_with(".write-only") {
+            options.write(true);
+            return self.rt.open_file(&options, path);
+        }
+        self.rt.open_file(how, path)
+    }
+
+    fn open_dir(&self, path: &str) -> io::Result<R::Dir> {
+        self.rt.open_dir(path)
+    }
+
+    fn metadata(&self, path: &str) -> io::Result<Metadata> {
+        self.rt.metadata(path)
+    }
+
+    fn symlink_metadata(&self, path: &str) -> io::Result<Metadata> {
+        self.rt.symlink_metadata(path)
+    }
+
+    fn copy(&self, from: &str, to: &str) -> io::Result<u64> {
+        self.rt.copy(from, to)
+    }
+
+    fn rename(&self, from: &str, to: &str) -> io::Result<()> {
+        self.rt.rename(from, to)
+    }
+
+    fn remove_file(&self, path: &str) -> io::Result<()> {
+        self.rt.remove_file(path)
+    }
+
+    fn create_dir(&self, path: &str) -> io::Result<()> {
+        self.rt.create_dir(path)
+    }
+
+    fn remove_dir(&self, path: &str) -> io::Result<()> {
+        self.rt.remove_dir(path)
+    }
+
+    fn remove_dir_all<B: Allocator>(&self, alloc: B, path: &str) -> io::Result<()> {
+        self.rt.remove_dir_all(alloc, path)
+    }
+
+    fn set_permissions(&self, path: &str, perm: Permissions) -> io::Result<()> {
+        self.rt.set_permissions(path, perm)
+    }
+
+    fn bind_unix(&self, socket: BorrowedFd<'_>, addr: &net::SocketAddr) -> io::Result<()> {
+        self.rt.bind_unix(socket, addr)
+    }
+}
+
+impl<R: Net<Listener = TcpListener, Stream = TcpStream>> Net for FaultyRuntime<'_, R> {
+    type Stream = TcpStream;
+
+    type Listener = TcpListener;
+
+    fn bind(&self, addr: SocketAddr) -> io::Result<TcpListener> {
+        let no_room = SocketAddr::from((NO_ROOM, addr.port()));
+        if addr == no_room {
+            // The system gives no connection by such a socket.
+            let socket = self.rt.bind_udp(addr)?;
+            return Ok(TcpListener::from(OwnedFd::from(socket)));
+        }
+        self.rt.bind(addr)
+    }
+
+    fn connect(&self, addr: SocketAddr) -> io::Result<TcpStream> {
+        self.rt.connect(addr)
+    }
+
+    fn bind_udp(&self, addr: SocketAddr) -> io::Result<UdpSocket> {
+        self.rt.bind_udp(addr)
+    }
+}
+
+impl<R: AllocGlobal> Alloc for FaultyRuntime<'_, R> {
+    type A = Global;
+
+    fn alloc(&self) -> Global {
+        self.rt.alloc()
+    }
+}
+
+impl<R: Threads> Threads for FaultyRuntime<'_, R> {}
+
+impl<R: Wait> Wait for FaultyRuntime<'_, R> {}
+
+impl<R: Clock> Clock for FaultyRuntime<'_, R> {
+    fn monotonic(&self) -> io::Result<Duration> {
+        self.rt.monotonic()
+    }
+
+    fn since_1970(&self) -> io::Result<Duration> {
+        self.rt.since_1970()
+    }
+
+    fn sleep(&self, duration: Duration) {
+        self.rt.sleep(duration)
+    }
+}

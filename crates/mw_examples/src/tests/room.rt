@@ -1,0 +1,75 @@
+//! Tests the note that there is no room for connections, at the clients' address and at the administrator's.
+//!
+//! Nothing else uses it: it may change with what it tests.
+use crate::clients::{Ports, come_and_go, port_of_server};
+use crate::folders::{new_folder, remove_folder};
+use crate::outputs::NoteWatch;
+use crate::runtimes::FaultyRuntime;
+use crate::servers::{ask_alone, serve_loopback};
+use crate::stories::play_in;
+use std::net::{Net, TcpListener, TcpStream};
+use std::sync::atomic::AtomicU16;
+use std::test::Fail;
+use std::time::Clock;
+use std::{io, str, thread};
+
+/// A tenant with its file.
+const ONE_TENANT: &str = "\
+mwinit DIR/t.mw 2 1
+write tenants t 2 1 DIR/t.mw;";
+
+/// The note, with the address of [`crate::runtimes::NO_ROOM`].
+const NO_ROOM: &str =
+    "mwserve: no room for connections\n127.0.0.2:0: Operation not supported (os error 95)\n";
+
+/// The system gives no connection at the clients' address, three times. The note comes once.
+#[test]
+fn no_room_for_clients(rt: HostRuntime) -> Result<(), Fail> {
+    let folder = new_folder(&rt, "no-room-for-clients")?;
+    play_in(&rt, folder.as_str(), ONE_TENANT)?;
+    let ports = Ports::new();
+    let mut err = Vec::new(rt.alloc());
+    let faulty = FaultyRuntime::new(&rt);
+    let options = "--listen 127.0.0.2:0 --connections 3 --verbose";
+    let status = serve_loopback(&faulty, folder.as_str(), options, &ports, &mut err)?;
+    assert_eq!(rt; status, 0);
+    assert_eq!(rt; str::from_utf8(&err), Ok(NO_ROOM));
+    remove_folder(&rt, folder.as_str())
+}
+
+/// A client, which comes only after the server has noted something, if it notes something. Gives true if it was
+/// noted and the client hears what it must.
+fn call_once_noted<R: Net<Listener = TcpListener, Stream = TcpStream> + Clock>(
+    rt: &R,
+    ports: &Ports,
+    noted: &AtomicU16,
+) -> io::Result<bool> {
+    let port = port_of_server(rt, &ports.ready)?;
+    let was_noted = port_of_server(rt, noted);
+    let heard = ask_alone(rt, port, b"TENANT t\nGET 0\nQUIT\n", b"OK 2\nVAL 0\nBYE\n");
+    come_and_go(rt, port, 1);
+    Ok(was_noted.is_ok() && heard?)
+}
+
+/// The system gives no connection at the administrator's address. The note comes once, and clients are served.
+#[test]
+fn no_room_for_the_administrator(rt: HostRuntime) -> Result<(), Fail> {
+    let folder = new_folder(&rt, "no-room-for-the-administrator")?;
+    play_in(&rt, folder.as_str(), ONE_TENANT)?;
+    let (ports, noted) = (Ports::new(), AtomicU16::new(0));
+    let mut err = NoteWatch::new(rt.alloc(), &noted);
+    let faulty = FaultyRuntime::new(&rt);
+    let options = "--listen 127.0.0.1:0 --admin 127.0.0.2:0 --workers 1 --connections 1 --verbose";
+    let (heard, status) = thread::join(
+        &rt,
+        || call_once_noted(&rt, &ports, &noted),
+        || serve_loopback(&faulty, folder.as_str(), options, &ports, &mut err),
+    );
+    assert!(rt;
+        heard?,
+        "nothing was noted, or the client heard something else"
+    );
+    assert_eq!(rt; status?, 0);
+    assert_eq!(rt; str::from_utf8(&err.text), Ok(NO_ROOM));
+    remove_folder(&rt, folder.as_str())
+}

@@ -1,0 +1,105 @@
+//! Tests how many steps one line of a schedule may make: 10,000.
+//!
+//! Nothing else uses it: it may change with what it tests.
+//!
+//! Here [`CHAIN`] changes of a tenant wait in a chain. Each has [`ENTRIES`] words, and its last word is held for the
+//! next change, which began before. The change of worker 0 is the first of the chain, and waits for all others. It
+//! finishes the last one, begins again at its own, finishes the last but one, and so on. If d changes are
+//! before it, docs/STEPS gives so many steps, from its first `pin` to its reply:
+//!
+//! - on the way to the change k of the chain it turns k times to another's change. Each time it reads the gate,
+//! pins it, unpins the target before, reads the count and 16 entries, the status, and 16 words: 69 steps, but 68
+//! the first time, which unpins nothing. Before each way but the first it reads its own status and words: 17;
+//! - the last change is decided, sealed, swept, settled, swept and unpinned, with a load of the status between: 71;
+//! - each other change first gets its last word, by `row`, `plant`, `load`, `resolve`, a load of the status and 16
+//! of words: 92;
+//! - its own change gets 17 more, frees its slot and lowers the door: 111. The first gate was read before its first
+//! `pin`.
+//!
+//! That is 69 d (d + 1) / 2 + 108 d + 72: 11,184 for 16 changes. The first 1,139 of them end with the first settle.
+//! So 10,045 are left after `to 0 settle`, and the last is the `drop`.
+use crate::replay_tests::play;
+use std::alloc::{AllocError, Global};
+use std::process::Abort;
+use std::test::Fail;
+
+/// How many words a change has.
+const ENTRIES: u32 = 16;
+
+/// How many changes wait in a chain. Worker 0 has the first, and the last worker the last.
+const CHAIN: u8 = 17;
+
+/// Gives the line by which a worker's change comes, and that by which it stops: the last one before its decision,
+/// and the others before they turn to the next.
+fn change_of(alloc: Global, worker: u8) -> Result<String, AllocError> {
+    let mut line = format!(in alloc; "come {worker} t CAS")?;
+    let first = u32::from(worker) * (ENTRIES - 1);
+    for entry in 0..ENTRIES - 1 {
+        let address = first + entry;
+        line.push_str(format!(in alloc; " {address}:0:1")?.as_str())?;
+    }
+    let last = first + (ENTRIES - 1);
+    let end = if worker < CHAIN - 1 {
+        format!(in alloc; " {last}:1:2\nbefore {worker} pin\n")?
+    } else {
+        format!(in alloc; " {last}:0:1\nbefore {worker} decide-yes\n")?
+    };
+    line.push_str(end.as_str())?;
+    Ok(line)
+}
+
+/// Gives a schedule in which all changes of the chain have come, and worker 0 has settled the last one. It has
+/// 38 lines.
+fn chain(alloc: Global) -> Result<String, AllocError> {
+    let mut schedule = String::from_str(alloc, "pool 17\nworkers 17\ntenant t 256 17\n")?;
+    for worker in (0..CHAIN).rev() {
+        schedule.push_str(change_of(alloc, worker)?.as_str())?;
+    }
+    schedule.push_str("to 0 settle\n")?;
+    Ok(schedule)
+}
+
+/// Plays the chain, then so many single steps of worker 0, and then this line. It must end with this status, print
+/// this and say that.
+fn play_chain<R: Abort + AllocGlobal>(
+    rt: &R,
+    steps: usize,
+    line: &str,
+    wanted: (u8, &str, &str),
+) -> Result<(), Fail> {
+    let mut schedule = chain(rt.alloc())?;
+    schedule.push_str("step 0\n".repeat(rt.alloc(), steps)?.as_str())?;
+    schedule.push_str(line)?;
+    play(rt, line, &mut schedule.as_bytes(), false, wanted)
+}
+
+/// 10,000 steps are left to the reply, and then 10,001.
+#[test]
+fn steps_to_a_reply(rt: HostRuntime) -> Result<(), Fail> {
+    play_chain(&rt, 45, "end 0\n", (0, "0 t YES\n", ""))?;
+    play_chain(&rt, 44, "end 0\n", (4, "", "line 83 did not arrive\n"))
+}
+
+/// The last of 10,000 steps is the one that the line names, and then one step is missing.
+#[test]
+fn steps_past_a_kind(rt: HostRuntime) -> Result<(), Fail> {
+    play_chain(&rt, 45, "to 0 drop\nend 0\n", (0, "0 t YES\n", ""))?;
+    play_chain(
+        &rt,
+        44,
+        "to 0 drop\nend 0\n",
+        (4, "", "line 83 did not arrive\n"),
+    )
+}
+
+/// After 10,000 steps the next one is of the kind that the line names, and then one step is missing.
+#[test]
+fn steps_before_a_kind(rt: HostRuntime) -> Result<(), Fail> {
+    play_chain(&rt, 44, "before 0 drop\nend 0\n", (0, "0 t YES\n", ""))?;
+    play_chain(
+        &rt,
+        43,
+        "before 0 drop\nend 0\n",
+        (4, "", "line 82 did not arrive\n"),
+    )
+}
