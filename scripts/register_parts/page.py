@@ -30,9 +30,6 @@ doesn't check the third column.
         ("wrong body", "in the code alone", "in code and definition", "by a test, in both"),
         """
 The tests `schedules_of_requests`, `schedules_of_files` and `schedules_of_late_workers` play the schedules.
-
-Two edits are not wrong as programs: that of `busy_by_neighbour`, as told above, and that of `plant_on_dirty`, whose
-exchange expects a plain word and loses. A program that exchanges the dirty word is wrong.
 """,
     ),
     "survivors": (

@@ -4,7 +4,7 @@
 use crate::folders::{command_line, new_folder, path_in, remove_folder};
 use crate::outputs::FailingOutput;
 use crate::stories::{play, play_in};
-use mw_programs::init;
+use mw_init::init;
 use std::os::unix::fs::symlink;
 use std::test::Fail;
 
