@@ -22,6 +22,7 @@ use mw_words::{MAX_TENANTS, MAX_TENANTS_FILE};
 use std::alloc::{AllocError, Global};
 use std::fs::{File, OpenOptions, TryLockError};
 use std::io::{self, Read};
+use std::os::fd::AsRawFd;
 use std::rt::Files;
 use std::str;
 use thiserror::Error;
@@ -293,12 +294,13 @@ fn open_synced<D: Disk + Drop>(
     }
 }
 
-/// Opens a file for reading and writing, and locks it. The lock is held until the file is closed.
+/// Opens a file for reading and writing, locks it, and has the system drop its copies of it. The lock is held until the
+/// file is closed.
 ///
 /// # Errors
 ///
-/// [`FileFault::InUse`] if another opening has the lock. [`FileFault::Disk`] if the file can't be opened or
-/// its file system has no locks.
+/// [`FileFault::InUse`] if another opening has the lock. [`FileFault::Disk`] if the file can't be opened, its file
+/// system has no locks, or the system refuses to drop its copies.
 fn open_locked<R: Files<File = File>>(rt: &R, path: &str) -> Result<File, FileFault> {
     let mut options = OpenOptions::new();
     options.read(true).write(true);
@@ -307,8 +309,21 @@ fn open_locked<R: Files<File = File>>(rt: &R, path: &str) -> Result<File, FileFa
         Err(error) => return Err(FileFault::Disk(Some(error))),
     };
     match file.try_lock() {
-        Ok(()) => Ok(file),
+        Ok(()) => dropped_copies(file),
         Err(TryLockError::WouldBlock) => Err(FileFault::InUse),
         Err(TryLockError::Error(error)) => Err(FileFault::Disk(Some(error))),
+    }
+}
+
+/// Has the system drop its copies of a file's pages, but of those that it must still write, and gives the file back.
+/// After a sync that failed, a copy may have bytes that the disk doesn't, and a read gives these until it is dropped.
+///
+/// # Errors
+///
+/// [`FileFault::Disk`] if the system refuses.
+fn dropped_copies(file: File) -> Result<File, FileFault> {
+    match libc::posix_fadvise(file.as_raw_fd(), 0, 0, libc::POSIX_FADV_DONTNEED) {
+        0 => Ok(file),
+        code => Err(FileFault::Disk(Some(io::Error::from_raw_os_error(code)))),
     }
 }
