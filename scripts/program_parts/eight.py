@@ -9,7 +9,7 @@ import os
 import random
 import time
 
-from .common import QUOTA, same, wrong
+from .common import same, wrong
 
 import allocator  # noqa: E402
 import lock_table  # noqa: E402
