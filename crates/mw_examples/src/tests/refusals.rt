@@ -65,8 +65,8 @@ mwserve --tenants DIR/tenants --listen unix:DIR/s --mode 8
 mwserve --tenants DIR/tenants --listen unix:DIR/s --mode rw
 mwserve --tenants DIR/tenants --listen unix:DIR/s --mode 40000000600";
 
-/// Command lines that are well, at their limits. There is no tenants file.
-const LINES_THAT_ARE_WELL: &str = "\
+/// Command lines that are right, at their limits. Their tenants file isn't there.
+const RIGHT_LINES: &str = "\
 mwserve --tenants DIR/tenants --script DIR/script --pool 1 --workers 1
 mwserve --tenants DIR/tenants --script DIR/script --pool 256 --workers 64
 mwserve --tenants DIR/tenants --listen unix:DIR/s --connections 1 --idle 1 --mode 0
@@ -87,7 +87,7 @@ fn command_lines(rt: HostRuntime) -> Result<(), Fail> {
         &rt,
         path,
         "CASE\ngives 2 |mwserve: refused 2 file;\nabsent s",
-        LINES_THAT_ARE_WELL,
+        RIGHT_LINES,
     )?;
     remove_folder(&rt, path)
 }

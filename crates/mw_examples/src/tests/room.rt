@@ -37,8 +37,8 @@ fn no_room_for_clients(rt: HostRuntime) -> Result<(), Fail> {
     remove_folder(&rt, folder.as_str())
 }
 
-/// A client, which comes only after the server has noted something, if it notes something. Gives true if it was
-/// noted and the client hears what it must.
+/// Waits until the server is ready and has written a note, and then calls it. Gives true if the note came, and the
+/// client hears what it must.
 fn call_once_noted<R: Net<Listener = TcpListener, Stream = TcpStream> + Clock>(
     rt: &R,
     ports: &Ports,
