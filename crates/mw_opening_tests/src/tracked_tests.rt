@@ -1,5 +1,5 @@
-//! Tests that a tracked file makes each call on the file below it once, and none once it was given up; and which size it
-//! says that the file must have.
+//! Tests that a tracked file makes each call on the file below it once, and none once it was given up; and which size
+//! it says that the file must have.
 //!
 //! Nothing else uses it: it may change with what it tests.
 use crate::fake_file::{Call, Calls, DEVICE, FakeFile, calls_of};
@@ -13,8 +13,8 @@ const STALE: i32 = 116;
 /// What was seen of one call on a tracked file: how it ended, and the calls on the file below.
 type Seen = (Ended, Calls);
 
-/// Makes this call on a tracked file. If it is given up, that comes first. The call below fails with this error if there
-/// is one.
+/// Makes this call on a tracked file. If it is given up, that comes first. The call below fails with this error if
+/// there is one.
 fn track(call: Call, is_given_up: bool, error: Option<i32>) -> Seen {
     let file = FakeFile::new(BYTES);
     if let Some(error) = error {

@@ -118,7 +118,8 @@ impl From<TenantsFault> for ServeFault<'_> {
 /// - 0 if the session ended by `QUIT`, with the script, or at a line that was too long, or if all
 ///   connections were served;
 /// - 1 if the session ended otherwise, if a tenant's file didn't open or the limit of descriptors is too low
-///   and `--strict` was given, if the script couldn't be opened, if nobody can listen at an address, or if memory was refused;
+///   and `--strict` was given, if the script couldn't be opened, if nobody can listen at an address, or if
+///   memory was refused;
 /// - 2 if the command line or the tenants file is wrong.
 ///
 /// Writes to `err` what went wrong before the first session. It also writes a note on each tenant whose
