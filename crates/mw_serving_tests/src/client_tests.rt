@@ -3,12 +3,14 @@
 //! Nothing else uses it: it may change with what it tests.
 use crate::test_serving::{Shop, serves_right};
 use arrayvec::ArrayVec;
-use mw_client::{Administrator, Client, Failure, Outcome, connect_administrator, read_reply};
+use mw_client::{
+    Administrator, Client, Failure, Outcome, connect, connect_administrator, read_reply,
+};
 use mw_report::Figures;
 use mw_words::{Entries, Entry, Name};
 use std::alloc::Global;
 use std::io;
-use std::net::{Net, TcpStream};
+use std::net::{Net, TcpListener, TcpStream};
 use std::test::Fail;
 use std::time::{Clock, Duration};
 
@@ -216,5 +218,16 @@ fn the_administrator_connects_and_asks(rt: HostRuntime) -> Result<(), Fail> {
         |port| is_told_by_a_socket(&rt, rt.alloc(), port),
     )?;
     assert!(rt; told);
+    Ok(())
+}
+
+#[test]
+fn a_silent_server_is_left(rt: HostRuntime) -> Result<(), Fail> {
+    let silent = TcpListener::bind(&rt, "127.0.0.1:0")?;
+    let port = silent.local_addr()?.port();
+    let address = format!(in rt.alloc(); "127.0.0.1:{port}")?;
+    let patience = Duration::from_millis(200);
+    let told = connect(&rt, rt.alloc(), address.as_str(), &name(), patience);
+    assert!(rt; matches!(told, Err(Failure::Lost)));
     Ok(())
 }

@@ -5,7 +5,13 @@
 #[cfg(test)]
 mod client_tests;
 #[cfg(test)]
+mod local_lookout;
+#[cfg(test)]
 mod local_tests;
+#[cfg(test)]
+mod patience_tests;
+#[cfg(test)]
+mod room_tests;
 #[cfg(test)]
 mod session_peers;
 #[cfg(test)]

@@ -1,11 +1,27 @@
 //! A socket at which clients come: of TCP, or a local one.
 //!
-//! Used by `sockets.rt` alone. It has no contracts: nothing is proved of sockets. So it may change freely as long as
-//! this crate checks.
-use std::io;
+//! Used by `sockets.rt` and `local.rt`. It has no contracts: nothing is proved of sockets. So it may change freely as
+//! long as this crate checks. [`BACKLOG`] may have another number; docs/PROTOCOL and docs/OPERATING tell it.
+use std::io::{self, ErrorKind};
 use std::net::{TcpListener, TcpStream};
-use std::os::fd::OwnedFd;
+use std::os::fd::{AsRawFd, OwnedFd};
 use std::os::unix::net::UnixListener;
+
+/// How many clients may wait in the system before the listener takes them. Linux takes the lesser of this
+/// and `/proc/sys/net/core/somaxconn`, and lets one more wait.
+const BACKLOG: i32 = 4096;
+
+/// Makes a bound socket listen. If it listens already, it only lets [`BACKLOG`] clients wait.
+///
+/// # Errors
+///
+/// The system refuses. The socket is as it was.
+pub(crate) fn listen<S: AsRawFd>(socket: &S) -> io::Result<()> {
+    if libc::net::listen(socket.as_raw_fd(), BACKLOG) != 0 {
+        return Err(io::Error::from(ErrorKind::Other));
+    }
+    Ok(())
+}
 
 /// A listening socket of either kind.
 #[derive(Drop)]

@@ -2,17 +2,15 @@
 //!
 //! Called by `listen_at` in `sockets.rt`. docs/OPERATING tells users what it does to a socket file: change both
 //! together.
+use crate::listening_socket::listen;
 use std::fs::{self, File, Permissions};
 use std::io::{self, ErrorKind};
 use std::net::Net;
-use std::os::fd::{AsFd, AsRawFd};
+use std::os::fd::AsFd;
 use std::os::unix::fs::{FileTypeExt, PermissionsExt};
 use std::os::unix::net::{SocketAddr, UnixListener, UnixStream};
 use std::path::Path;
 use std::rt::Files;
-
-/// How many clients may wait in the system before the listener takes them.
-const BACKLOG: i32 = 128;
 
 /// Listens at this path, by a new socket file of this mode. Who may write to the file may connect.
 ///
@@ -40,9 +38,7 @@ pub(crate) fn listen_local<R: Files<File = File> + Net>(
     rt.bind_unix(socket.as_fd(), &address)?;
     // Nobody can connect before it listens, so nobody comes whom the mode keeps out.
     fs::set_permissions(rt, path, Permissions::from_mode(mode))?;
-    if libc::net::listen(socket.as_raw_fd(), BACKLOG) != 0 {
-        return Err(io::Error::from(ErrorKind::Other));
-    }
+    listen(&socket)?;
     Ok(UnixListener::from(socket))
 }
 

@@ -4,7 +4,7 @@
 //! numbers; docs/OPERATING and docs/PROTOCOL tell what follows from them.
 ghost use Rattle.std.specs.Prelude.{None};
 
-use crate::listening_socket::ListeningSocket;
+use crate::listening_socket::{ListeningSocket, listen};
 use crate::local::listen_local;
 use crate::peer::{Connection, Listener};
 use mw_session::{Ended, Service, Session};
@@ -69,7 +69,7 @@ where
 {
     let door = match address.strip_prefix(LOCAL) {
         Some(path) => ListeningSocket::Local(listen_local(rt, path, mode)?),
-        None => ListeningSocket::Tcp(TcpListener::bind(rt, address)?),
+        None => ListeningSocket::Tcp(listen_tcp(rt, address)?),
     };
     let idle = match idle {
         Some(seconds) => Some(Duration::from_secs(u64::from(seconds))),
@@ -80,6 +80,20 @@ where
         clock: rt,
         idle,
     })
+}
+
+/// Listens over TCP, and lets as many clients wait as at a local socket.
+///
+/// # Errors
+///
+/// The text is no address, or nobody can listen there.
+fn listen_tcp<R: Net<Listener = TcpListener, Stream = TcpStream>>(
+    rt: &R,
+    address: &str,
+) -> io::Result<TcpListener> {
+    let listener = TcpListener::bind(rt, address)?;
+    listen(&listener)?;
+    Ok(listener)
 }
 
 /// Gives the port at which clients over TCP find the listener, and None for a local socket.
