@@ -14,6 +14,7 @@ from .running import Ended, Refusing, Wrong
 TESTS = (
     ("mw_store_tests", "lone_tests::", "a store alone"),
     ("mw_words_tests", "frame_tests::", "a feed"),
+    ("mw_world_trials", "stale_helper_tests::", "a world, its run and its marks"),
 )
 TOLD = re.compile(r"\bAllocError\b|\bAllocFailed\b|\bErr\(Memory\)|: Memory$", re.MULTILINE)
 """What a test says that was told that memory is out: the error itself, or the answer that it compares."""

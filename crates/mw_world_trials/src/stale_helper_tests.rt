@@ -10,13 +10,23 @@ use crate::same::same;
 use arrayvec::ArrayVec;
 use mw_lone::Lone;
 use mw_look::{Kind, Op};
-use mw_simulator::World;
+use mw_simulator::{World, WorldFault};
 use mw_words::{Entries, Entry, Job, Name, Reply};
 use mw_world::{Config, Event, Outcome, Tenant};
 use std::alloc::Global;
 
 /// More steps than any part of the schedule takes.
 const MOST_STEPS: u64 = 200;
+
+/// Gives what a test says of an event that was refused.
+fn trial_fault(fault: WorldFault) -> TrialFault {
+    match fault {
+        WorldFault::Memory => TrialFault::Memory,
+        WorldFault::NotEnabled | WorldFault::LastNumber => {
+            TrialFault::Disagreement(Disagreement::Stuck)
+        }
+    }
+}
 
 /// Makes the configuration of one tenant of two words, with three workers and three slots.
 fn world_of_three() -> Config
@@ -81,7 +91,7 @@ impl Plan {
         }
         match self.world.step(event) {
             Ok(()) => Ok(()),
-            Err(_) => Err(TrialFault::Disagreement(Disagreement::Stuck)),
+            Err(fault) => Err(trial_fault(fault)),
         }
     }
 
@@ -198,8 +208,8 @@ fn replies_of(alloc: Global, world: &World) -> Result<Vec<Reply>, TrialFault>
 /// Runs these events. Gives how many attempts each worker has made, and what a store alone replies.
 fn left_by(alloc: Global, events: &[Event]) -> Result<([u64; 3], Vec<Reply>), TrialFault> {
     let mut world = World::new(alloc, world_of_three())?;
-    if world.run(events).is_err() {
-        return Err(TrialFault::Disagreement(Disagreement::Stuck));
+    if let Err((_, fault)) = world.run(events) {
+        return Err(trial_fault(fault));
     }
     let attempts = [world.attempt(0), world.attempt(1), world.attempt(2)];
     Ok((attempts, replies_of(alloc, &world)?))
