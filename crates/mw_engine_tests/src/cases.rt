@@ -14,11 +14,12 @@ use crate::peers::Peer;
 use crate::races::{Race, is_run};
 use crate::starts::{Started, start};
 use crate::talks::{Story, Talk, are_served, are_told, is_played};
-use crate::twins::answer_alike;
+use crate::twins::{answer_alike, leave_the_same_words, new_plain};
 use crate::workers::{Worker, workers_of};
 use arrayvec::ArrayVec;
 use mw_config::{TenantLine, read_tenants};
 use mw_engine::{EngineBrand, EngineParts, Pass};
+use mw_plain::Plain;
 use mw_words::{MAX_POOL, MAX_TENANTS};
 use std::alloc::Global;
 use std::marker::Brand;
@@ -51,8 +52,8 @@ pub(crate) enum Play<'c> {
     Story(Story<'c>),
     /// They count up words at once.
     Race(Race),
-    /// They make requests by turns, all made from this number, and the plain store over files of its own
-    /// must reply the same.
+    /// They make requests by turns, all made from this number. The plain store over files of its own must
+    /// reply the same, and leave files with the same words.
     Beside(&'c u64),
 }
 
@@ -64,7 +65,8 @@ pub(crate) struct Case<'c> {
     pub(crate) pool: u16,
     pub(crate) devices: &'c [Device],
     pub(crate) play: Play<'c>,
-    /// The first words of the tenants' files afterwards.
+    /// The first words of the tenants' files afterwards. Nobody looks at these if the plain store is asked
+    /// too.
     pub(crate) words: &'c [&'c [u64]],
 }
 
@@ -117,13 +119,41 @@ fn is_so_of<'l, J: EngineBrand + Send + Sync, R: Threads + Wait + Sync>(
     let Ok(engine) = parts.into_engine::<J>(alloc) else {
         return false;
     };
+    let mut plain = plain_beside(alloc, case, latch);
     let is_done = match workers_of(rt, alloc, &engine, passes) {
-        Some(workers) => is_done(rt, alloc, workers, case, latch),
+        Some(workers) => is_done(rt, alloc, workers, case, latch, &mut plain),
         None => false,
     };
     match engine.into_disks(alloc) {
-        Ok(disks) => is_done && have_words(alloc, disks, case),
+        Ok(disks) => is_done && are_left(alloc, disks, case, plain),
         Err(_) => false,
+    }
+}
+
+/// Makes the plain store that is asked beside the engine. Gives None if the case has none, or memory is
+/// refused.
+fn plain_beside<'l>(
+    alloc: Global,
+    case: &Case<'_>,
+    latch: &'l Latch,
+) -> Option<Plain<LatchedDisk<'l>>> {
+    match &case.play {
+        Play::Beside(_) => new_plain(alloc, case, latch),
+        _ => None,
+    }
+}
+
+/// Tells whether the files on an engine's disks have the words that they must: those of the plain store's
+/// files, if one was asked beside the engine, else those that the case says.
+fn are_left(
+    alloc: Global,
+    disks: Vec<Option<LatchedDisk<'_>>>,
+    case: &Case<'_>,
+    plain: Option<Plain<LatchedDisk<'_>>>,
+) -> bool {
+    match plain {
+        Some(plain) => leave_the_same_words(alloc, disks, plain),
+        None => have_words(alloc, disks, case),
     }
 }
 
@@ -134,12 +164,16 @@ fn is_done<J: EngineBrand + Send + Sync, R: Threads + Wait + Sync>(
     workers: Vec<Worker<'_, '_, J, R>>,
     case: &Case<'_>,
     latch: &Latch,
+    plain: &mut Option<Plain<LatchedDisk<'_>>>,
 ) -> bool {
     match &case.play {
         Play::Talks(talks) => are_told(alloc, workers, talks),
         Play::Peers(peers) => are_served(alloc, workers, peers),
         Play::Story(story) => is_played(rt, alloc, workers, story, latch),
         Play::Race(race) => is_run(rt, workers, *race),
-        Play::Beside(first) => answer_alike(alloc, workers, case, latch, **first),
+        Play::Beside(first) => match plain {
+            Some(plain) => answer_alike(workers, plain, **first),
+            None => false,
+        },
     }
 }

@@ -118,3 +118,12 @@ fn opens_with(alloc: Global, disk: MemDisk, wanted: &[u64]) -> bool {
         Err(_) => false,
     }
 }
+
+/// Gives the words of the file on a disk, opened again. Gives None if there is no disk, or its file doesn't
+/// open.
+pub(crate) fn words_on(alloc: Global, disk: Option<LatchedDisk<'_>>) -> Option<Vec<u64>> {
+    match TenantFile::open(alloc, disk?.disk) {
+        Ok(opened) => Some(opened.1),
+        Err(_) => None,
+    }
+}

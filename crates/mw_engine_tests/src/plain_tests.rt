@@ -6,17 +6,16 @@ use std::alloc::Global;
 use std::sync::Wait;
 use std::thread::Threads;
 
-/// Tells whether an engine and the plain store answer alike to requests made from this number, if `t` has
-/// this device.
+/// Tells whether an engine and the plain store answer alike to requests made from this number, and leave
+/// files with the same words, if `t` has this device.
 fn is_alike<R: Threads + Wait + Sync>(rt: &R, alloc: Global, device: Device, first: u64) -> bool {
     let devices = [device, Device::Sound];
-    let words: [&[u64]; 2] = [&[], &[]];
     let case = Case {
         tenants: b"t 5 2 t.mw\nu 2 1 u.mw\n",
         pool: 3,
         devices: &devices,
         play: Play::Beside(&first),
-        words: &words,
+        words: &[],
     };
     is_so(rt, alloc, &case)
 }

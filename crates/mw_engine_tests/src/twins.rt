@@ -2,7 +2,7 @@
 //!
 //! Used by: `cases`. It may change freely as long as this crate checks and its tests pass.
 use crate::cases::{Case, lines_of};
-use crate::disks::new_disks;
+use crate::disks::{new_disks, words_on};
 use crate::latch::{Latch, LatchedDisk};
 use crate::starts::all_opened;
 use crate::workers::Worker;
@@ -61,7 +61,7 @@ impl Numbers {
 }
 
 /// Makes the plain store of a case's tenants, over new files. Gives None if memory is refused.
-fn new_plain<'l>(
+pub(crate) fn new_plain<'l>(
     alloc: Global,
     case: &Case<'_>,
     latch: &'l Latch,
@@ -133,32 +133,60 @@ fn go_on_the_same<J: EngineBrand, R: Wait>(
 }
 
 /// Tells whether the workers, asked by turns, and the plain store reply the same to each request, report
-/// the same after each, and have the same words in the end. Gives false also if memory is refused.
+/// the same after each, and have the same words in the end.
 pub(crate) fn answer_alike<J: EngineBrand, R: Wait>(
-    alloc: Global,
     workers: Vec<Worker<'_, '_, J, R>>,
-    case: &Case<'_>,
-    latch: &Latch,
+    plain: &mut Plain<LatchedDisk<'_>>,
     first: u64,
 ) -> bool {
     let mut workers = workers;
-    let Some(mut plain) = new_plain(alloc, case, latch) else {
-        return false;
-    };
     let mut numbers = Numbers { last: first };
     for _ in 0..REQUESTS {
         for worker in &mut workers {
-            if !go_on_the_same(worker, &mut plain, &mut numbers) {
+            if !go_on_the_same(worker, plain, &mut numbers) {
                 return false;
             }
         }
     }
     for worker in &mut workers {
         for tenant in NAMES {
-            if !have_the_same_words(worker, &mut plain, tenant) {
+            if !have_the_same_words(worker, plain, tenant) {
                 return false;
             }
         }
     }
     true
+}
+
+/// Tells whether the files on these disks and those of the plain store, all opened again, have the same
+/// words. Gives false also if one doesn't open, or memory is refused.
+pub(crate) fn leave_the_same_words(
+    alloc: Global,
+    disks: Vec<Option<LatchedDisk<'_>>>,
+    plain: Plain<LatchedDisk<'_>>,
+) -> bool {
+    let Ok(others) = plain.into_disks(alloc) else {
+        return false;
+    };
+    if disks.len() != others.len() {
+        return false;
+    }
+    for (disk, other) in disks.into_iter().zip(others) {
+        if !leaves_the_same_words(alloc, disk, other) {
+            return false;
+        }
+    }
+    true
+}
+
+/// Tells whether the files on two disks, opened again, have the same words.
+fn leaves_the_same_words(
+    alloc: Global,
+    disk: Option<LatchedDisk<'_>>,
+    other: Option<LatchedDisk<'_>>,
+) -> bool {
+    match (words_on(alloc, disk), words_on(alloc, other)) {
+        (Some(words), Some(wanted)) => words.as_slice() == wanted.as_slice(),
+        _ => false,
+    }
 }

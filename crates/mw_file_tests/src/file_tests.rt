@@ -178,7 +178,10 @@ fn may_seal(states: &[PlaceState], place: Place) -> bool
 }
 
 /// Prepares a change, if there is a place and the file has its words.
-fn prepare(file: &mut TenantFile<MemDisk>, entries: &Entries) -> Option<Result<Place, FileFault>> {
+pub(crate) fn prepare(
+    file: &mut TenantFile<MemDisk>,
+    entries: &Entries,
+) -> Option<Result<Place, FileFault>> {
     if file.has_place() && is_change(entries, usize::from(file.words())) {
         Some(file.prepare(entries))
     } else {
@@ -187,7 +190,7 @@ fn prepare(file: &mut TenantFile<MemDisk>, entries: &Entries) -> Option<Result<P
 }
 
 /// Seals a change, if it is prepared and none is sealed.
-fn seal(file: &mut TenantFile<MemDisk>, place: Place) -> Option<Result<(), FileFault>> {
+pub(crate) fn seal(file: &mut TenantFile<MemDisk>, place: Place) -> Option<Result<(), FileFault>> {
     if may_seal(file.states(), place) {
         Some(file.seal(place))
     } else {
@@ -196,7 +199,10 @@ fn seal(file: &mut TenantFile<MemDisk>, place: Place) -> Option<Result<(), FileF
 }
 
 /// Settles a change, if it is sealed.
-fn settle(file: &mut TenantFile<MemDisk>, place: Place) -> Option<Result<(), FileFault>> {
+pub(crate) fn settle(
+    file: &mut TenantFile<MemDisk>,
+    place: Place,
+) -> Option<Result<(), FileFault>> {
     if is_at(file.states(), place, Stage::Sealed) {
         Some(file.settle(place))
     } else {
@@ -205,7 +211,7 @@ fn settle(file: &mut TenantFile<MemDisk>, place: Place) -> Option<Result<(), Fil
 }
 
 /// Cancels a change, if it is prepared.
-fn cancel(file: &mut TenantFile<MemDisk>, place: Place) -> Option<()> {
+pub(crate) fn cancel(file: &mut TenantFile<MemDisk>, place: Place) -> Option<()> {
     if is_at(file.states(), place, Stage::Prepared) {
         Some(file.cancel(place))
     } else {
@@ -241,8 +247,7 @@ pub(crate) fn left<R: Abort + AllocGlobal>(
     file.crash(torn).expect(rt, MEMORY)
 }
 
-/// Gives what a file without a free place answers to a change, to the cancel of the first place, and to the
-/// change again.
+/// Gives what a file answers to a change, to the cancel of the first place, and to the change again.
 fn cancel_between(
     file: &mut TenantFile<MemDisk>,
     entries: &Entries,
@@ -258,9 +263,37 @@ fn cancel_between(
 
 #[test]
 fn a_cancelled_place_is_taken_again(rt: HostRuntime) {
-    let mut file = with_two_records(&rt, 1);
-    let told = cancel_between(&mut file, &change(&[(0, 1)]));
-    same(&rt, &told, &(None, Some(()), Some(Ok(Place(0)))));
+    for (places, before) in [(1, None), (2, Some(Ok(Place(2))))] {
+        let mut file = with_two_records(&rt, places);
+        let told = cancel_between(&mut file, &change(&[(0, 1)]));
+        same(&rt, &told, &(before, Some(()), Some(Ok(Place(0)))));
+    }
+}
+
+/// Prepares two changes in the two places of a file, and cancels them in this order.
+fn cancel_both<R: Abort + AllocGlobal>(rt: &R, order: [Place; 2]) -> TenantFile<MemDisk> {
+    let disk = disk_with(rt, &new_bytes(rt, 3, 1));
+    let mut file = opened(rt.alloc(), disk).expect(rt, "the file opens");
+    let first = prepare(&mut file, &change(&[(0, 1)]));
+    let second = prepare(&mut file, &change(&[(1, 2)]));
+    same(
+        rt,
+        &[first, second],
+        &[Some(Ok(Place(0))), Some(Ok(Place(1)))],
+    );
+    for place in order {
+        same(rt, &cancel(&mut file, place), &Some(()));
+    }
+    file
+}
+
+#[test]
+fn the_lowest_free_place_is_taken(rt: HostRuntime) {
+    for order in [[Place(0), Place(1)], [Place(1), Place(0)]] {
+        let mut file = cancel_both(&rt, order);
+        let next = prepare(&mut file, &change(&[(2, 3)]));
+        same(&rt, &next, &Some(Ok(Place(0))));
+    }
 }
 
 /// Makes the change of both words of a file, from 0 to 1 and 2.

@@ -7,6 +7,8 @@
 #[cfg(test)]
 mod book_tests;
 #[cfg(test)]
+mod byte_tests;
+#[cfg(test)]
 mod disk_tests;
 #[cfg(test)]
 mod file_tests;

@@ -151,13 +151,80 @@ fn ended_after<R: Abort + AllocGlobal>(
     }
 }
 
+/// The commit bytes and counts of a file's two records: the first prepared, the second sealed. The second
+/// layout begins at 328, its places at 384 and 648.
+const TWO_RECORDS: [(usize, u8); 4] = [(384, 0), (385, 1), (648, 0xa5), (649, 2)];
+
+/// A file has these bytes among others.
+fn has_bytes<R: Abort>(rt: &R, bytes: &[u8], wanted: &[(usize, u8)]) {
+    for (at, byte) in wanted {
+        same_at(rt, *at as u64, &bytes.get(*at).copied(), &Some(*byte));
+    }
+}
+
 #[test]
 fn two_records(rt: HostRuntime) {
+    same(&rt, &new_bytes(&rt, 3, 2).len(), &328);
     let left = left(&rt, &with_two_records(&rt, 2), &[]);
     same(&rt, &left.len(), &1440);
+    has_bytes(&rt, &left, &TWO_RECORDS);
     for (calls, wanted) in [(7, Ok(true)), (6, Err(OpenFault::Disk))] {
         let ended = ended_after(&rt, &left, calls, &[0, 2, 3]);
         same_at(&rt, u64::from(calls), &ended, &wanted);
+    }
+}
+
+/// Two open records of a file of three words and two places in its first layout, in its places at 56 and
+/// 192. One sets word 0 to 1, the other sets words 1 and 2 to 2 and 3.
+const FIRST_RECORDS: [(usize, u8); 9] = [
+    (56, 0xa5),
+    (57, 1),
+    (72, 1),
+    (192, 0xa5),
+    (193, 2),
+    (200, 1),
+    (208, 2),
+    (216, 2),
+    (224, 3),
+];
+
+/// The same records in the places at 384 and 648 of the second layout, and the switch byte with the offset
+/// 328 of that layout.
+const SECOND_RECORDS: [(usize, u8); 12] = [
+    (15, 0xa5),
+    (16, 0x48),
+    (17, 0x01),
+    (384, 0xa5),
+    (385, 1),
+    (400, 1),
+    (648, 0xa5),
+    (649, 2),
+    (656, 1),
+    (664, 2),
+    (672, 2),
+    (680, 3),
+];
+
+/// Makes a file of three words in its second layout, which has four places. Its words are 0.
+fn second_of_three<R: Abort + AllocGlobal>(rt: &R) -> Vec<u8> {
+    let mut bytes = new_bytes(rt, 3, 2);
+    let head = b"MWCASF2\n\x03\0\0\0\x04\0";
+    bytes.extend_from_slice(head).expect(rt, MEMORY);
+    bytes.resize(1440, 0).expect(rt, MEMORY);
+    bytes
+}
+
+#[test]
+fn two_open_records(rt: HostRuntime) {
+    let mut first = new_bytes(&rt, 3, 2);
+    set_bytes(&mut first, &FIRST_RECORDS);
+    let mut second = second_of_three(&rt);
+    set_bytes(&mut second, &SECOND_RECORDS);
+    for (bytes, calls) in [(first, 7), (second, 9)] {
+        for (calls, wanted) in [(calls, Ok(true)), (calls - 1, Err(OpenFault::Disk))] {
+            let ended = ended_after(&rt, &bytes, calls, &[1, 2, 3]);
+            same_at(&rt, u64::from(calls), &ended, &wanted);
+        }
     }
 }
 

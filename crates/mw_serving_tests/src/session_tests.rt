@@ -7,7 +7,6 @@ use crate::test_shelf::Shelf;
 use arrayvec::ArrayVec;
 use mw_session::{Ended, Service, Session};
 use mw_test_peers::{Failure, INPUT, OUTPUT, Page, Sender, replied};
-use mw_words::MAX_LINE;
 use std::sync::Wait;
 
 /// More bytes than are read or written.
@@ -144,8 +143,8 @@ fn long_line_is_told(
 
 #[test]
 fn long_lines(rt: HostRuntime) {
-    assert!(rt; long_line_is_told(&rt, b"", MAX_LINE, b"\nQUIT\n", b"ERR 2\nBYE\n"));
-    assert!(rt; long_line_is_told(&rt, b"", MAX_LINE + 1, b"\n", b"ERR 1\n"));
+    assert!(rt; long_line_is_told(&rt, b"", 640, b"\nQUIT\n", b"ERR 2\nBYE\n"));
+    assert!(rt; long_line_is_told(&rt, b"", 641, b"\n", b"ERR 1\n"));
 }
 
 #[test]

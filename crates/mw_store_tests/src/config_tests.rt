@@ -317,16 +317,6 @@ fn command_lines_that_are_refused(rt: HostRuntime) {
     each_gives(&rt, REFUSED_LINES, "refused");
 }
 
-/// If memory is refused, the answer is that memory is out, and never another one.
-#[test]
-fn no_other_answer_for_want_of_memory(rt: HostRuntime) {
-    for (line, wanted) in LINES {
-        if let Ok(text) = read(rt.alloc(), line) {
-            same_text(&rt, text.as_str(), wanted);
-        }
-    }
-}
-
 /// Gives the text of the fault of a command line.
 fn fault_of<R: Abort + AllocGlobal>(rt: &R, line: &str) -> String {
     let words = words_of(rt.alloc(), line).expect(rt, MEMORY);

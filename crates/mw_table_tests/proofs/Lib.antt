@@ -1,2 +1,3 @@
 pub mod NewPassesOfWorlds
+pub mod ReadsMayCome
 pub mod ReadsStayReads

@@ -1,2 +1,3 @@
 pub mod Reached
+pub mod Readers
 pub mod ReadRequests

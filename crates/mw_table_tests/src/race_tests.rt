@@ -1,11 +1,12 @@
 //! Tests two threads that make the steps of two requests on one table (array of shared atomic words).
 //!
 //! Used by: `reading_tests`. It may change freely as long as this crate checks and its tests pass.
-ghost use Rattle.std.specs.Prelude.{◌≡◌, ◌≤◌, All, IfSome};
-ghost use Rattle.mw_world.specs.Definition.State.{tenant_at};
-ghost use Rattle.mw_core.specs.FromTable.{IsCarried, IsDealt, IsOf, basis_of, config_of};
+ghost use Rattle.std.specs.Prelude.{◌≡◌, ◌≤◌, All, IfSome, nat_lt, true};
+ghost use Rattle.mw_world.specs.Definition.State.{tenant_at, tenants_of};
+ghost use Rattle.mw_core.specs.FromTable.{IsCarried, IsDealt, IsOf, basis_of, config_of, opening_at};
 ghost use Rattle.mw_world_table.specs.Worlds.{basis_of_world};
 ghost use Rattle.mw_table_tests.specs.Reached.{IsReached};
+ghost use Rattle.mw_table_tests.specs.Readers.{MayRead};
 
 use crate::worlds::{MANY_STEPS, change_one, change_two, come, config, new_world, play_to, step};
 use mw_actor::Actor;
@@ -192,6 +193,7 @@ fn before_plants(alloc: Global) -> Option<World>
     ensures reached { IfSome result IsReached }
     ensures pool { IfSome result (λ world. world.config.pool ≡ 3) }
     ensures words { IfSome result (λ world. (tenant_at world.config 0).words ≡ 2) }
+    ensures tenants { IfSome result (λ world. 1 ≤ tenants_of world.config) }
 {
     let world = new_world(alloc, config(3, 3, 2))?;
     let world = come(world, 0, change_two(1))?;
@@ -278,17 +280,68 @@ fn plants_raced(core: &Core, mut one: Driven, two: Driven) -> bool
     stopped && (found == first_decided() || found == second_decided())
 }
 
-/// Tells whether a race to hold a word ends as it must. Worker 2 has no request.
+/// Takes the last of the passes, if it is worker 2's and idle.
+fn take_idle(core: &Core, world: &World, passes: &mut Vec<Pass>) -> Option<Pass>
+    requires dealt { All (IsDealt core.now.shared (basis_of_world world.now)) passes.old.items }
+    ensures left { All (IsDealt core.now.shared (basis_of_world world.now)) passes.new.items }
+    ensures own { IfSome result (λ pass. IsOf core.now.shared pass) }
+    ensures worker { IfSome result (λ pass. pass.worker ≡ 2) }
+    ensures idle { IfSome result (λ pass. pass.idle ≡ true) }
+{
+    let pass = passes.pop()?;
+    if pass.worker() == 2 && pass.idle() {
+        Some(pass)
+    } else {
+        None
+    }
+}
+
+/// Gives the quota of tenant 0.
+fn quota_of(world: &World) -> u8
+    ensures { result ≡ (opening_at (basis_of_world world.now).openings 0).quota }
+{
+    match world.tenant_states().get(0) {
+        Some(tenant) => tenant.quota,
+        None => 0,
+    }
+}
+
+/// Gives the reply to a read of a word of tenant 0, which has this quota. Gives None if one round gives no
+/// reply.
+fn read_once(core: &Core, pass: &mut Pass, quota: u8, address: u16) -> Option<Reply>
+    requires may { MayRead core.now.shared quota pass.old }
+    requires address { nat_lt address 2 ≡ true }
+    ensures may { IfSome result (λ _. MayRead core.now.shared quota pass.new) }
+{
+    let mut actor = Actor::new(pass.worker(), 0, quota, 3, Job::Get(address));
+    match core.try_look(pass, &mut actor) {
+        Ok(reply) => Some(reply),
+        Err(_) => None,
+    }
+}
+
+/// Tells whether reads of words 0 and 1, of one round each, find 0.
+fn reads_zeros(core: &Core, mut pass: Pass, quota: u8) -> bool
+    requires { MayRead core.now.shared quota pass }
+{
+    let Some(first) = read_once(core, &mut pass, quota, 0) else {
+        return false;
+    };
+    let second = read_once(core, &mut pass, quota, 1);
+    first == Reply::Val(0) && second == Some(Reply::Val(0))
+}
+
+/// Tells whether a race to hold a word ends as it must. Worker 2 has no request until both threads have
+/// stopped. Then it reads both words, which have their old values until a change is sealed.
 fn plant_race_ends<R: Threads + Sync>(rt: &R, alloc: Global) -> Option<bool> {
     let world = before_plants(alloc)?;
     let Opened { core, mut passes } = open(alloc, &world)?;
-    if take(&core, &world, &mut passes).is_some() {
-        return None;
-    }
+    let reader = take_idle(&core, &world, &mut passes)?;
     let (first, second) = both(&core, &world, passes)?;
     let (one, two) = drive_both(rt, &core, first, second);
+    let reads = reads_zeros(&core, reader, quota_of(&world));
     let ends = plants_raced(&core, one, two);
-    Some(ends)
+    Some(reads && ends)
 }
 
 #[test]

@@ -4,7 +4,7 @@
 //! its tests pass.
 ghost use Rattle.std.specs.Prelude.{◌≡◌, ◌≤◌, ◌<◌, IfSome};
 ghost use Rattle.mw_words.specs.declared.limits.TheConstants.{MAX_POOL, MAX_QUOTA, MAX_WORDS, MAX_WORKERS};
-ghost use Rattle.mw_world.specs.Definition.State.{IsConfig, tenant_at};
+ghost use Rattle.mw_world.specs.Definition.State.{IsConfig, tenant_at, tenants_of};
 ghost use Rattle.mw_table_tests.specs.Reached.{IsReached};
 
 use arrayvec::ArrayVec;
@@ -26,6 +26,7 @@ pub(crate) fn config(pool: u8, workers: u8, words: u16) -> Config
     ensures pool { result.pool ≡ pool }
     ensures workers { result.workers ≡ workers }
     ensures words { (tenant_at result 0).words ≡ words }
+    ensures tenants { 1 ≤ tenants_of result }
 {
     let mut tenants = ArrayVec::new();
     tenants.push(Tenant {

@@ -1,8 +1,9 @@
 -- Proves goals of `plant_race_ends` (src/race_tests.rt) that the check does not prove by itself. Used by: the proof of that
 -- function alone. It may change freely as long as this crate checks.
-use Rattle.std.proofs.Common.{ap, ◌∙◌}
-use Rattle.mw_world.specs.Definition.State.{tenant_at}
-use Rattle.mw_core.specs.FromTable.{Basis}
+use Rattle.std.specs.Prelude.{◌≤◌}
+use Rattle.std.proofs.Common.{ap, subst, sym, ◌∙◌}
+use Rattle.mw_world.specs.Definition.State.{tenant_at, tenants_of}
+use Rattle.mw_core.specs.FromTable.{Basis, opening_at}
 use Rattle.mw_table_tests.proofs.race_tests.plant_race_ends.Goals as goal
 
 pub plants_raced-ends-requires-clause-pool : goal.plants_raced-ends-requires-clause-pool
@@ -10,3 +11,16 @@ plants_raced-ends-requires-clause-pool g c = ap (λ (basis : Basis). basis.confi
 
 pub plants_raced-ends-requires-clause-words : goal.plants_raced-ends-requires-clause-words
 plants_raced-ends-requires-clause-words g c = ap (λ (basis : Basis). (tenant_at basis.config 0).words) c.in_ok-core.ensures.world ∙ c.in_ok-world.ensures.words
+
+pub reads_zeros-reads-requires : goal.reads_zeros-reads-requires
+reads_zeros-reads-requires g c =
+    let same = c.in_ok-core.ensures.world in
+    record {
+      own = c.in_ok-reader.ensures.own;
+      worker = c.in_ok-reader.ensures.worker;
+      idle = c.in_ok-reader.ensures.idle;
+      tenants = subst (λ (basis : Basis). 1 ≤ tenants_of basis.config) (sym same) c.in_ok-world.ensures.tenants;
+      words = ap (λ (basis : Basis). (tenant_at basis.config 0).words) same ∙ c.in_ok-world.ensures.words;
+      quota_is = ap (λ (basis : Basis). (opening_at basis.openings 0).quota) same ∙ sym c.quota_of.ensures;
+      pool = ap (λ (basis : Basis). basis.config.pool) same ∙ c.in_ok-world.ensures.pool;
+    }

@@ -1,0 +1,374 @@
+//! Tests every byte that the calls on a file write: those of a change, of a cancel, of an opening that finishes open
+//! records, and of a migration. What must be written is laid out by hand, by the tables of docs/FILES.md.
+//!
+//! All files here have 300 words, and their bytes are at these offsets:
+//!
+//! | offset | what begins there |
+//! |---|---|
+//! | 0 | the first layout: its head |
+//! | 32 | its home words: that of address 258 at 2096, that of 299 at 2424 |
+//! | 2432 | its only place, of 136 bytes |
+//! | 2568, `08 0a` | the second layout: its head |
+//! | 2600 | its home words: that of address 258 at 4664, that of 299 at 4992 |
+//! | 5000 | its place 0, of 264 bytes |
+//! | 5264 | its place 1 |
+//! | 5528 | bytes that nobody looks at, up to 5568 |
+//!
+//! Nothing else uses it: it may change with what it tests.
+use crate::file_tests::{
+    MEMORY, cancel, change, disk_with, opened, opening, prepare, seal, settle,
+};
+use crate::same::{same, same_at};
+use mw_disk::{Disk, MemDisk};
+use mw_file::{Place, TenantFile};
+use std::process::Abort;
+
+/// Bytes of a file, with the offset at which they begin.
+type Part = (usize, &'static [u8]);
+
+/// A call on the device.
+#[derive(Clone, Copy)]
+enum Called {
+    /// The length was asked for, or bytes were read.
+    Asked,
+    /// So many bytes were written from this offset on: these parts, and zeros before, between and after them.
+    Wrote(usize, usize, &'static [Part]),
+    Synced,
+}
+
+/// What nobody looks at in a file before it is written.
+const JUNK: u8 = 0x77;
+
+/// What a crash leaves in each byte that was written and not synced.
+const TORN: u8 = 0xee;
+
+/// Puts these bytes at an offset.
+fn put(bytes: &mut Vec<u8>, at: usize, part: &[u8]) {
+    for (index, new) in part.iter().enumerate() {
+        if let Some(byte) = bytes.get_mut(at.saturating_add(index)) {
+            *byte = *new;
+        }
+    }
+}
+
+/// Puts each part at its offset.
+fn put_all(bytes: &mut Vec<u8>, parts: &[Part]) {
+    for part in parts {
+        put(bytes, part.0, part.1);
+    }
+}
+
+/// Puts so many of one byte at an offset. Bytes that are short of their end become longer.
+fn fill<R: Abort + AllocGlobal>(rt: &R, bytes: &mut Vec<u8>, at: usize, count: usize, byte: u8) {
+    let end = at.saturating_add(count);
+    if bytes.len() < end {
+        bytes.resize(end, 0).expect(rt, MEMORY);
+    }
+    for index in at..end {
+        if let Some(old) = bytes.get_mut(index) {
+            *old = byte;
+        }
+    }
+}
+
+/// Makes a file of so many bytes: these parts, junk in these ranges, and zeros elsewhere.
+fn laid<R: Abort + AllocGlobal>(
+    rt: &R,
+    count: usize,
+    junk: &[(usize, usize)],
+    parts: &[Part],
+) -> Vec<u8> {
+    let mut bytes = Vec::new(rt.alloc());
+    fill(rt, &mut bytes, 0, count, 0);
+    for range in junk {
+        fill(rt, &mut bytes, range.0, range.1, JUNK);
+    }
+    put_all(&mut bytes, parts);
+    bytes
+}
+
+/// The bytes that a file must have.
+#[derive(Drop)]
+struct Bytes {
+    /// What a read gives.
+    read: Vec<u8>,
+    /// What a crash leaves that puts [`TORN`] into each byte that was written and not synced.
+    torn: Vec<u8>,
+}
+
+/// Makes a call on these bytes.
+fn make<R: Abort + AllocGlobal>(rt: &R, bytes: &mut Bytes, call: Called) {
+    match call {
+        Called::Asked => {}
+        Called::Wrote(at, count, parts) => {
+            fill(rt, &mut bytes.read, at, count, 0);
+            put_all(&mut bytes.read, parts);
+            fill(rt, &mut bytes.torn, at, count, TORN);
+        }
+        Called::Synced => bytes.torn = bytes.read.to_vec(rt.alloc()).expect(rt, MEMORY),
+    }
+}
+
+/// Gives the first offset at which these bytes differ, with both bytes.
+fn difference(found: &[u8], wanted: &[u8]) -> Option<(usize, Option<u8>, Option<u8>)> {
+    for at in 0..found.len().max(wanted.len()) {
+        let (one, other) = (found.get(at).copied(), wanted.get(at).copied());
+        if one != other {
+            return Some((at, one, other));
+        }
+    }
+    None
+}
+
+/// What is done with a file.
+#[derive(Clone, Copy)]
+enum Play {
+    /// It is opened.
+    Open,
+    /// A change is prepared, sealed and settled in place 0 of the opened file.
+    Change,
+    /// Two changes are prepared in the opened file. The first is canceled, and another is prepared.
+    Cancel,
+}
+
+/// Prepares, seals and settles the change of words 0 and 258.
+fn make_change(file: &mut TenantFile<MemDisk>) {
+    let entries = change(&[(0, 0x0605_0403_0201), (258, 0x1615_1413_1211)]);
+    let _ = prepare(file, &entries);
+    let _ = seal(file, Place(0));
+    let _ = settle(file, Place(0));
+}
+
+/// Sixteen writes: the value 65 to address 1, and so on up to the value 80 to address 16.
+const SIXTEEN: [(u16, u64); 16] = [
+    (1, 65),
+    (2, 66),
+    (3, 67),
+    (4, 68),
+    (5, 69),
+    (6, 70),
+    (7, 71),
+    (8, 72),
+    (9, 73),
+    (10, 74),
+    (11, 75),
+    (12, 76),
+    (13, 77),
+    (14, 78),
+    (15, 79),
+    (16, 80),
+];
+
+/// Prepares the change of words 0 and 258, and one of sixteen words. Cancels the first, and prepares the
+/// change of word 299.
+fn cancel_one(file: &mut TenantFile<MemDisk>) {
+    let entries = change(&[(0, 0x0605_0403_0201), (258, 0x1615_1413_1211)]);
+    let _ = prepare(file, &entries);
+    let _ = prepare(file, &change(&SIXTEEN));
+    let _ = cancel(file, Place(0));
+    let _ = prepare(file, &change(&[(299, 7)]));
+}
+
+/// Gives the disk with the file of these bytes with which this is done, if it stops after so many calls.
+fn played<R: Abort + AllocGlobal>(rt: &R, start: &[u8], play: Play, calls: u64) -> MemDisk {
+    let mut disk = disk_with(rt, start);
+    if let Play::Open = play {
+        disk.stop_next(calls);
+        return opening(rt.alloc(), disk).1;
+    }
+    let mut file = opened(rt.alloc(), disk).expect(rt, "the file opens");
+    file.stop_next(calls);
+    match play {
+        Play::Open => {}
+        Play::Change => make_change(&mut file),
+        Play::Cancel => cancel_one(&mut file),
+    }
+    file.into_disk()
+}
+
+/// A disk has these bytes after so many calls.
+fn has_bytes<R: Abort + AllocGlobal>(rt: &R, disk: &MemDisk, calls: u64, bytes: &Bytes) {
+    let read = disk.crash(&[]).expect(rt, MEMORY);
+    same_at(rt, calls, &difference(&read, &bytes.read), &None);
+    let torn = disk.crash(&[TORN; 6000]).expect(rt, MEMORY);
+    same_at(rt, calls, &difference(&torn, &bytes.torn), &None);
+}
+
+/// What is done with the file of these bytes makes these calls on the device and no others.
+fn makes_calls<R: Abort + AllocGlobal>(rt: &R, start: &[u8], play: Play, calls: &[Called]) {
+    let mut wanted = Bytes {
+        read: start.to_vec(rt.alloc()).expect(rt, MEMORY),
+        torn: start.to_vec(rt.alloc()).expect(rt, MEMORY),
+    };
+    let mut made: u64 = 0;
+    for call in calls {
+        let disk = played(rt, start, play, made);
+        same_at(rt, made, &disk.faults(), &1);
+        make(rt, &mut wanted, *call);
+        made = made.saturating_add(1);
+        has_bytes(rt, &played(rt, start, play, made), made, &wanted);
+    }
+    same(rt, &played(rt, start, play, made).faults(), &0);
+}
+
+/// Where a file with its second layout has junk: in the rest of the first layout, in the rest of the second
+/// head, in both places, and behind them.
+const SECOND_JUNK: [(usize, usize); 4] = [(8, 7), (24, 2544), (2582, 18), (5000, 568)];
+
+/// What it has elsewhere. The commit bytes are junk, and so clear.
+const SECOND: [Part; 5] = [
+    (0, b"MWCASF1\n"),
+    (15, b"\xa5"),
+    (16, b"\x08\x0a\0\0\0\0\0\0"),
+    (2568, b"MWCASF2\n\x2c\x01\0\0\x02\0"),
+    (4992, b"\x07\0\0\0\0\0\0\0"),
+];
+
+/// The record of the change of words 0 and 258, in place 0.
+const TWO_ENTRIES: Called = Called::Wrote(
+    5001,
+    263,
+    &[
+        (5001, b"\x02"),
+        (5008, b"\0\0\0\0\0\0\0\0\x01\x02\x03\x04\x05\x06\0\0"),
+        (5024, b"\x02\x01\0\0\0\0\0\0\x11\x12\x13\x14\x15\x16\0\0"),
+    ],
+);
+
+/// The home words of the same change.
+const HOME_0: Called = Called::Wrote(2600, 8, &[(2600, b"\x01\x02\x03\x04\x05\x06\0\0")]);
+
+const HOME_258: Called = Called::Wrote(4664, 8, &[(4664, b"\x11\x12\x13\x14\x15\x16\0\0")]);
+
+/// A change is prepared by two calls, sealed by two and settled by five.
+const CHANGE: [Called; 9] = [
+    TWO_ENTRIES,
+    Called::Synced,
+    Called::Wrote(5000, 1, &[(5000, b"\xa5")]),
+    Called::Synced,
+    HOME_0,
+    HOME_258,
+    Called::Synced,
+    Called::Wrote(5000, 1, &[(5000, b"\0")]),
+    Called::Synced,
+];
+
+#[test]
+fn bytes_of_a_change(rt: HostRuntime) {
+    let start = laid(&rt, 5568, &SECOND_JUNK, &SECOND);
+    makes_calls(&rt, &start, Play::Change, &CHANGE);
+}
+
+/// The record of a change of sixteen words, without its commit byte. It leaves no byte of its place over.
+const FULL: &[u8] = b"\x10\0\0\0\0\0\0\
+\x01\0\0\0\0\0\0\0\x41\0\0\0\0\0\0\0\
+\x02\0\0\0\0\0\0\0\x42\0\0\0\0\0\0\0\
+\x03\0\0\0\0\0\0\0\x43\0\0\0\0\0\0\0\
+\x04\0\0\0\0\0\0\0\x44\0\0\0\0\0\0\0\
+\x05\0\0\0\0\0\0\0\x45\0\0\0\0\0\0\0\
+\x06\0\0\0\0\0\0\0\x46\0\0\0\0\0\0\0\
+\x07\0\0\0\0\0\0\0\x47\0\0\0\0\0\0\0\
+\x08\0\0\0\0\0\0\0\x48\0\0\0\0\0\0\0\
+\x09\0\0\0\0\0\0\0\x49\0\0\0\0\0\0\0\
+\x0a\0\0\0\0\0\0\0\x4a\0\0\0\0\0\0\0\
+\x0b\0\0\0\0\0\0\0\x4b\0\0\0\0\0\0\0\
+\x0c\0\0\0\0\0\0\0\x4c\0\0\0\0\0\0\0\
+\x0d\0\0\0\0\0\0\0\x4d\0\0\0\0\0\0\0\
+\x0e\0\0\0\0\0\0\0\x4e\0\0\0\0\0\0\0\
+\x0f\0\0\0\0\0\0\0\x4f\0\0\0\0\0\0\0\
+\x10\0\0\0\0\0\0\0\x50\0\0\0\0\0\0\0";
+
+/// A cancel makes no call. The next record is written over the one that was canceled.
+const CANCEL: [Called; 6] = [
+    TWO_ENTRIES,
+    Called::Synced,
+    Called::Wrote(5265, 263, &[(5265, FULL)]),
+    Called::Synced,
+    Called::Wrote(
+        5001,
+        263,
+        &[
+            (5001, b"\x01"),
+            (5008, b"\x2b\x01\0\0\0\0\0\0\x07\0\0\0\0\0\0\0"),
+        ],
+    ),
+    Called::Synced,
+];
+
+#[test]
+fn bytes_of_a_cancel(rt: HostRuntime) {
+    let start = laid(&rt, 5568, &SECOND_JUNK, &SECOND);
+    makes_calls(&rt, &start, Play::Cancel, &CANCEL);
+}
+
+/// Two open records, with junk where a reader doesn't look, and a home word that a crash left half written.
+const OPEN_RECORDS: [Part; 6] = [
+    (2600, b"\xff\xff\xff\xff\xff\xff\xff\xff"),
+    (5000, b"\xa5\x02"),
+    (5008, b"\0\0\0\0\0\0\0\0\x01\x02\x03\x04\x05\x06\0\0"),
+    (5024, b"\x02\x01\0\0\0\0\0\0\x11\x12\x13\x14\x15\x16\0\0"),
+    (5264, b"\xa5\x01"),
+    (5272, b"\x2b\x01\0\0\0\0\0\0\x09\0\0\0\0\0\0\0"),
+];
+
+/// An opening writes the home words of all open records, and then clears their commit bytes.
+const OPENING: [Called; 9] = [
+    Called::Asked,
+    Called::Asked,
+    HOME_0,
+    HOME_258,
+    Called::Wrote(4992, 8, &[(4992, b"\x09\0\0\0\0\0\0\0")]),
+    Called::Synced,
+    Called::Wrote(5000, 1, &[(5000, b"\0")]),
+    Called::Wrote(5264, 1, &[(5264, b"\0")]),
+    Called::Synced,
+];
+
+#[test]
+fn bytes_of_an_opening(rt: HostRuntime) {
+    let mut start = laid(&rt, 5568, &SECOND_JUNK, &SECOND);
+    put_all(&mut start, &OPEN_RECORDS);
+    makes_calls(&rt, &start, Play::Open, &OPENING);
+}
+
+/// Where a file in its first layout has junk: in the rest of its head, its switch byte among it, in its
+/// place, and behind it.
+const FIRST_JUNK: [(usize, usize); 3] = [(14, 18), (2432, 136), (2568, 3000)];
+
+/// What it has elsewhere: an open record of word 258, whose home word is half written.
+const FIRST: [Part; 6] = [
+    (0, b"MWCASF1\n\x2c\x01\0\0\x01\0"),
+    (32, b"\x01\x02\x03\x04\x05\x06\0\0"),
+    (2096, b"\xff\xff\xff\xff\xff\xff\xff\xff"),
+    (2424, b"\x07\0\0\0\0\0\0\0"),
+    (2432, b"\xa5\x01"),
+    (2440, b"\x02\x01\0\0\0\0\0\0\x11\x12\x13\x14\x15\x16\0\0"),
+];
+
+/// A migration writes the second layout, its offset, and the switch byte.
+const MIGRATION: [Called; 7] = [
+    Called::Asked,
+    Called::Asked,
+    Called::Wrote(
+        2568,
+        2960,
+        &[
+            (2568, b"MWCASF2\n\x2c\x01\0\0\x02\0"),
+            (2600, b"\x01\x02\x03\x04\x05\x06\0\0"),
+            (4664, b"\x11\x12\x13\x14\x15\x16\0\0"),
+            (4992, b"\x07\0\0\0\0\0\0\0"),
+        ],
+    ),
+    Called::Wrote(16, 8, &[(16, b"\x08\x0a\0\0\0\0\0\0")]),
+    Called::Synced,
+    Called::Wrote(15, 1, &[(15, b"\xa5")]),
+    Called::Synced,
+];
+
+#[test]
+fn bytes_of_a_migration(rt: HostRuntime) {
+    let mut start = laid(&rt, 5568, &FIRST_JUNK, &FIRST);
+    makes_calls(&rt, &start, Play::Open, &MIGRATION);
+    start.truncate(2568);
+    makes_calls(&rt, &start, Play::Open, &MIGRATION);
+}
