@@ -1,6 +1,6 @@
 //! Tells which rule of its form a line of a tenants file breaks.
 //!
-//! mw_programs calls [`broken_rule`] for the note about a refused line. It may change with `specs/Forms`: it decides
+//! mw_opening calls [`broken_rule`] for the note about a refused line. It may change with `specs/Forms`: it decides
 //! the text of a note alone, and not what is refused.
 ghost use Rattle.std.specs.Prelude.{◌≡◌};
 ghost use Rattle.std.specs.List.{list_all};

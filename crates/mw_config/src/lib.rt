@@ -1,7 +1,7 @@
 //! Reads what a server is started with: the tenants file and the command line.
 //!
-//! mw_programs calls [`read_tenants`] and [`read_args`] when a server starts. A change of what they accept changes
-//! docs/OPERATING.
+//! When a server starts, mw_opening calls [`read_tenants`], and mw_programs calls [`read_args`]. A change of what they
+//! accept changes docs/OPERATING.
 #![tactic(auto)]
 
 mod command_line;

@@ -1,6 +1,6 @@
 //! Reads the tenants file: which tenants are served, and from which files.
 //!
-//! mw_programs calls [`read_tenants`] when a server starts; tests of the engine call it too. Which file is refused,
+//! mw_opening calls [`read_tenants`] when a server starts; tests of the engine call it too. Which file is refused,
 //! and why, is in `specs/Limits` and `specs/Refusals`: a change there changes docs/OPERATING. docs/PROMISES cites
 //! `read_tenants`.
 ghost use Rattle.std.specs.Prelude.{◌≡◌, ◌≤◌, ◌↔◌, [], length, sum_by, IfOk, IfErr};

@@ -19,7 +19,7 @@
 //! the model of [`mw_disk::Disk`], the crash leaves the words with every sealed change. A change that was
 //! being sealed is there wholly or not at all.
 //!
-//! mw_book keeps such a file for the server's threads, and mw_programs opens it. mw_world_file simulates files by it,
+//! mw_book keeps such a file for the server's threads, and mw_opening opens it. mw_world_file simulates files by it,
 //! and tests use it over a disk in memory. A change of a contract reaches mw_book, mw_plain and mw_world_file.
 #![tactic(auto)]
 

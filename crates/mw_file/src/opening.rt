@@ -1,8 +1,8 @@
 //! Opens a file: reads it, finishes the changes that were committed (sealed) and not yet written to their words
 //! (settled), and adds the second layout (format version 2) if the file has only the first.
 //!
-//! mw_programs opens each tenant's file by it before a server serves; mw_world_file and tests open files in memory.
-//! `specs/OpeningEnds` says how it ends. A new [`OpenFault`] needs a case there, in mw_programs and in mw_world_file
+//! mw_opening opens each tenant's file by it before a server serves; mw_world_file and tests open files in memory.
+//! `specs/OpeningEnds` says how it ends. A new [`OpenFault`] needs a case there, in mw_opening and in mw_world_file
 //! (`opening.rt` of each). docs/PROMISES and docs/THEOREM cite `open`.
 ghost use Rattle.std.specs.Prelude.{◌≡◌, true, false, ◌*◌, ◌≤◌, ◌<◌, ◌^◌, ◌==◌, ℕ, not, if◌then◌else◌, List, length, None, vec_len, min, take, IsTrue, IfOk, OnOk};
 ghost use Rattle.mw_words.specs.declared.limits.TheConstants.{MAX_PLACES, MAX_WORDS};

@@ -1,7 +1,7 @@
 //! Begins every program: holds the standard streams open, reads the command line as texts, and gives the exit status.
 //! The version that all programs tell is here too.
 //!
-//! Used by: the five programs; mw_config, mw_file_command, mw_load and mw_programs, for the version. A change here
+//! Used by: the five programs; mw_config, mw_file_command, mw_load and mw_init, for the version. A change here
 //! changes all five programs.
 #![tactic(auto)]
 
