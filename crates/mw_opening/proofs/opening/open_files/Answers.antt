@@ -10,6 +10,11 @@ of-requires g c =
     let many = so_many (λ disk. unknown disk.faults) c.args.lines.now c.loop-line.line-index c.loop-line.files.items c.loop-line-test.true c.loop-line.invariant in
     omega (arith, many, c.requires, c.loop-line-test.true)
 
+pub of-requires-in-loop-line : goal.of-requires-in-loop-line
+of-requires-in-loop-line g c =
+    let many = so_many (λ disk. unknown disk.faults) c.args.lines.now c.loop-line.line-index c.loop-line.files.items c.loop-line-test.true c.loop-line.invariant in
+    omega (arith, many, c.len-tenant.ensures, c.requires, c.loop-line-test.true)
+
 pub loop-line-preserved : goal.loop-line-preserved
 loop-line-preserved g c = fit_next (λ disk. unknown disk.faults) c.args.lines.now c.loop-line.line-index c.line-item.result c.loop-line.files.items c.push.new.self.items c.in_ok-file.file
     c.loop-line-test.true (sym c.line-item.is) c.in_ok-file.ensures c.loop-line.invariant c.in_ok-push.ensures.items
