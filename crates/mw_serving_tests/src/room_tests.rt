@@ -7,7 +7,7 @@ use crate::test_shelf::{Clerk, Shelf};
 use arrayvec::ArrayVec;
 use mw_session::{Ended, Service, Session};
 use mw_workers::{
-    Connection, Desk, Listener, Patient, RoomWatch, ServeEnd, listen_at, serve_beside,
+    Closer, Connection, Desk, Listener, Patient, RoomWatch, ServeEnd, listen_at, serve_beside,
 };
 use std::alloc::Global;
 use std::cell::RefCell;
@@ -191,8 +191,42 @@ impl RoomWatch for Count {
 }
 
 /// Serves beside a desk that has no room for so many calls first, and then waits for a client until it is
-/// closed. Gives how often the desk's watch was told that there is no room, and None if serving didn't end
-/// well.
+/// closed. The desk has this listener and this end of its wait.
+fn serves_crowded<'a, R, L: Listener + Send + Drop>(
+    rt: &'a R,
+    shelf: &'a Mutex<Shelf>,
+    asked: &'a AtomicU32,
+    watch: &'a Count,
+    refusals: u32,
+    door: L,
+    closer: Closer,
+) -> Result<ServeEnd, Fail>
+where
+    R: AllocGlobal + Threads + Wait + Clock + Sync,
+{
+    let desk = Desk {
+        listener: Crowded {
+            door,
+            refusals,
+            asked,
+        },
+        service: Clerk { rt, shelf },
+        closer,
+        watch,
+    };
+    let mut services = Vec::new(rt.alloc());
+    services.push(Clerk { rt, shelf })?;
+    let nobody = Empty {
+        clock: rt,
+        asked,
+        times: refusals.saturating_add(1),
+    };
+    let (end, _) = serve_beside(rt, rt.alloc(), desk, nobody, services, Some(1));
+    Ok(end)
+}
+
+/// Serves beside a desk that has no room for so many calls first. Gives how often the desk's watch was told
+/// that there is no room, and None if serving didn't end well.
 fn times_told<R>(rt: &R, refusals: u32) -> Result<Option<u32>, Fail>
 where
     R: Files<File = File>
@@ -210,26 +244,7 @@ where
     let shelf = Mutex::new(Shelf::new(2));
     let door = listen_at(rt, "127.0.0.1:0", 0, None)?;
     let closer = door.closer()?;
-    let listener = Crowded {
-        door,
-        refusals,
-        asked: &asked,
-    };
-    let desk = Desk {
-        listener,
-        service: Clerk { rt, shelf: &shelf },
-        closer,
-        watch: &watch,
-    };
-    let mut services = Vec::new(rt.alloc());
-    services.push(Clerk { rt, shelf: &shelf })?;
-    let times = refusals.saturating_add(1);
-    let nobody = Empty {
-        clock: rt,
-        asked: &asked,
-        times,
-    };
-    let (end, _) = serve_beside(rt, rt.alloc(), desk, nobody, services, Some(1));
+    let end = serves_crowded(rt, &shelf, &asked, &watch, refusals, door, closer)?;
     let told = watch.told.load(Ordering::SeqCst);
     Ok((end == ServeEnd::Served).then_some(told))
 }
