@@ -3,7 +3,7 @@
 //! Used by: `servers`, `stories`, `tests` and all of its modules. It may change freely as long as this crate checks
 //! and its tests pass.
 use mw_init::init;
-use mw_programs::serve;
+use mw_programs::{SeesPaths, serve};
 use std::alloc::{AllocError, Global};
 use std::fs::File;
 use std::net::{Net, TcpListener, TcpStream};
@@ -130,7 +130,8 @@ where
         + Threads
         + Wait
         + Clock
-        + Sync,
+        + Sync
+        + SeesPaths,
 {
     let args = command_line(rt.alloc(), folder, line)?;
     let mut out = Vec::new(rt.alloc());

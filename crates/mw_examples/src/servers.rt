@@ -4,7 +4,7 @@
 //! long as this crate checks and its tests pass.
 use crate::clients::{Caller, Notice, Ports};
 use crate::folders::command_line;
-use mw_programs::serve;
+use mw_programs::{SeesPaths, serve};
 use std::fs::File;
 use std::io::{self, Write};
 use std::net::{Net, TcpListener, TcpStream};
@@ -30,7 +30,8 @@ where
         + Threads
         + Wait
         + Clock
-        + Sync,
+        + Sync
+        + SeesPaths,
 {
     let line = format!(in rt.alloc(); "mwserve --tenants DIR/tenants {options}")?;
     let args = command_line(rt.alloc(), folder, line.as_str())?;
@@ -52,7 +53,8 @@ where
         + Threads
         + Wait
         + Clock
-        + Sync,
+        + Sync
+        + SeesPaths,
 {
     let args = command_line(rt.alloc(), folder, line)?;
     let mut err = Vec::new(rt.alloc());

@@ -12,6 +12,7 @@
 //!
 //! Used by: `tests` and all of its modules. It may change freely as long as this crate checks and its tests pass.
 use crate::folders::{Outcome, path_in, remove_folder, run_init, run_serve};
+use mw_programs::SeesPaths;
 use std::alloc::{AllocError, Global};
 use std::fs;
 use std::fs::File;
@@ -36,7 +37,8 @@ where
         + Threads
         + Wait
         + Clock
-        + Sync,
+        + Sync
+        + SeesPaths,
 {
     play_in(rt, folder, story)?;
     remove_folder(rt, folder)
@@ -55,7 +57,8 @@ where
         + Threads
         + Wait
         + Clock
-        + Sync,
+        + Sync
+        + SeesPaths,
 {
     let mut ran = Outcome::nothing(rt.alloc());
     for line in story.split('\n') {
@@ -75,7 +78,8 @@ where
         + Threads
         + Wait
         + Clock
-        + Sync,
+        + Sync
+        + SeesPaths,
 {
     let (verb, rest) = line.split_once(' ').unwrap_or((line, ""));
     match verb {
@@ -97,7 +101,8 @@ where
         + Threads
         + Wait
         + Clock
-        + Sync,
+        + Sync
+        + SeesPaths,
 {
     let files = "mwserve --tenants DIR/tenants --script DIR/script";
     let line = format!(in rt.alloc(); "{files} {options}")?;

@@ -11,4 +11,5 @@ mod serving;
 mod tenants;
 mod worker;
 
+pub use replaced::SeesPaths;
 pub use serving::serve;

@@ -7,7 +7,7 @@ ghost use Rattle.mw_programs.specs.Replaced.{LeadsTo};
 
 use mw_opening::SeenFile;
 use std::fs;
-use std::io::ErrorKind;
+use std::io::{self, ErrorKind};
 use std::rt::Files;
 use std::sync::{Condvar, Mutex, Wait};
 use std::time::{Clock, Duration};
@@ -64,11 +64,28 @@ pub(crate) fn look_on<R: Wait + Clock, T: FileLook>(rt: &R, files: &T, period: u
     unreachable!()
 }
 
+/// Sees which file is at a path. Each runtime that has files does. A thread can use it that was started by code over any
+/// runtime; [`Files`] itself it can't, because of the types that come with that.
+pub trait SeesPaths {
+    /// Asks the system which file is at this path.
+    ///
+    /// # Errors
+    ///
+    /// There is none, or the system doesn't say.
+    fn seen_at(&self, path: &str) -> io::Result<SeenFile>;
+}
+
+impl<R: Files> SeesPaths for R {
+    fn seen_at(&self, path: &str) -> io::Result<SeenFile> {
+        Ok(SeenFile::of(&fs::metadata(self, path)?))
+    }
+}
+
 /// Tells whether the path of a file that was opened leads elsewhere now. If the system doesn't say what is at the path,
 /// that is not known, and the answer is no.
-pub(crate) fn leads_elsewhere<R: Files>(rt: &R, path: &str, opened: &SeenFile) -> bool {
-    match fs::metadata(rt, path) {
-        Ok(told) => is_replaced(opened, Some(SeenFile::of(&told))),
+pub(crate) fn leads_elsewhere<R: SeesPaths>(rt: &R, path: &str, opened: &SeenFile) -> bool {
+    match rt.seen_at(path) {
+        Ok(now) => is_replaced(opened, Some(now)),
         Err(error) => match error.kind() {
             ErrorKind::NotFound | ErrorKind::NotADirectory => is_replaced(opened, None),
             _ => false,

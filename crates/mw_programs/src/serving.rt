@@ -12,7 +12,7 @@ ghost use Rattle.mw_programs.specs.WorkerCount.{worker_count};
 
 use crate::clients::serve_clients;
 use crate::descriptors::{has_descriptors, needed};
-use crate::replaced::FileLook;
+use crate::replaced::{FileLook, SeesPaths};
 use crate::tenants::{FaultWatch, TenantNotes};
 use crate::worker::Worker;
 use log::{Log, warn};
@@ -135,7 +135,8 @@ where
         + Threads
         + Wait
         + Clock
-        + Sync,
+        + Sync
+        + SeesPaths,
 {
     let args = match read_args(rt.alloc(), args) {
         Ok(args) => args,
@@ -188,7 +189,8 @@ where
         + Threads
         + Wait
         + Clock
-        + Sync,
+        + Sync
+        + SeesPaths,
     requires { ArePermittedArgs args.now }
 {
     let lines = read_tenants_file(rt, args.tenants.as_str(), args.pool)?;

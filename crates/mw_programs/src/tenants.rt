@@ -5,12 +5,11 @@
 ghost use Rattle.std.specs.Prelude.{◌<◌};
 ghost use Rattle.mw_words.specs.declared.limits.TheConstants.{MAX_TENANTS};
 
-use crate::replaced::{FileLook, leads_elsewhere};
+use crate::replaced::{FileLook, SeesPaths, leads_elsewhere};
 use log::{Log, warn};
 use mw_config::TenantLine;
 use mw_opening::{FileStates, LastErrors, Opened, note_cause, note_place};
 use mw_words::MAX_TENANTS;
-use std::rt::Files;
 use std::str;
 use std::sync::{Mutex, Wait};
 
@@ -101,7 +100,7 @@ impl<L: Log, R: Wait> FaultWatch for TenantNotes<'_, '_, '_, '_, L, R> {
     }
 }
 
-impl<L: Log, R: Wait + Files> FileLook for TenantNotes<'_, '_, '_, '_, L, R> {
+impl<L: Log, R: Wait + SeesPaths> FileLook for TenantNotes<'_, '_, '_, '_, L, R> {
     fn look(&self) {
         let mut all_left_out = self.left_out.lock(self.rt);
         let files = self.lines.iter().zip(self.states.all());

@@ -4,6 +4,7 @@
 //! Nothing else uses it: it may change with what it tests.
 use crate::folders::{new_folder, remove_folder};
 use crate::stories::play_in;
+use mw_programs::SeesPaths;
 use std::fs::File;
 use std::net::{Net, TcpListener, TcpStream};
 use std::rt::Files;
@@ -21,7 +22,8 @@ where
         + Threads
         + Wait
         + Clock
-        + Sync,
+        + Sync
+        + SeesPaths,
 {
     for case in table.split('\n') {
         let case_story = story.replace(rt.alloc(), "CASE", case)?;
@@ -101,7 +103,8 @@ where
         + Threads
         + Wait
         + Clock
-        + Sync,
+        + Sync
+        + SeesPaths,
 {
     for case in table.split('\n') {
         let (tenants, told) = case.split_once('|').unwrap_or((case, ""));
@@ -197,7 +200,8 @@ where
         + Threads
         + Wait
         + Clock
-        + Sync,
+        + Sync
+        + SeesPaths,
 {
     let long = "x".repeat(rt.alloc(), bytes)?;
     let story = story.replace(rt.alloc(), "LONG", long.as_str())?;

@@ -4,7 +4,7 @@
 use crate::clients::{Caller, Notice, Ports, Told, come_and_go, port_of_server, waits_for};
 use crate::folders::{command_line, new_folder, path_in, remove_folder};
 use crate::stories::play_in;
-use mw_programs::serve;
+use mw_programs::{SeesPaths, serve};
 use std::fs::{self, File, OpenOptions};
 use std::net::{Net, TcpListener, TcpStream};
 use std::rt::Files;
@@ -43,7 +43,8 @@ where
         + Threads
         + Wait
         + Clock
-        + Sync,
+        + Sync
+        + SeesPaths,
 {
     let line = format!(in rt.alloc();
         "mwserve --tenants DIR/tenants --listen 127.0.0.1:0 --workers 2 --connections 2 {options}"

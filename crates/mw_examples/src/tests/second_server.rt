@@ -5,6 +5,7 @@ use crate::clients::{Ports, come_and_go, port_of_server};
 use crate::folders::{new_folder, remove_folder};
 use crate::servers::{ask_alone, serve_loopback};
 use crate::stories::play_in;
+use mw_programs::SeesPaths;
 use std::fs::File;
 use std::net::{Net, TcpListener, TcpStream};
 use std::rt::Files;
@@ -45,7 +46,8 @@ where
         + Threads
         + Wait
         + Clock
-        + Sync,
+        + Sync
+        + SeesPaths,
 {
     let port = port_of_server(rt, &ports.ready)?;
     let beside = play_in(rt, folder, BESIDE);

@@ -6,7 +6,7 @@ use crate::folders::{command_line, new_folder, path_in, remove_folder};
 use crate::locks::LockWatch;
 use crate::stories::play_in;
 use mw_init::init;
-use mw_programs::serve;
+use mw_programs::{SeesPaths, serve};
 use std::fs::File;
 use std::net::{Net, TcpListener, TcpStream};
 use std::rt::Files;
@@ -44,7 +44,8 @@ where
         + Threads
         + Wait
         + Clock
-        + Sync,
+        + Sync
+        + SeesPaths,
 {
     let args = command_line(rt.alloc(), folder, SERVING)?;
     let mut out = LockWatch::new(rt, path);
@@ -73,7 +74,8 @@ where
         + Threads
         + Wait
         + Clock
-        + Sync,
+        + Sync
+        + SeesPaths,
 {
     let line = format!(in rt.alloc();
         "mwserve --tenants DIR/tenants --listen 127.0.0.1:0 {options}"

@@ -5,6 +5,7 @@ use crate::folders::{new_folder, path_in, remove_folder};
 use crate::outputs::FailingOutput;
 use crate::servers::serve_to;
 use crate::stories::play_in;
+use mw_programs::SeesPaths;
 use std::fs;
 use std::fs::File;
 use std::net::{Net, TcpListener, TcpStream};
@@ -56,7 +57,8 @@ where
         + Wait
         + Clock
         + Sync
-        + Abort,
+        + Abort
+        + SeesPaths,
 {
     let mut out = FailingOutput::new(rt.alloc(), room);
     let (status, err) = serve_to(rt, folder, SESSION, &mut out)?;
@@ -78,7 +80,8 @@ where
         + Threads
         + Wait
         + Clock
-        + Sync,
+        + Sync
+        + SeesPaths,
 {
     let word = word_after(room);
     let story = format!(in rt.alloc(); "serve\ngives 0 OK 2;VAL {word};VAL {word};|")?;
