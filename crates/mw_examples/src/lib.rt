@@ -1,19 +1,7 @@
 //! Runs whole examples of the programs, on real files.
+//!
+//! Nothing else uses it: it may change with what it tests.
 #![tactic(auto)]
 
-#[cfg(test)]
-mod clients;
-#[cfg(test)]
-mod folders;
-#[cfg(test)]
-mod locks;
-#[cfg(test)]
-mod outputs;
-#[cfg(test)]
-mod runtimes;
-#[cfg(test)]
-mod servers;
-#[cfg(test)]
-mod stories;
 #[cfg(test)]
 mod tests;

@@ -1,18 +1,12 @@
 //! Tests the programs by stories: what is done in a folder, and what comes of it.
 //!
 //! Nothing else uses it: it may change with what it tests.
-mod file_faults;
-mod made_files;
 mod operating;
-mod refusals;
 mod replaced;
-mod room;
-mod second_server;
 mod serving;
-mod write_faults;
 
-use crate::folders::{new_folder, path_in, remove_folder};
-use crate::stories::{new_file, play, play_in};
+use mw_stories::folders::{new_folder, path_in, remove_folder};
+use mw_stories::stories::{new_file, play, play_in};
 use std::fs;
 use std::fs::File;
 use std::os::unix::fs::symlink;

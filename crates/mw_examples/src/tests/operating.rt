@@ -1,8 +1,8 @@
 //! Tests what an operator asks the programs for by the command line.
 //!
 //! Nothing else uses it: it may change with what it tests.
-use crate::folders::new_folder;
-use crate::stories::play;
+use mw_stories::folders::new_folder;
+use mw_stories::stories::play;
 use std::test::Fail;
 
 #[test]

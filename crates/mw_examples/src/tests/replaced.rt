@@ -1,10 +1,10 @@
 //! Tests what `mwserve` tells of a tenant's file that is replaced, cut short or removed while it is served.
 //!
 //! Nothing else uses it: it may change with what it tests.
-use crate::clients::{Caller, Notice, Ports, Told, come_and_go, port_of_server, waits_for};
-use crate::folders::{command_line, new_folder, path_in, remove_folder};
-use crate::stories::play_in;
 use mw_programs::{SeesPaths, serve};
+use mw_stories::clients::{Caller, Notice, Ports, Told, come_and_go, port_of_server, waits_for};
+use mw_stories::folders::{command_line, new_folder, path_in, remove_folder};
+use mw_stories::stories::play_in;
 use std::fs::{self, File, OpenOptions};
 use std::net::{Net, TcpListener, TcpStream};
 use std::rt::Files;

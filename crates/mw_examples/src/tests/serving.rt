@@ -1,12 +1,12 @@
 //! Tests `mwserve` with clients over loopback, and the locks of files that are served.
 //!
 //! Nothing else uses it: it may change with what it tests.
-use crate::clients::{Caller, Notice, Ports, come_and_go, port_of_server};
-use crate::folders::{command_line, new_folder, path_in, remove_folder};
-use crate::locks::LockWatch;
-use crate::stories::play_in;
 use mw_init::init;
 use mw_programs::{SeesPaths, serve};
+use mw_stories::clients::{Caller, Notice, Ports, come_and_go, port_of_server};
+use mw_stories::folders::{command_line, new_folder, path_in, remove_folder};
+use mw_stories::locks::LockWatch;
+use mw_stories::stories::play_in;
 use std::fs::File;
 use std::net::{Net, TcpListener, TcpStream};
 use std::rt::Files;

@@ -1,10 +1,10 @@
 //! Tests `mwinit`: which files it makes, which command lines it refuses, and what it leaves if it makes no file.
 //!
 //! Nothing else uses it: it may change with what it tests.
-use crate::folders::{command_line, new_folder, path_in, remove_folder};
-use crate::outputs::FailingOutput;
-use crate::stories::{play, play_in};
 use mw_init::init;
+use mw_stories::folders::{command_line, new_folder, path_in, remove_folder};
+use mw_stories::outputs::FailingOutput;
+use mw_stories::stories::{play, play_in};
 use std::os::unix::fs::symlink;
 use std::test::Fail;
 

@@ -2,9 +2,9 @@
 //! `--strict` tenants' files.
 //!
 //! Nothing else uses it: it may change with what it tests.
-use crate::folders::{new_folder, remove_folder};
-use crate::stories::play_in;
 use mw_programs::SeesPaths;
+use mw_stories::folders::{new_folder, remove_folder};
+use mw_stories::stories::play_in;
 use std::fs::File;
 use std::net::{Net, TcpListener, TcpStream};
 use std::rt::Files;

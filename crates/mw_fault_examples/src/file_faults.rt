@@ -2,11 +2,11 @@
 //! read on.
 //!
 //! Nothing else uses it: it may change with what it tests.
-use crate::clients::{Ports, come_and_go, port_of_server};
-use crate::folders::{new_folder, remove_folder};
-use crate::runtimes::FaultyRuntime;
-use crate::servers::{ask_alone, serve_loopback};
-use crate::stories::{play, play_in};
+use mw_stories::clients::{Ports, come_and_go, port_of_server};
+use mw_stories::folders::{new_folder, remove_folder};
+use mw_stories::runtimes::FaultyRuntime;
+use mw_stories::servers::{ask_alone, serve_loopback};
+use mw_stories::stories::{play, play_in};
 use std::net::{Net, TcpListener, TcpStream};
 use std::test::Fail;
 use std::time::Clock;

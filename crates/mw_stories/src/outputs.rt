@@ -1,6 +1,7 @@
 //! Outputs for the tests: one that fails, and one that tells when it has got a note.
 //!
-//! Used by: `tests/write_faults`, `tests/room`. It may change freely as long as this crate checks and its tests pass.
+//! Used by: `made_files`, `room` and `write_faults` of mw_fault_examples. It may change freely as long as that checks and
+//! its tests pass.
 use std::alloc::Global;
 use std::io::{self, ErrorKind, Write};
 use std::sync::atomic::{AtomicU16, Ordering};

@@ -1,11 +1,11 @@
 //! Tests `mwserve` with an output that fails after some bytes.
 //!
 //! Nothing else uses it: it may change with what it tests.
-use crate::folders::{new_folder, path_in, remove_folder};
-use crate::outputs::FailingOutput;
-use crate::servers::serve_to;
-use crate::stories::play_in;
 use mw_programs::SeesPaths;
+use mw_stories::folders::{new_folder, path_in, remove_folder};
+use mw_stories::outputs::FailingOutput;
+use mw_stories::servers::serve_to;
+use mw_stories::stories::play_in;
 use std::fs;
 use std::fs::File;
 use std::net::{Net, TcpListener, TcpStream};

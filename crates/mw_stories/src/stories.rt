@@ -10,7 +10,7 @@
 //!
 //! `DIR` means the folder, and in a text `;` means a line's end.
 //!
-//! Used by: `tests` and all of its modules. It may change freely as long as this crate checks and its tests pass.
+//! Used by: mw_examples, mw_fault_examples. It may change freely as long as these check and their tests pass.
 use crate::folders::{Outcome, path_in, remove_folder, run_init, run_serve};
 use mw_programs::SeesPaths;
 use std::alloc::{AllocError, Global};

@@ -1,6 +1,6 @@
 //! A runtime for the tests, under which some files can't be read or written, and some addresses give no connection.
 //!
-//! Used by: `tests/file_faults`, `tests/room`. It may change freely as long as this crate checks and its tests pass.
+//! Used by: `file_faults` and `room` of mw_fault_examples. It may change freely as long as that checks and its tests pass.
 use std::alloc::{Allocator, Global};
 use std::fs::{File, Metadata, OpenOptions, Permissions};
 use std::io;

@@ -1,11 +1,11 @@
 //! Tests what programs say beside a server that has their file.
 //!
 //! Nothing else uses it: it may change with what it tests.
-use crate::clients::{Ports, come_and_go, port_of_server};
-use crate::folders::{new_folder, remove_folder};
-use crate::servers::{ask_alone, serve_loopback};
-use crate::stories::play_in;
 use mw_programs::SeesPaths;
+use mw_stories::clients::{Ports, come_and_go, port_of_server};
+use mw_stories::folders::{new_folder, remove_folder};
+use mw_stories::servers::{ask_alone, serve_loopback};
+use mw_stories::stories::play_in;
 use std::fs::File;
 use std::net::{Net, TcpListener, TcpStream};
 use std::rt::Files;

@@ -1,7 +1,7 @@
 //! Clients over loopback for the tests, and how they learn where the server listens. What they wait for
 //! comes within a limit.
 //!
-//! Used by: `tests/serving`, `tests/replaced`. It may change freely as long as this crate checks and its tests pass.
+//! Used by: `servers`, mw_examples, mw_fault_examples. It may change freely as long as these check and their tests pass.
 use std::alloc::Global;
 use std::io::{ErrorKind, Read, Write};
 use std::net::{Net, TcpListener, TcpStream};

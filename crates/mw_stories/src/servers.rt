@@ -1,7 +1,7 @@
 //! Runs `mwserve` for the tests of its notes: over loopback, or with an output of the test's own.
 //!
-//! Used by: `tests/file_faults`, `tests/room`, `tests/second_server`, `tests/write_faults`. It may change freely as
-//! long as this crate checks and its tests pass.
+//! Used by: `file_faults`, `room`, `second_server` and `write_faults` of mw_fault_examples. It may change freely as long
+//! as that checks and its tests pass.
 use crate::clients::{Caller, Notice, Ports};
 use crate::folders::command_line;
 use mw_programs::{SeesPaths, serve};

@@ -1,12 +1,12 @@
 //! Tests the note that there is no room for connections, at the clients' address and at the administrator's.
 //!
 //! Nothing else uses it: it may change with what it tests.
-use crate::clients::{Ports, come_and_go, port_of_server};
-use crate::folders::{new_folder, remove_folder};
-use crate::outputs::NoteWatch;
-use crate::runtimes::FaultyRuntime;
-use crate::servers::{ask_alone, serve_loopback};
-use crate::stories::play_in;
+use mw_stories::clients::{Ports, come_and_go, port_of_server};
+use mw_stories::folders::{new_folder, remove_folder};
+use mw_stories::outputs::NoteWatch;
+use mw_stories::runtimes::FaultyRuntime;
+use mw_stories::servers::{ask_alone, serve_loopback};
+use mw_stories::stories::play_in;
 use std::net::{Net, TcpListener, TcpStream};
 use std::sync::atomic::AtomicU16;
 use std::test::Fail;

@@ -1,7 +1,7 @@
 //! Makes folders for the tests, and runs the programs in them.
 //!
-//! Used by: `servers`, `stories`, `tests` and all of its modules. It may change freely as long as this crate checks
-//! and its tests pass.
+//! Used by: `servers`, `stories`, mw_examples, mw_fault_examples. It may change freely as long as these check and their
+//! tests pass.
 use mw_init::init;
 use mw_programs::{SeesPaths, serve};
 use std::alloc::{AllocError, Global};

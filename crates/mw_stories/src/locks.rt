@@ -1,6 +1,6 @@
 //! Looks whether a file is locked while a program writes its output.
 //!
-//! Used by: `tests/serving`. It may change freely as long as this crate checks and its tests pass.
+//! Used by: `tests/serving` of mw_examples. It may change freely as long as that checks and its tests pass.
 use std::fs::{File, TryLockError};
 use std::io::{self, Write};
 use std::rt::Files;
