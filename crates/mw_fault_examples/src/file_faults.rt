@@ -105,8 +105,8 @@ fn files_that_fail_while_served(rt: HostRuntime) -> Result<(), Fail> {
     let mut err = Vec::new(rt.alloc());
     let options = "--listen 127.0.0.1:0 --workers 1 --connections 3 --verbose";
     let (heard, status) = thread::join(
-        &rt,
-        || call_once_ready(&rt, &ports),
+        &faulty,
+        || call_once_ready(&faulty, &ports),
         || serve_loopback(&faulty, folder.as_str(), options, &ports, &mut err),
     );
     assert!(rt; heard?, "a client heard something else");

@@ -18,7 +18,7 @@ const ONE_TENANT: &str = "\
 mwinit DIR/t.mw 2 1
 write tenants t 2 1 DIR/t.mw;";
 
-/// The note, with the address of [`crate::runtimes::NO_ROOM`].
+/// The note, with the address of [`mw_stories::runtimes::NO_ROOM`].
 const NO_ROOM: &str =
     "mwserve: no room for connections\n127.0.0.2:0: Operation not supported (os error 95)\n";
 
@@ -61,8 +61,8 @@ fn no_room_for_the_administrator(rt: HostRuntime) -> Result<(), Fail> {
     let faulty = FaultyRuntime::new(&rt);
     let options = "--listen 127.0.0.1:0 --admin 127.0.0.2:0 --workers 1 --connections 1 --verbose";
     let (heard, status) = thread::join(
-        &rt,
-        || call_once_noted(&rt, &ports, &noted),
+        &faulty,
+        || call_once_noted(&faulty, &ports, &noted),
         || serve_loopback(&faulty, folder.as_str(), options, &ports, &mut err),
     );
     assert!(rt;
