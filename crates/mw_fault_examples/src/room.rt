@@ -1,17 +1,22 @@
 //! Tests the note that there is no room for connections, at the clients' address and at the administrator's.
 //!
 //! Nothing else uses it: it may change with what it tests.
+use mw_programs::SeesPaths;
 use mw_stories::clients::{Ports, come_and_go, port_of_server};
 use mw_stories::folders::{new_folder, remove_folder};
 use mw_stories::outputs::NoteWatch;
 use mw_stories::runtimes::FaultyRuntime;
 use mw_stories::servers::{ask_alone, serve_loopback};
 use mw_stories::stories::play_in;
+use std::fs::File;
 use std::net::{Net, TcpListener, TcpStream};
+use std::rt::Files;
+use std::sync::Wait;
 use std::sync::atomic::AtomicU16;
 use std::test::Fail;
+use std::thread::Threads;
 use std::time::Clock;
-use std::{io, str, thread};
+use std::{io, mem, str, thread};
 
 /// A tenant with its file.
 const ONE_TENANT: &str = "\
@@ -51,25 +56,50 @@ fn call_once_noted<R: Net<Listener = TcpListener, Stream = TcpStream> + Clock>(
     Ok(was_noted.is_ok() && heard?)
 }
 
+/// Serves the tenants of a folder over loopback, with these options, and counts its notes in `noted`. Gives the exit
+/// status and the notes.
+fn serve_noted<R>(
+    rt: &R,
+    folder: &str,
+    options: &str,
+    ports: &Ports,
+    noted: &AtomicU16,
+) -> io::Result<(u8, Vec<u8>)>
+where
+    R: Files<File = File>
+        + AllocGlobal
+        + Net<Listener = TcpListener, Stream = TcpStream>
+        + Threads
+        + Wait
+        + Clock
+        + Sync
+        + SeesPaths,
+{
+    let mut err = NoteWatch::new(rt.alloc(), noted);
+    let status = serve_loopback(rt, folder, options, ports, &mut err)?;
+    let notes = mem::replace(&mut err.text, Vec::new(rt.alloc()));
+    Ok((status, notes))
+}
+
 /// The system gives no connection at the administrator's address. The note comes once, and clients are served.
 #[test]
 fn no_room_for_the_administrator(rt: HostRuntime) -> Result<(), Fail> {
     let folder = new_folder(&rt, "no-room-for-the-administrator")?;
     play_in(&rt, folder.as_str(), ONE_TENANT)?;
     let (ports, noted) = (Ports::new(), AtomicU16::new(0));
-    let mut err = NoteWatch::new(rt.alloc(), &noted);
     let faulty = FaultyRuntime::new(&rt);
     let options = "--listen 127.0.0.1:0 --admin 127.0.0.2:0 --workers 1 --connections 1 --verbose";
-    let (heard, status) = thread::join(
+    let (heard, served) = thread::join(
         &faulty,
         || call_once_noted(&faulty, &ports, &noted),
-        || serve_loopback(&faulty, folder.as_str(), options, &ports, &mut err),
+        || serve_noted(&faulty, folder.as_str(), options, &ports, &noted),
     );
     assert!(rt;
         heard?,
         "nothing was noted, or the client heard something else"
     );
-    assert_eq!(rt; status?, 0);
-    assert_eq!(rt; str::from_utf8(&err.text), Ok(NO_ROOM));
+    let (status, notes) = served?;
+    assert_eq!(rt; status, 0);
+    assert_eq!(rt; str::from_utf8(&notes), Ok(NO_ROOM));
     remove_folder(&rt, folder.as_str())
 }
