@@ -25,7 +25,7 @@ write tenants t 2 1 DIR/t.mw;";
 
 /// The note, with the address of [`mw_stories::runtimes::NO_ROOM`].
 const NO_ROOM: &str =
-    "mwserve: no room for connections\n127.0.0.2:0: Operation not supported (os error 95)\n";
+    "mwserve: no room for connections\n127.0.0.2:0: Resource temporarily unavailable (os error 11)\n";
 
 /// The system gives no connection at the clients' address, three times. The note comes once.
 #[test]

@@ -61,7 +61,7 @@ impl<'a> NoteWatch<'a> {
 impl Write for NoteWatch<'_> {
     fn write(&mut self, buf: &[u8]) -> io::Result<usize> {
         self.text.write_all(buf)?;
-        // Such a note ends as `(os error 95)` does.
+        // Such a note ends as `(os error 11)` does.
         if self.text.ends_with(b")\n") {
             self.noted.store(1, Ordering::SeqCst);
         }

@@ -5,20 +5,20 @@ use std::alloc::{Allocator, Global};
 use std::fs::{File, Metadata, OpenOptions, Permissions};
 use std::io;
 use std::net::{Net, SocketAddr, TcpListener, TcpStream, UdpSocket};
-use std::os::fd::{BorrowedFd, OwnedFd};
+use std::os::fd::BorrowedFd;
 use std::os::unix::net;
 use std::rt::Files;
 use std::sync::Wait;
 use std::thread::Threads;
 use std::time::{Clock, Duration};
 
-/// The address at which a listener gives no connection.
+/// The address at which a listener waits for nobody.
 pub const NO_ROOM: [u8; 4] = [127, 0, 0, 2];
 
 /// A runtime that does what another one does, but for this:
 /// - It opens a file whose path ends with `.read-only` for reading alone, so that each write fails.
 /// - It opens a file whose path ends with `.write-only` for writing alone, so that each read fails.
-/// - At [`NO_ROOM`] it gives a listener of which each accept fails. Nobody can connect there.
+/// - At [`NO_ROOM`] it gives a listener that waits for nobody: an accept fails if no client is there.
 #[derive(Drop)]
 pub struct FaultyRuntime<'a, R> {
     rt: &'a R,
@@ -100,13 +100,11 @@ impl<R: Net<Listener = TcpListener, Stream = TcpStream>> Net for FaultyRuntime<'
     type Listener = TcpListener;
 
     fn bind(&self, addr: SocketAddr) -> io::Result<TcpListener> {
-        let no_room = SocketAddr::from((NO_ROOM, addr.port()));
-        if addr == no_room {
-            // The system gives no connection by such a socket.
-            let socket = self.rt.bind_udp(addr)?;
-            return Ok(TcpListener::from(OwnedFd::from(socket)));
+        let listener = self.rt.bind(addr)?;
+        if addr == SocketAddr::from((NO_ROOM, addr.port())) {
+            listener.set_nonblocking(true)?;
         }
-        self.rt.bind(addr)
+        Ok(listener)
     }
 
     fn connect(&self, addr: SocketAddr) -> io::Result<TcpStream> {
