@@ -1,10 +1,12 @@
--- Defines what the command line of `mwserve` may ask for: connections, silence, file modes, pool and workers.
+-- Defines what the command line of `mwserve` may ask for: connections, clients, limits of time, file modes, pool and workers.
 -- Used by: mw_programs, the contracts of command_line.rt. A change here changes what mwserve promises of its options: its help
 -- and docs/OPERATING change with it.
-use Rattle.std.specs.Prelude.{ℕ, ◌≤◌, IfSome}
+use Rattle.std.specs.Prelude.{ℕ, ◌≤◌, ◌<◌, IfSome}
 use Rattle.mw_words.specs.declared.limits.TheConstants.{MAX_POOL, MAX_WORKERS, MAX_CONNECTIONS}
-use Rattle.mw_config.specs.declared.command_line.TheConstants.{MAX_IDLE, MAX_SOCKET_MODE}
+use Rattle.mw_config.specs.declared.command_line.TheConstants.{MAX_CLIENTS, MAX_IDLE, MAX_SOCKET_MODE}
 use Rattle.mw_config.specs.declared.command_line.Args.{Args}
+use Rattle.mw_config.specs.declared.command_line.Crowd.{Crowd}
+use Rattle.mw_config.specs.declared.command_line.Listening.{Listening}
 use Rattle.mw_config.specs.declared.command_line.Mode.{Mode}
 use Rattle.mw_config.specs.declared.command_line.Mode.TheVariants.{Listen, Script}
 
@@ -12,14 +14,33 @@ use Rattle.mw_config.specs.declared.command_line.Mode.TheVariants.{Listen, Scrip
 abbrev pub IsUpTo : ℕ → ℕ → Type 0
 IsUpTo most number = (1 ≤ number) × (number ≤ most)
 
--- The number of connections, if given, is 1 to MAX_CONNECTIONS, and the limit of silence, if given, is 1 to MAX_IDLE
--- seconds. A local socket's file mode is at most MAX_SOCKET_MODE.
+-- There are 1 to MAX_CLIENTS clients. Of so many workers at least one only reads, and at least one doesn't.
+pub record IsPermittedCrowd (workers : ℕ) (crowd : Crowd) : Type 0 where
+  pub clients : IsUpTo MAX_CLIENTS crowd.clients
+  pub some_read : 1 ≤ crowd.readers
+  pub some_change : crowd.readers < workers
+
+-- The number of connections, if given, is 1 to MAX_CONNECTIONS. The limits of waiting, of silence and of a line's time, where
+-- given, are 1 to MAX_IDLE seconds. A local socket's file mode is at most MAX_SOCKET_MODE.
+pub record IsPermittedListening (listening : Listening) : Type 0 where
+  pub connections : IfSome listening.connections (IsUpTo MAX_CONNECTIONS)
+  pub wait : IfSome listening.wait (IsUpTo MAX_IDLE)
+  pub idle : IfSome listening.idle (IsUpTo MAX_IDLE)
+  pub line_time : IfSome listening.line_time (IsUpTo MAX_IDLE)
+  pub socket_mode : listening.socket_mode ≤ MAX_SOCKET_MODE
+
 abbrev pub IsPermittedMode : Mode → Type 0
-IsPermittedMode (Listen listening) = IfSome listening.connections (λ number. IsUpTo MAX_CONNECTIONS number) × IfSome listening.idle (λ number. IsUpTo MAX_IDLE number) × (listening.socket_mode ≤ MAX_SOCKET_MODE)
+IsPermittedMode (Listen listening) = IsPermittedListening listening
 IsPermittedMode (Script path) = Unit {0}
+
+-- A crowd of clients, if there is one, is permitted for so many workers.
+abbrev pub SuitsWorkers : ℕ → Mode → Type 0
+SuitsWorkers workers (Listen listening) = IfSome listening.crowd (IsPermittedCrowd workers)
+SuitsWorkers workers (Script path) = Unit {0}
 
 -- The pool has 1 to MAX_POOL slots, there are 1 to MAX_WORKERS workers, and the mode is permitted.
 pub record ArePermittedArgs (args : Args) : Type 0 where
   pub pool : IsUpTo MAX_POOL args.pool
   pub workers : IsUpTo MAX_WORKERS args.workers
   pub mode : IsPermittedMode args.mode
+  pub crowd : SuitsWorkers args.workers args.mode

@@ -2,8 +2,8 @@
 //!
 //! mw_programs calls [`read_args`] for `mwserve`. A new option needs a field here, its use in mw_programs, a clause
 //! in `specs/CommandLine` if it has limits, and its row in docs/OPERATING.
-ghost use Rattle.std.specs.Prelude.{◌≤◌, IfOk, IfSome};
-ghost use Rattle.mw_config.specs.CommandLine.{ArePermittedArgs, IsPermittedMode, IsUpTo};
+ghost use Rattle.std.specs.Prelude.{ℕ, ◌≤◌, IfOk, IfSome};
+ghost use Rattle.mw_config.specs.CommandLine.{ArePermittedArgs, IsPermittedCrowd, IsPermittedMode, IsUpTo, SuitsWorkers};
 
 use clap::builder::ValueParser;
 use clap::error::ErrorKind;
@@ -20,7 +20,7 @@ pub struct Args {
     pub tenants: String,
     /// How many slots all tenants share, 1 to [`MAX_POOL`].
     pub pool: u16,
-    /// How many workers there are, 1 to [`MAX_WORKERS`].
+    /// How many workers there are, 1 to [`MAX_WORKERS`]. So many requests are worked on at once.
     pub workers: u8,
     /// If set, nothing is served if a tenant's file doesn't open.
     pub strict: bool,
@@ -50,15 +50,40 @@ pub struct Listening {
     /// The server ends after so many connections to the first address, 1 to [`MAX_CONNECTIONS`]. None: it
     /// serves on.
     pub connections: Option<u32>,
+    /// How many clients are served at once, each by a session that borrows a worker's pass for each request.
+    /// None: one for each worker, who keeps its pass.
+    pub crowd: Option<Crowd>,
+    /// A connection is closed if no session becomes free for it in so many seconds, 1 to [`MAX_IDLE`]. None: it
+    /// waits for ever.
+    pub wait: Option<u32>,
     /// A session ends after so many seconds in which its client sends nothing, or takes nothing of a reply,
     /// 1 to [`MAX_IDLE`]. None: it waits for ever.
     pub idle: Option<u32>,
+    /// A session ends if a line takes its client more than so many seconds from the first byte to the last, or
+    /// if a reply does, 1 to [`MAX_IDLE`]. None: they may take for ever.
+    pub line_time: Option<u32>,
     /// The file mode of each local socket, at most [`MAX_SOCKET_MODE`]. Who may write to the socket's file
     /// may connect.
     pub socket_mode: u32,
 }
 
-/// The largest limit of silence, in seconds: a day.
+/// Clients that share the passes of fewer workers.
+#[derive(Clone, Copy, Debug, Drop)]
+pub struct Crowd {
+    /// How many are served at once, 1 to [`MAX_CLIENTS`].
+    pub clients: u16,
+    /// How many of the workers only read, so that no read waits for a change: at least one, and fewer than there
+    /// are workers.
+    pub readers: u8,
+}
+
+/// The largest number of clients that are served at once.
+pub const MAX_CLIENTS: u16 = 4096;
+
+/// How many workers there are for each one that only reads, if the command line doesn't say how many do.
+const WORKERS_A_READER: u8 = 4;
+
+/// The largest limit of silence, of a line's time and of waiting, in seconds: a day.
 pub const MAX_IDLE: u32 = 86_400;
 
 /// The file mode of local sockets if none is given: only the server's own user may connect.
@@ -74,8 +99,8 @@ pub enum ArgFault {
     /// version.
     #[error("{0}")]
     Refused(clap::Error),
-    /// It hasn't exactly one of `--listen` and `--script`; or it has `--admin`, `--connections`, `--idle`
-    /// or `--mode` with `--script`; or its `--mode` is no file mode.
+    /// It hasn't exactly one of `--listen` and `--script`; or it has an option of `--listen` with `--script`; or
+    /// its `--mode` is no file mode; or it has `--readers` without `--clients`; or no worker is left for changes.
     #[error("mwserve: refused 1 command")]
     Mode,
     /// Memory was refused.
@@ -101,18 +126,20 @@ impl From<clap::Error> for ArgFault {
 /// Reads the command line `args`. Its first argument is the program's own name.
 ///
 /// The form is `mwserve --tenants FILE [--pool P] [--workers N] [--strict] [--verbose]` with either
-/// `--listen ADDR [--admin ADDR] [--connections C] [--idle SECONDS] [--mode MODE]` or `--script FILE`.
+/// `--listen ADDR` or `--script FILE`. Behind `--listen` there may be `[--admin ADDR] [--connections C]
+/// [--clients M [--readers R]] [--wait SECONDS] [--idle SECONDS] [--line-time SECONDS] [--mode MODE]`.
 /// - P is 1 to [`MAX_POOL`], and [`MAX_POOL`] if it isn't given.
 /// - N is 1 to [`MAX_WORKERS`], and 4 if it isn't given.
-/// - C is 1 to [`MAX_CONNECTIONS`], and SECONDS 1 to [`MAX_IDLE`].
+/// - C is 1 to [`MAX_CONNECTIONS`], and SECONDS 1 to [`MAX_IDLE`]. `--line-time` is `--idle` if it isn't given.
+/// - M is 1 to [`MAX_CLIENTS`]. R is at least 1 and below N; if it isn't given, a quarter of N, and at least 1.
 /// - MODE has octal digits, is at most [`MAX_SOCKET_MODE`], and 0600 if it isn't given.
 ///
 /// # Errors
 ///
 /// [`ArgFault::Refused`] if clap refuses them, or they ask for the help or the version. [`ArgFault::Mode`]
-/// if they haven't exactly one of `--listen` and `--script`, have `--admin`, `--connections`, `--idle` or
-/// `--mode` with `--script`, or have a `--mode` that is no file mode. [`ArgFault::Memory`] if memory was
-/// refused. `args` is only read.
+/// if they haven't exactly one of `--listen` and `--script`, have an option of `--listen` with `--script`, have a
+/// `--mode` that is no file mode, have `--readers` without `--clients`, or would leave no worker for changes.
+/// [`ArgFault::Memory`] if memory was refused. `args` is only read.
 pub fn read_args(alloc: Global, args: &[String]) -> Result<Args, ArgFault>
     ensures permitted { IfOk result (λ args. ArePermittedArgs args) }
 {
@@ -137,15 +164,17 @@ fn args_of(alloc: Global, matches: &ArgMatches<'_>) -> Result<Args, ArgFault>
         workers: workers as u8,
         strict: matches.get_flag("strict"),
         verbose: matches.get_flag("verbose"),
-        mode: mode_of(alloc, matches)?,
+        mode: mode_of(alloc, matches, workers as u8)?,
     })
 }
 
-fn mode_of(alloc: Global, matches: &ArgMatches<'_>) -> Result<Mode, ArgFault>
-    ensures { IfOk result (λ mode. IsPermittedMode mode) }
+fn mode_of(alloc: Global, matches: &ArgMatches<'_>, workers: u8) -> Result<Mode, ArgFault>
+    requires { 1 ≤ workers }
+    ensures permitted { IfOk result (λ mode. IsPermittedMode mode) }
+    ensures suits { IfOk result (λ mode. SuitsWorkers workers mode) }
 {
     match (matches.get_str("listen"), matches.get_str("script")) {
-        (Some(address), None) => listen_mode(alloc, matches, address),
+        (Some(address), None) => listen_mode(alloc, matches, address, workers),
         (None, Some(script)) if !tell_of_connections(matches) => {
             Ok(Mode::Script(String::from_str(alloc, script)?))
         }
@@ -156,23 +185,59 @@ fn mode_of(alloc: Global, matches: &ArgMatches<'_>) -> Result<Mode, ArgFault>
 /// Tells whether there is an option for connections only, other than `--listen`.
 fn tell_of_connections(matches: &ArgMatches<'_>) -> bool {
     matches.get_str("admin").is_some()
-        || matches.get_one::<u32>("connections").is_some()
-        || matches.get_one::<u32>("idle").is_some()
         || matches.get_str("mode").is_some()
+        || OF_CONNECTIONS
+            .iter()
+            .any(|name| matches.get_one::<u32>(name).is_some())
 }
 
 /// Gives the mode for connections to this address, with what the other options say of them.
-fn listen_mode(alloc: Global, matches: &ArgMatches<'_>, address: &str) -> Result<Mode, ArgFault>
-    ensures { IfOk result (λ mode. IsPermittedMode mode) }
+fn listen_mode(
+    alloc: Global,
+    matches: &ArgMatches<'_>,
+    address: &str,
+    workers: u8,
+) -> Result<Mode, ArgFault>
+    requires { 1 ≤ workers }
+    ensures permitted { IfOk result (λ mode. IsPermittedMode mode) }
+    ensures suits { IfOk result (λ mode. SuitsWorkers workers mode) }
 {
     let socket_mode = socket_mode_of(matches.get_str("mode"))?;
+    let crowd = crowd_of(matches, workers)?;
+    let idle = number_of(matches, "idle", MAX_IDLE);
     let address = String::from_str(alloc, address)?;
     Ok(Mode::Listen(Listening {
         address,
         admin: copy_of(alloc, matches.get_str("admin"))?,
         connections: number_of(matches, "connections", MAX_CONNECTIONS),
-        idle: number_of(matches, "idle", MAX_IDLE),
+        crowd,
+        wait: number_of(matches, "wait", MAX_IDLE),
+        idle,
+        line_time: number_of(matches, "line-time", MAX_IDLE).or(idle),
         socket_mode,
+    }))
+}
+
+/// Gives how many clients share the passes of so many workers, if the command line says it.
+fn crowd_of(matches: &ArgMatches<'_>, workers: u8) -> Result<Option<Crowd>, ArgFault>
+    ensures { IfOk result (λ crowd. IfSome crowd (IsPermittedCrowd workers)) }
+{
+    let readers = number_of(matches, "readers", u32::from(MAX_WORKERS));
+    let Some(clients) = number_of(matches, "clients", u32::from(MAX_CLIENTS)) else {
+        return if readers.is_none() {
+            Ok(None)
+        } else {
+            Err(ArgFault::Mode)
+        };
+    };
+    let usual = u32::from((workers / WORKERS_A_READER).max(1));
+    let readers = readers.unwrap_or(usual);
+    if readers >= u32::from(workers) {
+        return Err(ArgFault::Mode);
+    }
+    Ok(Some(Crowd {
+        clients: clients as u16,
+        readers: readers as u8,
     }))
 }
 
@@ -233,8 +298,18 @@ enum Given {
     Flag,
 }
 
+/// The numbers that `--listen` may have behind it.
+const OF_CONNECTIONS: [&str; 6] = [
+    "connections",
+    "clients",
+    "readers",
+    "wait",
+    "idle",
+    "line-time",
+];
+
 /// The options, in the order of the help.
-const CHOICES: [Choice; 11] = [
+const CHOICES: [Choice; 15] = [
     Choice {
         name: "tenants",
         given: Given::Needed("FILE"),
@@ -248,7 +323,7 @@ const CHOICES: [Choice; 11] = [
     Choice {
         name: "workers",
         given: Given::NumberOr("N", MAX_WORKERS as u32, "4"),
-        help: "how many clients are served at once, 1 to 64",
+        help: "how many requests are worked on at once, 1 to 64; without --clients each client has a worker",
     },
     Choice {
         name: "listen",
@@ -271,9 +346,29 @@ const CHOICES: [Choice; 11] = [
         help: "after how many connections to end, 1 to 1000000; without it, never",
     },
     Choice {
+        name: "clients",
+        given: Given::Number("M", MAX_CLIENTS as u32),
+        help: "how many clients are served at once, 1 to 4096, sharing the workers; without it, as many as there are workers",
+    },
+    Choice {
+        name: "readers",
+        given: Given::Number("R", MAX_WORKERS as u32),
+        help: "how many of the workers only read, with --clients; without it, a quarter of them",
+    },
+    Choice {
+        name: "wait",
+        given: Given::Number("SECONDS", MAX_IDLE),
+        help: "after how many seconds to close a connection for which no session is free, 1 to 86400; without it, never",
+    },
+    Choice {
         name: "idle",
         given: Given::Number("SECONDS", MAX_IDLE),
         help: "after how many seconds of silence to end a session, 1 to 86400; without it, never",
+    },
+    Choice {
+        name: "line-time",
+        given: Given::Number("SECONDS", MAX_IDLE),
+        help: "how many seconds a line or a reply may take from its first byte to its last, 1 to 86400; without it, as --idle",
     },
     Choice {
         name: "mode",

@@ -11,7 +11,9 @@ mod lines;
 mod refusals;
 mod tenants;
 
-pub use command_line::{ArgFault, Args, Listening, MAX_IDLE, MAX_SOCKET_MODE, Mode, read_args};
+pub use command_line::{
+    ArgFault, Args, Crowd, Listening, MAX_CLIENTS, MAX_IDLE, MAX_SOCKET_MODE, Mode, read_args,
+};
 pub use forms::{FormRule, broken_rule};
 pub use laws::one_answer;
 pub use lines::TenantLine;

@@ -25,5 +25,5 @@ mod read_rounds;
 
 pub use calls::{Advance, Core};
 pub use laws::{books_follow_file_tokens, new_books_agree};
-pub use mw_table::{FileOpening, FilePass, Pass, Shared};
+pub use mw_table::{FileOpening, FilePass, Note, Pass, Shared};
 pub use read_rounds::WhyAgain;

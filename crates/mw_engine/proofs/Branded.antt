@@ -30,7 +30,7 @@ module _ (words : TenantWords) (identity : Identity) (same : identity_on words.c
   pub same_places : places_kept words ≡ map places_told identity.openings
   same_places = words.places_are ∙ ap (map places_told) same_openings
 
-  same_table : words.core.shared.table.shared.table_id ≡ identity.table
+  pub same_table : words.core.shared.table.shared.table_id ≡ identity.table
   same_table = ap (λ (one : Identity). one.table) same
 
   -- they agree on the number of slots

@@ -15,3 +15,4 @@ pub mod Requests
 pub mod Parts
 pub mod Steps
 pub mod TenantWords
+pub mod Notes

@@ -3,9 +3,9 @@
 //! [`EngineParts`] are made of the tenants' lines and files, with a pass for each worker.
 //! [`EngineParts::into_engine`] makes them an [`Engine`]. Each worker serves one request at a time with its pass,
 //! by [`Engine::serve`]. A lock is taken only for a call on a tenant's file, which [`Engine::file`] makes.
-//! Everything else takes none: one step of a request, a read, the figures, the meeting of two passes. The tenants
-//! and their numbers of words stay the same for the engine's whole life. So a job that was judged by what
-//! [`Engine::find`] told is well formed whenever it is asked for. [`Engine::into_disks`] ends the engine.
+//! Everything else takes none: one step of a request, a read, the figures, the meeting of two passes, a note of what
+//! a pass has seen. The tenants and their numbers of words stay the same for the engine's whole life. So a job that was
+//! judged by what [`Engine::find`] told is well formed whenever it is asked for. [`Engine::into_disks`] ends the engine.
 //!
 //! Where to read:
 //! - `specs/Brand`: an engine's identity, which stays for its whole life.
@@ -15,7 +15,7 @@
 //! - `specs/History`: what is known of a request that was answered. `specs/Replies`: which replies a job can have.
 //! - `specs/DisksAtEnd`: which words are on the disks that are given at the end.
 //!
-//! Used by: mw_programs, mw_engine_tests.
+//! Used by: mw_service, mw_programs, mw_engine_tests.
 #![tactic(auto)]
 
 mod brand;
@@ -28,6 +28,7 @@ mod hold;
 mod listed;
 mod meet;
 mod new_parts;
+mod notes;
 mod parts;
 mod reads;
 mod serving;
@@ -41,5 +42,5 @@ pub use end::NoDisks;
 pub use engine::Engine;
 pub use hold::{Hold, NoHold, Point};
 pub use mw_actor::Actor;
-pub use mw_core::{Advance, Pass, WhyAgain};
+pub use mw_core::{Advance, Note, Pass, WhyAgain};
 pub use parts::EngineParts;

@@ -1,4 +1,3 @@
 pub mod Descriptors
 pub mod Replaced
-pub mod Served
 pub mod WorkerCount

@@ -1,25 +1,19 @@
-//! Listens at the addresses of a server, and serves the clients that come, each by a free worker.
+//! Listens at the addresses of a server, and serves the clients that come, each by a service that is free.
 //!
-//! Used by: `serving`, if the command line says `--listen`. docs/OPERATING tells what it prints and its notes: change
+//! Used by: `staff`, which makes the services. docs/OPERATING tells what it prints and its notes: change
 //! both together.
-ghost use Rattle.std.specs.Prelude.{◌≡◌, ◌<◌, All, IfOk, vec_len};
-ghost use Rattle.mw_engine.specs.Passes.{IsNew};
+ghost use Rattle.std.specs.Prelude.{◌<◌, vec_len};
 
 use crate::replaced::{FileLook, PERIOD, Stop, look_on};
 use crate::serving::ServeFault;
-use crate::tenants::FaultWatch;
-use crate::worker::Worker;
 use log::{Log, warn};
 use mw_config::Listening;
-use mw_disk::{Disk, FileDisk};
-use mw_engine::{Engine, EngineBrand, NoHold, Pass};
-use mw_opening::{TrackedFile, WatchedFile, note_cause};
+use mw_opening::note_cause;
 use mw_session::Service;
 use mw_workers::{
-    ClientListener, Closer, Desk, Patient, RoomWatch, ServeEnd, listen_at, port_of, serve_all,
-    serve_beside,
+    ClientListener, Closer, Desk, Patient, RoomWatch, ServeEnd, TimeLimits, listen_at, port_of,
+    serve_all, serve_beside,
 };
-use std::alloc::AllocError;
 use std::fmt::Display;
 use std::fs::File;
 use std::io;
@@ -53,7 +47,11 @@ fn listen<'r, 'a, R>(
 where
     R: Files<File = File> + Net<Listener = TcpListener, Stream = TcpStream>,
 {
-    match listen_at(rt, address, listening.socket_mode, listening.idle) {
+    let limits = TimeLimits {
+        silence: listening.idle,
+        line: listening.line_time,
+    };
+    match listen_at(rt, address, listening.socket_mode, limits) {
         Ok(clients) => Ok(clients),
         Err(error) => Err(ServeFault::CannotListen(address, error)),
     }
@@ -101,39 +99,18 @@ fn tell_line<O: Write, P: Display>(out: &mut O, word: &str, place: &P) -> io::Re
     out.flush()
 }
 
-/// Makes a worker for each pass.
-fn workers_for<'a, J: EngineBrand, D: Disk, H, R: AllocGlobal, T>(
-    rt: &'a R,
-    engine: &'a Engine<J, D, H>,
-    passes: Vec<Pass>,
-    watch: &'a T,
-) -> Result<Vec<Worker<'a, J, D, H, R, T>>, AllocError>
-    requires new { All (IsNew J.identity) passes.items }
-    ensures { IfOk result (λ workers. vec_len workers ≡ vec_len passes) }
-{
-    let mut workers = Vec::with_capacity(rt.alloc(), passes.len())?;
-    for pass in passes {
-        if workers.push(Worker::new(engine, pass, rt, watch)).is_err() {
-            return Err(AllocError);
-        }
-    }
-    Ok(workers)
-}
-
-/// Writes to `out` where it listens, and serves clients by a worker for each pass. If there is an address
-/// for the administrator, the last of these workers serves only the clients of that address. Meanwhile a
-/// thread looks at the tenants' files.
-pub(crate) fn serve_clients<'e, 'a, J, R, O: Write, L: Log + Sync, T: FaultWatch + FileLook + Sync>(
+/// Writes to `out` where it listens, and serves clients, each by one of these services. If there is an address for the
+/// administrator, the last of them serves only the clients of that address. Meanwhile a thread looks at the tenants'
+/// files.
+pub(crate) fn serve_clients<'e, 'a, S: Service + Send + Drop, R, O: Write, L: Log + Sync, T: FileLook + Sync>(
     rt: &'e R,
-    engine: &'e Engine<J, FileDisk<WatchedFile<'_, TrackedFile<'_, File>>>, NoHold>,
-    passes: Vec<Pass>,
+    services: Vec<S>,
     listening: &'a Listening,
     out: &mut O,
     notes: &L,
     watch: &'e T,
 ) -> Result<(), ServeFault<'a>>
 where
-    J: EngineBrand + Send + Sync,
     R: Files<File = File>
         + AllocGlobal
         + Net<Listener = TcpListener, Stream = TcpStream>
@@ -141,17 +118,15 @@ where
         + Wait
         + Clock
         + Sync,
-    requires new { All (IsNew J.identity) passes.items }
-    requires some { 0 < vec_len passes }
+    requires { 0 < vec_len services }
 {
-    let workers = workers_for(rt, engine, passes, watch)?;
     let stop = Stop::new();
     let stop = &stop;
     thread::scope(
         thread::scope_env(),
         rt,
         |scope| -> Result<(), ServeFault>
-            requires { 0 < vec_len workers }
+            requires { 0 < vec_len services }
         {
             if scope
                 .spawn(move || look_on(rt, watch, PERIOD, stop))
@@ -159,7 +134,7 @@ where
             {
                 return Err(ServeFault::Memory);
             }
-            let ended = serve_workers(rt, workers, listening, out, notes);
+            let ended = serve_services(rt, services, listening, out, notes);
             stop.ask(rt);
             ended
         },
@@ -167,9 +142,9 @@ where
 }
 
 /// Serves the clients of the one address or of both.
-fn serve_workers<'a, S: Service + Send + Drop, R, O: Write, L: Log + Sync>(
+fn serve_services<'a, S: Service + Send + Drop, R, O: Write, L: Log + Sync>(
     rt: &R,
-    workers: Vec<S>,
+    services: Vec<S>,
     listening: &'a Listening,
     out: &mut O,
     notes: &L,
@@ -182,18 +157,18 @@ where
         + Wait
         + Clock
         + Sync,
-    requires { 0 < vec_len workers }
+    requires { 0 < vec_len services }
 {
     match &listening.admin {
-        Some(admin) => serve_both(rt, workers, listening, admin.as_str(), out, notes),
-        None => serve_one(rt, workers, listening, out, notes),
+        Some(admin) => serve_both(rt, services, listening, admin.as_str(), out, notes),
+        None => serve_one(rt, services, listening, out, notes),
     }
 }
 
 /// Listens at the one address, writes to `out` where, and serves the clients that come.
 fn serve_one<'a, S: Service + Send + Drop, R, O: Write, L: Log + Sync>(
     rt: &R,
-    workers: Vec<S>,
+    services: Vec<S>,
     listening: &'a Listening,
     out: &mut O,
     notes: &L,
@@ -206,13 +181,20 @@ where
         + Wait
         + Clock
         + Sync,
-    requires { 0 < vec_len workers }
+    requires { 0 < vec_len services }
 {
     let clients = open_listener(rt, listening, out)?;
     let address = listening.address.as_str();
     let room = RoomNotes { notes, address };
     let clients = Patient::new(clients, rt, &room);
-    let (end, _) = serve_all(rt, rt.alloc(), clients, workers, listening.connections);
+    let (end, _) = serve_all(
+        rt,
+        rt.alloc(),
+        clients,
+        services,
+        listening.connections,
+        listening.wait,
+    );
     served(end)
 }
 
@@ -231,11 +213,11 @@ where
     Ok(clients)
 }
 
-/// Listens at both addresses, writes to `out` where, and serves the clients that come. The last worker
-/// serves those of the administrator's address, and the others serve the rest.
+/// Listens at both addresses, writes to `out` where, and serves the clients that come. The last service is for those of
+/// the administrator's address, and the others are for the rest.
 fn serve_both<'a, S: Service + Send + Drop, R, O: Write, L: Log + Sync>(
     rt: &R,
-    workers: Vec<S>,
+    services: Vec<S>,
     listening: &'a Listening,
     admin: &'a str,
     out: &mut O,
@@ -250,7 +232,7 @@ where
         + Clock
         + Sync,
 {
-    let Some(staff) = Staff::new(workers) else {
+    let Some(staff) = Staff::new(services) else {
         return Err(ServeFault::Memory);
     };
     let doors = open_listeners(rt, listening, admin, out)?;
@@ -262,26 +244,26 @@ where
         notes,
         address: admin,
     };
-    served(serve_doors(rt, doors, staff, listening.connections, &room, &own_room))
+    served(serve_doors(rt, doors, staff, listening, &room, &own_room))
 }
 
-/// The workers for clients, and the one worker for the administrator.
+/// The services for clients, and the one for the administrator.
 #[derive(Drop)]
 struct Staff<S> {
-    workers: Vec<S>,
+    services: Vec<S>,
     clerk: S,
-    ghost some: { 0 < vec_len workers },
+    ghost some: { 0 < vec_len services },
 }
 
 impl<S: Drop> Staff<S> {
-    /// Takes the last of these workers for the administrator. Gives None if no other worker is left.
-    fn new(workers: Vec<S>) -> Option<Self> {
-        let mut workers = workers;
-        let clerk = workers.pop()?;
-        if workers.is_empty() {
+    /// Takes the last of these services for the administrator. Gives None if no other one is left.
+    fn new(services: Vec<S>) -> Option<Self> {
+        let mut services = services;
+        let clerk = services.pop()?;
+        if services.is_empty() {
             return None;
         }
-        Some(Staff { workers, clerk })
+        Some(Staff { services, clerk })
     }
 }
 
@@ -332,7 +314,7 @@ fn serve_doors<S: Service + Send + Drop, R, L: Log + Sync>(
     rt: &R,
     doors: Listeners<'_, R>,
     staff: Staff<S>,
-    connections: Option<u32>,
+    listening: &Listening,
     room: &RoomNotes<'_, '_, L>,
     own_room: &RoomNotes<'_, '_, L>,
 ) -> ServeEnd
@@ -352,7 +334,15 @@ where
         watch: own_room,
     };
     let clients = Patient::new(doors.clients, rt, room);
-    let (end, _) = serve_beside(rt, rt.alloc(), desk, clients, staff.workers, connections);
+    let (end, _) = serve_beside(
+        rt,
+        rt.alloc(),
+        desk,
+        clients,
+        staff.services,
+        listening.connections,
+        listening.wait,
+    );
     end
 }
 

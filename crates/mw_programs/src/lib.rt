@@ -6,10 +6,9 @@
 mod clients;
 mod descriptors;
 mod replaced;
-mod served;
 mod serving;
+mod staff;
 mod tenants;
-mod worker;
 
 pub use replaced::SeesPaths;
 pub use serving::serve;

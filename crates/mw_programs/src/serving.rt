@@ -10,11 +10,10 @@ ghost use Rattle.mw_engine.specs.Passes.{IsNew};
 ghost use Rattle.mw_engine.specs.Parts.{identity_of};
 ghost use Rattle.mw_programs.specs.WorkerCount.{worker_count};
 
-use crate::clients::serve_clients;
 use crate::descriptors::{has_descriptors, needed};
 use crate::replaced::{FileLook, SeesPaths};
-use crate::tenants::{FaultWatch, TenantNotes};
-use crate::worker::Worker;
+use crate::staff::serve_all_clients;
+use crate::tenants::TenantNotes;
 use log::{Log, warn};
 use mw_config::{ArgFault, Args, Mode, Refusal, TenantLine, read_args};
 use mw_disk::{Disk, FileDisk};
@@ -23,6 +22,7 @@ use mw_opening::{
     Cause, FileStates, LastErrors, Notes, Opened, ReadFault, TenantsFault, TrackedFile,
     WatchedFile, are_all_open, note_cause, open_files, open_plain, read_tenants_file,
 };
+use mw_service::{FaultWatch, Worker};
 use mw_session::Ended;
 use mw_words::MAX_WORKERS;
 use std::alloc::AllocError;
@@ -109,10 +109,11 @@ impl From<TenantsFault> for ServeFault<'_> {
 ///
 /// The form is `mwserve --tenants FILE [--pool P] [--workers N] [--strict] [--verbose]`, with one of these:
 /// - `--script FILE` runs one session from the script to `out`.
-/// - `--listen ADDR [--admin ADDR] [--connections C] [--idle SECONDS] [--mode MODE]` writes `ready PORT`,
-///   or `ready unix:PATH`, to `out`. Then N workers serve clients, until C connections are served. With
-///   `--admin`, one worker more serves the clients of that address, if N is below [`MAX_WORKERS`]; else one
-///   of the N does. `admin PORT`, or `admin unix:PATH`, is written before `ready`.
+/// - `--listen ADDR [--admin ADDR] [--connections C] [--clients M [--readers R]] [--wait SECONDS] [--idle SECONDS]
+///   [--line-time SECONDS] [--mode MODE]` writes `ready PORT`, or `ready unix:PATH`, to `out`. Then N workers serve
+///   clients, or M clients share the N workers' passes, until C connections are served. With `--admin`, one worker
+///   more is for the clients of that address, if N is below [`MAX_WORKERS`]; else one of the N is. `admin PORT`, or
+///   `admin unix:PATH`, is written before `ready`.
 ///
 /// Gives the exit status:
 /// - 0 if the session ended by `QUIT`, with the script, or at a line that was too long, or if all
@@ -302,7 +303,7 @@ where
     match mode {
         Mode::Script(path) => run_script(rt, &engine, passes, path.as_str(), out, watch),
         Mode::Listen(listening) => {
-            serve_clients(rt, &engine, passes, listening, out, notes, watch)
+            serve_all_clients(rt, &engine, passes, listening, out, notes, watch)
         }
     }
 }

@@ -1,6 +1,6 @@
 //! Writes a note, once, on each tenant whose file fails while it is served, and on each whose file is replaced.
 //!
-//! `serving` makes the notes. `served` tells of each FAULT, on behalf of a worker. `clients` has the files looked at.
+//! `serving` makes the notes. mw_service tells of each FAULT. `clients` has the files looked at.
 //! docs/OPERATING tells the notes' texts: change both together.
 ghost use Rattle.std.specs.Prelude.{◌<◌};
 ghost use Rattle.mw_words.specs.declared.limits.TheConstants.{MAX_TENANTS};
@@ -9,15 +9,10 @@ use crate::replaced::{FileLook, SeesPaths, leads_elsewhere};
 use log::{Log, warn};
 use mw_config::TenantLine;
 use mw_opening::{FileStates, LastErrors, Opened, note_cause, note_place};
+use mw_service::FaultWatch;
 use mw_words::MAX_TENANTS;
 use std::str;
 use std::sync::{Mutex, Wait};
-
-/// Is told when a request was answered FAULT.
-pub trait FaultWatch {
-    /// A request of the tenant of this number was answered FAULT.
-    fn fault(&self, tenant: u8);
-}
 
 /// Writes a note on each tenant whose file has failed while it was served, once, and on each whose file was replaced.
 #[derive(Drop)]

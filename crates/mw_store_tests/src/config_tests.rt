@@ -249,22 +249,30 @@ fn each_gives<R: Abort + AllocGlobal>(rt: &R, lines: &str, wanted: &str) {
 }
 
 /// Command lines, and what they ask for.
-const LINES: [(&str, &str); 4] = [
+const LINES: [(&str, &str); 6] = [
     (
         "mwserve --tenants t --script s",
         "Args { tenants: \"t\", pool: 256, workers: 4, strict: false, verbose: false, mode: Script(\"s\") }",
     ),
     (
         "mwserve --listen a:1 --tenants t",
-        "Args { tenants: \"t\", pool: 256, workers: 4, strict: false, verbose: false, mode: Listen(Listening { address: \"a:1\", admin: None, connections: None, idle: None, socket_mode: 384 }) }",
+        "Args { tenants: \"t\", pool: 256, workers: 4, strict: false, verbose: false, mode: Listen(Listening { address: \"a:1\", admin: None, connections: None, crowd: None, wait: None, idle: None, line_time: None, socket_mode: 384 }) }",
     ),
     (
         "mwserve --tenants t --pool 1 --workers 64 --listen a:1 --connections 1000000 --idle 86400 --mode 777",
-        "Args { tenants: \"t\", pool: 1, workers: 64, strict: false, verbose: false, mode: Listen(Listening { address: \"a:1\", admin: None, connections: Some(1000000), idle: Some(86400), socket_mode: 511 }) }",
+        "Args { tenants: \"t\", pool: 1, workers: 64, strict: false, verbose: false, mode: Listen(Listening { address: \"a:1\", admin: None, connections: Some(1000000), crowd: None, wait: None, idle: Some(86400), line_time: Some(86400), socket_mode: 511 }) }",
     ),
     (
         "mwserve --tenants t --pool=256 --workers=1 --listen=a:1 --connections=1 --strict --idle=1 --admin=a:2 --verbose --mode=0660",
-        "Args { tenants: \"t\", pool: 256, workers: 1, strict: true, verbose: true, mode: Listen(Listening { address: \"a:1\", admin: Some(\"a:2\"), connections: Some(1), idle: Some(1), socket_mode: 432 }) }",
+        "Args { tenants: \"t\", pool: 256, workers: 1, strict: true, verbose: true, mode: Listen(Listening { address: \"a:1\", admin: Some(\"a:2\"), connections: Some(1), crowd: None, wait: None, idle: Some(1), line_time: Some(1), socket_mode: 432 }) }",
+    ),
+    (
+        "mwserve --tenants t --workers 2 --listen a:1 --clients 1 --wait 1 --line-time 86400",
+        "Args { tenants: \"t\", pool: 256, workers: 2, strict: false, verbose: false, mode: Listen(Listening { address: \"a:1\", admin: None, connections: None, crowd: Some(Crowd { clients: 1, readers: 1 }), wait: Some(1), idle: None, line_time: Some(86400), socket_mode: 384 }) }",
+    ),
+    (
+        "mwserve --tenants t --workers 64 --listen a:1 --clients 4096 --readers 63 --wait 86400 --idle 9 --line-time 2",
+        "Args { tenants: \"t\", pool: 256, workers: 64, strict: false, verbose: false, mode: Listen(Listening { address: \"a:1\", admin: None, connections: None, crowd: Some(Crowd { clients: 4096, readers: 63 }), wait: Some(86400), idle: Some(9), line_time: Some(2), socket_mode: 384 }) }",
     ),
 ];
 
@@ -275,8 +283,8 @@ fn command_lines_that_are_accepted(rt: HostRuntime) {
     }
 }
 
-/// Command lines with no mode, with two, with an option of connections and a script, and with a file mode
-/// that is none.
+/// Command lines with no mode, with two, with an option of connections and a script, with a file mode that is
+/// none, with readers but no clients, and with no worker for changes.
 const LINES_WITHOUT_ONE_MODE: &str = "\
 mwserve --tenants t
 mwserve --tenants t --listen a:1 --script s
@@ -284,6 +292,14 @@ mwserve --tenants t --script s --connections 1
 mwserve --tenants t --script s --idle 1
 mwserve --tenants t --script s --admin a
 mwserve --tenants t --script s --mode 600
+mwserve --tenants t --script s --clients 1
+mwserve --tenants t --script s --readers 1
+mwserve --tenants t --script s --wait 1
+mwserve --tenants t --script s --line-time 1
+mwserve --tenants t --listen a --readers 1
+mwserve --tenants t --listen a --clients 1 --workers 1
+mwserve --tenants t --listen a --clients 1 --readers 4
+mwserve --tenants t --listen a --clients 1 --readers 2 --workers 2
 mwserve --tenants t --listen a --mode 1000
 mwserve --tenants t --listen a --mode 8";
 
@@ -309,6 +325,14 @@ mwserve --tenants t --listen a --connections 0
 mwserve --tenants t --listen a --connections 1000001
 mwserve --tenants t --listen a --idle 0
 mwserve --tenants t --listen a --idle 86401
+mwserve --tenants t --listen a --clients 0
+mwserve --tenants t --listen a --clients 4097
+mwserve --tenants t --listen a --clients 1 --readers 0
+mwserve --tenants t --listen a --clients 1 --readers 65
+mwserve --tenants t --listen a --wait 0
+mwserve --tenants t --listen a --wait 86401
+mwserve --tenants t --listen a --line-time 0
+mwserve --tenants t --listen a --line-time 86401
 mwserve --tenants t --script s --what
 mwserve --tenants t --script s more";
 
@@ -335,7 +359,11 @@ const OPTIONS: &str = "\
 --strict
 --version
 --admin <ADDR>
+--clients <M>
+--readers <R>
+--wait <SECONDS>
 --idle <SECONDS>
+--line-time <SECONDS>
 --mode <MODE>
 --verbose";
 

@@ -14,3 +14,4 @@ pub mod Places
 pub mod Idleness
 pub mod Runs
 pub mod Said
+pub mod Notes

@@ -17,8 +17,9 @@
 //! `fault` ends the call. `give_back` gives the file back, with what is known of it then. The table knows no device:
 //! the caller says how the call went.
 //!
-//! Two more calls are no step of a request, and add no event: `figure` loads a word, and `meet` lets two passes see
-//! what either has seen. None waits, and none but `new` and `of_run` allocates memory.
+//! Some calls are no step of a request, and add no event: `figure` loads a word, `meet` lets two passes see what either
+//! has seen, `note` makes a [`Note`] of what a pass has seen, and `hear` lets another pass hear it. None waits, and none
+//! but `new` and `of_run` allocates memory.
 //!
 //! Read first: `specs/Passes` and `specs/NewPasses` say what a pass is; `specs/Basis`, `specs/TableAtStart` and
 //! `specs/Runs` what a table begins with; `specs/NewFilePasses` and `specs/FileCalls` what a file pass is, and what a
@@ -37,6 +38,8 @@ mod file_pass;
 mod first_steps;
 mod meet;
 mod new_table;
+mod note;
+mod notes;
 mod origin;
 mod passes;
 mod places;
@@ -45,6 +48,7 @@ mod steps;
 mod turns;
 
 pub use file_pass::FilePass;
+pub use note::Note;
 pub use origin::{FileOpening, Origin, TenantSoFar, WorkerSoFar};
 pub use places::{has_place, place_at};
 pub use shared::{Pass, Shared};

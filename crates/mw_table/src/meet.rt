@@ -41,7 +41,7 @@ impl Shared {
         ensures event { MetByNone one.old.seat.me.0 other.old.seat.me.0 one.new.seat.me.0 other.new.seat.me.0 }
     {
         self.look(&mut one.seat);
-        let said = self.note(&mut one.seat);
+        let said = self.seat_note(&mut one.seat);
         self.learn(&mut other.seat, said);
         let its = self.part(&mut other.seat);
         self.merge(&mut one.seat, its);
@@ -61,7 +61,7 @@ impl Shared {
     }
 
     /// Returns a note of what a thread has seen.
-    fn note(&self, seat: &mut Seat<Actor, View>) -> Seat<Actor, View>
+    pub(crate) fn seat_note(&self, seat: &mut Seat<Actor, View>) -> Seat<Actor, View>
         requires table { seat.old.table_id ≡ self.now.table.shared.table_id }
         requires live { IsLive seat.old.me.0 }
         ensures table { seat.new.table_id ≡ seat.old.table_id }
@@ -73,7 +73,7 @@ impl Shared {
     }
 
     /// Tells a thread what a note says, which it then sees itself.
-    fn learn(&self, seat: &mut Seat<Actor, View>, note: Seat<Actor, View>)
+    pub(crate) fn learn(&self, seat: &mut Seat<Actor, View>, note: Seat<Actor, View>)
         requires table { seat.old.table_id ≡ self.now.table.shared.table_id }
         requires its_table { note.table_id ≡ self.now.table.shared.table_id }
         requires live { IsLive seat.old.me.0 }

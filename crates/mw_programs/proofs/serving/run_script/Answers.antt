@@ -5,7 +5,7 @@ use Rattle.std.specs.Vec.Iter.{into_iter_items}
 use Rattle.std.proofs.Common.{subst, sym}
 use Rattle.mw_engine.specs.declared.Pass.{Pass}
 use Rattle.mw_engine.specs.Passes.{IsNew}
-use Rattle.mw_programs.proofs.Workers.{of_next}
+use Rattle.mw_service.proofs.Workers.{of_next}
 use Rattle.mw_programs.proofs.serving.run_script.Goals as goal
 
 -- the first of the passes is one of the engine's

@@ -1,14 +1,13 @@
--- Proves goals of `workers_for` (src/clients.rt) that the check does not prove by itself. Used by: the proof of that function
+-- Proves goals of `locked` (src/pass_pool.rt) that the check does not prove by itself. Used by: the proof of that function
 -- alone. It may change freely as long as this crate checks.
 use Rattle.std.proofs.Common.{◌≡◌, ◌+◌, length, sym, ◌∙◌}
 use Rattle.std.specs.Vec.Iter.{into_iter_items}
 use Rattle.mw_engine.specs.Passes.{IsNew}
-use Rattle.mw_programs.proofs.Workers.{behind, of_next, one_more, pushed}
-use Rattle.mw_programs.proofs.clients.workers_for.Goals as goal
+use Rattle.mw_service.proofs.Workers.{behind, of_next, one_more, pushed}
+use Rattle.mw_service.proofs.pass_pool.locked.Goals as goal
 
--- src/clients.rt
-pub new-requires : goal.new-requires
-new-requires g c =
+pub invariant_of-idle : goal.invariant_of-idle
+invariant_of-idle g c =
     let left = into_iter_items c.loop-pass.pass-iterator in
     let rest = into_iter_items c.next.new.self in
     let new = of_next (IsNew g.J.EngineBrand.identity) left rest c.in-Some.pass c.in-Some.ensures.steps.0 c.loop-pass.invariant.new in
@@ -18,9 +17,9 @@ pub loop-pass-preserved : goal.loop-pass-preserved
 loop-pass-preserved g c =
     let left = into_iter_items c.loop-pass.pass-iterator in
     let rest = into_iter_items c.next.new.self in
-    let workers = c.loop-pass.workers in
-    let went : length c.push.new.self.items ≡ length workers.items + 1 = pushed c.push.result workers.items c.push.new.self.items c.new.result (sym c.is_err.ensures.value ∙ c.if-is_err.false) c.push.ensures.items in
+    let made = c.loop-pass.made in
+    let went : length c.push.new.self.items ≡ length made.items + 1 = pushed c.push.result made.items c.push.new.self.items c.new.result (sym c.is_err.ensures.value ∙ c.if-is_err.false) c.push.ensures.items in
     record {
-      count = one_more (length c.args.passes.items) (length workers.items) (length c.push.new.self.items) left rest c.in-Some.pass c.in-Some.ensures.steps.0 went c.loop-pass.invariant.count;
+      count = one_more (length c.args.passes.items) (length made.items) (length c.push.new.self.items) left rest c.in-Some.pass c.in-Some.ensures.steps.0 went c.loop-pass.invariant.count;
       new = behind (IsNew g.J.EngineBrand.identity) left rest c.in-Some.pass c.in-Some.ensures.steps.0 c.loop-pass.invariant.new;
     }

@@ -1,12 +1,12 @@
 //! A worker: it serves sessions with its pass, its handle to the engine.
 //!
-//! Used by: `serving`, for a script; `clients`, for each worker of the listener. `specs/Served` says what a session
-//! of a worker is: change both together. docs/PROMISES cites `Worker::run`.
+//! Used by: mw_programs, for a script and for each client of a server without `--clients`. `specs/Served` says what a
+//! session of a worker is: change both together. docs/PROMISES cites `Worker::run`.
 ghost use Rattle.std.specs.Prelude.{◌≡◌, true};
 ghost use Rattle.mw_engine.specs.Passes.{IsPassOf};
-ghost use Rattle.mw_programs.specs.Served.{IsSession};
+ghost use Rattle.mw_service.specs.Served.{IsSession};
 
-use crate::tenants::FaultWatch;
+use crate::watch::FaultWatch;
 use mw_disk::Disk;
 use mw_engine::{Engine, EngineBrand, Hold, Pass};
 use mw_session::{Ended, Session};

@@ -3,7 +3,7 @@
 //!
 //! mw_session calls it for the lines of a session, which `worker` runs. A new question of a session needs a
 //! call here and in `Service` of mw_session.
-use crate::tenants::FaultWatch;
+use crate::watch::FaultWatch;
 use crate::worker::Worker;
 use mw_disk::Disk;
 use mw_engine::{EngineBrand, Hold};
@@ -15,7 +15,7 @@ use std::sync::Wait;
 impl<J: EngineBrand, D: Disk + Drop, H: Hold + Drop, R: Wait, T: FaultWatch> Service
     for Worker<'_, J, D, H, R, T> {
     ghost use Rattle.mw_engine.specs.Identity.{HasWords};
-    ghost use Rattle.mw_programs.specs.Served.{Answers};
+    ghost use Rattle.mw_service.specs.Served.{Answers};
 
     ghost answered = { λ old call new. Answers J.identity old.pass call new.pass };
 

@@ -1,10 +1,9 @@
 -- Proves goals of `Worker::run` (src/worker.rt) that the check does not prove by itself. Used by: the proof of that function
 -- alone. It may change freely as long as this crate checks.
-use Rattle.mw_programs.specs.Served.{Answers}
-use Rattle.mw_programs.specs.declared.worker.Worker.{Worker}
-use Rattle.mw_programs.proofs.Sessions.{part_goes, told_otherwise}
+use Rattle.mw_service.specs.Served.{Answers}
+use Rattle.mw_service.proofs.Sessions.{part_goes, told_otherwise}
 use Rattle.mw_session.specs.Transitions.{GoesThrough}
-use Rattle.mw_programs.proofs.worker.Worker.run.Goals as goal
+use Rattle.mw_service.proofs.worker.Worker.run.Goals as goal
 
 pub returns : goal.returns
 returns g c =

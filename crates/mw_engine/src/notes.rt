@@ -1,0 +1,40 @@
+//! Makes notes of what a pass has seen, and lets another pass hear one.
+//!
+//! mw_service does so for a session that borrows a pass for each request. Its contracts use `specs/Notes` and
+//! `specs/Passes`: change them together.
+ghost use Rattle.std.specs.Prelude.{◌≡◌};
+ghost use Rattle.mw_core.specs.FromTable.{HasHeard, IsSamePass, note as said_by, said_in};
+ghost use Rattle.mw_engine.specs.Notes.{IsNoteOf};
+ghost use Rattle.mw_engine.specs.Passes.{IsPassOf};
+
+use crate::brand::EngineBrand;
+use crate::engine::Engine;
+use mw_core::{Note, Pass};
+use mw_disk::Disk;
+
+impl<J: EngineBrand, D: Disk, H> Engine<J, D, H> {
+    /// Makes a note of what a pass has seen. The pass knows afterwards what it knew before.
+    pub fn note(&self, pass: &mut Pass) -> Note
+        requires own { IsPassOf J.identity pass.old }
+        ensures own { IsPassOf J.identity pass.new }
+        ensures stays { IsSamePass pass.old pass.new }
+        ensures knows { pass.new.seat.me ≡ pass.old.seat.me }
+        ensures its { IsNoteOf J.identity result }
+        ensures says { said_in result ≡ said_by pass.old.seat.me.0 }
+    {
+        self.words.core.shared().note(pass)
+    }
+
+    /// Lets a pass hear a note of this engine. Afterwards it has seen what the note says, and at least what it had
+    /// seen before. It keeps its worker, its request and the requests that its worker finished. No event is added to
+    /// the run.
+    pub fn hear(&self, pass: &mut Pass, note: Note)
+        requires own { IsPassOf J.identity pass.old }
+        requires its { IsNoteOf J.identity note }
+        ensures own { IsPassOf J.identity pass.new }
+        ensures stays { IsSamePass pass.old pass.new }
+        ensures heard { HasHeard (said_in note) pass.old.seat.me.0 pass.new.seat.me.0 }
+    {
+        self.words.core.shared().hear(pass, note);
+    }
+}

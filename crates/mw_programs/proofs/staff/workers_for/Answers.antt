@@ -1,0 +1,26 @@
+-- Proves goals of `workers_for` (src/staff.rt) that the check does not prove by itself. Used by: the proof of that function
+-- alone. It may change freely as long as this crate checks.
+use Rattle.std.proofs.Common.{◌≡◌, ◌+◌, length, sym, ◌∙◌}
+use Rattle.std.specs.Vec.Iter.{into_iter_items}
+use Rattle.mw_engine.specs.Passes.{IsNew}
+use Rattle.mw_service.proofs.Workers.{behind, of_next, one_more, pushed}
+use Rattle.mw_programs.proofs.staff.workers_for.Goals as goal
+
+-- src/staff.rt
+pub new-requires : goal.new-requires
+new-requires g c =
+    let left = into_iter_items c.loop-pass.pass-iterator in
+    let rest = into_iter_items c.next.new.self in
+    let new = of_next (IsNew g.J.EngineBrand.identity) left rest c.in-Some.pass c.in-Some.ensures.steps.0 c.loop-pass.invariant.new in
+    record { own = new.own; idle = new.idle }
+
+pub loop-pass-preserved : goal.loop-pass-preserved
+loop-pass-preserved g c =
+    let left = into_iter_items c.loop-pass.pass-iterator in
+    let rest = into_iter_items c.next.new.self in
+    let workers = c.loop-pass.workers in
+    let went : length c.push.new.self.items ≡ length workers.items + 1 = pushed c.push.result workers.items c.push.new.self.items c.new.result (sym c.is_err.ensures.value ∙ c.if-is_err.false) c.push.ensures.items in
+    record {
+      count = one_more (length c.args.passes.items) (length workers.items) (length c.push.new.self.items) left rest c.in-Some.pass c.in-Some.ensures.steps.0 went c.loop-pass.invariant.count;
+      new = behind (IsNew g.J.EngineBrand.identity) left rest c.in-Some.pass c.in-Some.ensures.steps.0 c.loop-pass.invariant.new;
+    }

@@ -1,0 +1,17 @@
+-- Proves goals of `IdlePass::figures` (src/idle_pass.rt) that the check does not prove by itself. Used by: the proof of that
+-- function alone. It may change freely as long as this crate checks.
+use Rattle.mw_service.proofs.idle_pass.IdlePass.figures.Goals as goal
+
+pub returns-clause-counted : goal.returns-clause-counted
+returns-clause-counted g c = record {
+  borrows = record {
+    before = c.args.self.now.pass.seat.me.0;
+    first = c.hear.new.self.pass.seat.me.0;
+    last = c.figures-figures.new.pass.seat.me.0;
+    config = c.args.self.now.own.config;
+    openings = c.args.self.now.own.openings;
+    hears = c.hear.ensures.heard;
+    noted = c.note-note.ensures.says;
+  };
+  told = c.figures-figures.ensures.tells;
+}

@@ -1,0 +1,2 @@
+pub mod Borrowed
+pub mod Served

@@ -1,0 +1,91 @@
+//! A session's service that borrows a pass for each request.
+//!
+//! mw_programs makes one for each client that a server with `--clients` serves at once. `specs/Borrowed` says what it
+//! answers: change both together. A new question of a session needs a call here and in `served`.
+ghost use Rattle.mw_service.specs.Borrowed.{AreNotesOf};
+
+use crate::pass_pool::PassPool;
+use crate::watch::FaultWatch;
+use mw_disk::Disk;
+use mw_engine::{Engine, EngineBrand, Hold, Note};
+use mw_report::Figures;
+use mw_session::Service;
+use mw_words::{Job, Name, Reply};
+use std::sync::Wait;
+
+/// Serves a session's requests, each with a pass that it borrows for this request alone. So it holds none while it
+/// waits for its client.
+#[derive(Drop)]
+pub struct Borrower<'a, J: EngineBrand, D: Disk, H, R, T> {
+    engine: &'a Engine<J, D, H>,
+    /// The passes for reads and reports. No change takes one, so no read waits for a change's disk.
+    reads: &'a PassPool<J>,
+    /// The passes for changes.
+    changes: &'a PassPool<J>,
+    /// What its sessions have seen. None before their first answer.
+    note: Option<Note>,
+    rt: &'a R,
+    watch: &'a T,
+    ghost its: { AreNotesOf J.identity note },
+}
+
+impl<'a, J: EngineBrand, D: Disk, H, R, T> Borrower<'a, J, D, H, R, T> {
+    /// Makes a service that borrows from these pools. It tells the watch of each request that is answered FAULT.
+    pub fn new(
+        engine: &'a Engine<J, D, H>,
+        reads: &'a PassPool<J>,
+        changes: &'a PassPool<J>,
+        rt: &'a R,
+        watch: &'a T,
+    ) -> Self {
+        Borrower {
+            engine,
+            reads,
+            changes,
+            note: None,
+            rt,
+            watch,
+        }
+    }
+
+    /// Gives the pool from which a job borrows.
+    fn pool_for(&self, job: &Job) -> &'a PassPool<J> {
+        match job {
+            Job::Get(_) => self.reads,
+            Job::Cas(_) => self.changes,
+        }
+    }
+}
+
+impl<J: EngineBrand, D: Disk + Drop, H: Hold + Drop, R: Wait, T: FaultWatch> Service
+    for Borrower<'_, J, D, H, R, T> {
+    ghost use Rattle.mw_engine.specs.Identity.{HasWords};
+    ghost use Rattle.mw_service.specs.Borrowed.{AnswersWith};
+
+    ghost answered = { λ old call new. AnswersWith J.identity old.note call new.note };
+
+    ghost has_words = { λ _. HasWords J.identity.lines };
+
+    fn find(&self, name: &Name) -> Option<(u8, u16)> {
+        self.engine.find(name)
+    }
+
+    fn ask(&mut self, tenant: u8, job: &Job) -> Reply {
+        let note = self.note.take();
+        let (reply, note) = self
+            .pool_for(job)
+            .serve(self.rt, self.engine, note, tenant, job);
+        self.note = Some(note);
+        if let Reply::Fault = reply {
+            self.watch.fault(tenant);
+        }
+        reply
+    }
+
+    fn figures(&mut self) -> Figures {
+        let note = self.note.take();
+        let (figures, note) = self.reads.figures(self.rt, self.engine, note);
+        self.note = Some(note);
+        figures
+    }
+}

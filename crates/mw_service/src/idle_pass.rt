@@ -1,0 +1,75 @@
+//! A pass between two requests, which may be borrowed for the next one.
+//!
+//! `pass_pool` keeps it in a lock. Its contracts use `specs/Borrowed`: change both together.
+ghost use Rattle.std.specs.Prelude.{◌≡◌, true, Some};
+ghost use Rattle.mw_engine.specs.Identity.{IsFor};
+ghost use Rattle.mw_engine.specs.Notes.{IsNoteOf};
+ghost use Rattle.mw_engine.specs.Passes.{IsPassOf};
+ghost use Rattle.mw_report.specs.Table.{AreWithinLimits};
+ghost use Rattle.mw_service.specs.Borrowed.{AreCountedWith, AreNotesOf, HearsNote, IsAnsweredWith};
+
+use mw_disk::Disk;
+use mw_engine::{Engine, EngineBrand, Hold, Note, Pass};
+use mw_report::Figures;
+use mw_words::{Job, Reply};
+use std::marker::PhantomData;
+use std::sync::Wait;
+
+/// A pass of an engine, whose worker has no request.
+#[derive(Drop)]
+pub struct IdlePass<J: EngineBrand> {
+    pub(crate) pass: Pass,
+    pub(crate) brand: PhantomData<J>,
+    ghost own: { IsPassOf J.identity pass },
+    ghost idle: { pass.idle ≡ true },
+}
+
+impl<J: EngineBrand> IdlePass<J> {
+    /// Serves a job of a session that has seen what the note says. Gives the reply, and a note of what the session has
+    /// seen then.
+    pub(crate) fn serve<D: Disk + Drop, H: Hold + Drop>(
+        &mut self,
+        engine: &Engine<J, D, H>,
+        rt: &impl Wait,
+        note: Option<Note>,
+        tenant: u8,
+        job: &Job,
+    ) -> (Reply, Note)
+        requires its { AreNotesOf J.identity note }
+        requires formed { IsFor J.identity.lines tenant job.now }
+        ensures answered { IsAnsweredWith J.identity note tenant job.now result.0 (Some result.1) }
+        ensures its { IsNoteOf J.identity result.1 }
+    {
+        self.hear(engine, note);
+        let reply = engine.serve(rt, &mut self.pass, tenant, job);
+        let note = engine.note(&mut self.pass);
+        (reply, note)
+    }
+
+    /// Gives the figures for a session that has seen what the note says, and a note of what it has seen then.
+    pub(crate) fn figures<D: Disk, H>(
+        &mut self,
+        engine: &Engine<J, D, H>,
+        note: Option<Note>,
+    ) -> (Figures, Note)
+        requires its { AreNotesOf J.identity note }
+        ensures counted { AreCountedWith J.identity note result.0 (Some result.1) }
+        ensures limits { AreWithinLimits result.0.tenants.items result.0.pool_free }
+        ensures its { IsNoteOf J.identity result.1 }
+    {
+        self.hear(engine, note);
+        let figures = engine.figures(&mut self.pass);
+        let note = engine.note(&mut self.pass);
+        (figures, note)
+    }
+
+    /// Lets the pass hear what a session has seen, if it has seen something.
+    fn hear<D: Disk, H>(&mut self, engine: &Engine<J, D, H>, note: Option<Note>)
+        requires its { AreNotesOf J.identity note }
+        ensures heard { HearsNote note self.old.pass.seat.me.0 self.new.pass.seat.me.0 }
+    {
+        if let Some(note) = note {
+            engine.hear(&mut self.pass, note);
+        }
+    }
+}

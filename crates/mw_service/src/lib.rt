@@ -1,0 +1,26 @@
+//! Answers what sessions ask of the engine: by a worker that has a pass of its own, or with a pass that is borrowed for
+//! each request.
+//!
+//! A pass is the capability to make one worker's steps, so there are as many requests under way as there are passes. A
+//! [`Worker`] keeps its pass as long as it serves. A [`Borrower`] has none: for each request of its session it borrows
+//! one from a [`PassPool`], so that many sessions share few passes. It keeps a note of what its session has seen, and the
+//! pass that it borrows hears the note before the request. So each reply is right at a place in its tenant's history that
+//! is no earlier than what the session has seen, whichever passes it borrows.
+//!
+//! `specs/Served` says what a worker answers, and `specs/Borrowed` what a borrower answers.
+//!
+//! Used by: mw_programs. `must-fail` edits some bodies.
+#![tactic(auto)]
+
+mod borrower;
+mod idle_pass;
+mod pass_pool;
+mod served;
+mod watch;
+mod worker;
+
+pub use borrower::Borrower;
+pub use idle_pass::IdlePass;
+pub use pass_pool::PassPool;
+pub use watch::FaultWatch;
+pub use worker::Worker;

@@ -1,0 +1,161 @@
+//! A pool of passes, from which sessions borrow one for each request.
+//!
+//! mw_programs makes it, and `borrower` borrows from it. Its contracts use `specs/Borrowed`: change both together.
+ghost use Rattle.std.specs.Prelude.{◌≡◌, ◌<◌, All, Some, IfOk, vec_len};
+ghost use Rattle.mw_engine.specs.Identity.{IsFor};
+ghost use Rattle.mw_engine.specs.Notes.{IsNoteOf};
+ghost use Rattle.mw_engine.specs.Passes.{IsNew};
+ghost use Rattle.mw_report.specs.Table.{AreWithinLimits};
+ghost use Rattle.mw_service.specs.Borrowed.{AreCountedWith, AreNotesOf, IsAnsweredWith};
+
+use crate::idle_pass::IdlePass;
+use crossbeam_channel::{Receiver, Sender};
+use mw_disk::Disk;
+use mw_engine::{Engine, EngineBrand, Hold, Note, Pass};
+use mw_report::Figures;
+use mw_words::{Job, Reply};
+use std::alloc::{AllocError, Global};
+use std::marker::PhantomData;
+use std::sync::{Mutex, Wait};
+
+/// Passes of an engine, which sessions borrow. A pass stays in its lock while it is borrowed, so no session can lose it,
+/// or give back another one. Who has the ticket of a pass may use it; while all tickets are out, sessions wait for one.
+#[derive(Drop)]
+pub struct PassPool<J: EngineBrand> {
+    passes: Vec<Mutex<IdlePass<J>>>,
+    /// The tickets of the passes that are free: their indexes.
+    free: Receiver<usize>,
+    /// Where tickets are given back.
+    back: Sender<usize>,
+    ghost some: { 0 < vec_len passes },
+}
+
+impl<J: EngineBrand> PassPool<J> {
+    /// Makes a pool of these passes.
+    ///
+    /// # Errors
+    ///
+    /// [`AllocError`] if memory is out. The passes are dropped.
+    pub fn new<R: Wait>(
+        rt: &R,
+        alloc: Global,
+        passes: Vec<Pass>,
+    ) -> Result<PassPool<J>, AllocError>
+        requires new { All (IsNew J.identity) passes.items }
+        requires some { 0 < vec_len passes }
+        ensures { IfOk result (λ pool. vec_len pool.passes ≡ vec_len passes) }
+    {
+        let Ok((back, free)) = crossbeam_channel::bounded(alloc, passes.len()) else {
+            return Err(AllocError);
+        };
+        let passes = locked(alloc, passes)?;
+        give_tickets(rt, &back, passes.len())?;
+        Ok(PassPool { passes, free, back })
+    }
+
+    /// Serves a job of a session that has seen what the note says, with a pass of this pool. Gives the reply, and a note
+    /// of what the session has seen then. It waits until a pass is free.
+    pub(crate) fn serve<D: Disk + Drop, H: Hold + Drop, R: Wait>(
+        &self,
+        rt: &R,
+        engine: &Engine<J, D, H>,
+        note: Option<Note>,
+        tenant: u8,
+        job: &Job,
+    ) -> (Reply, Note)
+        requires its { AreNotesOf J.identity note }
+        requires formed { IsFor J.identity.lines tenant job.now }
+        ensures answered { IsAnsweredWith J.identity note tenant job.now result.0 (Some result.1) }
+        ensures its { IsNoteOf J.identity result.1 }
+    {
+        let ticket = self.take(rt);
+        let answered = {
+            let mut lent = self.of_ticket(ticket).lock(rt);
+            lent.serve(engine, rt, note, tenant, job)
+        };
+        self.give_back(rt, ticket);
+        answered
+    }
+
+    /// Gives the figures for a session that has seen what the note says, with a pass of this pool, and a note of what it
+    /// has seen then. It waits until a pass is free.
+    pub(crate) fn figures<D: Disk, H, R: Wait>(
+        &self,
+        rt: &R,
+        engine: &Engine<J, D, H>,
+        note: Option<Note>,
+    ) -> (Figures, Note)
+        requires its { AreNotesOf J.identity note }
+        ensures counted { AreCountedWith J.identity note result.0 (Some result.1) }
+        ensures limits { AreWithinLimits result.0.tenants.items result.0.pool_free }
+        ensures its { IsNoteOf J.identity result.1 }
+    {
+        let ticket = self.take(rt);
+        let counted = {
+            let mut lent = self.of_ticket(ticket).lock(rt);
+            lent.figures(engine, note)
+        };
+        self.give_back(rt, ticket);
+        counted
+    }
+
+    /// Waits for a ticket.
+    fn take<R: Wait>(&self, rt: &R) -> usize {
+        // The pool has both ends, so the channel doesn't end. If it did, all would share the first pass.
+        self.free.recv(rt).unwrap_or(0)
+    }
+
+    /// Gives a ticket back. There is room for each.
+    fn give_back<R: Wait>(&self, rt: &R, ticket: usize) {
+        let _ = self.back.send(rt, ticket);
+    }
+
+    /// Gives the lock of a ticket's pass.
+    fn of_ticket(&self, ticket: usize) -> &Mutex<IdlePass<J>> {
+        let index = ticket.min(self.passes.len() - 1);
+        &self.passes[index]
+    }
+}
+
+/// Puts each of these passes into a lock.
+///
+/// # Errors
+///
+/// [`AllocError`] if memory is out. The passes are dropped.
+fn locked<J: EngineBrand>(
+    alloc: Global,
+    passes: Vec<Pass>,
+) -> Result<Vec<Mutex<IdlePass<J>>>, AllocError>
+    requires new { All (IsNew J.identity) passes.items }
+    ensures { IfOk result (λ made. vec_len made ≡ vec_len passes) }
+{
+    let mut made = Vec::with_capacity(alloc, passes.len())?;
+    for pass in passes {
+        let idle = IdlePass {
+            pass,
+            brand: PhantomData,
+        };
+        if made.push(Mutex::new(idle)).is_err() {
+            return Err(AllocError);
+        }
+    }
+    Ok(made)
+}
+
+/// Gives a ticket for each of so many passes.
+///
+/// # Errors
+///
+/// [`AllocError`] if one couldn't be given.
+fn give_tickets<R: Wait>(
+    rt: &R,
+    back: &Sender<usize>,
+    count: usize,
+) -> Result<(), AllocError> {
+    for ticket in 0..count {
+        if back.send(rt, ticket).is_err() {
+            return Err(AllocError);
+        }
+    }
+    Ok(())
+}

@@ -1,0 +1,19 @@
+-- Proves goals of `Shared::hear` (src/notes.rt) that the check does not prove by itself. Used by: the proof of that function
+-- alone. It may change freely as long as this crate checks.
+use Rattle.std.proofs.Common.{ap, map, ◌∙◌}
+use Rattle.mw_table.specs.Idleness.{has_none}
+use Rattle.mw_table.specs.Numbers.{number_of}
+use Rattle.mw_table.proofs.HeardNotes.{heard_so}
+use Rattle.mw_table.proofs.Meetings.{lives}
+use Rattle.mw_table.proofs.shared.Shared.hear.Goals as goal
+
+pub learn-requires-clause-live : goal.learn-requires-clause-live
+learn-requires-clause-live c = lives c.args.pass.now
+
+pub invariant_of-pass : goal.invariant_of-pass
+invariant_of-pass c =
+    let same = c.learn.ensures.looked.1.same_token in
+    record { numbered = ap (map number_of) same ∙ c.args.pass.now.numbered; rests = λ idle. ap (map has_none) same ∙ c.args.pass.now.rests idle }
+
+pub returns-clause-heard : goal.returns-clause-heard
+returns-clause-heard c = heard_so c.learn.ensures.looked.0 c.args.note.seat.me.0 c.args.pass.now.seat.me.0 c.learn.new.seat.me.0 c.learn.ensures.looked.1 c.learn.ensures.event

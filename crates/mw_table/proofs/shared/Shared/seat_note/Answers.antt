@@ -1,0 +1,8 @@
+-- Proves goals of `Shared::seat_note` (src/meet.rt) that the check does not prove by itself. Used by: the proof of that function
+-- alone. It may change freely as long as this crate checks.
+use Rattle.mw_rule.proofs.SplitLaws.{notes_keep}
+use Rattle.mw_table.proofs.Meetings.{some_word}
+use Rattle.mw_table.proofs.shared.Shared.seat_note.Goals as goal
+
+pub split_seat-requires : goal.split_seat-requires
+split_seat-requires c = (c.requires.table, some_word c.args.self.now, notes_keep _ _ c.args.seat.now.id c.args.seat.now.me.0 c.requires.live)

@@ -1,0 +1,41 @@
+//! Makes notes of what a pass has seen, and lets another pass hear one.
+//!
+//! Used by: mw_engine. Its contracts use `specs/Meet`, `specs/Notes` and `specs/Passes`: change them together.
+ghost use Rattle.std.specs.Prelude.{◌≡◌};
+ghost use Rattle.mw_rule.specs.Splits.{note as said_by};
+ghost use Rattle.mw_table.specs.Meet.{IsSamePass};
+ghost use Rattle.mw_table.specs.Notes.{HasHeard, IsNoteOf, said_in};
+ghost use Rattle.mw_table.specs.Passes.{IsOf};
+
+use crate::note::Note;
+use crate::shared::{Pass, Shared};
+
+impl Shared {
+    /// Makes a note of what a pass has seen, and of the run that it knows. The pass knows afterwards what it knew
+    /// before.
+    pub fn note(&self, pass: &mut Pass) -> Note
+        requires own { IsOf self.now pass.old }
+        ensures own { IsOf self.now pass.new }
+        ensures stays { IsSamePass pass.old pass.new }
+        ensures knows { pass.new.seat.me ≡ pass.old.seat.me }
+        ensures its { IsNoteOf self.now result }
+        ensures says { said_in result ≡ said_by pass.old.seat.me.0 }
+    {
+        Note {
+            seat: self.seat_note(&mut pass.seat),
+        }
+    }
+
+    /// Lets a pass hear a note of this table. Afterwards the pass has seen what the note says, and at least what it
+    /// had seen before. It keeps its worker, its request and the requests that its worker finished. It is no step of
+    /// a request, and adds no event to the run.
+    pub fn hear(&self, pass: &mut Pass, note: Note)
+        requires own { IsOf self.now pass.old }
+        requires its { IsNoteOf self.now note }
+        ensures own { IsOf self.now pass.new }
+        ensures stays { IsSamePass pass.old pass.new }
+        ensures heard { HasHeard (said_in note) pass.old.seat.me.0 pass.new.seat.me.0 }
+    {
+        self.learn(&mut pass.seat, note.seat);
+    }
+}
