@@ -16,7 +16,7 @@ use mw_engine::{Engine, EngineBrand, NoHold, Pass};
 use mw_opening::{TrackedFile, WatchedFile, note_cause};
 use mw_session::Service;
 use mw_workers::{
-    ClientListener, Closer, Desk, Patient, RoomWatch, ServeEnd, listen_at, port_of, serve_all,
+    ClientListener, Closer, Desk, Patient, RoomWatch, ServeEnd, TimeLimits, listen_at, port_of, serve_all,
     serve_beside,
 };
 use std::alloc::AllocError;
@@ -53,7 +53,11 @@ fn listen<'r, 'a, R>(
 where
     R: Files<File = File> + Net<Listener = TcpListener, Stream = TcpStream>,
 {
-    match listen_at(rt, address, listening.socket_mode, listening.idle) {
+    let limits = TimeLimits {
+        silence: listening.idle,
+        line: listening.idle,
+    };
+    match listen_at(rt, address, listening.socket_mode, limits) {
         Ok(clients) => Ok(clients),
         Err(error) => Err(ServeFault::CannotListen(address, error)),
     }

@@ -19,6 +19,8 @@ mod session_tests;
 #[cfg(test)]
 mod silence_tests;
 #[cfg(test)]
+mod slow_tests;
+#[cfg(test)]
 mod test_clients;
 #[cfg(test)]
 mod test_crowd;

@@ -1,12 +1,12 @@
 //! A server for tests, over the words of one tenant.
 //!
-//! Used by: `client_tests`, `local_tests`, `silence_tests`, `workers_tests`. It may change freely as long as this
+//! Used by: `client_tests`, `local_tests`, `room_tests`, `silence_tests`, `slow_tests`, `workers_tests`. It may change freely as long as this
 //! crate checks and its tests pass.
 ghost use Rattle.std.specs.Prelude.{◌<◌};
 
 use crate::test_clients::come_and_go;
 use crate::test_shelf::{Clerk, Shelf};
-use mw_workers::{Listener, ServeEnd, listen_at, port_of, serve_all};
+use mw_workers::{Listener, ServeEnd, TimeLimits, listen_at, port_of, serve_all};
 use std::alloc::{AllocError, Global};
 use std::fs::File;
 use std::net::{Net, TcpListener, TcpStream};
@@ -16,6 +16,12 @@ use std::test::Fail;
 use std::thread::Threads;
 use std::time::Clock;
 use std::{io, thread};
+
+/// No limit of time.
+pub const NO_LIMITS: TimeLimits = TimeLimits {
+    silence: None,
+    line: None,
+};
 
 /// How much is served.
 #[derive(Clone, Copy)]
@@ -71,9 +77,9 @@ where
     Ok(heard? && end == ServeEnd::Served)
 }
 
-/// Serves clients over loopback. `clients` is told the port, and each client may be silent for so many
-/// seconds. Tells whether `clients` says that all was right, and the server has ended with them.
-pub fn serves_right<R, F>(rt: &R, shop: Shop, idle: Option<u32>, clients: F) -> Result<bool, Fail>
+/// Serves clients over loopback within these limits. `clients` is told the port. Tells whether it says that
+/// all was right, and the server has ended with them.
+pub fn serves_right<R, F>(rt: &R, shop: Shop, limits: TimeLimits, clients: F) -> Result<bool, Fail>
 where
     R: Files<File = File>
         + Net<Listener = TcpListener, Stream = TcpStream>
@@ -86,7 +92,7 @@ where
     requires workers { 0 < shop.workers }
     requires clients { F.IsAlwaysCallable clients }
 {
-    let listener = listen_at(rt, "127.0.0.1:0", 0, idle)?;
+    let listener = listen_at(rt, "127.0.0.1:0", 0, limits)?;
     let port = port_of(&listener)?.unwrap_or(0);
     let come = || {
         let heard = clients(port);

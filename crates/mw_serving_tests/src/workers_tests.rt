@@ -5,7 +5,7 @@ ghost use Rattle.std.specs.Prelude.{◌<◌};
 
 use crate::test_clients::Caller;
 use crate::test_crowd::{Crowd, Heard, Script};
-use crate::test_serving::{Shop, serve, serves_right};
+use crate::test_serving::{NO_LIMITS, Shop, serve, serves_right};
 use mw_session::Ended;
 use mw_words::MAX_LINE;
 use mw_workers::ServeEnd;
@@ -139,7 +139,7 @@ fn one_client_after_the_other(rt: HostRuntime) -> Result<(), Fail> {
         workers: 1,
         connections: 2,
     };
-    let right = serves_right(&rt, shop, None, |port| two_clients(&rt, port))?;
+    let right = serves_right(&rt, shop, NO_LIMITS, |port| two_clients(&rt, port))?;
     assert!(rt; right);
     Ok(())
 }
@@ -301,7 +301,12 @@ fn clients_of_all_kinds_at_once(rt: HostRuntime) -> Result<(), Fail> {
         workers: 24,
         connections: 23,
     };
-    let right = serves_right(&rt, shop, None, |port| all_kinds(&rt, rt.alloc(), port))?;
+    let right = serves_right(
+        &rt,
+        shop,
+        NO_LIMITS,
+        |port| all_kinds(&rt, rt.alloc(), port),
+    )?;
     assert!(rt; right);
     Ok(())
 }

@@ -9,7 +9,7 @@ ghost use Rattle.mw_workers.specs.Sessions.{IsServed};
 
 use crate::acceptor::accept_one;
 use crate::patience::{Patient, RoomWatch};
-use crate::peer::{Connection, Intake, Listener};
+use crate::peer::{Connection, Intake, Listener, NoOthers};
 use crate::server::{ServeEnd, serve_all};
 use crate::sockets::Closer;
 use mw_session::Service;
@@ -144,6 +144,6 @@ impl<C: Connection + Drop, S: Service> Intake<C> for Clerk<S> {
     ghost puts = { λ old connection new. IsServed C.left C.sent (AreAnswered S.answered) old.service connection new.service };
 
     fn put<R: Wait>(&mut self, rt: &R, connection: C) {
-        connection.serve(rt, self.alloc, &mut self.service);
+        connection.serve(rt, self.alloc, &mut self.service, &NoOthers);
     }
 }

@@ -39,12 +39,15 @@ mod patience;
 mod peer;
 mod server;
 mod sockets;
+mod time_limits;
+mod timed_stream;
 mod worker;
 
 pub use acceptor::accept_all;
 pub use desk::{Desk, serve_beside};
 pub use patience::{FIRST_PAUSE, LONGEST_PAUSE, Patient, RoomWatch};
-pub use peer::{Connection, Intake, Listener};
+pub use peer::{Connection, Intake, Listener, NoOthers, Others};
 pub use server::{QUEUE, ServeEnd, serve_all};
 pub use sockets::{Client, ClientListener, Closer, listen_at, port_of};
+pub use time_limits::TimeLimits;
 pub use worker::serve_each;
