@@ -116,7 +116,7 @@ where
         || come_and_go(rt, port, latch),
         ||
             requires { 0 < vec_len workers }
-        { serve_all(rt, alloc, listener, workers, Some(CONNECTIONS)) },
+        { serve_all(rt, alloc, listener, workers, Some(CONNECTIONS), None) },
     );
     Ok(told? && served.0 == ServeEnd::Served)
 }

@@ -216,7 +216,7 @@ where
     let address = listening.address.as_str();
     let room = RoomNotes { notes, address };
     let clients = Patient::new(clients, rt, &room);
-    let (end, _) = serve_all(rt, rt.alloc(), clients, workers, listening.connections);
+    let (end, _) = serve_all(rt, rt.alloc(), clients, workers, listening.connections, None);
     served(end)
 }
 
@@ -356,7 +356,7 @@ where
         watch: own_room,
     };
     let clients = Patient::new(doors.clients, rt, room);
-    let (end, _) = serve_beside(rt, rt.alloc(), desk, clients, staff.workers, connections);
+    let (end, _) = serve_beside(rt, rt.alloc(), desk, clients, staff.workers, connections, None);
     end
 }
 

@@ -229,7 +229,7 @@ where
         asked,
         times: refusals.saturating_add(1),
     };
-    let (end, _) = serve_beside(rt, rt.alloc(), desk, nobody, services, Some(1));
+    let (end, _) = serve_beside(rt, rt.alloc(), desk, nobody, services, Some(1), None);
     Ok(end)
 }
 

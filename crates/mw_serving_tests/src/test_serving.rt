@@ -47,7 +47,7 @@ pub fn serve<L: Listener + Drop, R: Threads + Wait + Sync>(
     for _ in 0..shop.workers {
         services.push(Clerk { rt, shelf: &shelf })?;
     }
-    Ok(serve_all(rt, alloc, listener, services, Some(shop.connections)))
+    Ok(serve_all(rt, alloc, listener, services, Some(shop.connections), None))
 }
 
 /// Serves clients that come as `clients` does. Tells whether it says that all was right, and the server has

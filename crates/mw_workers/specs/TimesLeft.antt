@@ -1,6 +1,6 @@
 -- Defines how long a session may still wait for its client: which times run, and what is left of each limit.
--- Used by: the contracts of time_limits.rt. A change here changes when a slow client is sent away. Times and lengths of time are
--- in nanoseconds.
+-- Used by: the contracts of time_limits.rt and usher.rt. A change here changes when a client is sent away that is slow, or that
+-- no worker serves. Times and lengths of time are in nanoseconds.
 use Rattle.std.specs.Prelude.{◌≡◌, ℕ, ◌-◌, ◌*◌, ◌==◌, min, max, length, Bool, true, false, List, Option, Some, None, slice_get, if◌then◌else◌}
 use Rattle.std.specs.List.{list_any}
 use Rattle.std.specs.Option.{option_map}
@@ -89,3 +89,13 @@ wait_left limits times called now others =
 -- At whatever time the next call begins, and whoever waits, it may wait for a whole silence.
 abbrev pub MayWaitASilence : WaitLimits → Times → Type 0
 MayWaitASilence limits times = (called : Instant) (others : Bool) → wait_left limits (started times called) called called others ≡ nanos limits.silence
+
+-- a reading of the clock, if there is one
+abbrev pub moment : Option Instant → Option ℕ
+moment time = option_map instant_nanos time
+
+-- How long a connection may still wait for a worker, by when it came. If a time isn't known, it may wait anew.
+abbrev pub still_to_wait : ℕ → Option ℕ → Option ℕ → ℕ
+still_to_wait wait None now = wait
+still_to_wait wait (Some came) None = wait
+still_to_wait wait (Some came) (Some now) = wait - (now - came)

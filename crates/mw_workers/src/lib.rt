@@ -41,13 +41,14 @@ mod server;
 mod sockets;
 mod time_limits;
 mod timed_stream;
+mod usher;
 mod worker;
 
 pub use acceptor::accept_all;
-pub use desk::{Desk, serve_beside};
+pub use desk::{DESK_QUEUE, Desk, TURN, serve_beside};
 pub use patience::{FIRST_PAUSE, LONGEST_PAUSE, Patient, RoomWatch};
 pub use peer::{Connection, Intake, Listener, NoOthers, Others};
-pub use server::{QUEUE, ServeEnd, serve_all};
+pub use server::{QUEUE, ServeEnd, WAITING, serve_all};
 pub use sockets::{Client, ClientListener, Closer, listen_at, port_of};
 pub use time_limits::TimeLimits;
 pub use worker::serve_each;
