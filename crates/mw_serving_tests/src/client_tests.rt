@@ -210,6 +210,7 @@ fn the_administrator_connects_and_asks(rt: HostRuntime) -> Result<(), Fail> {
         words: 2,
         workers: 1,
         connections: 1,
+        wait: None,
     };
     let told = serves_right(
         &rt,

@@ -5,6 +5,8 @@
 #[cfg(test)]
 mod client_tests;
 #[cfg(test)]
+mod desk_tests;
+#[cfg(test)]
 mod local_lookout;
 #[cfg(test)]
 mod local_tests;
@@ -28,5 +30,7 @@ mod test_crowd;
 mod test_serving;
 #[cfg(test)]
 mod test_shelf;
+#[cfg(test)]
+mod wait_tests;
 #[cfg(test)]
 mod workers_tests;

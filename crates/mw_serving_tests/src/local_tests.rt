@@ -24,6 +24,7 @@ const SHOP: Shop = Shop {
     words: 2,
     workers: 1,
     connections: 2,
+    wait: None,
 };
 
 /// Makes a new folder for the socket, with this in its name.

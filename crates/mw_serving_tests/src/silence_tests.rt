@@ -16,6 +16,7 @@ const SHOP: Shop = Shop {
     words: 2,
     workers: 1,
     connections: 2,
+    wait: None,
 };
 
 /// A client may be silent for a second.
@@ -76,16 +77,19 @@ fn come_dripping<R: Net<Listener = TcpListener, Stream = TcpStream> + Threads + 
     let begun = Instant::now(rt)?;
     let mut second = Caller::new(rt, port)?;
     let done = AtomicBool::new(false);
-    let (_, answered) = thread::join(
+    let (_, waited) = thread::join(
         rt,
         || drip(rt, first, &done),
         || {
             let answered = second.asks(b"TENANT t\nQUIT\n", b"OK 2\nBYE\n");
             done.store(true, Ordering::SeqCst);
-            answered
+            answered.then_some(begun.elapsed(rt))
         },
     );
-    Ok(answered && begun.elapsed(rt)? <= Duration::from_millis(FAREWELL))
+    match waited {
+        Some(waited) => Ok(waited? <= Duration::from_millis(FAREWELL)),
+        None => Ok(false),
+    }
 }
 
 #[test]

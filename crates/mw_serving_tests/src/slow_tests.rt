@@ -15,6 +15,7 @@ const SHOP: Shop = Shop {
     words: 2,
     workers: 1,
     connections: 2,
+    wait: None,
 };
 
 /// A line may take a second, and a silence much longer.

@@ -1,6 +1,7 @@
 //! Clients over sockets, for tests: what they wait for must come within a limit of time.
 //!
-//! Used by: `local_tests`, `silence_tests`, `slow_tests`, `test_serving`, `workers_tests`. It may change freely as long as this
+//! Used by: `desk_tests`, `local_tests`, `silence_tests`, `slow_tests`, `test_serving`, `wait_tests`,
+//! `workers_tests`. It may change freely as long as this
 //! crate checks and its tests pass.
 use std::io::{self, ErrorKind, Read, Write};
 use std::net::{Net, TcpListener, TcpStream};
@@ -9,7 +10,7 @@ use std::os::unix::net::UnixStream;
 use std::time::Duration;
 
 /// How long a client waits for an answer, in seconds.
-const PATIENCE: u64 = 10;
+const PATIENCE: u64 = 20;
 
 /// A client's end of a connection.
 #[derive(Drop)]

@@ -1,6 +1,6 @@
 //! A server for tests, over the words of one tenant.
 //!
-//! Used by: `client_tests`, `local_tests`, `room_tests`, `silence_tests`, `slow_tests`, `workers_tests`. It may change freely as long as this
+//! Used by: `client_tests`, `desk_tests`, `local_tests`, `room_tests`, `silence_tests`, `slow_tests`, `wait_tests`, `workers_tests`. It may change freely as long as this
 //! crate checks and its tests pass.
 ghost use Rattle.std.specs.Prelude.{◌<◌};
 
@@ -31,10 +31,12 @@ pub struct Shop {
     pub workers: u8,
     /// How many connections the listener is asked for.
     pub connections: u32,
+    /// How many seconds a connection waits for a worker. None: for ever.
+    pub wait: Option<u32>,
 }
 
 /// Serves these connections, and gives the listener back.
-pub fn serve<L: Listener + Drop, R: Threads + Wait + Sync>(
+pub fn serve<L: Listener + Drop, R: Threads + Wait + Clock + Sync>(
     rt: &R,
     alloc: Global,
     listener: L,
@@ -47,7 +49,14 @@ pub fn serve<L: Listener + Drop, R: Threads + Wait + Sync>(
     for _ in 0..shop.workers {
         services.push(Clerk { rt, shelf: &shelf })?;
     }
-    Ok(serve_all(rt, alloc, listener, services, Some(shop.connections), None))
+    Ok(serve_all(
+        rt,
+        alloc,
+        listener,
+        services,
+        Some(shop.connections),
+        shop.wait,
+    ))
 }
 
 /// Serves clients that come as `clients` does. Tells whether it says that all was right, and the server has
@@ -61,7 +70,7 @@ pub fn serves_beside<L, R, F>(
 ) -> Result<bool, Fail>
 where
     L: Listener + Drop,
-    R: Threads + Wait + Sync,
+    R: Threads + Wait + Clock + Sync,
     F: FnOnce() -> io::Result<bool> + Send,
     requires workers { 0 < shop.workers }
     requires clients { F.pre clients }
