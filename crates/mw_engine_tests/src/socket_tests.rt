@@ -11,7 +11,7 @@ use crate::latch::{ByLatch, Latch, LatchedDisk, Place};
 use crate::starts::{Started, start};
 use crate::workers::{Worker, workers_of};
 use mw_engine::{EngineBrand, EngineParts, Pass, Point};
-use mw_workers::{ServeEnd, listen_at, port_of, serve_all};
+use mw_workers::{ServeEnd, TimeLimits, listen_at, port_of, serve_all};
 use std::alloc::Global;
 use std::fs::File;
 use std::io::{self, Read, Write};
@@ -104,7 +104,11 @@ where
     if workers.is_empty() {
         return Ok(false);
     }
-    let listener = listen_at(rt, "127.0.0.1:0", 0, None)?;
+    let limits = TimeLimits {
+        silence: None,
+        line: None,
+    };
+    let listener = listen_at(rt, "127.0.0.1:0", 0, limits)?;
     let port = port_of(&listener)?.unwrap_or(0);
     latch.set(0, 1);
     let (told, served) = thread::join(
@@ -112,7 +116,7 @@ where
         || come_and_go(rt, port, latch),
         ||
             requires { 0 < vec_len workers }
-        { serve_all(rt, alloc, listener, workers, Some(CONNECTIONS)) },
+        { serve_all(rt, alloc, listener, workers, Some(CONNECTIONS), None) },
     );
     Ok(told? && served.0 == ServeEnd::Served)
 }

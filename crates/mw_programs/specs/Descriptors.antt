@@ -1,9 +1,15 @@
 -- Defines how many descriptors a server needs.
--- Used by: the contract of `needed` in src/descriptors.rt. It changes with what a server opens.
+-- Used by: the contracts of `needed` and `needed_to_wait` in src/descriptors.rt. It changes with what a server opens.
 use Rattle.std.specs.Prelude.{ℕ, ◌+◌, Bool, if◌then◌else◌}
-use Rattle.mw_workers.specs.declared.server.TheConstants.{QUEUE}
+use Rattle.mw_workers.specs.declared.desk.TheConstants.{DESK_QUEUE}
+use Rattle.mw_workers.specs.declared.server.TheConstants.{QUEUE, WAITING}
 
--- The standard streams, the tenants' files, the listener, a connection of each worker, those that wait, and one between.
--- With an address for the administrator three more: its listener, a second handle of it, and a connection.
-abbrev pub needed : ℕ → ℕ → Bool → ℕ
-needed tenants workers has_admin = 3 + tenants + 1 + workers + QUEUE + 1 + (if has_admin then 3 else 0)
+-- the connections that no session serves yet: those that wait, and one between; and one more if they wait for a limited time
+abbrev pub needed_to_wait : Bool → ℕ
+needed_to_wait is_limited = if is_limited then WAITING + 2 else QUEUE + 1
+
+-- The standard streams, the tenants' files, the listener, a connection of each session, and those that no session serves
+-- yet. With an address for the administrator also its listener, a second handle of it, the connections that wait there, and
+-- one between.
+abbrev pub needed : ℕ → ℕ → Bool → Bool → ℕ
+needed tenants sessions is_limited has_admin = 3 + tenants + 1 + sessions + needed_to_wait is_limited + (if has_admin then 3 + DESK_QUEUE else 0)

@@ -2,28 +2,40 @@
 //!
 //! `serving` asks before it serves clients. docs/OPERATING tells how many are needed: change both together.
 ghost use Rattle.std.specs.Prelude.{◌≡◌, ◌≤◌};
-ghost use Rattle.mw_programs.specs.Descriptors.{needed};
+ghost use Rattle.mw_programs.specs.Descriptors.{needed, needed_to_wait};
 ghost use Rattle.mw_words.specs.declared.limits.TheConstants.{MAX_TENANTS};
 
 use log::{Log, info, warn};
 use mw_words::MAX_TENANTS;
-use mw_workers::QUEUE;
+use mw_workers::{DESK_QUEUE, QUEUE, WAITING};
 
 /// How many standard streams a program has.
 pub(crate) const STREAMS: u64 = 3;
 
-/// How many more are needed for the administrator's address: its listener, what ends the wait there, and a connection
-/// that is being accepted.
-pub(crate) const FOR_ADMIN: u64 = 3;
+/// How many more are needed for the administrator's address: its listener, what ends the wait there, the connections that
+/// wait for their turn, and one that is being accepted.
+pub(crate) const FOR_ADMIN: u64 = 3 + DESK_QUEUE as u64;
+
+/// How many are needed for connections that no session serves yet: those that wait for one, and one that is being accepted.
+/// If they wait for a limited time, one more is on its way to a session.
+fn needed_to_wait(is_limited: bool) -> u64
+    ensures { result ≡ needed_to_wait is_limited }
+{
+    if is_limited {
+        WAITING as u64 + 2
+    } else {
+        QUEUE as u64 + 1
+    }
+}
 
 /// Gives how many descriptors a server needs: for the standard streams, the tenants' files, the listener, a connection
-/// of each worker, the connections that wait for one, and one that is being accepted. With an address for the
+/// of each session, and the connections that wait for a session, for ever or for a limited time. With an address for the
 /// administrator it needs more.
-pub(crate) fn needed(tenants: usize, workers: u8, has_admin: bool) -> u64
+pub(crate) fn needed(tenants: usize, sessions: u16, is_limited: bool, has_admin: bool) -> u64
     requires { tenants ≤ MAX_TENANTS }
-    ensures { result ≡ needed tenants workers has_admin }
+    ensures { result ≡ needed tenants sessions is_limited has_admin }
 {
-    let connections = u64::from(workers) + QUEUE as u64 + 1;
+    let connections = u64::from(sessions) + needed_to_wait(is_limited);
     let clients = STREAMS + tenants as u64 + 1 + connections;
     if has_admin {
         clients + FOR_ADMIN

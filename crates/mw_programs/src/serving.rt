@@ -3,6 +3,7 @@
 //! `mwserve` calls `serve`. docs/OPERATING tells its options, notes and statuses: change them together.
 ghost use Rattle.std.specs.Prelude.{◌≡◌, ◌<◌, ◌≤◌, All, IfOk, vec_len};
 ghost use Rattle.mw_config.specs.CommandLine.{ArePermittedArgs};
+ghost use Rattle.mw_config.specs.declared.command_line.Mode.TheVariants.{Listen};
 ghost use Rattle.mw_config.specs.Limits.{ArePermitted};
 ghost use Rattle.mw_words.specs.declared.limits.TheConstants.{MAX_TENANTS, MAX_WORKERS};
 ghost use Rattle.mw_engine.specs.OpenedFiles.{FitLines};
@@ -15,7 +16,7 @@ use crate::replaced::{FileLook, SeesPaths};
 use crate::staff::serve_all_clients;
 use crate::tenants::TenantNotes;
 use log::{Log, warn};
-use mw_config::{ArgFault, Args, Mode, Refusal, TenantLine, read_args};
+use mw_config::{ArgFault, Args, Listening, Mode, Refusal, TenantLine, read_args};
 use mw_disk::{Disk, FileDisk};
 use mw_engine::{Engine, EngineBrand, EngineParts, NoHold, Pass};
 use mw_opening::{
@@ -216,11 +217,24 @@ fn has_room<L: Log>(notes: &L, args: &Args, tenants: usize) -> bool
     match &args.mode {
         Mode::Script(_) => true,
         Mode::Listen(listening) => {
+            let has_admin = listening.admin.is_some();
+            let sessions = sessions_of(args, listening);
             has_descriptors(
                 notes,
-                needed(tenants, workers_of(args), listening.admin.is_some()),
+                needed(tenants, sessions, listening.wait.is_some(), has_admin),
             )
         }
+    }
+}
+
+/// Gives how many sessions there are at once, the administrator's included.
+fn sessions_of(args: &Args, listening: &Listening) -> u16
+    requires args { ArePermittedArgs args.now }
+    requires mode { args.now.mode ≡ Listen listening.now }
+{
+    match &listening.crowd {
+        Some(crowd) => crowd.clients + u16::from(listening.admin.is_some()),
+        None => u16::from(workers_of(args)),
     }
 }
 

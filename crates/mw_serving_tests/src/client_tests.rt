@@ -1,7 +1,7 @@
 //! Tests clients of a server that is a text in memory, and a client that comes by a socket.
 //!
 //! Nothing else uses it: it may change with what it tests.
-use crate::test_serving::{Shop, serves_right};
+use crate::test_serving::{NO_LIMITS, Shop, serves_right};
 use arrayvec::ArrayVec;
 use mw_client::{
     Administrator, Client, Failure, Outcome, connect, connect_administrator, read_reply,
@@ -210,11 +210,12 @@ fn the_administrator_connects_and_asks(rt: HostRuntime) -> Result<(), Fail> {
         words: 2,
         workers: 1,
         connections: 1,
+        wait: None,
     };
     let told = serves_right(
         &rt,
         shop,
-        None,
+        NO_LIMITS,
         |port| is_told_by_a_socket(&rt, rt.alloc(), port),
     )?;
     assert!(rt; told);

@@ -5,6 +5,8 @@
 #[cfg(test)]
 mod client_tests;
 #[cfg(test)]
+mod desk_tests;
+#[cfg(test)]
 mod local_lookout;
 #[cfg(test)]
 mod local_tests;
@@ -19,6 +21,8 @@ mod session_tests;
 #[cfg(test)]
 mod silence_tests;
 #[cfg(test)]
+mod slow_tests;
+#[cfg(test)]
 mod test_clients;
 #[cfg(test)]
 mod test_crowd;
@@ -26,5 +30,7 @@ mod test_crowd;
 mod test_serving;
 #[cfg(test)]
 mod test_shelf;
+#[cfg(test)]
+mod wait_tests;
 #[cfg(test)]
 mod workers_tests;

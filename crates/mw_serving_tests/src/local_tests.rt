@@ -3,8 +3,8 @@
 //! Nothing else uses it: it may change with what it tests.
 use crate::local_lookout::Lookout;
 use crate::test_clients::Caller;
-use crate::test_serving::{Shop, serves_beside};
-use mw_workers::listen_at;
+use crate::test_serving::{NO_LIMITS, Shop, serves_beside};
+use mw_workers::{TimeLimits, listen_at};
 use std::fs::File;
 use std::io::ErrorKind;
 use std::net::{Net, TcpListener, TcpStream};
@@ -13,8 +13,8 @@ use std::rt::Files;
 use std::sync::Wait;
 use std::test::Fail;
 use std::thread::Threads;
-use std::time::Clock;
-use std::{env, fs, io, process};
+use std::time::{Clock, Duration, Instant};
+use std::{env, fs, io, process, thread};
 
 /// The file mode of the socket: its owner and group may connect.
 const OWNER_AND_GROUP: u32 = 0o660;
@@ -24,6 +24,7 @@ const SHOP: Shop = Shop {
     words: 2,
     workers: 1,
     connections: 2,
+    wait: None,
 };
 
 /// Makes a new folder for the socket, with this in its name.
@@ -42,7 +43,7 @@ where
     R: Files<File = File> + Net<Listener = TcpListener, Stream = TcpStream>,
 {
     let mode = fs::metadata(rt, path)?.permissions().mode();
-    let taken = match listen_at(rt, address, OWNER_AND_GROUP, None) {
+    let taken = match listen_at(rt, address, OWNER_AND_GROUP, NO_LIMITS) {
         Ok(_) => false,
         Err(fault) => fault.kind() == ErrorKind::AddrInUse,
     };
@@ -68,7 +69,7 @@ where
         + Sync,
 {
     let address = format!(in rt.alloc(); "unix:{path}")?;
-    let clients = listen_at(rt, address.as_str(), OWNER_AND_GROUP, None)?;
+    let clients = listen_at(rt, address.as_str(), OWNER_AND_GROUP, NO_LIMITS)?;
     if !is_kept(rt, path, address.as_str())? {
         return Ok(false);
     }
@@ -96,19 +97,59 @@ fn come_deaf<R: Net>(rt: &R, path: &str) -> io::Result<bool> {
     Ok(bound && deaf.insists(LOOKS, 4_000_000) && is_served(rt, path)?)
 }
 
+/// A client that takes a byte of its replies each 200 milliseconds, and far too few, is sent away meanwhile: the
+/// next one need not wait for it.
+fn come_sipping<R: Net + Clock>(rt: &R, path: &str) -> io::Result<bool> {
+    let mut first = Caller::local(rt, path)?;
+    let held = first.asks(b"TENANT t\n", b"OK 2\n") && first.insists(LOOKS, 4_000_000);
+    for _ in 0..15u8 {
+        thread::sleep(rt, Duration::from_millis(200));
+        first.sips();
+    }
+    let begun = Instant::now(rt)?;
+    let served = is_served(rt, path)?;
+    Ok(held && served && begun.elapsed(rt)? <= Duration::from_millis(500))
+}
+
+/// Serves clients that come as `clients` does by the local socket with this path. A client may be silent for a
+/// second, and a line or a reply may take one. Tells whether `clients` says that all was right, and the server has
+/// ended with them.
+fn serves_slow_ones<R, F>(rt: &R, path: &str, clients: F) -> Result<bool, Fail>
+where
+    R: Files<File = File>
+        + Net<Listener = TcpListener, Stream = TcpStream>
+        + AllocGlobal
+        + Threads
+        + Wait
+        + Clock
+        + Sync,
+    F: FnOnce() -> io::Result<bool> + Send,
+    requires { F.pre clients }
+{
+    let limits = TimeLimits {
+        silence: Some(1),
+        line: Some(1),
+    };
+    let address = format!(in rt.alloc(); "unix:{path}")?;
+    let listener = listen_at(rt, address.as_str(), OWNER_AND_GROUP, limits)?;
+    serves_beside(rt, rt.alloc(), listener, SHOP, clients)
+}
+
 #[test]
 fn who_takes_no_replies_is_sent_away(rt: HostRuntime) -> Result<(), Fail> {
     let folder = new_folder(&rt, "deaf")?;
     let path = format!(in rt.alloc(); "{folder}/s")?;
-    let address = format!(in rt.alloc(); "unix:{path}")?;
-    let clients = listen_at(&rt, address.as_str(), OWNER_AND_GROUP, Some(1))?;
-    let right = serves_beside(
-        &rt,
-        rt.alloc(),
-        clients,
-        SHOP,
-        || come_deaf(&rt, path.as_str()),
-    )?;
+    let right = serves_slow_ones(&rt, path.as_str(), || come_deaf(&rt, path.as_str()))?;
+    assert!(rt; right);
+    fs::remove_dir_all(&rt, folder.as_str())?;
+    Ok(())
+}
+
+#[test]
+fn who_sips_replies_is_sent_away(rt: HostRuntime) -> Result<(), Fail> {
+    let folder = new_folder(&rt, "sips")?;
+    let path = format!(in rt.alloc(); "{folder}/s")?;
+    let right = serves_slow_ones(&rt, path.as_str(), || come_sipping(&rt, path.as_str()))?;
     assert!(rt; right);
     fs::remove_dir_all(&rt, folder.as_str())?;
     Ok(())
@@ -120,7 +161,7 @@ fn nobody_connects_before_the_mode_is_set(rt: HostRuntime) -> Result<(), Fail> {
     let path = format!(in rt.alloc(); "{folder}/s")?;
     let address = format!(in rt.alloc(); "unix:{path}")?;
     let lookout = Lookout::new(&rt);
-    let clients = listen_at(&lookout, address.as_str(), OWNER_AND_GROUP, None)?;
+    let clients = listen_at(&lookout, address.as_str(), OWNER_AND_GROUP, NO_LIMITS)?;
     assert!(rt; lookout.modes_set() == 1 && lookout.connected_before() == 0);
     let mode = fs::metadata(&rt, path.as_str())?.permissions().mode();
     assert!(rt; mode % 0o1000 == OWNER_AND_GROUP);

@@ -3,11 +3,13 @@
 //! Nothing else uses it: it may change with what it tests.
 ghost use Rattle.std.specs.Prelude.{None};
 
+use crate::test_serving::NO_LIMITS;
 use crate::test_shelf::{Clerk, Shelf};
 use arrayvec::ArrayVec;
 use mw_session::{Ended, Service, Session};
 use mw_workers::{
-    Closer, Connection, Desk, Listener, Patient, RoomWatch, ServeEnd, listen_at, serve_beside,
+    Closer, Connection, Desk, Listener, Others, Patient, RoomWatch, ServeEnd, listen_at,
+    serve_beside,
 };
 use std::alloc::Global;
 use std::cell::RefCell;
@@ -31,7 +33,13 @@ impl Connection for Nobody {
 
     ghost sent = { λ _. None };
 
-    fn serve<S: Service, R: Wait>(self, rt: &R, alloc: Global, service: &mut S) -> Ended {
+    fn serve<S: Service, R: Wait, O: Others>(
+        self,
+        rt: &R,
+        alloc: Global,
+        service: &mut S,
+        _others: &O,
+    ) -> Ended {
         let mut says: &[u8] = &[];
         let mut page = Vec::new(alloc);
         Session::run(alloc, rt, &mut says, &mut page, service)
@@ -221,7 +229,7 @@ where
         asked,
         times: refusals.saturating_add(1),
     };
-    let (end, _) = serve_beside(rt, rt.alloc(), desk, nobody, services, Some(1));
+    let (end, _) = serve_beside(rt, rt.alloc(), desk, nobody, services, Some(1), None);
     Ok(end)
 }
 
@@ -242,7 +250,7 @@ where
         told: AtomicU32::new(0),
     };
     let shelf = Mutex::new(Shelf::new(2));
-    let door = listen_at(rt, "127.0.0.1:0", 0, None)?;
+    let door = listen_at(rt, "127.0.0.1:0", 0, NO_LIMITS)?;
     let closer = door.closer()?;
     let end = serves_crowded(rt, &shelf, &asked, &watch, refusals, door, closer)?;
     let told = watch.told.load(Ordering::SeqCst);

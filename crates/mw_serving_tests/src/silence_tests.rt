@@ -2,12 +2,13 @@
 //!
 //! Nothing else uses it: it may change with what it tests.
 use crate::test_clients::Caller;
-use crate::test_serving::{Shop, serves_right};
+use crate::test_serving::{NO_LIMITS, Shop, serves_right};
+use mw_workers::TimeLimits;
 use std::net::{Net, TcpListener, TcpStream};
 use std::sync::atomic::{AtomicBool, Ordering};
 use std::test::Fail;
 use std::thread::Threads;
-use std::time::{Clock, Duration};
+use std::time::{Clock, Duration, Instant};
 use std::{io, thread};
 
 /// Two connections, of which one is served after the other.
@@ -15,6 +16,13 @@ const SHOP: Shop = Shop {
     words: 2,
     workers: 1,
     connections: 2,
+    wait: None,
+};
+
+/// A client may be silent for a second.
+const ONE_SECOND_OF_SILENCE: TimeLimits = TimeLimits {
+    silence: Some(1),
+    line: None,
 };
 
 /// A client that says nothing more is sent away, and the next one is served.
@@ -32,7 +40,12 @@ fn come_silent<R: Net<Listener = TcpListener, Stream = TcpStream>>(
 
 #[test]
 fn silent_clients_are_sent_away(rt: HostRuntime) -> Result<(), Fail> {
-    let right = serves_right(&rt, SHOP, Some(1), |port| come_silent(&rt, port))?;
+    let right = serves_right(
+        &rt,
+        SHOP,
+        ONE_SECOND_OF_SILENCE,
+        |port| come_silent(&rt, port),
+    )?;
     assert!(rt; right);
     Ok(())
 }
@@ -48,7 +61,11 @@ fn drip<R: Clock>(rt: &R, mut client: Caller, done: &AtomicBool) {
     }
 }
 
-/// A client that goes on sending after the end of its session doesn't keep the worker from the next one.
+/// How long the server reads at most what a client sends after the end of its session, in milliseconds: a second, and
+/// some time to go on.
+const FAREWELL: u64 = 1200;
+
+/// A client that goes on sending after the end of its session doesn't keep the worker from the next one for long.
 fn come_dripping<R: Net<Listener = TcpListener, Stream = TcpStream> + Threads + Clock + Sync>(
     rt: &R,
     port: u16,
@@ -57,23 +74,27 @@ fn come_dripping<R: Net<Listener = TcpListener, Stream = TcpStream> + Threads + 
     if !first.asks(b"QUIT\n", b"BYE\n") {
         return Ok(false);
     }
+    let begun = Instant::now(rt)?;
     let mut second = Caller::new(rt, port)?;
     let done = AtomicBool::new(false);
-    let (_, answered) = thread::join(
+    let (_, waited) = thread::join(
         rt,
         || drip(rt, first, &done),
         || {
             let answered = second.asks(b"TENANT t\nQUIT\n", b"OK 2\nBYE\n");
             done.store(true, Ordering::SeqCst);
-            answered
+            answered.then_some(begun.elapsed(rt))
         },
     );
-    Ok(answered)
+    match waited {
+        Some(waited) => Ok(waited? <= Duration::from_millis(FAREWELL)),
+        None => Ok(false),
+    }
 }
 
 #[test]
 fn who_sends_on_is_left(rt: HostRuntime) -> Result<(), Fail> {
-    let right = serves_right(&rt, SHOP, None, |port| come_dripping(&rt, port))?;
+    let right = serves_right(&rt, SHOP, NO_LIMITS, |port| come_dripping(&rt, port))?;
     assert!(rt; right);
     Ok(())
 }

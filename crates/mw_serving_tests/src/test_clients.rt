@@ -1,16 +1,16 @@
 //! Clients over sockets, for tests: what they wait for must come within a limit of time.
 //!
-//! Used by: `local_tests`, `silence_tests`, `test_serving`, `workers_tests`. It may change freely as long as this
+//! Used by: `desk_tests`, `local_tests`, `silence_tests`, `slow_tests`, `test_serving`, `wait_tests`,
+//! `workers_tests`. It may change freely as long as this
 //! crate checks and its tests pass.
-use std::io;
-use std::io::{Read, Write};
+use std::io::{self, ErrorKind, Read, Write};
 use std::net::{Net, TcpListener, TcpStream};
 use std::os::fd::OwnedFd;
 use std::os::unix::net::UnixStream;
 use std::time::Duration;
 
 /// How long a client waits for an answer, in seconds.
-const PATIENCE: u64 = 10;
+const PATIENCE: u64 = 20;
 
 /// A client's end of a connection.
 #[derive(Drop)]
@@ -61,6 +61,20 @@ impl Caller {
         match heard.get_mut(..text.len()) {
             Some(room) => self.stream.read_exact(room).is_ok() && *room == *text,
             None => false,
+        }
+    }
+
+    /// Takes one byte of what comes next, if anything comes in time.
+    pub fn sips(&mut self) {
+        let _ = self.stream.read(&mut [0]);
+    }
+
+    /// Gives true if nothing more comes: the server closes the connection, whether or not it has read all.
+    pub fn hears_no_more(&mut self) -> bool {
+        let mut heard = [0; 1];
+        match self.stream.read(&mut heard) {
+            Ok(count) => count == 0,
+            Err(fault) => fault.kind() == ErrorKind::ConnectionReset,
         }
     }
 

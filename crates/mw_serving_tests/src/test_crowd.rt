@@ -6,7 +6,7 @@ ghost use Rattle.std.specs.Prelude.{None, Some};
 use arrayvec::ArrayVec;
 use mw_session::{Ended, Service, Session};
 use mw_test_peers::{Failure, Page};
-use mw_workers::{Connection, Listener};
+use mw_workers::{Connection, Listener, Others};
 use std::alloc::Global;
 use std::io;
 use std::io::ErrorKind;
@@ -68,7 +68,13 @@ impl<'a> Connection for Client<'a> {
 
     ghost sent = { λ _. None };
 
-    fn serve<S: Service, R: Wait>(self, rt: &R, alloc: Global, service: &mut S) -> Ended {
+    fn serve<S: Service, R: Wait, O: Others>(
+        self,
+        rt: &R,
+        alloc: Global,
+        service: &mut S,
+        _others: &O,
+    ) -> Ended {
         let mut page = Page::new(usize::MAX, self.takes, Failure::Error);
         let mut says = self.says;
         let ended = Session::run(alloc, rt, &mut says, &mut page, service);

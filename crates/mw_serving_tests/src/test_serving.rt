@@ -1,12 +1,12 @@
 //! A server for tests, over the words of one tenant.
 //!
-//! Used by: `client_tests`, `local_tests`, `silence_tests`, `workers_tests`. It may change freely as long as this
+//! Used by: `client_tests`, `desk_tests`, `local_tests`, `room_tests`, `silence_tests`, `slow_tests`, `wait_tests`, `workers_tests`. It may change freely as long as this
 //! crate checks and its tests pass.
 ghost use Rattle.std.specs.Prelude.{◌<◌};
 
 use crate::test_clients::come_and_go;
 use crate::test_shelf::{Clerk, Shelf};
-use mw_workers::{Listener, ServeEnd, listen_at, port_of, serve_all};
+use mw_workers::{Listener, ServeEnd, TimeLimits, listen_at, port_of, serve_all};
 use std::alloc::{AllocError, Global};
 use std::fs::File;
 use std::net::{Net, TcpListener, TcpStream};
@@ -17,6 +17,12 @@ use std::thread::Threads;
 use std::time::Clock;
 use std::{io, thread};
 
+/// No limit of time.
+pub const NO_LIMITS: TimeLimits = TimeLimits {
+    silence: None,
+    line: None,
+};
+
 /// How much is served.
 #[derive(Clone, Copy)]
 pub struct Shop {
@@ -25,10 +31,12 @@ pub struct Shop {
     pub workers: u8,
     /// How many connections the listener is asked for.
     pub connections: u32,
+    /// How many seconds a connection waits for a worker. None: for ever.
+    pub wait: Option<u32>,
 }
 
 /// Serves these connections, and gives the listener back.
-pub fn serve<L: Listener + Drop, R: Threads + Wait + Sync>(
+pub fn serve<L: Listener + Drop, R: Threads + Wait + Clock + Sync>(
     rt: &R,
     alloc: Global,
     listener: L,
@@ -41,7 +49,14 @@ pub fn serve<L: Listener + Drop, R: Threads + Wait + Sync>(
     for _ in 0..shop.workers {
         services.push(Clerk { rt, shelf: &shelf })?;
     }
-    Ok(serve_all(rt, alloc, listener, services, Some(shop.connections)))
+    Ok(serve_all(
+        rt,
+        alloc,
+        listener,
+        services,
+        Some(shop.connections),
+        shop.wait,
+    ))
 }
 
 /// Serves clients that come as `clients` does. Tells whether it says that all was right, and the server has
@@ -55,7 +70,7 @@ pub fn serves_beside<L, R, F>(
 ) -> Result<bool, Fail>
 where
     L: Listener + Drop,
-    R: Threads + Wait + Sync,
+    R: Threads + Wait + Clock + Sync,
     F: FnOnce() -> io::Result<bool> + Send,
     requires workers { 0 < shop.workers }
     requires clients { F.pre clients }
@@ -71,9 +86,9 @@ where
     Ok(heard? && end == ServeEnd::Served)
 }
 
-/// Serves clients over loopback. `clients` is told the port, and each client may be silent for so many
-/// seconds. Tells whether `clients` says that all was right, and the server has ended with them.
-pub fn serves_right<R, F>(rt: &R, shop: Shop, idle: Option<u32>, clients: F) -> Result<bool, Fail>
+/// Serves clients over loopback within these limits. `clients` is told the port. Tells whether it says that
+/// all was right, and the server has ended with them.
+pub fn serves_right<R, F>(rt: &R, shop: Shop, limits: TimeLimits, clients: F) -> Result<bool, Fail>
 where
     R: Files<File = File>
         + Net<Listener = TcpListener, Stream = TcpStream>
@@ -86,7 +101,7 @@ where
     requires workers { 0 < shop.workers }
     requires clients { F.IsAlwaysCallable clients }
 {
-    let listener = listen_at(rt, "127.0.0.1:0", 0, idle)?;
+    let listener = listen_at(rt, "127.0.0.1:0", 0, limits)?;
     let port = port_of(&listener)?.unwrap_or(0);
     let come = || {
         let heard = clients(port);

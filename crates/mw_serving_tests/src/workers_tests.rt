@@ -5,7 +5,7 @@ ghost use Rattle.std.specs.Prelude.{◌<◌};
 
 use crate::test_clients::Caller;
 use crate::test_crowd::{Crowd, Heard, Script};
-use crate::test_serving::{Shop, serve, serves_right};
+use crate::test_serving::{NO_LIMITS, Shop, serve, serves_right};
 use mw_session::Ended;
 use mw_words::MAX_LINE;
 use mw_workers::ServeEnd;
@@ -76,9 +76,10 @@ fn scripts() -> [Script; 9] {
 }
 
 /// Serves all scripts by so many workers, and checks what each client was told.
-fn serves_all<R: Threads + Wait + AllocGlobal + Sync>(
+fn serves_all<R: Threads + Wait + Clock + AllocGlobal + Sync>(
     rt: &R,
     workers: u8,
+    wait: Option<u32>,
 ) -> Result<bool, AllocError>
     requires { 0 < workers }
 {
@@ -93,6 +94,7 @@ fn serves_all<R: Threads + Wait + AllocGlobal + Sync>(
         words: 32,
         workers,
         connections: 9,
+        wait,
     };
     let (end, crowd) = serve(rt, rt.alloc(), crowd, shop)?;
     if end == ServeEnd::Memory && crowd.asked == 0 {
@@ -111,8 +113,10 @@ fn all_suit<R: Wait>(rt: &R, scripts: &[Script], heard: &[Mutex<Heard>]) -> bool
 #[test]
 fn each_client_is_served_once(rt: HostRuntime) -> Result<(), AllocError> {
     for workers in [1, 3, 12] {
-        let right = serves_all(&rt, workers)?;
+        let right = serves_all(&rt, workers, None)?;
         assert!(rt; right, "{workers} workers");
+        let right = serves_all(&rt, workers, Some(30))?;
+        assert!(rt; right, "{workers} workers, and a limit of waiting");
     }
     Ok(())
 }
@@ -138,8 +142,9 @@ fn one_client_after_the_other(rt: HostRuntime) -> Result<(), Fail> {
         words: 2,
         workers: 1,
         connections: 2,
+        wait: None,
     };
-    let right = serves_right(&rt, shop, None, |port| two_clients(&rt, port))?;
+    let right = serves_right(&rt, shop, NO_LIMITS, |port| two_clients(&rt, port))?;
     assert!(rt; right);
     Ok(())
 }
@@ -300,8 +305,14 @@ fn clients_of_all_kinds_at_once(rt: HostRuntime) -> Result<(), Fail> {
         words: 32,
         workers: 24,
         connections: 23,
+        wait: None,
     };
-    let right = serves_right(&rt, shop, None, |port| all_kinds(&rt, rt.alloc(), port))?;
+    let right = serves_right(
+        &rt,
+        shop,
+        NO_LIMITS,
+        |port| all_kinds(&rt, rt.alloc(), port),
+    )?;
     assert!(rt; right);
     Ok(())
 }

@@ -1,1 +1,2 @@
 pub mod ListenerCallLaws
+mod Chosen

@@ -1,3 +1,4 @@
 pub mod ListenerCalls
 pub mod Sessions
 pub mod Pauses
+pub mod TimesLeft

@@ -1,6 +1,6 @@
 -- Defines which connections a worker served, each by one session, and in what order.
--- Used by the contracts of worker.rt (`serve_each`) and desk.rt (its intake). A change here changes what a worker promises.
-use Rattle.std.specs.Prelude.{ℕ, List, Option}
+-- Used by the contracts of worker.rt (`serve_each`) and desk.rt (`serve_in_turn`). A change here changes what a worker promises.
+use Rattle.std.specs.Prelude.{ℕ, Bool, true, false, List, [], ◌∷◌, Option}
 use Rattle.mw_session.specs.declared.session.Ended.{Ended}
 use Rattle.mw_session.specs.Talk.{Call}
 use Rattle.mw_session.specs.WholeSessions.{Holds}
@@ -15,3 +15,10 @@ IsServed {C = C} left sent answers old connection new =
 -- Each of the connections was served so, one after the other, and the service was asked for nothing else.
 abbrev pub AreServed : {C S : Type 0} → (C → Option (List ℕ)) → (C → Option (List ℕ)) → (S → S → List Call → Type 0) → S → List C → S → Type 0
 AreServed left sent answers old connections new = GoesThrough (IsServed left sent answers) old connections new
+
+-- those of the connections for which the desk was open
+abbrev pub chosen : {C : Type 0} → List Bool → List C → List C
+chosen [] connections = []
+chosen (first ∷ opens) [] = []
+chosen (true ∷ opens) (connection ∷ connections) = connection ∷ chosen opens connections
+chosen (false ∷ opens) (connection ∷ connections) = chosen opens connections

@@ -1,24 +1,33 @@
 //! Serves the clients of a second address by a worker of their own, which no other client can take.
 //!
 //! mw_programs calls [`serve_beside`] (`clients.rt`) if the server has a second address, with a worker kept for it.
-//! `serve_desk`, `accept_while` and `Clerk` are known only here, and may change with `specs/ListenerCalls`.
-ghost use Rattle.std.specs.Prelude.{ℕ, ◌<◌, vec_len};
+//! [`TURN`] and [`DESK_QUEUE`] may have other numbers, the latter 1 or more; docs/OPERATING tells both. All else but
+//! [`Desk`] is known only here, and may change with `specs/ListenerCalls` and `specs/Sessions`.
+ghost use Rattle.std.specs.Prelude.{◌≡◌, ℕ, Bool, List, length, ◌<◌, vec_len};
+ghost use Rattle.std.specs.Iterator.{Drains, IsFinite};
 ghost use Rattle.mw_session.specs.ServiceCalls.{AreAnswered};
 ghost use Rattle.mw_workers.specs.ListenerCalls.{ArePut, EndsSo};
-ghost use Rattle.mw_workers.specs.Sessions.{IsServed};
+ghost use Rattle.mw_workers.specs.Sessions.{AreServed, chosen};
 
 use crate::acceptor::accept_one;
 use crate::patience::{Patient, RoomWatch};
-use crate::peer::{Connection, Intake, Listener};
+use crate::peer::{Connection, Intake, Listener, Others};
 use crate::server::{ServeEnd, serve_all};
 use crate::sockets::Closer;
+use crossbeam_channel::{Receiver, Sender};
 use mw_session::Service;
-use std::alloc::Global;
+use std::alloc::{AllocError, Global};
 use std::sync::Wait;
 use std::sync::atomic::{AtomicBool, Ordering};
-use std::thread::Threads;
-use std::time::Clock;
+use std::thread::{Scope, Threads};
+use std::time::{Clock, Duration};
 use std::{io, thread};
+
+/// How many clients of a desk may wait in the server while another one is served there.
+pub const DESK_QUEUE: usize = 8;
+
+/// How long a client of a desk may end no line while another one waits there, in seconds.
+pub const TURN: u64 = 10;
 
 /// A listener with a worker of its own. Its clients don't wait for the other workers.
 #[derive(Drop)]
@@ -48,11 +57,14 @@ impl<W: RoomWatch> RoomWatch for WhileOpen<'_, W> {
     }
 }
 
-/// Serves clients as [`serve_all`] does, and also those of the desk, one at a time. If the system has no
-/// room for a client of the desk, the desk waits as [`Patient`] does. When serving has ended the desk is
-/// closed; a client that it serves then is served to the end of its session.
+/// Serves clients as [`serve_all`] does, and also those of the desk, one at a time and in order. While one is
+/// served there, [`DESK_QUEUE`] more wait in the server. If the system has no room for a client of the desk, the desk
+/// waits as [`Patient`] does.
 ///
-/// A client may hold its worker for ever, so this may wait for ever.
+/// A client of the desk that has ended no line for [`TURN`] seconds is sent away if another one waits.
+///
+/// When serving has ended the desk is closed. A client that it serves then is served to the end of its session;
+/// those that wait are closed. A client may hold its worker for ever, so this may wait for ever.
 pub fn serve_beside<
     L: Listener + Drop,
     M: Listener + Send + Drop,
@@ -66,19 +78,63 @@ pub fn serve_beside<
     listener: L,
     services: Vec<S>,
     connections: Option<u32>,
+    wait: Option<u32>,
 ) -> (ServeEnd, L)
     requires { 0 < vec_len services }
     ensures { EndsSo L.accepts connections listener result.1 result.0 }
 {
-    let open = AtomicBool::new(true);
-    let open = &open;
+    let Ok((to, from)) = crossbeam_channel::bounded(alloc, DESK_QUEUE) else {
+        return (ServeEnd::Memory, listener);
+    };
+    let queue = DeskQueue {
+        open: AtomicBool::new(true),
+        from,
+    };
+    serve_both(
+        rt,
+        alloc,
+        desk,
+        &queue,
+        to,
+        listener,
+        services,
+        connections,
+        wait,
+    )
+}
+
+/// Serves clients and those of the desk, whose clients wait in this queue.
+fn serve_both<
+    'a,
+    L: Listener + Drop,
+    M: Listener + Send + Drop,
+    S: Service + Send + Drop,
+    W: RoomWatch + Sync,
+    R: Threads + Wait + Clock + Sync,
+>(
+    rt: &R,
+    alloc: Global,
+    desk: Desk<'a, M, S, W>,
+    queue: &'a DeskQueue<M::Connection>,
+    to: Sender<M::Connection>,
+    listener: L,
+    services: Vec<S>,
+    connections: Option<u32>,
+    wait: Option<u32>,
+) -> (ServeEnd, L)
+    requires { 0 < vec_len services }
+    ensures { EndsSo L.accepts connections listener result.1 result.0 }
+{
     let Desk {
         listener: own,
         service,
         closer,
         watch,
     } = desk;
-    let (closer, watch) = (&closer, WhileOpen { open, watch });
+    let watch = WhileOpen {
+        open: &queue.open,
+        watch,
+    };
     let watch = &watch;
     thread::scope(
         thread::scope_env(),
@@ -87,35 +143,125 @@ pub fn serve_beside<
             requires { 0 < vec_len services }
             ensures { EndsSo L.accepts connections listener result.1 result.0 }
         {
-            let clerk = Clerk { alloc, service };
             let own = Patient::new(own, rt, watch);
-            if scope
-                .spawn(move || serve_desk(rt, own, clerk, open))
-                .is_err()
-            {
-                return (ServeEnd::Memory, listener);
-            }
-            let ended = serve_all(rt, alloc, listener, services, connections);
-            open.store(false, Ordering::SeqCst);
-            closer.close();
+            let clerk = Clerk { alloc, service };
+            let ended = if begin_desk(scope, rt, own, to, queue, clerk).is_ok() {
+                serve_all(rt, alloc, listener, services, connections, wait)
+            } else {
+                (ServeEnd::Memory, listener)
+            };
+            queue.close(rt, &closer);
             ended
         },
     )
 }
 
-/// Serves the desk's clients one after the other, as long as `open` is set.
-fn serve_desk<L: Listener + Drop, S: Service + Drop, R: Wait>(
-    rt: &R,
-    listener: L,
-    clerk: Clerk<S>,
-    open: &AtomicBool,
-) {
-    let (mut listener, mut clerk) = (listener, clerk);
-    accept_while(rt, &mut listener, &mut clerk, open);
+/// The worker of a desk, with its service.
+#[derive(Drop)]
+struct Clerk<S> {
+    alloc: Global,
+    service: S,
 }
 
-/// Takes connections and puts each where it is served, as long as `open` is set. After `open` is cleared it
-/// asks the listener once more at most.
+/// The clients that wait at a desk while another one is served there.
+#[derive(Drop)]
+struct DeskQueue<C: Drop> {
+    /// Whether the desk is open.
+    open: AtomicBool,
+    from: Receiver<C>,
+}
+
+impl<C: Drop> DeskQueue<C> {
+    fn is_open(&self) -> bool {
+        self.open.load(Ordering::SeqCst)
+    }
+
+    /// Closes the desk, ends its wait for a client, and closes those that wait.
+    fn close<R: Wait>(&self, rt: &R, closer: &Closer) {
+        self.open.store(false, Ordering::SeqCst);
+        closer.close();
+        self.close_waiting(rt);
+    }
+
+    /// Closes those that wait now.
+    fn close_waiting<R: Wait>(&self, rt: &R) {
+        for left in self.from.try_iter(rt) {
+            drop(left);
+        }
+    }
+}
+
+impl<C: Drop> Others for DeskQueue<C> {
+    fn turn(&self) -> Option<Duration> {
+        Some(Duration::from_secs(TURN))
+    }
+
+    fn wait(&self) -> bool {
+        self.is_open() && !self.from.is_empty()
+    }
+}
+
+/// Starts the desk's worker and its acceptor.
+///
+/// # Errors
+///
+/// One of them couldn't be started. The other one, if it was started, ends when the desk is closed.
+fn begin_desk<
+    's,
+    E,
+    L: Listener + Send + Drop + 's,
+    S: Service + Send + Drop + 's,
+    R: Wait + Sync + 's,
+>(
+    scope: &Scope<'s, E>,
+    rt: &'s R,
+    listener: L,
+    to: Sender<L::Connection>,
+    queue: &'s DeskQueue<L::Connection>,
+    clerk: Clerk<S>,
+) -> Result<(), AllocError> {
+    let Clerk { alloc, mut service } = clerk;
+    scope.spawn(move || serve_in_turn(rt, alloc, queue.from.iter(rt), &mut service, queue))?;
+    scope.spawn(move || accept_for_desk(rt, listener, to, queue))?;
+    Ok(())
+}
+
+/// Serves each connection by one session, in the order in which they come, until no more come. Those that come
+/// when the desk is closed are closed.
+fn serve_in_turn<C: Connection + Drop, I: Iterator<Item = C> + Drop, S: Service, R: Wait>(
+    rt: &R,
+    alloc: Global,
+    connections: I,
+    service: &mut S,
+    queue: &DeskQueue<C>,
+)
+    requires can { I.can_next connections }
+    requires ends { IsFinite (I.remaining connections) }
+    ensures { (all : List C) × (turns : List Bool) × Drains I.next_gives connections all × (length turns ≡ length all)
+        × AreServed C.left C.sent (AreAnswered S.answered) service.old (chosen turns all) service.new }
+{
+    for connection in connections {
+        if queue.is_open() {
+            connection.serve(rt, alloc, service, queue);
+        }
+    }
+}
+
+/// Takes connections, and lets them wait at the desk, as long as it is open. When it is closed, closes those
+/// that wait.
+fn accept_for_desk<L: Listener + Drop, R: Wait>(
+    rt: &R,
+    listener: L,
+    to: Sender<L::Connection>,
+    queue: &DeskQueue<L::Connection>,
+) {
+    let (mut listener, mut to) = (listener, to);
+    accept_while(rt, &mut listener, &mut to, &queue.open);
+    queue.close_waiting(rt);
+}
+
+/// Takes connections and puts each where it waits, as long as `open` is set. After `open` is cleared it asks
+/// the listener once more at most.
 fn accept_while<L: Listener, W: Intake<L::Connection>, R: Wait>(
     rt: &R,
     listener: &mut L,
@@ -131,19 +277,4 @@ fn accept_while<L: Listener, W: Intake<L::Connection>, R: Wait>(
         accept_one(rt, listener, waiting);
     }
     unreachable!()
-}
-
-/// Serves each connection as it comes.
-#[derive(Drop)]
-struct Clerk<S> {
-    alloc: Global,
-    service: S,
-}
-
-impl<C: Connection + Drop, S: Service> Intake<C> for Clerk<S> {
-    ghost puts = { λ old connection new. IsServed C.left C.sent (AreAnswered S.answered) old.service connection new.service };
-
-    fn put<R: Wait>(&mut self, rt: &R, connection: C) {
-        connection.serve(rt, self.alloc, &mut self.service);
-    }
 }

@@ -1,8 +1,9 @@
-//! Defines the traits of a listener, of a place where connections wait for a worker, and of a client's connection.
+//! Defines the traits of a listener, of a place where connections wait for a worker, of a client's connection, and of
+//! what a session is told of those that wait.
 //!
 //! `sockets.rt` implements [`Listener`] and [`Connection`] for clients, `patience.rt` a listener over another one,
-//! `server.rt` and `desk.rt` implement [`Intake`], and tests have peers of their own. A new call needs a body in
-//! each.
+//! `server.rt` implements [`Intake`], `desk.rt` [`Others`], and tests have peers of their own. A new call needs a body
+//! in each.
 ghost use Rattle.std.specs.Prelude.{ℕ, List, Option};
 ghost use Rattle.std.specs.declared.result.Result.{Result as Outcome};
 ghost use Rattle.std.specs.declared.io.Error.{Error as IoError};
@@ -13,6 +14,7 @@ use mw_session::{Ended, Service};
 use std::alloc::Global;
 use std::io;
 use std::sync::Wait;
+use std::time::Duration;
 
 /// Gives connections.
 pub trait Listener {
@@ -42,6 +44,30 @@ pub trait Intake<C> {
         ensures { puts self.old connection self.new };
 }
 
+/// Tells a session whether other clients wait for its worker.
+pub trait Others {
+    /// Gives for how long the client may end no line while others wait. None: nobody waits for this worker
+    /// alone.
+    fn turn(&self) -> Option<Duration>;
+
+    /// Tells whether others wait now.
+    fn wait(&self) -> bool;
+}
+
+/// Nobody waits for this worker alone: whoever waits is served by the first worker that is free.
+#[derive(Drop)]
+pub struct NoOthers;
+
+impl Others for NoOthers {
+    fn turn(&self) -> Option<Duration> {
+        None
+    }
+
+    fn wait(&self) -> bool {
+        false
+    }
+}
+
 /// A client's connection, which is served once. Dropping it closes it.
 pub trait Connection {
     // The bytes that the client sent and nobody has read yet, if they are known.
@@ -51,8 +77,15 @@ pub trait Connection {
     ghost sent: { Self → Option (List ℕ) };
 
     /// Serves the client by one session, [`mw_session::Session::run`], and closes the connection. Gives how
-    /// the session ended. A client may say nothing, or not read what it is told, so this may wait for ever.
-    fn serve<S: Service, R: Wait>(self, rt: &R, alloc: Global, service: &mut S) -> Ended
+    /// the session ended. A client may say nothing, or not read what it is told, so this may wait for ever;
+    /// but if it ends no line for a whole turn while others wait, its session may be ended.
+    fn serve<S: Service, R: Wait, O: Others>(
+        self,
+        rt: &R,
+        alloc: Global,
+        service: &mut S,
+        others: &O,
+    ) -> Ended
         ensures { (closed : Self) × Holds (left self) (left closed) (sent self) (sent closed)
             (AreAnswered S.answered service.old service.new) result };
 }

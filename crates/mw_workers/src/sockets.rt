@@ -6,7 +6,9 @@ ghost use Rattle.std.specs.Prelude.{None};
 
 use crate::listening_socket::{ListeningSocket, listen};
 use crate::local::listen_local;
-use crate::peer::{Connection, Listener};
+use crate::peer::{Connection, Listener, Others};
+use crate::time_limits::{TimeLimits, WaitLimits};
+use crate::timed_stream::{Pace, TimedReader, TimedWriter};
 use mw_session::{Ended, Service, Session};
 use std::alloc::Global;
 use std::fs::File;
@@ -16,12 +18,8 @@ use std::rt::Files;
 use std::sync::Wait;
 use std::time::{Clock, Duration, Instant};
 
-/// How long a client whose session has ended may be silent before its connection is closed, in seconds.
-const LINGER_SILENCE: u64 = 1;
-
-/// For how long after its session such a client is read, in seconds. The last read may end one silence
-/// later.
-const LINGER_TIME: u64 = 3;
+/// How long a client whose session has ended is read at most before its connection is closed, in seconds.
+const FAREWELL: u64 = 1;
 
 /// How many times such a client is read at most.
 const LINGER_READS: u32 = 1024;
@@ -37,8 +35,7 @@ const LOCAL: &str = "unix:";
 pub struct ClientListener<'a, K> {
     door: ListeningSocket,
     clock: &'a K,
-    /// How long a session waits for a byte, or for its client to take one. None: for ever.
-    idle: Option<Duration>,
+    limits: WaitLimits,
 }
 
 /// A client's connection, over TCP or by a local socket.
@@ -46,14 +43,14 @@ pub struct ClientListener<'a, K> {
 pub struct Client<'a, K> {
     stream: TcpStream,
     clock: &'a K,
+    limits: WaitLimits,
 }
 
 /// Listens at an address. At `127.0.0.1:7000` it listens over TCP; at port 0 the system picks a free port.
 /// At `unix:/run/mondlexi/socket` it makes a local socket of this file mode: who may write to that file may
 /// connect. It takes over a socket file at which nobody listens, and no other file.
 ///
-/// With a number of seconds, which isn't 0, a session ends without a reply if its client sends no byte, or
-/// takes none of a reply, for so long.
+/// A session ends without a reply if one of the limits is over. Neither may be 0 seconds.
 ///
 /// # Errors
 ///
@@ -62,7 +59,7 @@ pub fn listen_at<'a, R>(
     rt: &'a R,
     address: &str,
     mode: u32,
-    idle: Option<u32>,
+    limits: TimeLimits,
 ) -> io::Result<ClientListener<'a, R>>
 where
     R: Files<File = File> + Net<Listener = TcpListener, Stream = TcpStream>,
@@ -71,14 +68,10 @@ where
         Some(path) => ListeningSocket::Local(listen_local(rt, path, mode)?),
         None => ListeningSocket::Tcp(listen_tcp(rt, address)?),
     };
-    let idle = match idle {
-        Some(seconds) => Some(Duration::from_secs(u64::from(seconds))),
-        None => None,
-    };
     Ok(ClientListener {
         door,
         clock: rt,
-        idle,
+        limits: limits.of_a_session(),
     })
 }
 
@@ -135,12 +128,13 @@ impl<'a, K: Clock + Sync> Listener for ClientListener<'a, K> {
     fn accept(&mut self) -> io::Result<Client<'a, K>> {
         let stream = self.door.next()?;
         // A connection without its limit could hold its worker for ever, so it is closed and not served.
-        if limit_silence(&stream, self.idle).is_err() {
+        if limit_silence(&stream, self.limits.silence).is_err() {
             return Err(io::Error::from(ErrorKind::ConnectionAborted));
         }
         Ok(Client {
             stream,
             clock: self.clock,
+            limits: self.limits,
         })
     }
 }
@@ -150,10 +144,10 @@ impl<'a, K: Clock + Sync> Listener for ClientListener<'a, K> {
 /// # Errors
 ///
 /// The system refuses.
-fn limit_silence(stream: &TcpStream, idle: Option<Duration>) -> io::Result<()> {
-    if idle.is_some() {
-        stream.set_read_timeout(idle)?;
-        stream.set_write_timeout(idle)?;
+fn limit_silence(stream: &TcpStream, silence: Option<Duration>) -> io::Result<()> {
+    if silence.is_some() {
+        stream.set_read_timeout(silence)?;
+        stream.set_write_timeout(silence)?;
     }
     Ok(())
 }
@@ -163,9 +157,24 @@ impl<'a, K: Clock> Connection for Client<'a, K> {
 
     ghost sent = { λ _. None };
 
-    fn serve<S: Service, R: Wait>(self, rt: &R, alloc: Global, service: &mut S) -> Ended {
-        let mut reader = &self.stream;
-        let mut writer = &self.stream;
+    fn serve<S: Service, R: Wait, O: Others>(
+        self,
+        rt: &R,
+        alloc: Global,
+        service: &mut S,
+        others: &O,
+    ) -> Ended {
+        let mut limits = self.limits;
+        limits.turn = others.turn();
+        let pace = Pace {
+            stream: &self.stream,
+            clock: self.clock,
+            rt,
+            others,
+            limits,
+        };
+        let mut reader = TimedReader::new(&pace);
+        let mut writer = TimedWriter::new(&pace);
         let ended = Session::run(alloc, rt, &mut reader, &mut writer, service);
         // If the system refuses this, the connection is closed all the same.
         let _ = say_goodbye(self.clock, &self.stream);
@@ -178,20 +187,24 @@ impl<'a, K: Clock> Connection for Client<'a, K> {
 /// read.
 ///
 /// Nothing more is written. What the client still sends is read and dropped, until the client closes its
-/// side, is silent for [`LINGER_SILENCE`] seconds, was read [`LINGER_READS`] times, or [`LINGER_TIME`]
-/// seconds have passed.
+/// side, was read [`LINGER_READS`] times, or [`FAREWELL`] seconds have passed, whatever it sends.
 ///
 /// # Errors
 ///
-/// The system refuses, or the client was silent for so long.
+/// The system refuses, the clock can't be read, or the client is silent until then.
 fn say_goodbye<K: Clock>(clock: &K, mut stream: &TcpStream) -> io::Result<()> {
-    stream.shutdown(Shutdown::Write)?;
-    stream.set_read_timeout(Some(Duration::from_secs(LINGER_SILENCE)))?;
     let begun = Instant::now(clock)?;
-    let most = Duration::from_secs(LINGER_TIME);
+    stream.shutdown(Shutdown::Write)?;
     let mut piece = [0; LINGER_PIECE];
+    let farewell = Duration::from_secs(FAREWELL);
+    let mut left = farewell;
     for _ in 0..LINGER_READS {
-        if stream.read(&mut piece)? == 0 || begun.elapsed(clock)? >= most {
+        stream.set_read_timeout(Some(left))?;
+        if stream.read(&mut piece)? == 0 {
+            break;
+        }
+        left = farewell.saturating_sub(begun.elapsed(clock)?);
+        if left.is_zero() {
             break;
         }
     }

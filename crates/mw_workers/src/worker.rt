@@ -7,7 +7,7 @@ ghost use Rattle.std.specs.Iterator.{Drains, IsFinite};
 ghost use Rattle.mw_session.specs.ServiceCalls.{AreAnswered};
 ghost use Rattle.mw_workers.specs.Sessions.{AreServed};
 
-use crate::peer::Connection;
+use crate::peer::{Connection, NoOthers};
 use mw_session::Service;
 use std::alloc::Global;
 use std::sync::Wait;
@@ -26,6 +26,6 @@ pub fn serve_each<C: Connection + Drop, I: Iterator<Item = C> + Drop, S: Service
         × AreServed C.left C.sent (AreAnswered S.answered) service.old all service.new }
 {
     for connection in connections {
-        connection.serve(rt, alloc, service);
+        connection.serve(rt, alloc, service, &NoOthers);
     }
 }

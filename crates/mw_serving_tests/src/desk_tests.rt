@@ -1,0 +1,165 @@
+//! Tests a desk with several administrators: who gives way to another, who doesn't, and what happens at the end.
+//!
+//! Nothing else uses it: it may change with what it tests.
+use crate::test_clients::{Caller, come_and_go};
+use crate::test_serving::NO_LIMITS;
+use crate::test_shelf::{Clerk, Shelf};
+use mw_workers::{
+    ClientListener, Closer, Desk, RoomWatch, ServeEnd, TURN, listen_at, port_of, serve_beside,
+};
+use std::alloc::AllocError;
+use std::fs::File;
+use std::net::{Net, TcpListener, TcpStream};
+use std::rt::Files;
+use std::sync::{Mutex, Wait};
+use std::test::Fail;
+use std::thread::Threads;
+use std::time::{Clock, Duration, Instant};
+use std::{io, thread};
+
+/// Is told of a lack of room, and keeps it to itself.
+#[derive(Drop)]
+struct Silent;
+
+impl RoomWatch for Silent {
+    fn no_room(&self, _fault: &io::Error) {}
+}
+
+/// The ports of a server: that of its desk, and that of its other clients. It ends when one of these has come.
+#[derive(Clone, Copy)]
+struct Ports {
+    desk: u16,
+    others: u16,
+}
+
+/// Serves the clients of a desk until another client has come.
+fn serve<'a, R>(
+    rt: &'a R,
+    shelf: &'a Mutex<Shelf>,
+    watch: &'a Silent,
+    own: ClientListener<'a, R>,
+    closer: Closer,
+    others: ClientListener<'a, R>,
+) -> Result<ServeEnd, AllocError>
+where
+    R: AllocGlobal + Threads + Wait + Clock + Sync,
+{
+    let desk = Desk {
+        listener: own,
+        service: Clerk { rt, shelf },
+        closer,
+        watch,
+    };
+    let mut services = Vec::new(rt.alloc());
+    services.push(Clerk { rt, shelf })?;
+    let (end, _) = serve_beside(rt, rt.alloc(), desk, others, services, Some(1), None);
+    Ok(end)
+}
+
+/// Serves clients that come as `clients` does, which is told the ports. Tells whether it says that all was right,
+/// and the server has ended with them.
+fn serves_right<R, F>(rt: &R, clients: F) -> Result<bool, Fail>
+where
+    R: Files<File = File>
+        + Net<Listener = TcpListener, Stream = TcpStream>
+        + AllocGlobal
+        + Threads
+        + Wait
+        + Clock
+        + Sync,
+    F: FnOnce(Ports) -> io::Result<bool> + Send,
+    requires { F.IsAlwaysCallable clients }
+{
+    let own = listen_at(rt, "127.0.0.1:0", 0, NO_LIMITS)?;
+    let others = listen_at(rt, "127.0.0.1:0", 0, NO_LIMITS)?;
+    let closer = own.closer()?;
+    let ports = Ports {
+        desk: port_of(&own)?.unwrap_or(0),
+        others: port_of(&others)?.unwrap_or(0),
+    };
+    let (shelf, watch) = (Mutex::new(Shelf::new(2)), Silent);
+    let (shelf, watch) = (&shelf, &watch);
+    let come = || {
+        let heard = clients(ports);
+        come_and_go(rt, ports.others, 1);
+        heard
+    };
+    let (heard, end) = thread::join(rt, come, || serve(rt, shelf, watch, own, closer, others));
+    Ok(heard? && end? == ServeEnd::Served)
+}
+
+/// What an administrator asks for at last, and what it is told.
+const ASKS: (&[u8], &[u8]) = (b"TENANT t\nGET 0\nQUIT\n", b"OK 2\nVAL 0\nBYE\n");
+
+/// An administrator that says nothing more gives way to another one when its turn is over.
+fn come_silent<R: Net<Listener = TcpListener, Stream = TcpStream> + Clock>(
+    rt: &R,
+    ports: Ports,
+) -> io::Result<bool> {
+    let mut first = Caller::new(rt, ports.desk)?;
+    let bound = first.asks(b"TENANT t\n", b"OK 2\n");
+    let begun = Instant::now(rt)?;
+    let mut second = Caller::new(rt, ports.desk)?;
+    let (asks, told) = ASKS;
+    let served = second.asks_at_last(asks, told);
+    let waited = begun.elapsed(rt)?;
+    let turn = Duration::from_secs(TURN);
+    let in_time = waited >= turn.saturating_sub(Duration::from_millis(100))
+        && waited <= turn.saturating_add(Duration::from_secs(2));
+    Ok(bound && served && in_time && first.hears_no_more())
+}
+
+#[test]
+fn who_is_silent_gives_way(rt: HostRuntime) -> Result<(), Fail> {
+    let right = serves_right(&rt, |ports| come_silent(&rt, ports))?;
+    assert!(rt; right);
+    Ok(())
+}
+
+/// An administrator that asks now and then is served on while another one waits, for longer than a turn. Then
+/// the other one is served.
+fn come_active<R: Net<Listener = TcpListener, Stream = TcpStream> + Clock>(
+    rt: &R,
+    ports: Ports,
+) -> io::Result<bool> {
+    let mut first = Caller::new(rt, ports.desk)?;
+    let mut right = first.asks(b"TENANT t\n", b"OK 2\n");
+    let mut second = Caller::new(rt, ports.desk)?;
+    let (asks, told) = ASKS;
+    right = right && second.says(asks);
+    for _ in 0..4u8 {
+        thread::sleep(rt, Duration::from_secs(4));
+        right = right && first.asks(b"GET 1\n", b"VAL 0\n");
+    }
+    right = right && first.asks_at_last(b"QUIT\n", b"BYE\n");
+    drop(first);
+    Ok(right && second.hears(told) && second.hears_the_end())
+}
+
+#[test]
+fn who_asks_does_not_give_way(rt: HostRuntime) -> Result<(), Fail> {
+    let right = serves_right(&rt, |ports| come_active(&rt, ports))?;
+    assert!(rt; right);
+    Ok(())
+}
+
+/// When serving has ended, an administrator that is served is served on, and one that waits is sent away at once.
+fn stay_to_the_end<R: Net<Listener = TcpListener, Stream = TcpStream> + Clock>(
+    rt: &R,
+    ports: Ports,
+) -> io::Result<bool> {
+    let mut first = Caller::new(rt, ports.desk)?;
+    let bound = first.asks(b"TENANT t\n", b"OK 2\n");
+    let mut second = Caller::new(rt, ports.desk)?;
+    thread::sleep(rt, Duration::from_millis(200));
+    come_and_go(rt, ports.others, 1);
+    let closed = second.hears_no_more();
+    Ok(bound && closed && first.asks_at_last(b"GET 0\nQUIT\n", b"VAL 0\nBYE\n"))
+}
+
+#[test]
+fn at_the_end_only_who_is_served_stays(rt: HostRuntime) -> Result<(), Fail> {
+    let right = serves_right(&rt, |ports| stay_to_the_end(&rt, ports))?;
+    assert!(rt; right);
+    Ok(())
+}

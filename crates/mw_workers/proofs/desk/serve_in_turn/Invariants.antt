@@ -1,0 +1,12 @@
+-- States what stays true from turn to turn in the loops of `serve_in_turn` (src/desk.rt). Used by: the proof of that function
+-- alone. It may change freely as long as this crate checks.
+use Rattle.std.proofs.Common.{◌≡◌, Bool, List, length}
+use Rattle.mw_session.specs.ServiceCalls.{AreAnswered}
+use Rattle.mw_workers.specs.Sessions.{AreServed, chosen}
+use Rattle.mw_workers.proofs.desk.serve_in_turn.Given as goal
+
+-- of those that came so far, those for which the desk was open are served
+abbrev pub invariant-loop-connection : goal.invariant-loop-connection
+invariant-loop-connection g l =
+    (turns : List Bool) × (length turns ≡ length l.yielded)
+    × AreServed g.C.Connection.left g.C.Connection.sent (AreAnswered g.S.Service.answered) l.initial.service (chosen turns l.yielded) l.service

@@ -1,0 +1,101 @@
+-- Defines how long a session may still wait for its client: which times run, and what is left of each limit.
+-- Used by: the contracts of time_limits.rt and usher.rt. A change here changes when a client is sent away that is slow, or that
+-- no worker serves. Times and lengths of time are in nanoseconds.
+use Rattle.std.specs.Prelude.{◌≡◌, ℕ, ◌-◌, ◌*◌, ◌==◌, min, max, length, Bool, true, false, List, Option, Some, None, slice_get, if◌then◌else◌}
+use Rattle.std.specs.List.{list_any}
+use Rattle.std.specs.Option.{option_map}
+use Rattle.std.specs.Time.{instant_nanos}
+use Rattle.std.specs.Duration.{as_nanos}
+use Rattle.std.specs.declared.time.Duration.{Duration}
+use Rattle.std.specs.declared.time.Instant.{Instant}
+use Rattle.mw_frame.specs.Lines.{line_feed}
+use Rattle.mw_workers.specs.declared.time_limits.TheConstants.{LOOK}
+use Rattle.mw_workers.specs.declared.time_limits.Timing.{Timing}
+use Rattle.mw_workers.specs.declared.time_limits.Timing.TheVariants.{Stopped, Starting, Since}
+use Rattle.mw_workers.specs.declared.time_limits.Times.{Times}
+use Rattle.mw_workers.specs.declared.time_limits.WaitLimits.{WaitLimits}
+
+-- a time that is to start runs from now on, and any other goes on as it is
+abbrev pub started_timing : Timing → Instant → Timing
+started_timing Stopped now = Stopped
+started_timing Starting now = Since now
+started_timing (Since since) now = Since since
+
+-- both times, when a call begins
+abbrev pub started : Times → Instant → Times
+started times now = record { part = started_timing times.part now; turn = started_timing times.turn now }
+
+-- a time that is to run: one that runs already goes on, and does not start anew
+abbrev pub kept : Timing → Timing
+kept Stopped = Starting
+kept Starting = Starting
+kept (Since since) = Since since
+
+-- The times after a piece with this last byte, and with or without a line feed in it. After a piece that ends a line no
+-- line is under way. After one that ends a line and begins the next, the next one's time starts. With every line that ends, the
+-- turn starts anew. After any other bytes the line's time runs on, or starts if the line has just begun. After no byte
+-- nothing changes.
+abbrev pub after_last : Option ℕ → Bool → Times → Times
+after_last None fed old = old
+after_last (Some last) fed old =
+    if last == line_feed then record { part = Stopped; turn = Starting }
+    else (if fed then record { part = Starting; turn = Starting }
+    else record { part = kept old.part; turn = old.turn })
+
+-- the times after a piece of what the client sends
+abbrev pub after_piece : Times → List ℕ → Times
+after_piece old piece = after_last (slice_get piece (length piece - 1)) (list_any (λ b. b == line_feed) piece) old
+
+-- The times after a write of a reply, by whether all of it was taken. If not, the reply's time runs on, or starts.
+abbrev pub after_write : Times → Bool → Times
+after_write old true = record { part = Stopped; turn = Starting }
+after_write old false = record { part = kept old.part; turn = old.turn }
+
+-- a length of time, if there is one
+abbrev pub nanos : Option Duration → Option ℕ
+nanos length = option_map as_nanos length
+
+-- so many seconds, if there is a number
+abbrev pub in_seconds : Option ℕ → Option ℕ
+in_seconds seconds = option_map (λ count. count * 1_000_000_000) seconds
+
+-- what is left of a limit, if there is one, at a time since another; 0 if it is over
+abbrev pub left_of : Option ℕ → ℕ → ℕ → Option ℕ
+left_of limit since now = option_map (λ most. most - (now - since)) limit
+
+-- the same of a time that may run
+abbrev pub timing_left : Option ℕ → Timing → ℕ → Option ℕ
+timing_left limit Stopped now = None
+timing_left limit Starting now = None
+timing_left limit (Since since) now = left_of limit (instant_nanos since) now
+
+-- What is left of a client's turn. While nobody else waits it is not over, and the session looks again after a while.
+abbrev pub turn_left : Bool → Option ℕ → Option ℕ
+turn_left true left = left
+turn_left false left = option_map (max (LOOK * 1_000_000)) left
+
+-- the lesser of two lengths of time, of which each may be without end
+abbrev pub lesser : Option ℕ → Option ℕ → Option ℕ
+lesser None other = other
+lesser (Some length) None = Some length
+lesser (Some length) (Some other) = Some (min length other)
+
+-- How long a call that began at one time may still wait at another: as long as no limit is over. 0: one is.
+abbrev pub wait_left : WaitLimits → Times → Instant → Instant → Bool → Option ℕ
+wait_left limits times called now others =
+    lesser (left_of (nanos limits.silence) (instant_nanos called) (instant_nanos now))
+    (lesser (timing_left (nanos limits.line) times.part (instant_nanos now)) (turn_left others (timing_left (nanos limits.turn) times.turn (instant_nanos now))))
+
+-- At whatever time the next call begins, and whoever waits, it may wait for a whole silence.
+abbrev pub MayWaitASilence : WaitLimits → Times → Type 0
+MayWaitASilence limits times = (called : Instant) (others : Bool) → wait_left limits (started times called) called called others ≡ nanos limits.silence
+
+-- a reading of the clock, if there is one
+abbrev pub moment : Option Instant → Option ℕ
+moment time = option_map instant_nanos time
+
+-- How long a connection may still wait for a worker, by when it came. If a time isn't known, it may wait anew.
+abbrev pub still_to_wait : ℕ → Option ℕ → Option ℕ → ℕ
+still_to_wait wait None now = wait
+still_to_wait wait (Some came) None = wait
+still_to_wait wait (Some came) (Some now) = wait - (now - came)
