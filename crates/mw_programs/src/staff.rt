@@ -105,11 +105,11 @@ impl<J: EngineBrand> Pools<J> {
     {
         let (mut passes, mut admin) = (passes, None);
         if has_admin {
-            let own = cut(&mut passes, 1)?;
+            let own = cut::<J>(&mut passes, 1)?;
             admin = Some(pool_of(rt, own)?);
         }
         let most = passes.len().saturating_sub(1);
-        let reads = cut(&mut passes, most.min(usize::from(crowd.readers)))?;
+        let reads = cut::<J>(&mut passes, most.min(usize::from(crowd.readers)))?;
         Ok(Pools {
             reads: pool_of(rt, reads)?,
             changes: pool_of(rt, passes)?,
