@@ -5,20 +5,20 @@ use Rattle.std.specs.Prelude.{ℕ, ◌≤◌, ◌<◌, IfSome}
 use Rattle.mw_words.specs.declared.limits.TheConstants.{MAX_POOL, MAX_WORKERS, MAX_CONNECTIONS}
 use Rattle.mw_config.specs.declared.command_line.TheConstants.{MAX_CLIENTS, MAX_IDLE, MAX_SOCKET_MODE}
 use Rattle.mw_config.specs.declared.command_line.Args.{Args}
-use Rattle.mw_config.specs.declared.command_line.Crowd.{Crowd}
 use Rattle.mw_config.specs.declared.command_line.Listening.{Listening}
 use Rattle.mw_config.specs.declared.command_line.Mode.{Mode}
 use Rattle.mw_config.specs.declared.command_line.Mode.TheVariants.{Listen, Script}
+use Rattle.mw_config.specs.declared.command_line.SharedWorkers.{SharedWorkers}
 
 -- a number of 1 to most
 abbrev pub IsUpTo : ℕ → ℕ → Type 0
 IsUpTo most number = (1 ≤ number) × (number ≤ most)
 
 -- There are 1 to MAX_CLIENTS clients. Of so many workers at least one only reads, and at least one doesn't.
-pub record IsPermittedCrowd (workers : ℕ) (crowd : Crowd) : Type 0 where
-  pub clients : IsUpTo MAX_CLIENTS crowd.clients
-  pub some_read : 1 ≤ crowd.readers
-  pub some_change : crowd.readers < workers
+pub record AreSharedWell (workers : ℕ) (shared : SharedWorkers) : Type 0 where
+  pub clients : IsUpTo MAX_CLIENTS shared.clients
+  pub some_read : 1 ≤ shared.readers
+  pub some_change : shared.readers < workers
 
 -- The number of connections, if given, is 1 to MAX_CONNECTIONS. The limits of waiting, of silence and of a line's time, where
 -- given, are 1 to MAX_IDLE seconds. A local socket's file mode is at most MAX_SOCKET_MODE.
@@ -33,9 +33,9 @@ abbrev pub IsPermittedMode : Mode → Type 0
 IsPermittedMode (Listen listening) = IsPermittedListening listening
 IsPermittedMode (Script path) = Unit {0}
 
--- A crowd of clients, if there is one, is permitted for so many workers.
+-- So many workers may be shared so, if they are shared.
 abbrev pub SuitsWorkers : ℕ → Mode → Type 0
-SuitsWorkers workers (Listen listening) = IfSome listening.crowd (IsPermittedCrowd workers)
+SuitsWorkers workers (Listen listening) = IfSome listening.shared (AreSharedWell workers)
 SuitsWorkers workers (Script path) = Unit {0}
 
 -- The pool has 1 to MAX_POOL slots, there are 1 to MAX_WORKERS workers, and the mode is permitted.
@@ -43,4 +43,4 @@ pub record ArePermittedArgs (args : Args) : Type 0 where
   pub pool : IsUpTo MAX_POOL args.pool
   pub workers : IsUpTo MAX_WORKERS args.workers
   pub mode : IsPermittedMode args.mode
-  pub crowd : SuitsWorkers args.workers args.mode
+  pub shared : SuitsWorkers args.workers args.mode

@@ -3,7 +3,7 @@
 //! mw_programs calls [`read_args`] for `mwserve`. A new option needs a field here, its use in mw_programs, a clause
 //! in `specs/CommandLine` if it has limits, and its row in docs/OPERATING.
 ghost use Rattle.std.specs.Prelude.{ℕ, ◌≤◌, IfOk, IfSome};
-ghost use Rattle.mw_config.specs.CommandLine.{ArePermittedArgs, IsPermittedCrowd, IsPermittedMode, IsUpTo, SuitsWorkers};
+ghost use Rattle.mw_config.specs.CommandLine.{ArePermittedArgs, AreSharedWell, IsPermittedMode, IsUpTo, SuitsWorkers};
 
 use clap::builder::ValueParser;
 use clap::error::ErrorKind;
@@ -50,9 +50,9 @@ pub struct Listening {
     /// The server ends after so many connections to the first address, 1 to [`MAX_CONNECTIONS`]. None: it
     /// serves on.
     pub connections: Option<u32>,
-    /// How many clients are served at once, each by a session that borrows a worker's pass for each request.
-    /// None: one for each worker, who keeps its pass.
-    pub crowd: Option<Crowd>,
+    /// How many clients share the workers, each in a session that takes a worker for each request. None: each client
+    /// has a worker for its whole session.
+    pub shared: Option<SharedWorkers>,
     /// A connection is closed if no session becomes free for it in so many seconds, 1 to [`MAX_IDLE`]. None: it
     /// waits for ever.
     pub wait: Option<u32>,
@@ -67,13 +67,12 @@ pub struct Listening {
     pub socket_mode: u32,
 }
 
-/// Clients that share the passes of fewer workers.
+/// Workers that clients share.
 #[derive(Clone, Copy, Debug, Drop)]
-pub struct Crowd {
-    /// How many are served at once, 1 to [`MAX_CLIENTS`].
+pub struct SharedWorkers {
+    /// How many clients are served at once, 1 to [`MAX_CLIENTS`].
     pub clients: u16,
-    /// How many of the workers only read, so that no read waits for a change: at least one, and fewer than there
-    /// are workers.
+    /// How many of the workers only read: at least one, and fewer than there are workers.
     pub readers: u8,
 }
 
@@ -126,7 +125,7 @@ impl From<clap::Error> for ArgFault {
 /// Reads the command line `args`. Its first argument is the program's own name.
 ///
 /// The form is `mwserve --tenants FILE [--pool P] [--workers N] [--strict] [--verbose]` with either
-/// `--listen ADDR` or `--script FILE`. Behind `--listen` there may be `[--admin ADDR] [--connections C]
+/// `--listen ADDR` or `--script FILE`. After `--listen` there may be `[--admin ADDR] [--connections C]
 /// [--clients M [--readers R]] [--wait SECONDS] [--idle SECONDS] [--line-time SECONDS] [--mode MODE]`.
 /// - P is 1 to [`MAX_POOL`], and [`MAX_POOL`] if it isn't given.
 /// - N is 1 to [`MAX_WORKERS`], and 4 if it isn't given.
@@ -203,14 +202,14 @@ fn listen_mode(
     ensures suits { IfOk result (λ mode. SuitsWorkers workers mode) }
 {
     let socket_mode = socket_mode_of(matches.get_str("mode"))?;
-    let crowd = crowd_of(matches, workers)?;
+    let shared = shared_of(matches, workers)?;
     let idle = number_of(matches, "idle", MAX_IDLE);
     let address = String::from_str(alloc, address)?;
     Ok(Mode::Listen(Listening {
         address,
         admin: copy_of(alloc, matches.get_str("admin"))?,
         connections: number_of(matches, "connections", MAX_CONNECTIONS),
-        crowd,
+        shared,
         wait: number_of(matches, "wait", MAX_IDLE),
         idle,
         line_time: number_of(matches, "line-time", MAX_IDLE).or(idle),
@@ -219,8 +218,8 @@ fn listen_mode(
 }
 
 /// Gives how many clients share the passes of so many workers, if the command line says it.
-fn crowd_of(matches: &ArgMatches<'_>, workers: u8) -> Result<Option<Crowd>, ArgFault>
-    ensures { IfOk result (λ crowd. IfSome crowd (IsPermittedCrowd workers)) }
+fn shared_of(matches: &ArgMatches<'_>, workers: u8) -> Result<Option<SharedWorkers>, ArgFault>
+    ensures { IfOk result (λ shared. IfSome shared (AreSharedWell workers)) }
 {
     let readers = number_of(matches, "readers", u32::from(MAX_WORKERS));
     let Some(clients) = number_of(matches, "clients", u32::from(MAX_CLIENTS)) else {
@@ -235,7 +234,7 @@ fn crowd_of(matches: &ArgMatches<'_>, workers: u8) -> Result<Option<Crowd>, ArgF
     if readers >= u32::from(workers) {
         return Err(ArgFault::Mode);
     }
-    Ok(Some(Crowd {
+    Ok(Some(SharedWorkers {
         clients: clients as u16,
         readers: readers as u8,
     }))
@@ -298,7 +297,7 @@ enum Given {
     Flag,
 }
 
-/// The numbers that `--listen` may have behind it.
+/// The options with a number that need `--listen`.
 const OF_CONNECTIONS: [&str; 6] = [
     "connections",
     "clients",

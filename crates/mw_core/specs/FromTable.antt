@@ -9,7 +9,7 @@ pub use Rattle.mw_table.specs.TableAtStart.{basis_of_start, opening_given, openi
 pub use Rattle.mw_table.specs.FromRule.{Answered, Each, FileToken, AddsNoEvent, HasToken, IsFinished, IsReady, IsReadyAt, IsReadyFor, ExtendsKnownRun, IsRight, ExtendsView, LearnsPlainLoad, MayCome, LearnsMeeting, AddsFinishedIf, WorkerToken, Serves, View, after_call, comes, known_run_of, file_told, note, finished_as, index_of, opening_at, token_of, file_token_opened, settled, settled_as, stepped, told, actor_after, went_well}
 pub use Rattle.mw_table.specs.HeldFiles.{file_among}
 pub use Rattle.mw_table.specs.Meet.{HaveMet, IsSamePass, MetByNone}
-pub use Rattle.mw_table.specs.Notes.{HasHeard, said_in}
+pub use Rattle.mw_table.specs.Notes.{HasLearned, said_in}
 pub use Rattle.mw_table.specs.Numbers.{number_of, numbers}
 pub use Rattle.mw_table.specs.NewFilePasses.{AreOpened}
 pub use Rattle.mw_table.specs.Origins.{basis_of, config_of, openings_of}

@@ -1,9 +1,9 @@
-//! Makes notes of what a pass has seen, and lets another pass hear one.
+//! Makes notes of what a pass has seen, and lets another pass learn from one.
 //!
 //! mw_service does so for a session that borrows a pass for each request. Its contracts use `specs/Notes` and
 //! `specs/Passes`: change them together.
 ghost use Rattle.std.specs.Prelude.{◌≡◌};
-ghost use Rattle.mw_core.specs.FromTable.{HasHeard, IsSamePass, note as said_by, said_in};
+ghost use Rattle.mw_core.specs.FromTable.{HasLearned, IsSamePass, note as said_by, said_in};
 ghost use Rattle.mw_engine.specs.Notes.{IsNoteOf};
 ghost use Rattle.mw_engine.specs.Passes.{IsPassOf};
 
@@ -25,16 +25,16 @@ impl<J: EngineBrand, D: Disk, H> Engine<J, D, H> {
         self.words.core.shared().note(pass)
     }
 
-    /// Lets a pass hear a note of this engine. Afterwards it has seen what the note says, and at least what it had
-    /// seen before. It keeps its worker, its request and the requests that its worker finished. No event is added to
+    /// Lets a pass learn what a note of this engine says. Afterwards it has seen that, and at least what it had seen
+    /// before. It keeps its worker, its request and the requests that its worker finished. No event is added to
     /// the run.
-    pub fn hear(&self, pass: &mut Pass, note: Note)
+    pub fn learn(&self, pass: &mut Pass, note: Note)
         requires own { IsPassOf J.identity pass.old }
         requires its { IsNoteOf J.identity note }
         ensures own { IsPassOf J.identity pass.new }
         ensures stays { IsSamePass pass.old pass.new }
-        ensures heard { HasHeard (said_in note) pass.old.seat.me.0 pass.new.seat.me.0 }
+        ensures learned { HasLearned (said_in note) pass.old.seat.me.0 pass.new.seat.me.0 }
     {
-        self.words.core.shared().hear(pass, note);
+        self.words.core.shared().learn(pass, note);
     }
 }

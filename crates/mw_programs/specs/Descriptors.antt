@@ -4,12 +4,13 @@ use Rattle.std.specs.Prelude.{ℕ, ◌+◌, Bool, if◌then◌else◌}
 use Rattle.mw_workers.specs.declared.desk.TheConstants.{DESK_QUEUE}
 use Rattle.mw_workers.specs.declared.server.TheConstants.{QUEUE, WAITING}
 
--- the connections that no session serves yet: those that wait, and one between; and one more if they wait for a limited time
+-- the connections that no session serves yet: QUEUE that wait, and one that is being accepted; if they wait for a limited time,
+-- WAITING, one that is being accepted, and one on its way to a session
 abbrev pub needed_to_wait : Bool → ℕ
 needed_to_wait is_limited = if is_limited then WAITING + 2 else QUEUE + 1
 
 -- The standard streams, the tenants' files, the listener, a connection of each session, and those that no session serves
 -- yet. With an address for the administrator also its listener, a second handle of it, the connections that wait there, and
--- one between.
+-- one that is being accepted.
 abbrev pub needed : ℕ → ℕ → Bool → Bool → ℕ
 needed tenants sessions is_limited has_admin = 3 + tenants + 1 + sessions + needed_to_wait is_limited + (if has_admin then 3 + DESK_QUEUE else 0)

@@ -1,6 +1,6 @@
 //! Listens at the addresses of a server, and serves the clients that come, each by a service that is free.
 //!
-//! Used by: `staff`, which makes the services. docs/OPERATING tells what it prints and its notes: change
+//! Used by: `services`, which makes them. docs/OPERATING tells what it prints and its notes: change
 //! both together.
 ghost use Rattle.std.specs.Prelude.{◌<◌, vec_len};
 
@@ -102,7 +102,15 @@ fn tell_line<O: Write, P: Display>(out: &mut O, word: &str, place: &P) -> io::Re
 /// Writes to `out` where it listens, and serves clients, each by one of these services. If there is an address for the
 /// administrator, the last of them serves only the clients of that address. Meanwhile a thread looks at the tenants'
 /// files.
-pub(crate) fn serve_clients<'e, 'a, S: Service + Send + Drop, R, O: Write, L: Log + Sync, T: FileLook + Sync>(
+pub(crate) fn serve_clients<
+    'e,
+    'a,
+    S: Service + Send + Drop,
+    R,
+    O: Write,
+    L: Log + Sync,
+    T: FileLook + Sync,
+>(
     rt: &'e R,
     services: Vec<S>,
     listening: &'a Listening,
@@ -232,7 +240,7 @@ where
         + Clock
         + Sync,
 {
-    let Some(staff) = Staff::new(services) else {
+    let Some(both) = BothServices::new(services) else {
         return Err(ServeFault::Memory);
     };
     let doors = open_listeners(rt, listening, admin, out)?;
@@ -244,26 +252,29 @@ where
         notes,
         address: admin,
     };
-    served(serve_doors(rt, doors, staff, listening, &room, &own_room))
+    served(serve_doors(rt, doors, both, listening, &room, &own_room))
 }
 
 /// The services for clients, and the one for the administrator.
 #[derive(Drop)]
-struct Staff<S> {
+struct BothServices<S> {
     services: Vec<S>,
-    clerk: S,
+    admin_service: S,
     ghost some: { 0 < vec_len services },
 }
 
-impl<S: Drop> Staff<S> {
+impl<S: Drop> BothServices<S> {
     /// Takes the last of these services for the administrator. Gives None if no other one is left.
     fn new(services: Vec<S>) -> Option<Self> {
         let mut services = services;
-        let clerk = services.pop()?;
+        let admin_service = services.pop()?;
         if services.is_empty() {
             return None;
         }
-        Some(Staff { services, clerk })
+        Some(BothServices {
+            services,
+            admin_service,
+        })
     }
 }
 
@@ -313,7 +324,7 @@ fn tell_places<'a, K, O: Write>(
 fn serve_doors<S: Service + Send + Drop, R, L: Log + Sync>(
     rt: &R,
     doors: Listeners<'_, R>,
-    staff: Staff<S>,
+    both: BothServices<S>,
     listening: &Listening,
     room: &RoomNotes<'_, '_, L>,
     own_room: &RoomNotes<'_, '_, L>,
@@ -329,7 +340,7 @@ where
 {
     let desk = Desk {
         listener: doors.own,
-        service: staff.clerk,
+        service: both.admin_service,
         closer: doors.closer,
         watch: own_room,
     };
@@ -339,7 +350,7 @@ where
         rt.alloc(),
         desk,
         clients,
-        staff.services,
+        both.services,
         listening.connections,
         listening.wait,
     );

@@ -6,8 +6,8 @@
 mod clients;
 mod descriptors;
 mod replaced;
+mod services;
 mod serving;
-mod staff;
 mod tenants;
 
 pub use replaced::SeesPaths;

@@ -9,11 +9,11 @@ ghost use Rattle.mw_words.specs.declared.limits.TheConstants.{MAX_TENANTS, MAX_W
 ghost use Rattle.mw_engine.specs.OpenedFiles.{FitLines};
 ghost use Rattle.mw_engine.specs.Passes.{IsNew};
 ghost use Rattle.mw_engine.specs.Parts.{identity_of};
-ghost use Rattle.mw_programs.specs.WorkerCount.{worker_count};
+ghost use Rattle.mw_programs.specs.WorkerCount.{session_count, worker_count};
 
 use crate::descriptors::{has_descriptors, needed};
 use crate::replaced::{FileLook, SeesPaths};
-use crate::staff::serve_all_clients;
+use crate::services::serve_all_clients;
 use crate::tenants::TenantNotes;
 use log::{Log, warn};
 use mw_config::{ArgFault, Args, Listening, Mode, Refusal, TenantLine, read_args};
@@ -231,9 +231,10 @@ fn has_room<L: Log>(notes: &L, args: &Args, tenants: usize) -> bool
 fn sessions_of(args: &Args, listening: &Listening) -> u16
     requires args { ArePermittedArgs args.now }
     requires mode { args.now.mode ≡ Listen listening.now }
+    ensures count { result ≡ session_count args.now listening.now }
 {
-    match &listening.crowd {
-        Some(crowd) => crowd.clients + u16::from(listening.admin.is_some()),
+    match &listening.shared {
+        Some(shared) => shared.clients + u16::from(listening.admin.is_some()),
         None => u16::from(workers_of(args)),
     }
 }
@@ -268,7 +269,7 @@ where
         workers_of(args),
         NoHold,
     )?;
-    serve_engine::<Brand, _, _, _, _>(rt, parts, passes, &args.mode, out, notes, watch)
+    serve_engine::<Brand, _, _, _, _>(rt, parts, passes, args, out, notes, watch)
 }
 
 /// Gives the number of workers: as many as were asked for, or with a listener for the administrator one more, but at
@@ -296,7 +297,7 @@ fn serve_engine<
     rt: &R,
     parts: EngineParts<FileDisk<WatchedFile<'_, TrackedFile<'_, File>>>, NoHold>,
     passes: Vec<Pass>,
-    mode: &'a Mode,
+    args: &'a Args,
     out: &mut O,
     notes: &L,
     watch: &T,
@@ -312,9 +313,10 @@ where
     requires identity { identity_of parts ≡ J.identity }
     requires new { All (IsNew J.identity) passes.items }
     requires some { 0 < vec_len passes }
+    requires args { ArePermittedArgs args.now }
 {
     let engine = parts.into_engine::<J>(rt.alloc())?;
-    match mode {
+    match &args.mode {
         Mode::Script(path) => run_script(rt, &engine, passes, path.as_str(), out, watch),
         Mode::Listen(listening) => {
             serve_all_clients(rt, &engine, passes, listening, out, notes, watch)

@@ -2,9 +2,10 @@
 //!
 //! mw_programs makes one for each client that a server with `--clients` serves at once. `specs/Borrowed` says what it
 //! answers: change both together. A new question of a session needs a call here and in `served`.
-ghost use Rattle.mw_service.specs.Borrowed.{AreNotesOf};
+ghost use Rattle.mw_service.specs.Borrowed.{IsNoteOfEngine};
 
 use crate::pass_pool::PassPool;
+use crate::read_pool::ReadPool;
 use crate::watch::FaultWatch;
 use mw_disk::Disk;
 use mw_engine::{Engine, EngineBrand, Hold, Note};
@@ -18,41 +19,33 @@ use std::sync::Wait;
 #[derive(Drop)]
 pub struct Borrower<'a, J: EngineBrand, D: Disk, H, R, T> {
     engine: &'a Engine<J, D, H>,
-    /// The passes for reads and reports. No change takes one, so no read waits for a change's disk.
-    reads: &'a PassPool<J>,
+    /// The passes for reads and reports. None: these take from `passes` too.
+    reads: Option<&'a ReadPool<J>>,
     /// The passes for changes.
-    changes: &'a PassPool<J>,
-    /// What its sessions have seen. None before their first answer.
+    passes: &'a PassPool<J>,
+    /// What its sessions have seen. None before the first reply to a job and the first figures.
     note: Option<Note>,
     rt: &'a R,
     watch: &'a T,
-    ghost its: { AreNotesOf J.identity note },
+    ghost its: { IsNoteOfEngine J.identity note },
 }
 
 impl<'a, J: EngineBrand, D: Disk, H, R, T> Borrower<'a, J, D, H, R, T> {
     /// Makes a service that borrows from these pools. It tells the watch of each request that is answered FAULT.
     pub fn new(
         engine: &'a Engine<J, D, H>,
-        reads: &'a PassPool<J>,
-        changes: &'a PassPool<J>,
+        reads: Option<&'a ReadPool<J>>,
+        passes: &'a PassPool<J>,
         rt: &'a R,
         watch: &'a T,
     ) -> Self {
         Borrower {
             engine,
             reads,
-            changes,
+            passes,
             note: None,
             rt,
             watch,
-        }
-    }
-
-    /// Gives the pool from which a job borrows.
-    fn pool_for(&self, job: &Job) -> &'a PassPool<J> {
-        match job {
-            Job::Get(_) => self.reads,
-            Job::Cas(_) => self.changes,
         }
     }
 }
@@ -72,9 +65,12 @@ impl<J: EngineBrand, D: Disk + Drop, H: Hold + Drop, R: Wait, T: FaultWatch> Ser
 
     fn ask(&mut self, tenant: u8, job: &Job) -> Reply {
         let note = self.note.take();
-        let (reply, note) = self
-            .pool_for(job)
-            .serve(self.rt, self.engine, note, tenant, job);
+        let (reply, note) = match (self.reads, job) {
+            (Some(reads), Job::Get(address)) => {
+                reads.read(self.rt, self.engine, note, tenant, *address)
+            }
+            _ => self.passes.serve(self.rt, self.engine, note, tenant, job),
+        };
         self.note = Some(note);
         if let Reply::Fault = reply {
             self.watch.fault(tenant);
@@ -84,7 +80,10 @@ impl<J: EngineBrand, D: Disk + Drop, H: Hold + Drop, R: Wait, T: FaultWatch> Ser
 
     fn figures(&mut self) -> Figures {
         let note = self.note.take();
-        let (figures, note) = self.reads.figures(self.rt, self.engine, note);
+        let (figures, note) = match self.reads {
+            Some(reads) => reads.figures(self.rt, self.engine, note),
+            None => self.passes.figures(self.rt, self.engine, note),
+        };
         self.note = Some(note);
         figures
     }

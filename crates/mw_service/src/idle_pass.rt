@@ -6,7 +6,7 @@ ghost use Rattle.mw_engine.specs.Identity.{IsFor};
 ghost use Rattle.mw_engine.specs.Notes.{IsNoteOf};
 ghost use Rattle.mw_engine.specs.Passes.{IsPassOf};
 ghost use Rattle.mw_report.specs.Table.{AreWithinLimits};
-ghost use Rattle.mw_service.specs.Borrowed.{AreCountedWith, AreNotesOf, HearsNote, IsAnsweredWith};
+ghost use Rattle.mw_service.specs.Borrowed.{AreCountedBy, IsAnsweredBy, IsNoteOfEngine, LearnsNote};
 
 use mw_disk::Disk;
 use mw_engine::{Engine, EngineBrand, Hold, Note, Pass};
@@ -35,12 +35,12 @@ impl<J: EngineBrand> IdlePass<J> {
         tenant: u8,
         job: &Job,
     ) -> (Reply, Note)
-        requires its { AreNotesOf J.identity note }
+        requires its { IsNoteOfEngine J.identity note }
         requires formed { IsFor J.identity.lines tenant job.now }
-        ensures answered { IsAnsweredWith J.identity note tenant job.now result.0 (Some result.1) }
+        ensures answered { IsAnsweredBy J.identity self.old.pass.seat.me.0 self.new.pass.seat.me.0 note tenant job.now result.0 (Some result.1) }
         ensures its { IsNoteOf J.identity result.1 }
     {
-        self.hear(engine, note);
+        self.learn(engine, note);
         let reply = engine.serve(rt, &mut self.pass, tenant, job);
         let note = engine.note(&mut self.pass);
         (reply, note)
@@ -52,24 +52,24 @@ impl<J: EngineBrand> IdlePass<J> {
         engine: &Engine<J, D, H>,
         note: Option<Note>,
     ) -> (Figures, Note)
-        requires its { AreNotesOf J.identity note }
-        ensures counted { AreCountedWith J.identity note result.0 (Some result.1) }
+        requires its { IsNoteOfEngine J.identity note }
+        ensures counted { AreCountedBy J.identity self.old.pass.seat.me.0 self.new.pass.seat.me.0 note result.0 (Some result.1) }
         ensures limits { AreWithinLimits result.0.tenants.items result.0.pool_free }
         ensures its { IsNoteOf J.identity result.1 }
     {
-        self.hear(engine, note);
+        self.learn(engine, note);
         let figures = engine.figures(&mut self.pass);
         let note = engine.note(&mut self.pass);
         (figures, note)
     }
 
-    /// Lets the pass hear what a session has seen, if it has seen something.
-    fn hear<D: Disk, H>(&mut self, engine: &Engine<J, D, H>, note: Option<Note>)
-        requires its { AreNotesOf J.identity note }
-        ensures heard { HearsNote note self.old.pass.seat.me.0 self.new.pass.seat.me.0 }
+    /// Lets the pass learn what a session has seen, if it has seen something.
+    fn learn<D: Disk, H>(&mut self, engine: &Engine<J, D, H>, note: Option<Note>)
+        requires its { IsNoteOfEngine J.identity note }
+        ensures learned { LearnsNote note self.old.pass.seat.me.0 self.new.pass.seat.me.0 }
     {
         if let Some(note) = note {
-            engine.hear(&mut self.pass, note);
+            engine.learn(&mut self.pass, note);
         }
     }
 }

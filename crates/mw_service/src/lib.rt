@@ -3,9 +3,9 @@
 //!
 //! A pass is the capability to make one worker's steps, so there are as many requests under way as there are passes. A
 //! [`Worker`] keeps its pass as long as it serves. A [`Borrower`] has none: for each request of its session it borrows
-//! one from a [`PassPool`], so that many sessions share few passes. It keeps a note of what its session has seen, and the
-//! pass that it borrows hears the note before the request. So each reply is right at a place in its tenant's history that
-//! is no earlier than what the session has seen, whichever passes it borrows.
+//! one from a pool, so that many sessions share few passes. It keeps a note of what its session has seen, and the pass
+//! that it borrows learns from the note before the request. So a value, a YES and a NO are right at a place in the
+//! tenant's history that is no earlier than what the session has seen, whichever passes it borrows.
 //!
 //! `specs/Served` says what a worker answers, and `specs/Borrowed` what a borrower answers.
 //!
@@ -15,6 +15,7 @@
 mod borrower;
 mod idle_pass;
 mod pass_pool;
+mod read_pool;
 mod served;
 mod watch;
 mod worker;
@@ -22,5 +23,6 @@ mod worker;
 pub use borrower::Borrower;
 pub use idle_pass::IdlePass;
 pub use pass_pool::PassPool;
+pub use read_pool::ReadPool;
 pub use watch::FaultWatch;
 pub use worker::Worker;

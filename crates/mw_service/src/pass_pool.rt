@@ -1,12 +1,12 @@
 //! A pool of passes, from which sessions borrow one for each request.
 //!
-//! mw_programs makes it, and `borrower` borrows from it. Its contracts use `specs/Borrowed`: change both together.
+//! mw_programs makes it; `borrower` borrows from it, and `read_pool` is one for reads alone. Its contracts use `specs/Borrowed`: change both together.
 ghost use Rattle.std.specs.Prelude.{◌≡◌, ◌<◌, All, Some, IfOk, vec_len};
 ghost use Rattle.mw_engine.specs.Identity.{IsFor};
 ghost use Rattle.mw_engine.specs.Notes.{IsNoteOf};
 ghost use Rattle.mw_engine.specs.Passes.{IsNew};
 ghost use Rattle.mw_report.specs.Table.{AreWithinLimits};
-ghost use Rattle.mw_service.specs.Borrowed.{AreCountedWith, AreNotesOf, IsAnsweredWith};
+ghost use Rattle.mw_service.specs.Borrowed.{AreCountedWith, IsAnsweredWith, IsNoteOfEngine};
 
 use crate::idle_pass::IdlePass;
 use crossbeam_channel::{Receiver, Sender};
@@ -18,15 +18,16 @@ use std::alloc::{AllocError, Global};
 use std::marker::PhantomData;
 use std::sync::{Mutex, Wait};
 
-/// Passes of an engine, which sessions borrow. A pass stays in its lock while it is borrowed, so no session can lose it,
-/// or give back another one. Who has the ticket of a pass may use it; while all tickets are out, sessions wait for one.
+/// Passes of an engine, which sessions borrow. A pass stays in its lock while it is borrowed, so each lock always has an
+/// idle pass of this engine, however a session ends. Who has a pass's ticket takes its lock without waiting; while all
+/// tickets are out, sessions wait for one.
 #[derive(Drop)]
 pub struct PassPool<J: EngineBrand> {
     passes: Vec<Mutex<IdlePass<J>>>,
     /// The tickets of the passes that are free: their indexes.
     free: Receiver<usize>,
-    /// Where tickets are given back.
-    back: Sender<usize>,
+    /// Where tickets are returned.
+    returned: Sender<usize>,
     ghost some: { 0 < vec_len passes },
 }
 
@@ -36,21 +37,21 @@ impl<J: EngineBrand> PassPool<J> {
     /// # Errors
     ///
     /// [`AllocError`] if memory is out. The passes are dropped.
-    pub fn new<R: Wait>(
-        rt: &R,
-        alloc: Global,
-        passes: Vec<Pass>,
-    ) -> Result<PassPool<J>, AllocError>
+    pub fn new<R: Wait>(rt: &R, alloc: Global, passes: Vec<Pass>) -> Result<PassPool<J>, AllocError>
         requires new { All (IsNew J.identity) passes.items }
         requires some { 0 < vec_len passes }
         ensures { IfOk result (λ pool. vec_len pool.passes ≡ vec_len passes) }
     {
-        let Ok((back, free)) = crossbeam_channel::bounded(alloc, passes.len()) else {
+        let Ok((returned, free)) = crossbeam_channel::bounded(alloc, passes.len()) else {
             return Err(AllocError);
         };
         let passes = locked(alloc, passes)?;
-        give_tickets(rt, &back, passes.len())?;
-        Ok(PassPool { passes, free, back })
+        give_tickets(rt, &returned, passes.len())?;
+        Ok(PassPool {
+            passes,
+            free,
+            returned,
+        })
     }
 
     /// Serves a job of a session that has seen what the note says, with a pass of this pool. Gives the reply, and a note
@@ -63,7 +64,7 @@ impl<J: EngineBrand> PassPool<J> {
         tenant: u8,
         job: &Job,
     ) -> (Reply, Note)
-        requires its { AreNotesOf J.identity note }
+        requires its { IsNoteOfEngine J.identity note }
         requires formed { IsFor J.identity.lines tenant job.now }
         ensures answered { IsAnsweredWith J.identity note tenant job.now result.0 (Some result.1) }
         ensures its { IsNoteOf J.identity result.1 }
@@ -85,7 +86,7 @@ impl<J: EngineBrand> PassPool<J> {
         engine: &Engine<J, D, H>,
         note: Option<Note>,
     ) -> (Figures, Note)
-        requires its { AreNotesOf J.identity note }
+        requires its { IsNoteOfEngine J.identity note }
         ensures counted { AreCountedWith J.identity note result.0 (Some result.1) }
         ensures limits { AreWithinLimits result.0.tenants.items result.0.pool_free }
         ensures its { IsNoteOf J.identity result.1 }
@@ -101,13 +102,13 @@ impl<J: EngineBrand> PassPool<J> {
 
     /// Waits for a ticket.
     fn take<R: Wait>(&self, rt: &R) -> usize {
-        // The pool has both ends, so the channel doesn't end. If it did, all would share the first pass.
+        // The pool keeps a sender and a receiver, so the channel doesn't end. If it did, all would share the first pass.
         self.free.recv(rt).unwrap_or(0)
     }
 
-    /// Gives a ticket back. There is room for each.
+    /// Returns a ticket. There is room for each.
     fn give_back<R: Wait>(&self, rt: &R, ticket: usize) {
-        let _ = self.back.send(rt, ticket);
+        let _ = self.returned.send(rt, ticket);
     }
 
     /// Gives the lock of a ticket's pass.
@@ -147,13 +148,9 @@ fn locked<J: EngineBrand>(
 /// # Errors
 ///
 /// [`AllocError`] if one couldn't be given.
-fn give_tickets<R: Wait>(
-    rt: &R,
-    back: &Sender<usize>,
-    count: usize,
-) -> Result<(), AllocError> {
+fn give_tickets<R: Wait>(rt: &R, returned: &Sender<usize>, count: usize) -> Result<(), AllocError> {
     for ticket in 0..count {
-        if back.send(rt, ticket).is_err() {
+        if returned.send(rt, ticket).is_err() {
             return Err(AllocError);
         }
     }

@@ -17,4 +17,4 @@ pub mod StepsKeepNumbers
 pub mod OpenedFiles
 pub mod PassesAtStart
 pub mod PlacesAtIndexes
-pub mod HeardNotes
+pub mod LearnedNotes

@@ -1,4 +1,4 @@
--- Defines which notes are of a table, and what a pass has learned once it heard a note.
+-- Defines which notes are of a table, and what a pass has learned from a note.
 -- Used by: the contracts of src/notes.rt, mw_engine. A change here changes what these contracts say.
 use Rattle.std.specs.Prelude.{◌≡◌, []}
 use Rattle.mw_world.specs.Definition.State.{tenants_of}
@@ -18,10 +18,10 @@ IsNoteOf shared note = note.seat.table_id ≡ shared.table.shared.table_id
 abbrev pub said_in : Note → View
 said_in note = note.seat.me.0
 
--- A pass heard this. It has seen what it had seen before, and all of it is right. It has seen the changes that it heard
--- of, and the run that it knows extends the one that it heard of. Its token, its finished requests and its files are the
--- same, and no event was added.
-pub record HasHeard (said old new : View) : Type 0 where
+-- A pass learned this. It has seen what it had seen before, and all of it is right. It has seen the changes that it learned
+-- of, and the run that it knows extends the one that it learned of. Its token, its finished requests and its files are the
+-- same, and it added no event.
+pub record HasLearned (said old new : View) : Type 0 where
   pub keeps : LearnsMeeting old new
   pub seen : IsPrefix (tenants_of old.config) said.seen new.seen
   pub known_run : ExtendsKnownRun said.known_run new.known_run

@@ -18,7 +18,7 @@
 //! the caller says how the call went.
 //!
 //! Some calls are no step of a request, and add no event: `figure` loads a word, `meet` lets two passes see what either
-//! has seen, `note` makes a [`Note`] of what a pass has seen, and `hear` lets another pass hear it. None waits, and none
+//! has seen, `note` makes a [`Note`] of what a pass has seen, and `learn` lets another pass learn from it. None waits, and none
 //! but `new` and `of_run` allocates memory.
 //!
 //! Read first: `specs/Passes` and `specs/NewPasses` say what a pass is; `specs/Basis`, `specs/TableAtStart` and

@@ -42,7 +42,7 @@ impl Shared {
     {
         self.look(&mut one.seat);
         let said = self.seat_note(&mut one.seat);
-        self.learn(&mut other.seat, said);
+        self.seat_learn(&mut other.seat, said);
         let its = self.part(&mut other.seat);
         self.merge(&mut one.seat, its);
         let own = self.part(&mut one.seat);
@@ -73,7 +73,7 @@ impl Shared {
     }
 
     /// Tells a thread what a note says, which it then sees itself.
-    pub(crate) fn learn(&self, seat: &mut Seat<Actor, View>, note: Seat<Actor, View>)
+    pub(crate) fn seat_learn(&self, seat: &mut Seat<Actor, View>, note: Seat<Actor, View>)
         requires table { seat.old.table_id ≡ self.now.table.shared.table_id }
         requires its_table { note.table_id ≡ self.now.table.shared.table_id }
         requires live { IsLive seat.old.me.0 }

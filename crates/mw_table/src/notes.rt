@@ -1,10 +1,10 @@
-//! Makes notes of what a pass has seen, and lets another pass hear one.
+//! Makes notes of what a pass has seen, and lets another pass learn from one.
 //!
 //! Used by: mw_engine. Its contracts use `specs/Meet`, `specs/Notes` and `specs/Passes`: change them together.
 ghost use Rattle.std.specs.Prelude.{◌≡◌};
 ghost use Rattle.mw_rule.specs.Splits.{note as said_by};
 ghost use Rattle.mw_table.specs.Meet.{IsSamePass};
-ghost use Rattle.mw_table.specs.Notes.{HasHeard, IsNoteOf, said_in};
+ghost use Rattle.mw_table.specs.Notes.{HasLearned, IsNoteOf, said_in};
 ghost use Rattle.mw_table.specs.Passes.{IsOf};
 
 use crate::note::Note;
@@ -26,16 +26,16 @@ impl Shared {
         }
     }
 
-    /// Lets a pass hear a note of this table. Afterwards the pass has seen what the note says, and at least what it
-    /// had seen before. It keeps its worker, its request and the requests that its worker finished. It is no step of
-    /// a request, and adds no event to the run.
-    pub fn hear(&self, pass: &mut Pass, note: Note)
+    /// Lets a pass learn what a note of this table says. Afterwards the pass has seen that, and at least what it had
+    /// seen before. It keeps its worker, its request and the requests that its worker finished. It is no step of a
+    /// request, and adds no event to the run.
+    pub fn learn(&self, pass: &mut Pass, note: Note)
         requires own { IsOf self.now pass.old }
         requires its { IsNoteOf self.now note }
         ensures own { IsOf self.now pass.new }
         ensures stays { IsSamePass pass.old pass.new }
-        ensures heard { HasHeard (said_in note) pass.old.seat.me.0 pass.new.seat.me.0 }
+        ensures learned { HasLearned (said_in note) pass.old.seat.me.0 pass.new.seat.me.0 }
     {
-        self.learn(&mut pass.seat, note.seat);
+        self.seat_learn(&mut pass.seat, note.seat);
     }
 }

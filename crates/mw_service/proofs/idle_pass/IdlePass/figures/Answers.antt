@@ -5,13 +5,11 @@ use Rattle.mw_service.proofs.idle_pass.IdlePass.figures.Goals as goal
 pub returns-clause-counted : goal.returns-clause-counted
 returns-clause-counted g c = record {
   borrows = record {
-    before = c.args.self.now.pass.seat.me.0;
-    first = c.hear.new.self.pass.seat.me.0;
-    last = c.figures-figures.new.pass.seat.me.0;
+    first = c.learn.new.self.pass.seat.me.0;
     config = c.args.self.now.own.config;
     openings = c.args.self.now.own.openings;
-    hears = c.hear.ensures.heard;
-    noted = c.note-note.ensures.says;
+    learns = c.learn.ensures.learned;
+    says = c.note-note.ensures.says;
   };
   told = c.figures-figures.ensures.tells;
 }

@@ -1,31 +1,19 @@
--- Proves goals of `Shared::learn` (src/meet.rt) that the check does not prove by itself. Used by: the proof of that function
+-- Proves goals of `Shared::learn` (src/notes.rt) that the check does not prove by itself. Used by: the proof of that function
 -- alone. It may change freely as long as this crate checks.
-use Rattle.std.proofs.Common.{[], ap, sym, subst, ◌∙◌}
-use Rattle.atomic_table.specs.Table.{Me}
-use Rattle.mw_actor.specs.ActorState.{ActorState}
-use Rattle.mw_rule.specs.declared.views.View.{View}
-use Rattle.mw_rule.specs.WordActions.{WentOn}
-use Rattle.mw_rule.specs.Rule.{IsLive}
-use Rattle.mw_rule.proofs.SplitLaws.{learning_keeps}
-use Rattle.mw_table.proofs.Meetings.{learns_lives, note_has_none, note_lives, some_word}
+use Rattle.std.proofs.Common.{ap, map, ◌∙◌}
+use Rattle.mw_table.specs.Idleness.{has_none}
+use Rattle.mw_table.specs.Numbers.{number_of}
+use Rattle.mw_table.proofs.LearnedNotes.{learned_so}
+use Rattle.mw_table.proofs.Meetings.{lives}
 use Rattle.mw_table.proofs.shared.Shared.learn.Goals as goal
 
-pub join_seat-requires : goal.join_seat-requires
-join_seat-requires c =
-    let note = c.args.note.me in
-    let is = ap (λ (me : Me ActorState View). me.0) c.requires.note.1 in (
-      c.requires.table,
-      c.requires.its_table,
-      ap (λ (me : Me ActorState View). me.1) c.requires.note.1,
-      some_word c.args.self.now,
-      learning_keeps _ _ c.args.seat.now.id c.args.note.id c.args.seat.now.me.0 note.0 c.requires.live (note_lives c.requires.note.0 note.0 is) (note_has_none c.requires.note.0 note.0 is),
-    )
+pub seat_learn-requires-clause-live : goal.seat_learn-requires-clause-live
+seat_learn-requires-clause-live c = lives c.args.pass.now
 
-pub look-requires : goal.look-requires
-look-requires c = record {
-  table = c.join_seat.ensures.0 ∙ c.requires.table;
-  live = subst IsLive (sym (ap (λ (me : Me ActorState View). me.0) c.join_seat.ensures.2)) (learns_lives c.args.seat.now.me.0 c.args.note.me.0 c.requires.live);
-}
+pub invariant_of-pass : goal.invariant_of-pass
+invariant_of-pass c =
+    let same = c.seat_learn.ensures.looked.1.same_token in
+    record { numbered = ap (map number_of) same ∙ c.args.pass.now.numbered; rests = λ idle. ap (map has_none) same ∙ c.args.pass.now.rests idle }
 
-pub returns-clause-event : goal.returns-clause-event
-returns-clause-event c = subst (λ (view : View). WentOn [] view c.look.new.seat.me.0) (ap (λ (me : Me ActorState View). me.0) c.join_seat.ensures.2) c.look.ensures.event
+pub returns-clause-learned : goal.returns-clause-learned
+returns-clause-learned c = learned_so c.seat_learn.ensures.looked.0 c.args.note.seat.me.0 c.args.pass.now.seat.me.0 c.seat_learn.new.seat.me.0 c.seat_learn.ensures.looked.1 c.seat_learn.ensures.event

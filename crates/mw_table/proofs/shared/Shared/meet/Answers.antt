@@ -20,8 +20,8 @@ look-requires-clause-live c = lives c.args.one.now
 pub seat_note-said-requires-clause-live : goal.seat_note-said-requires-clause-live
 seat_note-said-requires-clause-live c = looks_live c.look.ensures.looked.0 c.args.one.now.seat.me.0 c.look.new.seat.me.0 c.look.ensures.looked.1 (lives c.args.one.now)
 
-pub learn-requires-clause-live : goal.learn-requires-clause-live
-learn-requires-clause-live c = lives c.args.other.now
+pub seat_learn-requires-clause-live : goal.seat_learn-requires-clause-live
+seat_learn-requires-clause-live c = lives c.args.other.now
 
 pub merge-requires-clause-live : goal.merge-requires-clause-live
 merge-requires-clause-live c =
@@ -36,9 +36,9 @@ merge-requires-clause-live c =
       same = ap (λ (me : Me ActorState View). me.0) c.seat_note-said.ensures.same;
       said = c.seat_note-said.result.me.0;
       is_note = ap (λ (me : Me ActorState View). me.0) c.seat_note-said.ensures.note;
-      learned = c.learn.new.seat.me.0;
-      others = c.learn.ensures.looked.0;
-      learning = c.learn.ensures.looked.1;
+      learned = c.seat_learn.new.seat.me.0;
+      others = c.seat_learn.ensures.looked.0;
+      learning = c.seat_learn.ensures.looked.1;
       its = c.part-its.result.me.0;
       is_dealt = ap (λ (me : Me ActorState View). me.0) c.part-its.ensures.part;
     } in
@@ -57,9 +57,9 @@ merge-requires-clause-its_live c =
       same = ap (λ (me : Me ActorState View). me.0) c.seat_note-said.ensures.same;
       said = c.seat_note-said.result.me.0;
       is_note = ap (λ (me : Me ActorState View). me.0) c.seat_note-said.ensures.note;
-      learned = c.learn.new.seat.me.0;
-      others = c.learn.ensures.looked.0;
-      learning = c.learn.ensures.looked.1;
+      learned = c.seat_learn.new.seat.me.0;
+      others = c.seat_learn.ensures.looked.0;
+      learning = c.seat_learn.ensures.looked.1;
       its = c.part-its.result.me.0;
       is_dealt = ap (λ (me : Me ActorState View). me.0) c.part-its.ensures.part;
     } in
@@ -78,9 +78,9 @@ merge-requires-clause-no_less c =
       same = ap (λ (me : Me ActorState View). me.0) c.seat_note-said.ensures.same;
       said = c.seat_note-said.result.me.0;
       is_note = ap (λ (me : Me ActorState View). me.0) c.seat_note-said.ensures.note;
-      learned = c.learn.new.seat.me.0;
-      others = c.learn.ensures.looked.0;
-      learning = c.learn.ensures.looked.1;
+      learned = c.seat_learn.new.seat.me.0;
+      others = c.seat_learn.ensures.looked.0;
+      learning = c.seat_learn.ensures.looked.1;
       its = c.part-its.result.me.0;
       is_dealt = ap (λ (me : Me ActorState View). me.0) c.part-its.ensures.part;
     } in
@@ -100,9 +100,9 @@ invariant_of-one c =
       same = ap (λ (me : Me ActorState View). me.0) c.seat_note-said.ensures.same;
       said = c.seat_note-said.result.me.0;
       is_note = ap (λ (me : Me ActorState View). me.0) c.seat_note-said.ensures.note;
-      learned = c.learn.new.seat.me.0;
-      others = c.learn.ensures.looked.0;
-      learning = c.learn.ensures.looked.1;
+      learned = c.seat_learn.new.seat.me.0;
+      others = c.seat_learn.ensures.looked.0;
+      learning = c.seat_learn.ensures.looked.1;
       its = c.part-its.result.me.0;
       is_dealt = ap (λ (me : Me ActorState View). me.0) c.part-its.ensures.part;
     } in
@@ -124,9 +124,9 @@ invariant_of-other c =
       same = ap (λ (me : Me ActorState View). me.0) c.seat_note-said.ensures.same;
       said = c.seat_note-said.result.me.0;
       is_note = ap (λ (me : Me ActorState View). me.0) c.seat_note-said.ensures.note;
-      learned = c.learn.new.seat.me.0;
-      others = c.learn.ensures.looked.0;
-      learning = c.learn.ensures.looked.1;
+      learned = c.seat_learn.new.seat.me.0;
+      others = c.seat_learn.ensures.looked.0;
+      learning = c.seat_learn.ensures.looked.1;
       its = c.part-its.result.me.0;
       is_dealt = ap (λ (me : Me ActorState View). me.0) c.part-its.ensures.part;
     } in
@@ -148,9 +148,9 @@ returns-clause-one_met c =
       same = ap (λ (me : Me ActorState View). me.0) c.seat_note-said.ensures.same;
       said = c.seat_note-said.result.me.0;
       is_note = ap (λ (me : Me ActorState View). me.0) c.seat_note-said.ensures.note;
-      learned = c.learn.new.seat.me.0;
-      others = c.learn.ensures.looked.0;
-      learning = c.learn.ensures.looked.1;
+      learned = c.seat_learn.new.seat.me.0;
+      others = c.seat_learn.ensures.looked.0;
+      learning = c.seat_learn.ensures.looked.1;
       its = c.part-its.result.me.0;
       is_dealt = ap (λ (me : Me ActorState View). me.0) c.part-its.ensures.part;
     } in
@@ -171,9 +171,9 @@ returns-clause-other_met c =
       same = ap (λ (me : Me ActorState View). me.0) c.seat_note-said.ensures.same;
       said = c.seat_note-said.result.me.0;
       is_note = ap (λ (me : Me ActorState View). me.0) c.seat_note-said.ensures.note;
-      learned = c.learn.new.seat.me.0;
-      others = c.learn.ensures.looked.0;
-      learning = c.learn.ensures.looked.1;
+      learned = c.seat_learn.new.seat.me.0;
+      others = c.seat_learn.ensures.looked.0;
+      learning = c.seat_learn.ensures.looked.1;
       its = c.part-its.result.me.0;
       is_dealt = ap (λ (me : Me ActorState View). me.0) c.part-its.ensures.part;
     } in
@@ -199,9 +199,9 @@ returns-clause-other_free c =
       same = ap (λ (me : Me ActorState View). me.0) c.seat_note-said.ensures.same;
       said = c.seat_note-said.result.me.0;
       is_note = ap (λ (me : Me ActorState View). me.0) c.seat_note-said.ensures.note;
-      learned = c.learn.new.seat.me.0;
-      others = c.learn.ensures.looked.0;
-      learning = c.learn.ensures.looked.1;
+      learned = c.seat_learn.new.seat.me.0;
+      others = c.seat_learn.ensures.looked.0;
+      learning = c.seat_learn.ensures.looked.1;
       its = c.part-its.result.me.0;
       is_dealt = ap (λ (me : Me ActorState View). me.0) c.part-its.ensures.part;
     } in
@@ -224,9 +224,9 @@ returns-clause-both c =
       same = ap (λ (me : Me ActorState View). me.0) c.seat_note-said.ensures.same;
       said = c.seat_note-said.result.me.0;
       is_note = ap (λ (me : Me ActorState View). me.0) c.seat_note-said.ensures.note;
-      learned = c.learn.new.seat.me.0;
-      others = c.learn.ensures.looked.0;
-      learning = c.learn.ensures.looked.1;
+      learned = c.seat_learn.new.seat.me.0;
+      others = c.seat_learn.ensures.looked.0;
+      learning = c.seat_learn.ensures.looked.1;
       its = c.part-its.result.me.0;
       is_dealt = ap (λ (me : Me ActorState View). me.0) c.part-its.ensures.part;
     } in
@@ -243,11 +243,11 @@ returns-clause-event c =
     record {
       looked = c.look.new.seat.me.0;
       first_look = c.look.ensures.event;
-      learned = c.learn.new.seat.me.0;
-      second_look = subst (λ (view : View). WentOn [] (learns c.args.other.now.seat.me.0 view) c.learn.new.seat.me.0) said c.learn.ensures.event;
+      learned = c.seat_learn.new.seat.me.0;
+      second_look = subst (λ (view : View). WentOn [] (learns c.args.other.now.seat.me.0 view) c.seat_learn.new.seat.me.0) said c.seat_learn.ensures.event;
       all = c.merge.new.seat.me.0;
       last_look =
-          subst (λ (view : View). WentOn [] (merges view (dealt c.learn.new.seat.me.0)) c.merge.new.seat.me.0) same
+          subst (λ (view : View). WentOn [] (merges view (dealt c.seat_learn.new.seat.me.0)) c.merge.new.seat.me.0) same
           (subst (λ (view : View). WentOn [] (merges c.seat_note-said.new.seat.me.0 view) c.merge.new.seat.me.0) its c.merge.ensures.event);
       one_is = ap (λ (seat : Seat ActorState View). seat.me.0) c.replace.ensures.after ∙ ap (λ (me : Me ActorState View). me.0) c.part-own.ensures.part;
       other_is = ap (λ (seat : Seat ActorState View). seat.me.0) c.replace.ensures.value ∙ c.part-own.ensures.rest;

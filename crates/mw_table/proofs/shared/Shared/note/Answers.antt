@@ -7,7 +7,7 @@ use Rattle.mw_rule.specs.declared.views.View.{View}
 use Rattle.mw_table.specs.Idleness.{has_none}
 use Rattle.mw_table.specs.Numbers.{number_of}
 use Rattle.mw_table.proofs.Meetings.{lives}
-use Rattle.mw_table.proofs.HeardNotes.{bare_again}
+use Rattle.mw_table.proofs.LearnedNotes.{bare_again}
 use Rattle.mw_table.proofs.shared.Shared.note.Goals as goal
 
 pub seat_note-requires-clause-live : goal.seat_note-requires-clause-live

@@ -1,12 +1,12 @@
--- Proves goals of `workers_for` (src/staff.rt) that the check does not prove by itself. Used by: the proof of that function
+-- Proves goals of `workers_for` (src/services.rt) that the check does not prove by itself. Used by: the proof of that function
 -- alone. It may change freely as long as this crate checks.
 use Rattle.std.proofs.Common.{◌≡◌, ◌+◌, length, sym, ◌∙◌}
 use Rattle.std.specs.Vec.Iter.{into_iter_items}
 use Rattle.mw_engine.specs.Passes.{IsNew}
 use Rattle.mw_service.proofs.Workers.{behind, of_next, one_more, pushed}
-use Rattle.mw_programs.proofs.staff.workers_for.Goals as goal
+use Rattle.mw_programs.proofs.services.workers_for.Goals as goal
 
--- src/staff.rt
+-- src/services.rt
 pub new-requires : goal.new-requires
 new-requires g c =
     let left = into_iter_items c.loop-pass.pass-iterator in

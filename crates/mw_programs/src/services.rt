@@ -2,18 +2,18 @@
 //!
 //! Used by: `serving`, if the command line says `--listen`. docs/OPERATING tells how many of each there are: change both
 //! together.
-ghost use Rattle.std.specs.Prelude.{ℕ, ◌≡◌, ◌≤◌, ◌<◌, ◌+◌, All, IfOk, vec_len};
+ghost use Rattle.std.specs.Prelude.{ℕ, ◌≡◌, ◌≤◌, ◌<◌, ◌+◌, All, IfOk, IfSome, is_some, if◌then◌else◌, vec_len};
 ghost use Rattle.mw_engine.specs.Passes.{IsNew};
 
 use crate::clients::serve_clients;
 use crate::replaced::FileLook;
 use crate::serving::ServeFault;
 use log::Log;
-use mw_config::{Crowd, Listening};
+use mw_config::{Listening, SharedWorkers};
 use mw_disk::{Disk, FileDisk};
 use mw_engine::{Engine, EngineBrand, NoHold, Pass};
 use mw_opening::{TrackedFile, WatchedFile};
-use mw_service::{Borrower, FaultWatch, PassPool, Worker};
+use mw_service::{Borrower, FaultWatch, PassPool, ReadPool, Worker};
 use std::alloc::AllocError;
 use std::fs::File;
 use std::io::Write;
@@ -23,9 +23,17 @@ use std::sync::Wait;
 use std::thread::Threads;
 use std::time::Clock;
 
-/// Serves clients by a worker for each pass, or with a crowd of clients by a borrower for each of them. If there is an
+/// Serves clients by a worker for each pass, or if they share the workers by a borrower for each of them. If there is an
 /// address for the administrator, the last pass is for the clients of that address.
-pub(crate) fn serve_all_clients<'e, 'a, J, R, O: Write, L: Log + Sync, T: FaultWatch + FileLook + Sync>(
+pub(crate) fn serve_all_clients<
+    'e,
+    'a,
+    J,
+    R,
+    O: Write,
+    L: Log + Sync,
+    T: FaultWatch + FileLook + Sync,
+>(
     rt: &'e R,
     engine: &'e Engine<J, FileDisk<WatchedFile<'_, TrackedFile<'_, File>>>, NoHold>,
     passes: Vec<Pass>,
@@ -45,16 +53,17 @@ where
         + Sync,
     requires new { All (IsNew J.identity) passes.items }
     requires some { 0 < vec_len passes }
+    requires clients { IfSome listening.now.shared (λ shared. 1 ≤ shared.clients) }
 {
-    match &listening.crowd {
+    match &listening.shared {
         None => {
             let workers = workers_for(rt, engine, passes, watch)?;
             serve_clients(rt, workers, listening, out, notes, watch)
         }
-        Some(crowd) => {
+        Some(shared) => {
             let has_admin = listening.admin.is_some();
-            let pools = Pools::new(rt, passes, crowd, has_admin)?;
-            let borrowers = borrowers_for(rt, engine, &pools, crowd, watch)?;
+            let pools = Pools::new(rt, passes, shared.readers, has_admin)?;
+            let borrowers = borrowers_for(rt, engine, &pools, shared.clients, watch)?;
             serve_clients(rt, borrowers, listening, out, notes, watch)
         }
     }
@@ -82,7 +91,7 @@ fn workers_for<'a, J: EngineBrand, D: Disk, H, R: AllocGlobal, T>(
 /// The passes that clients borrow.
 #[derive(Drop)]
 struct Pools<J: EngineBrand> {
-    reads: PassPool<J>,
+    reads: ReadPool<J>,
     changes: PassPool<J>,
     /// The administrator's own.
     admin: Option<PassPool<J>>,
@@ -90,18 +99,19 @@ struct Pools<J: EngineBrand> {
 
 impl<J: EngineBrand> Pools<J> {
     /// Makes the pools of these passes. If there is an address for the administrator, the last pass is for its clients.
-    /// Of the others as many are for reads as the crowd says, but at least one is left for changes.
+    /// Of the others so many are for reads, but at least one is left for changes.
     ///
     /// # Errors
     ///
-    /// [`AllocError`] if memory is out, or there is no pass for each pool. The passes are dropped.
+    /// [`AllocError`] if memory is out, or there are too few passes. They are dropped.
     fn new<R: AllocGlobal + Wait>(
         rt: &R,
         passes: Vec<Pass>,
-        crowd: &Crowd,
+        readers: u8,
         has_admin: bool,
     ) -> Result<Self, AllocError>
         requires new { All (IsNew J.identity) passes.items }
+        ensures { IfOk result (λ pools. is_some pools.admin ≡ has_admin) }
     {
         let (mut passes, mut admin) = (passes, None);
         if has_admin {
@@ -109,9 +119,9 @@ impl<J: EngineBrand> Pools<J> {
             admin = Some(pool_of(rt, own)?);
         }
         let most = passes.len().saturating_sub(1);
-        let reads = cut::<J>(&mut passes, most.min(usize::from(crowd.readers)))?;
+        let reads = cut::<J>(&mut passes, most.min(usize::from(readers)))?;
         Ok(Pools {
-            reads: pool_of(rt, reads)?,
+            reads: ReadPool::new(pool_of(rt, reads)?),
             changes: pool_of(rt, passes)?,
             admin,
         })
@@ -152,26 +162,30 @@ fn pool_of<J: EngineBrand, R: AllocGlobal + Wait>(
 }
 
 /// Makes a borrower for each client that is served at once, and one more for the administrator, if there are passes for
-/// him.
+/// the administrator.
+///
+/// # Errors
+///
+/// [`AllocError`] if memory is out.
 fn borrowers_for<'a, J: EngineBrand, D: Disk, H, R: AllocGlobal, T>(
     rt: &'a R,
     engine: &'a Engine<J, D, H>,
     pools: &'a Pools<J>,
-    crowd: &Crowd,
+    clients: u16,
     watch: &'a T,
 ) -> Result<Vec<Borrower<'a, J, D, H, R, T>>, AllocError>
-    requires { 1 ≤ crowd.now.clients }
-    ensures { IfOk result (λ made. 0 < vec_len made) }
+    ensures { IfOk result (λ made. vec_len made ≡ clients + (if is_some pools.now.admin then 1 else 0)) }
 {
-    let mut made = Vec::with_capacity(rt.alloc(), usize::from(crowd.clients) + 1)?;
-    for _ in 0..crowd.clients {
-        let borrower = Borrower::new(engine, &pools.reads, &pools.changes, rt, watch);
+    let mut made = Vec::with_capacity(rt.alloc(), usize::from(clients) + 1)?;
+    for _ in 0..clients {
+        let borrower = Borrower::new(engine, Some(&pools.reads), &pools.changes, rt, watch);
         if made.push(borrower).is_err() {
             return Err(AllocError);
         }
     }
     if let Some(own) = &pools.admin {
-        if made.push(Borrower::new(engine, own, own, rt, watch)).is_err() {
+        let borrower = Borrower::new(engine, None, own, rt, watch);
+        if made.push(borrower).is_err() {
             return Err(AllocError);
         }
     }

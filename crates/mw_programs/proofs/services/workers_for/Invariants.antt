@@ -1,9 +1,9 @@
--- States what stays true from turn to turn in the loops of `workers_for` (src/staff.rt). Used by: the proof of that function
+-- States what stays true from turn to turn in the loops of `workers_for` (src/services.rt). Used by: the proof of that function
 -- alone. It may change freely as long as this crate checks.
 use Rattle.std.proofs.Common.{◌≡◌, ◌+◌, All, length}
 use Rattle.std.specs.Vec.Iter.{into_iter_items}
 use Rattle.mw_engine.specs.Passes.{IsNew}
-use Rattle.mw_programs.proofs.staff.workers_for.Given as goal
+use Rattle.mw_programs.proofs.services.workers_for.Given as goal
 
 -- there is a worker for each pass so far, and the passes that are left are as they were dealt
 abbrev pub invariant-loop-pass : goal.invariant-loop-pass
