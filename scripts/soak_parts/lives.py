@@ -19,7 +19,8 @@ from .server import POOL, Programs, Server, Tenant, Wrong, make_files, random_pl
 TENANTS = (Tenant("narrow", 3, 1, 1), Tenant("busy", 4, 3, 4), Tenant("broad", 8, 8, 8), Tenant("single", 1, 2, 2),
            Tenant("neighbour", 5, 16, 32))
 CLIENTS = 25
-WORKERS = 40
+WORKERS = (["--workers", "40"], ["--clients", "40", "--workers", "6"])
+"""A worker for each client, or fewer that they share: each life has the one or the other."""
 LONGEST_LIFE = 1.5
 SHARE_OF_FAILING_FILES = 0.15
 SHARE_OF_EARLY_KILLS = 0.1
@@ -38,6 +39,7 @@ class Found:
     early_kills: int = 0
     hold_ups: int = 0
     narrow: int = 0
+    shared: int = 0
     reports: int = 0
     calls: int = 0
     failing_calls: int = 0
@@ -54,7 +56,7 @@ class Found:
         ends = f"a kill and a power cut ({self.cut_calls} writes were not synced)" if cuts else "a kill"
         return [f"{seconds:.0f} seconds, {self.lives} lives of the server, each ended by {ends}",
                 f"{self.early_kills} killed at their start, {self.hold_ups} held up, {self.narrow} on one processor, "
-                f"{self.reports} with all slots free at rest",
+                f"{self.shared} with fewer workers than clients, {self.reports} with all slots free at rest",
                 f"{sum(self.answers.values())} requests of {CLIENTS} clients on {len(TENANTS)} tenants: {told}",
                 f"{self.calls} writes and syncs, {self.failing_calls} calls let fail; up to {self.most_open} changes of a tenant "
                 "at once durable and not finished",
@@ -97,7 +99,9 @@ class Lives:
         plan = random_plan(self.dice, TENANTS, 0.0 if seconds is None else SHARE_OF_FAILING_FILES)
         plan.lie = self.lie
         durable = {tenant: tenant.path(self.folder).read_bytes() for tenant in TENANTS}
-        server = Server(self.programs, self.folder, TENANTS, WORKERS, plan)
+        workers = self.dice.choice(WORKERS)
+        server = Server(self.programs, self.folder, TENANTS, workers, plan)
+        self.found.shared += "--clients" in workers
         self.down = []
         self.found.narrow += plan.narrow
         try:

@@ -14,7 +14,7 @@ from .server import Plan, Programs, Server, Tenant, Wrong, make_files
 
 RECORDED = (Tenant("alone", 2, 1, 1), Tenant("pair", 3, 2, 2), Tenant("four", 8, 4, 8))
 CLIENTS = {"alone": 1, "pair": 2, "four": 4}
-WORKERS = 20
+WORKERS = ["--workers", "20"]
 SHORTEST_RECORDING, LONGEST_RECORDING = 0.01, 0.05
 SHARE_OF_FAILURES = 0.4
 SLOTS = 16
@@ -188,7 +188,7 @@ class Power:
         for slot, one in zip(slots, images):
             slot.path(folder).write_bytes(one.data)
         (folder / "tenants").write_text("".join(f"{s.name} {s.words} {s.quota} {s.name}.mw\n" for s in slots))
-        server = Server(self.programs, folder, slots, 4, Plan({}))
+        server = Server(self.programs, folder, slots, ["--workers", "4"], Plan({}))
         try:
             server.wait_until_ready()
             found = [server.words(slot) for slot in slots]

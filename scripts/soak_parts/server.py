@@ -74,16 +74,17 @@ def make_files(programs: Programs, folder: Path, tenants: Sequence[Tenant]) -> N
 
 
 class Server:
-    """One life of a server, from its start to its end. `died` is when it had ended; 0 before."""
+    """One life of a server, from its start to its end. `workers` are its options on workers. `died` is when it had ended; 0
+    before."""
 
-    def __init__(self, programs: Programs, folder: Path, tenants: Sequence[Tenant], workers: int, plan: Plan) -> None:
+    def __init__(self, programs: Programs, folder: Path, tenants: Sequence[Tenant], workers: Sequence[str], plan: Plan) -> None:
         self.folder = folder
         self.log = folder / "records"
         remove(self.log)
         self.died = self.port = 0
         with open(folder / "notes", "wb") as notes:
             self.process = subprocess.Popen(
-                [programs.mwserve, "--tenants", "tenants", "--workers", str(workers), "--listen", f"{HOST}:0"], cwd=folder,
+                [programs.mwserve, "--tenants", "tenants", *workers, "--listen", f"{HOST}:0"], cwd=folder,
                 env=self.environment(programs, tenants, plan), stdin=subprocess.DEVNULL, stdout=subprocess.PIPE, stderr=notes)
         if plan.narrow:
             os.sched_setaffinity(self.process.pid, {min(os.sched_getaffinity(0))})
