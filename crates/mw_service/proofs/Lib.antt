@@ -1,2 +1,3 @@
+pub mod SessionOrders
 pub mod Sessions
 pub mod Workers

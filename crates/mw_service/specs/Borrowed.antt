@@ -7,6 +7,7 @@ use Rattle.mw_words.specs.declared.jobs.Job.{Job}
 use Rattle.mw_words.specs.declared.replies.Reply.{Reply}
 use Rattle.mw_report.specs.declared.figures.Figures.{Figures}
 use Rattle.mw_session.specs.Talk.{Call, Finds, Asks, Counts}
+use Rattle.mw_rule.specs.Steps.{ExtendsView}
 use Rattle.mw_engine.specs.Brand.{Identity}
 use Rattle.mw_engine.specs.Figures.{TellAll}
 use Rattle.mw_engine.specs.FromBelow.{HasLearned, Note, View, note, said_in}
@@ -51,6 +52,7 @@ pub record IsAnsweredBy (identity : Identity) (before last : View) (old : Option
 -- what the session had seen.
 pub record AreCountedBy (identity : Identity) (before last : View) (old : Option Note) (figures : Figures) (new : Option Note) : Type 0 where
   pub borrows : Borrows identity before last old new
+  pub keeps : ExtendsView borrows.first last
   pub told : TellAll identity.config.pool identity.config.pool identity.lines (map places_told identity.openings) figures.tenants.items figures.pool_free borrows.first last
 
 -- The same with some pass, which is under a lock that doesn't tell what it knew. So of BUSY, FAULT and WORN these say no more

@@ -7,13 +7,15 @@
 //! that it borrows learns from the note before the request. So a value, a YES and a NO are right at a place in the
 //! tenant's history that is no earlier than what the session has seen, whichever passes it borrows.
 //!
-//! `specs/Served` says what a worker answers, and `specs/Borrowed` what a borrower answers.
+//! `specs/Served` says what a worker answers, `specs/Borrowed` what a borrower answers, and `specs/SessionOrder` that its
+//! replies come in order.
 //!
 //! Used by: mw_programs. `must-fail` edits some bodies.
 #![tactic(auto)]
 
 mod borrower;
 mod idle_pass;
+mod laws;
 mod pass_pool;
 mod read_pool;
 mod served;
@@ -22,6 +24,7 @@ mod worker;
 
 pub use borrower::Borrower;
 pub use idle_pass::IdlePass;
+pub use laws::replies_are_in_order;
 pub use pass_pool::PassPool;
 pub use read_pool::ReadPool;
 pub use watch::FaultWatch;

@@ -11,5 +11,6 @@ returns-clause-counted g c = record {
     learns = c.learn.ensures.learned;
     says = c.note-note.ensures.says;
   };
+  keeps = c.figures-figures.ensures.looked.keeps;
   told = c.figures-figures.ensures.tells;
 }
