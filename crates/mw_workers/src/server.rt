@@ -7,7 +7,7 @@ ghost use Rattle.mw_workers.specs.ListenerCalls.{EndsSo};
 
 use crate::acceptor::accept_all;
 use crate::peer::{Connection, Intake, Listener};
-use crate::usher::{Counter, Door, Hall, Usher};
+use crate::usher::{ArrivalQueue, Usher, UsheredQueue, WorkerQueue};
 use crate::worker::serve_each;
 use crossbeam_channel::Sender;
 use mw_session::Service;
@@ -50,14 +50,14 @@ pub fn serve_all<L: Listener + Drop, S: Service + Send + Drop, R: Threads + Wait
     ensures { EndsSo L.accepts connections listener result.1 result.0 }
 {
     match wait {
-        Some(wait) => match Hall::new(alloc, services.len(), wait) {
-            Ok(hall) => serve_in_time(rt, alloc, listener, services, connections, hall),
+        Some(wait) => match UsheredQueue::new(alloc, services.len(), wait) {
+            Ok(ushered) => serve_in_time(rt, alloc, listener, services, connections, ushered),
             Err(_) => (ServeEnd::Memory, listener),
         },
         None => match crossbeam_channel::bounded(alloc, QUEUE) {
             Ok((to, from)) => {
-                let counter = Counter { from, free: None };
-                serve_queue(rt, alloc, listener, services, connections, to, &counter)
+                let queue = WorkerQueue { from, free: None };
+                serve_queue(rt, alloc, listener, services, connections, to, &queue)
             }
             Err(_) => (ServeEnd::Memory, listener),
         },
@@ -71,25 +71,25 @@ fn serve_in_time<L: Listener + Drop, S: Service + Send + Drop, R: Threads + Wait
     listener: L,
     services: Vec<S>,
     connections: Option<u32>,
-    hall: Hall<L::Connection>,
+    ushered: UsheredQueue<L::Connection>,
 ) -> (ServeEnd, L)
     ensures { EndsSo L.accepts connections listener result.1 result.0 }
 {
-    let Hall {
+    let UsheredQueue {
         arrived,
         usher,
-        counter,
-    } = hall;
-    let door = Door { arrived, clock: rt };
+        queue,
+    } = ushered;
+    let arrivals = ArrivalQueue { arrived, clock: rt };
     serve_ushered(
         rt,
         alloc,
         listener,
         services,
         connections,
-        door,
+        arrivals,
         usher,
-        &counter,
+        &queue,
     )
 }
 
@@ -100,9 +100,9 @@ fn serve_ushered<L: Listener + Drop, S: Service + Send + Drop, R: Threads + Wait
     listener: L,
     services: Vec<S>,
     connections: Option<u32>,
-    door: Door<'_, L::Connection, R>,
+    arrivals: ArrivalQueue<'_, L::Connection, R>,
     usher: Usher<L::Connection>,
-    counter: &Counter<L::Connection>,
+    queue: &WorkerQueue<L::Connection>,
 ) -> (ServeEnd, L)
     ensures { EndsSo L.accepts connections listener result.1 result.0 }
 {
@@ -112,14 +112,14 @@ fn serve_ushered<L: Listener + Drop, S: Service + Send + Drop, R: Threads + Wait
         |scope| -> (ServeEnd, L)
             ensures { EndsSo L.accepts connections listener result.1 result.0 }
         {
-            if begin_all(scope, rt, alloc, counter, services).is_err() {
+            if begin_all(scope, rt, alloc, queue, services).is_err() {
                 return (ServeEnd::Memory, listener);
             }
             if scope.spawn(move || usher.run(rt)).is_err() {
                 return (ServeEnd::Memory, listener);
             }
-            let (mut listener, mut door) = (listener, door);
-            accept_all(rt, &mut listener, &mut door, connections);
+            let (mut listener, mut arrivals) = (listener, arrivals);
+            accept_all(rt, &mut listener, &mut arrivals, connections);
             (ServeEnd::Served, listener)
         },
     )
@@ -133,7 +133,7 @@ fn serve_queue<L: Listener + Drop, S: Service + Send + Drop, R: Threads + Wait +
     services: Vec<S>,
     connections: Option<u32>,
     to: Sender<L::Connection>,
-    counter: &Counter<L::Connection>,
+    queue: &WorkerQueue<L::Connection>,
 ) -> (ServeEnd, L)
     ensures { EndsSo L.accepts connections listener result.1 result.0 }
 {
@@ -143,7 +143,7 @@ fn serve_queue<L: Listener + Drop, S: Service + Send + Drop, R: Threads + Wait +
         |scope| -> (ServeEnd, L)
             ensures { EndsSo L.accepts connections listener result.1 result.0 }
         {
-            if begin_all(scope, rt, alloc, counter, services).is_err() {
+            if begin_all(scope, rt, alloc, queue, services).is_err() {
                 return (ServeEnd::Memory, listener);
             }
             let (mut listener, mut to) = (listener, to);
@@ -168,11 +168,11 @@ fn begin_all<
     scope: &Scope<'s, E>,
     rt: &'s R,
     alloc: Global,
-    counter: &'s Counter<C>,
+    queue: &'s WorkerQueue<C>,
     services: Vec<S>,
 ) -> Result<(), AllocError> {
     for mut service in services {
-        scope.spawn(move || serve_each(rt, alloc, counter.calls(rt), &mut service))?;
+        scope.spawn(move || serve_each(rt, alloc, queue.connections(rt), &mut service))?;
     }
     Ok(())
 }

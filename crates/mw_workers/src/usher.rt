@@ -1,8 +1,8 @@
 //! Hands connections over to workers in the order in which they came, and closes those that have waited for too long.
 //!
 //! `server.rt` runs an [`Usher`] on a thread of its own, if connections may wait for so many seconds only. The acceptor
-//! puts them at its [`Door`], and each worker takes them from its [`Calls`]. [`WAITING`] may have another number of 1 or
-//! more; docs/OPERATING tells it. Nothing is proved of the channels.
+//! puts them into the [`ArrivalQueue`], and the workers take them from the [`WorkerQueue`]. [`WAITING`] may have another
+//! number of 1 or more; docs/OPERATING tells it. Nothing is proved of the channels.
 ghost use Rattle.std.specs.Prelude.{◌≡◌};
 ghost use Rattle.std.specs.Duration.{as_nanos};
 ghost use Rattle.std.specs.Iterator.{at_most};
@@ -32,18 +32,18 @@ pub(crate) struct Free;
 
 /// Where the workers get their connections.
 #[derive(Drop)]
-pub(crate) struct Counter<C: Drop> {
+pub(crate) struct WorkerQueue<C: Drop> {
     pub(crate) from: Receiver<C>,
     /// Where a worker says that it is free, if an usher wants to know.
     pub(crate) free: Option<Sender<Free>>,
 }
 
-impl<C: Drop> Counter<C> {
+impl<C: Drop> WorkerQueue<C> {
     /// Gives the connections of one worker.
-    pub(crate) fn calls<'a, R: Wait>(&'a self, rt: &'a R) -> Calls<'a, C, R> {
-        Calls {
+    pub(crate) fn connections<'a, R: Wait>(&'a self, rt: &'a R) -> WorkerConnections<'a, C, R> {
+        WorkerConnections {
             rt,
-            counter: self,
+            queue: self,
             next: self.from.iter(rt),
         }
     }
@@ -51,19 +51,19 @@ impl<C: Drop> Counter<C> {
 
 /// The connections of one worker. Before each, it says that it is free.
 #[derive(Drop)]
-pub(crate) struct Calls<'a, C: Drop, R: Wait> {
+pub(crate) struct WorkerConnections<'a, C: Drop, R: Wait> {
     rt: &'a R,
-    counter: &'a Counter<C>,
+    queue: &'a WorkerQueue<C>,
     next: Iter<'a, C, R>,
 }
 
-impl<C: Drop, R: Wait> Iterator for Calls<'_, C, R> {
+impl<C: Drop, R: Wait> Iterator for WorkerConnections<'_, C, R> {
     type Item = C;
 
-    ghost remaining = { λ calls. at_most (iter_left calls.next) };
+    ghost remaining = { λ connections. at_most (iter_left connections.next) };
 
     fn next(&mut self) -> Option<C> {
-        if let Some(free) = &self.counter.free {
+        if let Some(free) = &self.queue.free {
             // If the usher has ended, those that it has handed over are still served.
             let _ = free.send(self.rt, Free);
         }
@@ -71,14 +71,14 @@ impl<C: Drop, R: Wait> Iterator for Calls<'_, C, R> {
     }
 }
 
-/// Where the acceptor puts connections that wait.
+/// Where the acceptor puts connections, which wait here for a worker.
 #[derive(Drop)]
-pub(crate) struct Door<'a, C: Drop, K> {
+pub(crate) struct ArrivalQueue<'a, C: Drop, K> {
     pub(crate) arrived: Sender<Arrival<C>>,
     pub(crate) clock: &'a K,
 }
 
-impl<C: Drop, K: Clock> Intake<C> for Door<'_, C, K> {
+impl<C: Drop, K: Clock> Intake<C> for ArrivalQueue<'_, C, K> {
     ghost puts = { λ _ _ _. Unit {0} };
 
     fn put<R: Wait>(&mut self, rt: &R, connection: C) {
@@ -98,15 +98,15 @@ pub(crate) struct Usher<C: Drop> {
     wait: Duration,
 }
 
-/// An usher, with where connections are put for it, and where so many workers get them.
+/// The ends of the queues: where connections come, who hands them over, and where the workers get them.
 #[derive(Drop)]
-pub(crate) struct Hall<C: Drop> {
+pub(crate) struct UsheredQueue<C: Drop> {
     pub(crate) arrived: Sender<Arrival<C>>,
     pub(crate) usher: Usher<C>,
-    pub(crate) counter: Counter<C>,
+    pub(crate) queue: WorkerQueue<C>,
 }
 
-impl<C: Drop> Hall<C> {
+impl<C: Drop> UsheredQueue<C> {
     /// Makes all of it for so many workers. A connection waits for so many seconds.
     ///
     /// # Errors
@@ -117,7 +117,7 @@ impl<C: Drop> Hall<C> {
         // A worker says once that it is free, and then gets one connection: neither ever waits for room.
         let (free, freed) = crossbeam_channel::bounded(alloc, workers)?;
         let (to, from) = crossbeam_channel::bounded(alloc, workers)?;
-        Ok(Hall {
+        Ok(UsheredQueue {
             arrived,
             usher: Usher {
                 arrivals,
@@ -125,7 +125,7 @@ impl<C: Drop> Hall<C> {
                 to,
                 wait: Duration::from_secs(u64::from(wait)),
             },
-            counter: Counter {
+            queue: WorkerQueue {
                 from,
                 free: Some(free),
             },
