@@ -1,17 +1,13 @@
-//! Tests sessions, the serving of clients, and a client. The tests are apart from the crates that they
-//! test, so that those are proved once.
+//! Tests sessions and the serving of clients. The tests are apart from the crates that they test, so that
+//! those are proved once.
 #![tactic(auto)]
 
-#[cfg(test)]
-mod client_tests;
 #[cfg(test)]
 mod desk_tests;
 #[cfg(test)]
 mod local_lookout;
 #[cfg(test)]
 mod local_tests;
-#[cfg(test)]
-mod patience_tests;
 #[cfg(test)]
 mod room_tests;
 #[cfg(test)]

@@ -1,6 +1,6 @@
 //! A server for tests, over the words of one tenant.
 //!
-//! Used by: `client_tests`, `desk_tests`, `local_tests`, `room_tests`, `silence_tests`, `slow_tests`, `wait_tests`, `workers_tests`. It may change freely as long as this
+//! Used by: `desk_tests`, `local_tests`, `room_tests`, `silence_tests`, `slow_tests`, `wait_tests`, `workers_tests`. It may change freely as long as this
 //! crate checks and its tests pass.
 ghost use Rattle.std.specs.Prelude.{◌<◌};
 

@@ -1,7 +1,7 @@
 -- Defines how long a session may still wait for its client: which times run, and what is left of each limit.
 -- Used by: the contracts of time_limits.rt and usher.rt. A change here changes when a client is sent away that is slow, or that
 -- no worker serves. Times and lengths of time are in nanoseconds.
-use Rattle.std.specs.Prelude.{◌≡◌, ℕ, ◌-◌, ◌*◌, ◌==◌, min, max, length, Bool, true, false, List, Option, Some, None, slice_get, if◌then◌else◌}
+use Rattle.std.specs.Prelude.{◌≡◌, ◌||◌, ◌&&◌, is_some, ℕ, ◌-◌, ◌*◌, ◌==◌, min, max, length, Bool, true, false, List, Option, Some, None, slice_get, if◌then◌else◌}
 use Rattle.std.specs.List.{list_any}
 use Rattle.std.specs.Option.{option_map}
 use Rattle.std.specs.Time.{instant_nanos}
@@ -85,6 +85,16 @@ abbrev pub wait_left : WaitLimits → Times → Instant → Instant → Bool →
 wait_left limits times called now others =
     lesser (left_of (nanos limits.silence) (instant_nanos called) (instant_nanos now))
     (lesser (timing_left (nanos limits.line) times.part (instant_nanos now)) (turn_left others (timing_left (nanos limits.turn) times.turn (instant_nanos now))))
+
+-- whether a time runs, or is to run
+abbrev pub runs : Timing → Bool
+runs Stopped = false
+runs Starting = true
+runs (Since since) = true
+
+-- Whether a call has to ask a clock: others may want the client's turn, or a line or a reply is under way whose time is limited.
+abbrev pub needs_clock : WaitLimits → Times → Bool
+needs_clock limits times = is_some limits.turn || (is_some limits.line && runs times.part)
 
 -- At whatever time the next call begins, and whoever waits, it may wait for a whole silence.
 abbrev pub MayWaitASilence : WaitLimits → Times → Type 0

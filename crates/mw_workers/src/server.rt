@@ -1,15 +1,15 @@
 //! Serves all clients: runs the acceptor, the queue of connections, and the workers, each on a thread.
 //!
-//! mw_programs calls [`serve_all`], or `serve_beside`, which calls it. [`QUEUE`] and [`WAITING`] may have other
-//! numbers of 1 or more; docs/OPERATING tells them. docs/PROMISES cites `serve_all`.
+//! mw_programs calls [`serve_all`], or `serve_beside`, which calls it. [`QUEUE`] may have another number of 1 or
+//! more; docs/OPERATING tells it. docs/PROMISES cites `serve_all`.
 ghost use Rattle.std.specs.Prelude.{◌<◌, vec_len};
 ghost use Rattle.mw_workers.specs.ListenerCalls.{EndsSo};
 
 use crate::acceptor::accept_all;
 use crate::peer::{Connection, Intake, Listener};
-use crate::usher::{Door, usher};
+use crate::usher::{ArrivalQueue, Usher, UsheredQueue, WorkerQueue};
 use crate::worker::serve_each;
-use crossbeam_channel::{Receiver, Sender};
+use crossbeam_channel::Sender;
 use mw_session::Service;
 use std::alloc::{AllocError, Global};
 use std::sync::Wait;
@@ -19,10 +19,6 @@ use std::time::Clock;
 
 /// How many connections may wait for a worker, if they wait for ever. While so many wait, no further one is taken.
 pub const QUEUE: usize = 64;
-
-/// How many connections may wait for a worker, if they wait for so many seconds. While so many wait, no further
-/// one is taken.
-pub const WAITING: usize = 1024;
 
 /// Tells how serving ended.
 #[derive(Clone, Copy, Debug, PartialEq, Eq)]
@@ -53,48 +49,77 @@ pub fn serve_all<L: Listener + Drop, S: Service + Send + Drop, R: Threads + Wait
     requires { 0 < vec_len services }
     ensures { EndsSo L.accepts connections listener result.1 result.0 }
 {
-    // A connection that waits for so many seconds only waits elsewhere, and is handed over to a free worker.
-    let room = if wait.is_some() { 0 } else { QUEUE };
-    let Ok((to, from)) = crossbeam_channel::bounded(alloc, room) else {
-        return (ServeEnd::Memory, listener);
-    };
     match wait {
-        Some(wait) => { serve_in_time(rt, alloc, listener, services, connections, wait, to, &from) }
-        None => serve_queue(rt, alloc, listener, services, connections, to, &from),
+        Some(wait) => match UsheredQueue::new(alloc, services.len(), wait) {
+            Ok(ushered) => serve_in_time(rt, alloc, listener, services, connections, ushered),
+            Err(_) => (ServeEnd::Memory, listener),
+        },
+        None => match crossbeam_channel::bounded(alloc, QUEUE) {
+            Ok((to, from)) => {
+                let queue = WorkerQueue { from, free: None };
+                serve_queue(rt, alloc, listener, services, connections, to, &queue)
+            }
+            Err(_) => (ServeEnd::Memory, listener),
+        },
     }
 }
 
-/// Starts the workers and the usher, takes the connections, and ends when all of them have ended.
+/// Serves clients as [`serve_all`] does, if they may wait for so many seconds only.
 fn serve_in_time<L: Listener + Drop, S: Service + Send + Drop, R: Threads + Wait + Clock + Sync>(
     rt: &R,
     alloc: Global,
     listener: L,
     services: Vec<S>,
     connections: Option<u32>,
-    wait: u32,
-    to: Sender<L::Connection>,
-    from: &Receiver<L::Connection>,
+    ushered: UsheredQueue<L::Connection>,
 ) -> (ServeEnd, L)
     ensures { EndsSo L.accepts connections listener result.1 result.0 }
 {
-    let Ok((arrived, arrivals)) = crossbeam_channel::bounded(alloc, WAITING) else {
-        return (ServeEnd::Memory, listener);
-    };
+    let UsheredQueue {
+        arrived,
+        usher,
+        queue,
+    } = ushered;
+    let arrivals = ArrivalQueue { arrived, clock: rt };
+    serve_ushered(
+        rt,
+        alloc,
+        listener,
+        services,
+        connections,
+        arrivals,
+        usher,
+        &queue,
+    )
+}
+
+/// Starts the workers and the usher, takes the connections, and ends when all of them have ended.
+fn serve_ushered<L: Listener + Drop, S: Service + Send + Drop, R: Threads + Wait + Clock + Sync>(
+    rt: &R,
+    alloc: Global,
+    listener: L,
+    services: Vec<S>,
+    connections: Option<u32>,
+    arrivals: ArrivalQueue<'_, L::Connection, R>,
+    usher: Usher<L::Connection>,
+    queue: &WorkerQueue<L::Connection>,
+) -> (ServeEnd, L)
+    ensures { EndsSo L.accepts connections listener result.1 result.0 }
+{
     thread::scope(
         thread::scope_env(),
         rt,
         |scope| -> (ServeEnd, L)
             ensures { EndsSo L.accepts connections listener result.1 result.0 }
         {
-            if begin_all(scope, rt, alloc, from, services).is_err() {
+            if begin_all(scope, rt, alloc, queue, services).is_err() {
                 return (ServeEnd::Memory, listener);
             }
-            if scope.spawn(move || usher(rt, arrivals, to, wait)).is_err() {
+            if scope.spawn(move || usher.run(rt)).is_err() {
                 return (ServeEnd::Memory, listener);
             }
-            let mut listener = listener;
-            let mut door = Door { arrived, clock: rt };
-            accept_all(rt, &mut listener, &mut door, connections);
+            let (mut listener, mut arrivals) = (listener, arrivals);
+            accept_all(rt, &mut listener, &mut arrivals, connections);
             (ServeEnd::Served, listener)
         },
     )
@@ -108,7 +133,7 @@ fn serve_queue<L: Listener + Drop, S: Service + Send + Drop, R: Threads + Wait +
     services: Vec<S>,
     connections: Option<u32>,
     to: Sender<L::Connection>,
-    from: &Receiver<L::Connection>,
+    queue: &WorkerQueue<L::Connection>,
 ) -> (ServeEnd, L)
     ensures { EndsSo L.accepts connections listener result.1 result.0 }
 {
@@ -118,7 +143,7 @@ fn serve_queue<L: Listener + Drop, S: Service + Send + Drop, R: Threads + Wait +
         |scope| -> (ServeEnd, L)
             ensures { EndsSo L.accepts connections listener result.1 result.0 }
         {
-            if begin_all(scope, rt, alloc, from, services).is_err() {
+            if begin_all(scope, rt, alloc, queue, services).is_err() {
                 return (ServeEnd::Memory, listener);
             }
             let (mut listener, mut to) = (listener, to);
@@ -132,7 +157,7 @@ fn serve_queue<L: Listener + Drop, S: Service + Send + Drop, R: Threads + Wait +
 ///
 /// # Errors
 ///
-/// A worker couldn't be started. Those before it work until the queue ends.
+/// A worker couldn't be started. Those before it work until no more connections can come.
 fn begin_all<
     's,
     E,
@@ -143,11 +168,11 @@ fn begin_all<
     scope: &Scope<'s, E>,
     rt: &'s R,
     alloc: Global,
-    from: &'s Receiver<C>,
+    queue: &'s WorkerQueue<C>,
     services: Vec<S>,
 ) -> Result<(), AllocError> {
     for mut service in services {
-        scope.spawn(move || serve_each(rt, alloc, from.iter(rt), &mut service))?;
+        scope.spawn(move || serve_each(rt, alloc, queue.connections(rt), &mut service))?;
     }
     Ok(())
 }

@@ -5,7 +5,7 @@
 //! limits.
 ghost use Rattle.std.specs.Prelude.{◌≡◌, None, IsFalse, if◌then◌else◌};
 ghost use Rattle.std.specs.Time.{instant_nanos};
-ghost use Rattle.mw_workers.specs.declared.time_limits.Timing.TheVariants.{Starting};
+ghost use Rattle.mw_workers.specs.declared.time_limits.Timing.TheVariants.{Starting, Stopped};
 ghost use Rattle.mw_workers.specs.TimesLeft.{
   MayWaitASilence,
   after_piece,
@@ -15,6 +15,7 @@ ghost use Rattle.mw_workers.specs.TimesLeft.{
   left_of,
   lesser,
   nanos,
+  needs_clock,
   started,
   started_timing,
   timing_left,
@@ -102,7 +103,7 @@ impl Timing {
         match self {
             Timing::Stopped => Timing::Stopped,
             Timing::Starting => Timing::Since(now),
-            Timing::Since(since) => Timing::Since(since),
+            Timing::Since(then) => Timing::Since(then),
         }
     }
 
@@ -129,7 +130,10 @@ impl Timing {
 
 impl Times {
     /// Gives the times of a session that begins.
-    pub(crate) fn new() -> Times {
+    pub(crate) fn new() -> Times
+        ensures part { result.part ≡ Stopped }
+        ensures turn { result.turn ≡ Starting }
+    {
         Times {
             part: Timing::Stopped,
             turn: Timing::Starting,
@@ -196,7 +200,8 @@ impl Times {
 
     /// Tells whether a call that begins now has to ask a clock. If not, it may wait for a whole silence.
     pub(crate) fn need_clock(&self, limits: &WaitLimits) -> bool
-        ensures { IsFalse result → MayWaitASilence limits.now self.now }
+        ensures value { result ≡ needs_clock limits.now self.now }
+        ensures silence { IsFalse result → MayWaitASilence limits.now self.now }
     {
         let runs = !matches!(self.part, Timing::Stopped);
         limits.turn.is_some() || (limits.line.is_some() && runs)

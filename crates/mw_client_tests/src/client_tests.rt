@@ -1,7 +1,7 @@
 //! Tests clients of a server that is a text in memory, and a client that comes by a socket.
 //!
 //! Nothing else uses it: it may change with what it tests.
-use crate::test_serving::{NO_LIMITS, Shop, serves_right};
+use crate::test_server::serves_right;
 use arrayvec::ArrayVec;
 use mw_client::{
     Administrator, Client, Failure, Outcome, connect, connect_administrator, read_reply,
@@ -191,13 +191,13 @@ fn is_told_by_a_socket<R: Net<Stream = TcpStream>>(
         return Ok(false);
     };
     Ok(match client.report() {
-        Ok(figures) => is_of_the_shelf(&figures),
+        Ok(figures) => are_of_the_server(&figures),
         Err(_) => false,
     })
 }
 
 /// Tells whether these are the figures that the tests' server tells.
-fn is_of_the_shelf(figures: &Figures) -> bool {
+fn are_of_the_server(figures: &Figures) -> bool {
     match figures.tenants.as_slice() {
         [only] => only.places == 2 && only.up && figures.pool_free == 256,
         _ => false,
@@ -206,18 +206,7 @@ fn is_of_the_shelf(figures: &Figures) -> bool {
 
 #[test]
 fn the_administrator_connects_and_asks(rt: HostRuntime) -> Result<(), Fail> {
-    let shop = Shop {
-        words: 2,
-        workers: 1,
-        connections: 1,
-        wait: None,
-    };
-    let told = serves_right(
-        &rt,
-        shop,
-        NO_LIMITS,
-        |port| is_told_by_a_socket(&rt, rt.alloc(), port),
-    )?;
+    let told = serves_right(&rt, |port| is_told_by_a_socket(&rt, rt.alloc(), port))?;
     assert!(rt; told);
     Ok(())
 }
