@@ -2,7 +2,8 @@
 -- Used by: the contracts of `needed` and `needed_to_wait` in src/descriptors.rt. It changes with what a server opens.
 use Rattle.std.specs.Prelude.{ℕ, ◌+◌, Bool, if◌then◌else◌}
 use Rattle.mw_workers.specs.declared.desk.TheConstants.{DESK_QUEUE}
-use Rattle.mw_workers.specs.declared.server.TheConstants.{QUEUE, WAITING}
+use Rattle.mw_workers.specs.declared.server.TheConstants.{QUEUE}
+use Rattle.mw_workers.specs.declared.usher.TheConstants.{WAITING}
 
 -- the connections that no session serves yet: QUEUE that wait, and one that is being accepted; if they wait for a limited time,
 -- WAITING, one that is being accepted, and one on its way to a session
