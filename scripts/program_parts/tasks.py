@@ -1,0 +1,127 @@
+"""What only the client for asyncio has: tasks that share it, calls that are cancelled, and that others go on while one waits.
+
+Used by: scripts/check-programs. Nothing here passes or fails by how fast the machine is.
+"""
+import asyncio
+
+from .common import PATIENCE, same, wrong
+from .reads import SILENT, Peers
+
+import mondlexi.aio  # noqa: E402
+
+VALUE = ["OK 9\n", "VAL 5\n", "BYE\n"]
+
+
+def client_of(peers, **named):
+    return mondlexi.aio.Client(peers.at, "t", timeout=PATIENCE, **named)
+
+
+async def raises(kind, what, work):
+    """As `common.raises`, of a call that is awaited."""
+    try:
+        given = await work
+    except BaseException as error:
+        if type(error) is kind:
+            return
+        wrong(f"{what}: {type(error).__name__} ({error}) in place of {kind.__name__}")
+    wrong(f"{what}: {given!r} in place of {kind.__name__}")
+
+
+
+async def count_together(at):
+    """Tasks that share one client count in one word; two of them have counts of their changes."""
+    async def count(caller):
+        for _ in range(10):
+            while not await caller.cas([(8, value := await client.get(8), value + 1)]):
+                pass
+
+    async with mondlexi.aio.Client(at, "t", timeout=PATIENCE) as client:
+        callers = client, client, mondlexi.aio.Counted(client, 6), mondlexi.aio.Counted(client, 7)
+        await asyncio.gather(*(count(caller) for caller in callers))
+        same(await client.get(8), 40, "what four tasks counted")
+
+
+async def cancel_a_change():
+    """A change that is cancelled ends the connection. A read connects anew then, a change doesn't."""
+    peers = Peers(["OK 9\n", SILENT], VALUE)
+    async with client_of(peers) as client:
+        change = asyncio.ensure_future(client.cas([(0, 1, 2)]))
+        await asyncio.sleep(0.1)
+        change.cancel()
+        await raises(asyncio.CancelledError, "cas that is cancelled", change)
+        await raises(mondlexi.Lost, "cas after that", client.cas([(0, 1, 2)]))
+        same(await client.get(7), 5, "get after that")
+    same(peers.heard()[1], ["TENANT t", "GET 7", "QUIT"], "what is sent after a change that was cancelled")
+
+
+async def cancel_a_read():
+    """A read that is cancelled, here by a limit of time, ends the connection too; one that waits for its turn doesn't."""
+    async with client_of(Peers(["OK 9\n", SILENT], VALUE)) as client:
+        await raises(asyncio.TimeoutError, "get within a limit of time", asyncio.wait_for(client.get(7), 0.1))
+        same(await client.get(7), 5, "get after that")
+    peers = Peers(["OK 9\n", "", "VAL 5\nVAL 6\n", "VAL 7\n", "BYE\n"])
+    async with client_of(peers) as client:
+        first = asyncio.ensure_future(client.get_many([1, 2]))
+        second = asyncio.ensure_future(client.get(3))
+        await asyncio.sleep(0)
+        second.cancel()
+        await raises(asyncio.CancelledError, "get that is cancelled before its turn", second)
+        same(await first, [5, 6], "get_many that goes on")
+        same(await client.get(4), 7, "get after that")
+    same(len(peers.heard()[0]), 5, "the lines of this connection")
+
+
+async def cancel_a_connect():
+    """A client that is cancelled while it waits for its first reply leaves nothing open."""
+    peers = Peers([SILENT], VALUE)
+    client = client_of(peers)
+    await raises(asyncio.TimeoutError, "reconnect within a limit of time", asyncio.wait_for(client.reconnect(), 0.1))
+    await client.reconnect()
+    same(await client.get(7), 5, "get after that")
+    await client.close()
+    peers.heard()
+
+
+async def wait_beside_others():
+    """While a call waits, for a reply or for a server that is busy, other tasks go on."""
+    turns = []
+
+    async def take_turns():
+        while True:
+            turns.append(1)
+            await asyncio.sleep(0.01)
+
+    other = asyncio.ensure_future(take_turns())
+    async with client_of(Peers(["OK 9\n", *300 * ["BUSY\n"]]), patience=0.5) as client:
+        await raises(mondlexi.Busy, "cas of a busy server", client.cas([(0, 1, 2)]))
+    while_busy = len(turns)
+    async with client_of(Peers(["OK 9\n", SILENT])) as client:
+        await raises(asyncio.TimeoutError, "get of a silent server", asyncio.wait_for(client.get(0), 0.5))
+    same(while_busy > 3 and len(turns) - while_busy > 3, True, f"turns of another task: {while_busy}, {len(turns) - while_busy}")
+    other.cancel()
+
+
+async def call_before_connecting():
+    """A client that was only made raises Lost, and `reconnect` connects it."""
+    client = client_of(Peers(["OK 9\n", "VAL 5\n", "BYE\n"]))
+    for name, *arguments in (("get", 0), ("get_many", [0]), ("read", [0]), ("cas", [(0, 1, 2)])):
+        await raises(mondlexi.Lost, f"{name} of a client that isn't connected", getattr(client, name)(*arguments))
+    same(client.words, 0, "words of a client that isn't connected")
+    await client.reconnect()
+    same((client.words, await client.get(7)), (9, 5), "a client that was connected")
+    await client.close()
+
+
+async def try_all():
+    for trial in (cancel_a_change, cancel_a_read, cancel_a_connect, wait_beside_others, call_before_connecting):
+        await asyncio.wait_for(trial(), PATIENCE)
+
+
+def try_tasks():
+    """All of these that need no server."""
+    asyncio.run(try_all())
+
+
+def try_shared(server):
+    """At a server."""
+    asyncio.run(count_together(server.at))
