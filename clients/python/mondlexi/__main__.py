@@ -23,6 +23,8 @@ def read_arguments() -> argparse.Namespace:
     given = parser.parse_args()
     if given.admin == (given.tenant is not None):
         parser.error("give a TENANT or --admin")
+    if not sys.stdin or not sys.stdout:
+        parser.error("the standard streams have to be open")
     return given
 
 
