@@ -66,8 +66,9 @@ class Terminal:
 
     def __init__(self, *words):
         self.master, other = pty.openpty()
+        # (whoever runs in the background of a shell script ignores SIGINT, and so do its children)
         self.process = subprocess.Popen([*COMMAND, *words], stdin=other, stdout=other, stderr=other, start_new_session=True,
-                                        env=environment(TERM="dumb"))
+                                        env=environment(TERM="dumb"), preexec_fn=lambda: signal.signal(signal.SIGINT, signal.SIG_DFL))
         os.close(other)
         self.shown = b""
 

@@ -46,7 +46,7 @@ def make_certificates(folder):
 
 
 def new_key(kind):
-    return "-newkey", "rsa:2048", "-nodes", "-keyout", f"{kind}.key", "-subj", f"/CN={kind}"
+    return "-newkey", "ec", "-pkeyopt", "ec_paramgen_curve:P-256", "-nodes", "-keyout", f"{kind}.key", "-subj", f"/CN={kind}"
 
 
 def openssl(folder, *words):

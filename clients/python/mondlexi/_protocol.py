@@ -87,7 +87,10 @@ class LocalSocket(NamedTuple):
     path: str
 
 
-def place_of(server: str) -> Union[Port, LocalSocket]:
+Place = Union[Port, LocalSocket]
+
+
+def place_of(server: str) -> Place:
     """Where this server listens."""
     if not isinstance(server, str):
         raise TypeError(f"where a server listens is told by a text, not {server!r}")

@@ -7,7 +7,7 @@ import enum
 import random
 import socket
 import time
-from typing import Any, AsyncContextManager, Coroutine, Dict, Iterable, List, NamedTuple, Optional, cast
+from typing import Any, ContextManager, Coroutine, Dict, Iterable, List, NamedTuple, Optional, cast
 from typing import Protocol as Interface
 
 from . import _protocol as protocol
@@ -57,8 +57,8 @@ class Link(Sleeper, Interface):
     def drop(self) -> None:
         """Closes the connection, if there is one, without a word."""
 
-    def turn(self) -> AsyncContextManager[Any]:
-        """While it is held, nobody else uses the connection."""
+    async def turn(self) -> ContextManager[Any]:
+        """Within what it gives, nobody else uses the connection. Tasks wait for it here, threads when they enter it."""
 
 
 class Options(NamedTuple):
@@ -118,7 +118,7 @@ class Session:
 
     async def close(self) -> None:
         """Ends the session and waits for the server's goodbye, a second at most."""
-        async with self._link.turn():
+        with await self._link.turn():
             was_open = self._state is _State.OPEN
             self._state = _State.CLOSED
             if not was_open:
@@ -136,7 +136,7 @@ class Session:
         pause = FIRST_PAUSE
         while True:
             try:
-                async with self._link.turn():
+                with await self._link.turn():
                     if not is_repair or self._state is _State.BROKEN:
                         await self._begin()
                     return
@@ -181,7 +181,7 @@ class Session:
 
     async def _ask_once(self, question: Question[Answer]) -> Answer:
         """The answer over the connection that there is."""
-        async with self._link.turn():
+        with await self._link.turn():
             if self._state is not _State.OPEN:
                 raise Lost(f"{question}: not sent, the client {'is closed' if self._state is _State.CLOSED else 'has no connection'}")
             return await self._answered(question)

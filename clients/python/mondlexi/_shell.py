@@ -135,7 +135,8 @@ class TenantShell(Shell):
                 seen = value
                 time.sleep(WATCH_SECONDS)
         except KeyboardInterrupt:
-            self._say("")
+            if self.stdout.isatty():
+                self._say("")
 
 
 class AdministratorShell(Shell):

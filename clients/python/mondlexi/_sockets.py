@@ -5,9 +5,9 @@ Used by: `_client`. The asyncio twin has a link of its own in `aio`; `checked_tl
 import socket
 import threading
 import time
-from typing import TYPE_CHECKING, Any, Optional, Union
+from typing import TYPE_CHECKING, Any, ContextManager, NamedTuple, Optional
 
-from ._protocol import LocalSocket, Port
+from ._protocol import Place, Port
 from ._session import FIRST_PAUSE, Link, paused
 
 if TYPE_CHECKING:
@@ -15,14 +15,12 @@ if TYPE_CHECKING:
 
 PIECE = 4096
 """How many bytes are asked for at a time."""
-Place = Union[Port, LocalSocket]
 
 
-class Tls:
+class Tls(NamedTuple):
     """How TLS is spoken: a context, and the name that the server's certificate has to have."""
-
-    def __init__(self, context: "ssl.SSLContext", name: str) -> None:
-        self.context, self.name = context, name
+    context: "ssl.SSLContext"
+    name: str
 
 
 def checked_tls(place: Place, tls: Optional["ssl.SSLContext"], tls_name: Optional[str]) -> Optional[Tls]:
@@ -50,26 +48,13 @@ def stop_unless_other_end(own: object, other: object) -> None:
         raise ConnectionRefusedError("nobody listens")
 
 
-class _Turn:
-    """A lock of threads, held as a session holds it."""
-
-    def __init__(self) -> None:
-        self._lock = threading.Lock()
-
-    async def __aenter__(self) -> None:
-        self._lock.acquire()
-
-    async def __aexit__(self, *raised: object) -> None:
-        self._lock.release()
-
-
 class SocketLink(Link):
     """A link whose methods block, and never wait for an event loop."""
 
     def __init__(self, place: Place, tls: Optional[Tls]) -> None:
         self._place, self._tls = place, tls
         self.is_tls = tls is not None
-        self._turn = _Turn()
+        self._lock = threading.Lock()
         self._socket: Optional[socket.socket] = None
 
     async def connect(self, timeout: float) -> None:
@@ -132,9 +117,9 @@ class SocketLink(Link):
         """Sleeps."""
         time.sleep(seconds)
 
-    def turn(self) -> _Turn:
-        """The lock."""
-        return self._turn
+    async def turn(self) -> ContextManager[Any]:
+        """A lock of threads. An interrupt can't leave it held."""
+        return self._lock
 
     def _connected(self) -> socket.socket:
         """The connection; a session uses it only while there is one."""

@@ -15,14 +15,15 @@ reply is under way ends the connection, because that reply would be taken for th
 undecided, as after Unknown. Then `get`, `get_many`, `read` and `report` connect anew, and `cas` raises Lost until `reconnect`.
 """
 import asyncio
+import contextlib
 import socket
 import time
 from types import TracebackType
-from typing import TYPE_CHECKING, Any, Awaitable, Coroutine, Iterable, List, Optional, Tuple, Type, TypeVar
+from typing import TYPE_CHECKING, Any, Awaitable, ContextManager, Coroutine, Iterable, List, Optional, Tuple, Type, TypeVar
 
-from ._protocol import Answer, Entry, LocalSocket, Outcome, Port, Report, place_of
+from ._protocol import Answer, Entry, LocalSocket, Outcome, Place, Port, Report, place_of
 from ._session import FIRST_PAUSE, AdministratorSession, Count, Link, Session, TenantSession, options_of, paused
-from ._sockets import PIECE, Place, Tls, checked_tls, stop_unless_other_end
+from ._sockets import PIECE, Tls, checked_tls, stop_unless_other_end
 
 if TYPE_CHECKING:
     import ssl
@@ -122,11 +123,14 @@ class _StreamLink(Link):
         """Lets other tasks go on."""
         await asyncio.sleep(seconds)
 
-    def turn(self) -> asyncio.Lock:
-        """The lock. It is made in the event loop that uses it."""
+    async def turn(self) -> ContextManager[Any]:
+        """A lock of tasks, held. It is made in the event loop that uses it."""
         if self._lock is None:
             self._lock = asyncio.Lock()
-        return self._lock
+        await self._lock.acquire()
+        held = contextlib.ExitStack()
+        held.callback(self._lock.release)
+        return held
 
     async def _before(self, deadline: float, work: Awaitable[Answer]) -> Answer:
         """What this gives. At the deadline the connection ends, and so does the work."""
