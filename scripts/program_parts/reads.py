@@ -142,7 +142,8 @@ def try_reads_that_reconnect(clients):
         same(client.get_many([1, 2]), [5, 6], "get_many that connects anew")
     with clients.Client(Peers(broken, ["OK 9\n", "VAL 5\n", "VAL 6\n", ""], ["OK 9\n", "YES\n", "BYE\n"]).at, "t") as client:
         same(client.read([1, 2]), [5, 6], "read that connects anew")
-    with clients.Administrator(Peers(["OK ADMIN\n", ""], ["OK ADMIN\n", f"{'t':16} {2:4} {1:2} {2:2} {0:2} up\nfree 1\n", "BYE\n"]).at) as client:
+    report = f"{'t':16} {2:4} {1:2} {2:2} {0:2} up\nfree 1\n"
+    with clients.Administrator(Peers(["OK ADMIN\n", ""], ["OK ADMIN\n", report, "BYE\n"]).at) as client:
         same(client.report().free, 1, "report that connects anew")
     for count in (-1, 1001):
         raises(ValueError, f"{count} reconnects", clients.Client, at(1), "t", reconnects=count)

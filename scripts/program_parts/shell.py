@@ -40,7 +40,8 @@ def try_lines(server):
         same(piped(f"cas 9:{values[9]}:4 8:{values[8]}:{values[8]}\nget 9", server.at, "t"), (0, "made\n4\n", ""), "cas")
         same(piped("cas 9:3:5\nget 9\n", server.at, "t"), (1, "4\n", "mondlexi: not made: word 9 has 4\n"), "cas that is not made")
         client.cas([(9, 4, values[9])])
-    same([line.split()[0].rstrip(":") for line in piped("help\n", server.at, "t")[1].splitlines()], ["cas", "dump", "get", "help", "quit", "watch"], "help")
+    listed = [line.split()[0].rstrip(":") for line in piped("help\n", server.at, "t")[1].splitlines()]
+    same(listed, ["cas", "dump", "get", "help", "quit", "watch"], "help")
     wrong_lines = ("get", "get x", "get -1", f"get {WORDS}", "cas", "cas 0:0", "cas 0:0:0 x", f"cas 0:0:{2 ** 48}", "dump 1", "watch",
                    "watch 1 2", "nothing", "report", "!ls")
     status, lines, errors = piped("".join(f"{line}\nget 0\n" for line in wrong_lines), server.at, "t")

@@ -27,7 +27,6 @@ async def raises(kind, what, work):
     wrong(f"{what}: {given!r} in place of {kind.__name__}")
 
 
-
 async def count_together(at):
     """Tasks that share one client count in one word; two of them have counts of their changes."""
     async def count(caller):
@@ -112,8 +111,19 @@ async def call_before_connecting():
     await client.close()
 
 
+async def cancel_a_counted_change():
+    """A count that was not begun begins with the first call; after a change that was cancelled it tells whether that was made."""
+    peers = Peers(["OK 9\n", "YES\n", SILENT], ["OK 9\n", "NO 5 3\n", "BYE\n"])
+    async with client_of(peers) as client:
+        own = mondlexi.aio.Counted(client, 5)
+        same(await own.settle(), False, "settle before the first change")
+        await raises(asyncio.TimeoutError, "a counted change within a limit of time", asyncio.wait_for(own.cas([(2, 0, 1)]), 0.1))
+        same((await own.settle(), await own.settle()), (True, True), "settle of a change that was cancelled")
+    same(peers.heard(), [["TENANT t", "CAS 5:0:1"], ["TENANT t", "CAS 5:1:2", "QUIT"]], "what is sent for a count")
+
+
 async def try_all():
-    for trial in (cancel_a_change, cancel_a_read, cancel_a_connect, wait_beside_others, call_before_connecting):
+    for trial in (cancel_a_change, cancel_a_read, cancel_a_connect, cancel_a_counted_change, wait_beside_others, call_before_connecting):
         await asyncio.wait_for(trial(), PATIENCE)
 
 

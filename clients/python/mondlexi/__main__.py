@@ -1,7 +1,7 @@
 """`python3 -m mondlexi ADDR TENANT`: a shell.
 
-Status 0 if all went well, 1 if it didn't connect or, with lines from a pipe, if a command failed (a `cas` that was not made is one),
-2 for a wrong command line, 130 after Ctrl-C.
+Status 0 if all went well; 1 if it didn't connect or, with lines from a pipe, if a command failed, also a `cas` that was not made;
+2 for a wrong command line; 130 after Ctrl-C.
 """
 import argparse
 import os

@@ -183,7 +183,8 @@ class Session:
         """The answer over the connection that there is."""
         with await self._link.turn():
             if self._state is not _State.OPEN:
-                raise Lost(f"{question}: not sent, the client {'is closed' if self._state is _State.CLOSED else 'has no connection'}")
+                why = "is closed" if self._state is _State.CLOSED else "has lost its connection"
+                raise Lost(f"{question}: not sent, the client {why}")
             return await self._answered(question)
 
     async def _answered(self, question: Question[Answer]) -> Answer:
