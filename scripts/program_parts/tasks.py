@@ -3,6 +3,7 @@
 Used by: scripts/check-programs. Nothing here passes or fails by how fast the machine is.
 """
 import asyncio
+import unittest.mock
 
 from .common import PATIENCE, same, wrong
 from .reads import SILENT, Peers
@@ -12,8 +13,8 @@ import mondlexi.aio  # noqa: E402
 VALUE = ["OK 9\n", "VAL 5\n", "BYE\n"]
 
 
-def client_of(peers, **named):
-    return mondlexi.aio.Client(peers.at, "t", timeout=PATIENCE, **named)
+def client_of(peers, timeout=PATIENCE, **named):
+    return mondlexi.aio.Client(peers.at, "t", timeout=timeout, **named)
 
 
 async def raises(kind, what, work):
@@ -82,22 +83,21 @@ async def cancel_a_connect():
 
 
 async def wait_beside_others():
-    """While a call waits, for a reply or for a server that is busy, other tasks go on."""
-    turns = []
+    """While a call waits, for a server that is busy or for a reply, other tasks go on: here this one, which cancels it."""
+    for name, argument, texts in (("cas", [(0, 1, 2)], 300 * ["BUSY\n"]), ("get", 0, [SILENT])):
+        async with client_of(Peers(["OK 9\n", *texts]), patience=PATIENCE) as client:
+            call = asyncio.ensure_future(getattr(client, name)(argument))
+            await asyncio.sleep(0.1)
+            same(call.cancel(), True, f"{name}, while another task goes on")
+            await raises(asyncio.CancelledError, name, call)
 
-    async def take_turns():
-        while True:
-            turns.append(1)
-            await asyncio.sleep(0.01)
 
-    other = asyncio.ensure_future(take_turns())
-    async with client_of(Peers(["OK 9\n", *300 * ["BUSY\n"]]), patience=0.5) as client:
-        await raises(mondlexi.Busy, "cas of a busy server", client.cas([(0, 1, 2)]))
-    while_busy = len(turns)
-    async with client_of(Peers(["OK 9\n", SILENT])) as client:
-        await raises(asyncio.TimeoutError, "get of a silent server", asyncio.wait_for(client.get(0), 0.5))
-    same(while_busy > 3 and len(turns) - while_busy > 3, True, f"turns of another task: {while_busy}, {len(turns) - while_busy}")
-    other.cancel()
+async def wait_after_a_reply():
+    """A limit of time for a reply that has come is no limit for the connection."""
+    async with client_of(Peers(["OK 9\n", "VAL 5\n", "YES\n", "BYE\n"]), timeout=1.0) as client:
+        same(await client.get(7), 5, "get")
+        await asyncio.sleep(1.1)
+        same(bool(await client.cas([(0, 1, 2)])), True, "cas after a silence")
 
 
 async def call_before_connecting():
@@ -123,13 +123,15 @@ async def cancel_a_counted_change():
 
 
 async def try_all():
-    for trial in (cancel_a_change, cancel_a_read, cancel_a_connect, cancel_a_counted_change, wait_beside_others, call_before_connecting):
-        await asyncio.wait_for(trial(), PATIENCE)
+    trials = (cancel_a_change(), cancel_a_read(), cancel_a_connect(), cancel_a_counted_change(), wait_beside_others(), wait_after_a_reply(),
+              call_before_connecting())
+    await asyncio.wait_for(asyncio.gather(*trials), PATIENCE)
 
 
 def try_tasks():
-    """All of these that need no server."""
-    asyncio.run(try_all())
+    """All of these that need no server. No call may sleep while other tasks wait for it."""
+    with unittest.mock.patch("time.sleep", side_effect=AssertionError("a task sleeps in place of waiting")):
+        asyncio.run(try_all())
 
 
 def try_shared(server):
