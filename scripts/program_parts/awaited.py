@@ -11,19 +11,17 @@ from .common import PATIENCE
 import mondlexi.aio  # noqa: E402
 
 LOOP = asyncio.new_event_loop()
+atexit.register(LOOP.close)
 for _kind in (mondlexi.aio.Client, mondlexi.aio.Administrator):
     _kind.__init__.__kwdefaults__["timeout"] = PATIENCE
 
 
 def await_it(work):
-    return LOOP.run_until_complete(work)
-
-
-@atexit.register
-def end_loop():
-    """Lets the loop close what was dropped last."""
-    await_it(asyncio.sleep(0))
-    LOOP.close()
+    """What this gives. The loop also closes what was dropped meanwhile."""
+    try:
+        return LOOP.run_until_complete(work)
+    finally:
+        LOOP.run_until_complete(asyncio.sleep(0))
 
 
 class Blocking:

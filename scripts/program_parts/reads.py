@@ -188,6 +188,15 @@ def try_full(clients):
         raises(wanted, f"get whose new connection says {texts}", client.get, 7)
 
 
+def try_refused(clients):
+    """A client that is refused leaves nothing open, although its exception is kept."""
+    for kind in (lambda at: clients.Client(at, "t"), clients.Administrator):
+        peers = Peers(["ERR 5\n", SILENT])
+        error = raises(mondlexi.Refused, "a client that is refused", kind, peers.at)
+        peers.heard()
+        same(peers.thread.is_alive(), False, f"the connection of a client that was told {error}")
+
+
 def try_reads(clients):
     """All of these that need no server."""
     try_round_trips(clients)
@@ -195,3 +204,4 @@ def try_reads(clients):
     try_reads_that_reconnect(clients)
     try_reads_that_do_not_reconnect(clients)
     try_full(clients)
+    try_refused(clients)
