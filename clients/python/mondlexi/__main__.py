@@ -31,10 +31,6 @@ def read_arguments() -> argparse.Namespace:
 def run_shell(shell: Shell, intro: str) -> int:
     """Runs it to the end of its input. The status."""
     if sys.stdin.isatty():
-        try:
-            import readline  # noqa: F401  by it `input` edits lines, and keeps those that were
-        except ImportError:
-            pass
         shell.run_terminal(f"{intro}; `help` lists the commands")
         return 0
     shell.run_lines(sys.stdin)

@@ -30,7 +30,7 @@ class Shell(cmd.Cmd):
         self._is_over = False
 
     def run_terminal(self, intro: str) -> None:
-        """Takes commands from a terminal until its end. Ctrl-C gives a new prompt."""
+        """Takes commands from a terminal until its end, with `readline` if Python has it. Ctrl-C gives a new prompt."""
         self._say(intro)
         while not self._is_over:
             try:
