@@ -131,6 +131,8 @@ def try_reads_that_reconnect(clients):
     broken, whole = ["OK 9\n", ""], ["OK 9\n", "VAL 5\n", "BYE\n"]
     with clients.Client(Peers(broken, broken, whole).at, "t", reconnects=2) as client:
         same(client.get(7), 5, "get that connects anew twice")
+    with clients.Client(Peers(broken, [], [""], whole).at, "t", within=PATIENCE) as client:
+        same(client.get(7), 5, "get that connects anew to a server that is full for a while")
     for reconnects in (0, 1):
         peers = Peers(*(reconnects + 1) * [broken], whole)
         client = clients.Client(peers.at, "t", reconnects=reconnects)
