@@ -41,6 +41,12 @@ async def count_together(at):
         same(await client.get(8), 40, "what four tasks counted")
 
 
+async def lose_together():
+    """Two tasks whose connection breaks: one of them connects anew, for both."""
+    async with client_of(Peers(["OK 9\n", ""], ["OK 9\n", "VAL 5\n", "VAL 6\n", "BYE\n"])) as client:
+        same(sorted(await asyncio.gather(client.get(1), client.get(2))), [5, 6], "two reads whose connection breaks")
+
+
 async def cancel_a_change():
     """A change that is cancelled ends the connection. A read connects anew then, a change doesn't."""
     peers = Peers(["OK 9\n", SILENT], VALUE)
@@ -123,8 +129,8 @@ async def cancel_a_counted_change():
 
 
 async def try_all():
-    trials = (cancel_a_change(), cancel_a_read(), cancel_a_connect(), cancel_a_counted_change(), wait_beside_others(), wait_after_a_reply(),
-              call_before_connecting())
+    trials = (lose_together(), cancel_a_change(), cancel_a_read(), cancel_a_connect(), cancel_a_counted_change(),
+              wait_beside_others(), wait_after_a_reply(), call_before_connecting())
     await asyncio.wait_for(asyncio.gather(*trials), PATIENCE)
 
 

@@ -270,7 +270,7 @@ class Counted:
     A call that is cancelled leaves its change undecided; `settle` tells."""
 
     def __init__(self, client: Client, address: int, wait: float = 30.0) -> None:
-        """Takes what `mondlexi.Counted` takes, and moves nothing yet: the first `cas` or `settle`, or `begin`, moves the count."""
+        """Takes what `mondlexi.Counted` takes, and moves nothing yet: `begin`, or else the first `cas`, moves the count."""
         self._count = Count(_Caller(client), address, wait)
         self._has_begun = False
 
@@ -288,5 +288,4 @@ class Counted:
 
     async def settle(self) -> bool:
         """Whether the last change was made, as `mondlexi.Counted.settle`."""
-        await self.begin()
         return await self._count.settle()
