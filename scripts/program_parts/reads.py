@@ -173,6 +173,11 @@ def try_reads_that_do_not_reconnect(clients):
     client.reconnect()
     same(client.get(7), 5, "get of a closed client that was connected anew")
     client.close()
+    peers = Peers(["OK 9\n", "BYE\n"], value)
+    with clients.Client(peers.at, "t") as client:
+        client.reconnect()
+        same(client.get(7), 5, "get of an open client that was connected anew")
+    same(peers.heard()[0], ["TENANT t", "QUIT"], "what is sent before an open client is connected anew")
 
 
 def try_full(clients):
