@@ -7,6 +7,7 @@ import contextlib
 import socket
 import struct
 import threading
+from unittest import mock
 
 from .client import impatient
 from .common import HOST, PATIENCE, WORDS, at, raises, same
@@ -187,6 +188,9 @@ def try_full(clients):
         raises(mondlexi.Full, f"a server that says {texts}", clients.Administrator, Peers(texts).at)
     raises(mondlexi.Lost, "a server that breaks off its first reply", clients.Client, Peers(["OK"]).at, "t")
     raises(mondlexi.Lost, "a server that breaks off its second reply", clients.Client(Peers(["OK 9\n", ""]).at, "t", reconnects=0).get, 0)
+    reset = ConnectionResetError("reset")
+    with mock.patch("socket.create_connection", side_effect=reset), mock.patch("asyncio.open_connection", side_effect=reset):
+        raises(mondlexi.Full, "a server that resets while the client connects", clients.Client, at(1), "t")
     same(issubclass(mondlexi.Full, mondlexi.Lost), True, "Full is a kind of Lost")
     with clients.Client(Peers([], [""], [RESET], ["OK 9\n", "VAL 5\n", "BYE\n"]).at, "t", within=PATIENCE) as client:
         same(client.get(7), 5, "get after a server was full for a while")
