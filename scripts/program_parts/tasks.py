@@ -129,9 +129,9 @@ async def cancel_a_counted_change():
 
 
 async def try_all():
-    trials = (lose_together(), cancel_a_change(), cancel_a_read(), cancel_a_connect(), cancel_a_counted_change(),
-              wait_beside_others(), wait_after_a_reply(), call_before_connecting())
-    await asyncio.wait_for(asyncio.gather(*trials), PATIENCE)
+    for trial in (lose_together, cancel_a_change, cancel_a_read, cancel_a_connect, cancel_a_counted_change, wait_beside_others,
+                  wait_after_a_reply, call_before_connecting):
+        await asyncio.wait_for(trial(), PATIENCE)
 
 
 def try_tasks():

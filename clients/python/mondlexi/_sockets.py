@@ -127,12 +127,20 @@ class SocketLink(Link):
         return self._socket
 
 
+def _other_end(connection: socket.socket) -> object:
+    """Where the other end is; ConnectionResetError if the server has closed the connection already."""
+    try:
+        return connection.getpeername()
+    except OSError as error:
+        raise ConnectionResetError("the server closed the connection") from error
+
+
 def _over_tcp(place: Port, tls: Optional[Tls], timeout: float) -> socket.socket:
     """A connection; OSError if there is none within so many seconds, with nothing left open."""
     end = time.monotonic() + timeout
     connection = socket.create_connection(place, timeout)
     try:
-        stop_unless_other_end(connection.getsockname(), connection.getpeername())
+        stop_unless_other_end(connection.getsockname(), _other_end(connection))
         connection.setsockopt(socket.IPPROTO_TCP, socket.TCP_NODELAY, 1)
         if not tls:
             return connection
