@@ -74,7 +74,7 @@ def try_many(clients, server):
 
 
 def try_round_trips(clients):
-    """The peer says nothing before it has 512 lines; it gets no further ones before it has answered these, since a client that
+    """The peer says nothing before it has 512 lines; it gets no further ones before it has answered these, because a client that
     sends on and on while it reads nothing could wait for ever, as the server does."""
     more = []
 
@@ -127,7 +127,7 @@ def try_reads_that_reconnect(clients):
     for reconnects, broken in ((1, ["OK 9\n", ""]), (1, ["OK 9\n", RESET]), (1, ["OK 9\n", "VAL"]), (1, ["OK 9\n", "VAL 1"])):
         peers = Peers(broken, ["OK 9\n", "VAL 5\n", "BYE\n"])
         with clients.Client(peers.at, "t", reconnects=reconnects) as client:
-            same(client.get(7), 5, f"get behind {broken}")
+            same(client.get(7), 5, f"get after {broken}")
         same(peers.heard()[1], ["TENANT t", "GET 7", "QUIT"], "what is sent anew")
     broken, whole = ["OK 9\n", ""], ["OK 9\n", "VAL 5\n", "BYE\n"]
     with clients.Client(Peers(broken, broken, whole).at, "t", reconnects=2) as client:

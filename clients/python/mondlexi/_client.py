@@ -105,7 +105,7 @@ class Client(_Blocking):
         One to sixteen different addresses, in any order; one may come again. A single word is read by `get`. Several are
         guessed by `get_many`, then confirmed by a change that writes to each the value that it has. So it costs the disk as
         much as a change of them, and as a change can be busy. Guesses that have gone stale are mended; while others change
-        the words all the time it may end as Busy, since nothing gives it a turn. More words are read of one moment, and with
+        the words all the time it may end as Busy, because nothing gives it a turn. More words are read of one moment, and with
         no disk access, if each change of them also moves a word that only grows, here word 0:
 
             while True:                                       # after Lost all of it again

@@ -188,7 +188,7 @@ class Session:
             return await self._answered(question)
 
     async def _answered(self, question: Question[Answer]) -> Answer:
-        """The answer. Whatever ends the exchange before its last reply closes the connection, since a late reply would be
+        """The answer. Whatever ends the exchange before its last reply closes the connection, because a late reply would be
         taken for that of the next line."""
         try:
             return question.answer(await self._exchange(question))
