@@ -10,7 +10,7 @@ import threading
 from unittest import mock
 
 from .client import impatient
-from .common import HOST, PATIENCE, WORDS, at, raises, same
+from .common import HOST, PATIENCE, WORDS, at, raises, same, wrong
 
 import mondlexi  # noqa: E402
 
@@ -181,6 +181,16 @@ def try_reads_that_do_not_reconnect(clients):
     same(peers.heard()[0], ["TENANT t", "QUIT"], "what is sent before an open client is connected anew")
 
 
+def try_an_interrupt(clients):
+    """What interrupts a call ends the connection, so that no later call takes its reply."""
+    with clients.Client(Peers(["OK 9\n", "YES\n", SILENT], ["OK 9\n", "VAL 5\n", "BYE\n"]).at, "t") as client:
+        with mock.patch.object(client._session._link, "receive", side_effect=KeyboardInterrupt):
+            with contextlib.suppress(KeyboardInterrupt):
+                wrong(f"cas that is interrupted: {client.cas([(0, 1, 2)])}")
+        raises(mondlexi.Lost, "cas after an interrupt", client.cas, [(0, 1, 2)])
+        same(client.get(7), 5, "get after an interrupt")
+
+
 def try_full(clients):
     """A server that closes before any reply is full; one that closes later isn't."""
     for texts in ([], [""], [RESET]):
@@ -214,5 +224,6 @@ def try_reads(clients):
     try_replies_of_many(clients)
     try_reads_that_reconnect(clients)
     try_reads_that_do_not_reconnect(clients)
+    try_an_interrupt(clients)
     try_full(clients)
     try_refused(clients)
