@@ -87,9 +87,10 @@ def try_the_watch(server):
 
 
 def try_versions():
-    """Each program that is built tells the one version that all have, and nothing else."""
+    """Each program that is built tells the one version that all have, and nothing else. The client in Python has it too."""
     version = VERSION.read_text().split('"')[1]
+    same(mondlexi.__version__, version, "the version of the client in Python")
     for program in filter(is_built, PROGRAMS):
         ran = subprocess.run([BUILT[program], "--version"], stdin=subprocess.DEVNULL, capture_output=True)
         same((ran.returncode, ran.stdout, ran.stderr), (0, f"{program} {version}\n".encode(), b""), f"{program} --version")
-    print("versions: each program tells the same")
+    print("versions: each program tells the same, and so does the client")

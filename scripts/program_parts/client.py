@@ -1,7 +1,9 @@
-"""The client in Python at servers and at peers: each of its calls, each exception, connections that break.
+"""The client in Python at servers and at peers: each of its calls, each exception, connections that break. `clients` is
+`mondlexi`, or `awaited` for its asyncio twin.
 
 Used by: scripts/check-programs. Nothing here passes or fails by how fast the machine is.
 """
+import asyncio
 import contextlib
 import signal
 import socket
@@ -21,15 +23,16 @@ for kind in (mondlexi.Client, mondlexi.Administrator):
 @contextlib.contextmanager
 def impatient(client, seconds=0.2):
     """Lets a client that was greeted, however long that took, wait so long for its next reply."""
-    before, client._timeout = client._timeout, seconds
+    session, before = client._session, client._session.options
+    session.options = before._replace(timeout=seconds)
     try:
         yield
     finally:
-        client._timeout = before
+        session.options = before
 
 
-def try_calls(server):
-    with mondlexi.Client(server.at, "t") as client:
+def try_calls(clients, server):
+    with clients.Client(server.at, "t") as client:
         same(client.words, WORDS, "words")
         same([client.get(a) for a in (0, 9)], [0, 0], "get of a new tenant")
         outcome = client.cas([(9, 0, BIG), (0, 0, 1)])
@@ -58,7 +61,7 @@ def try_calls(server):
     client.reconnect()
     same(client.get(0), BIG, "get of a client connected anew")
     client.close()
-    with mondlexi.Administrator(server.at) as administrator:
+    with clients.Administrator(server.at) as administrator:
         report = administrator.report()
         same(report.free, 256, "free of the report")
         same([t.name for t in report.tenants], ["t", "load", "locks", "blocks", "away"], "tenants of the report")
@@ -66,33 +69,33 @@ def try_calls(server):
         same((report.tenants[4].places, report.tenants[4].up), (0, False), "a tenant without its file")
 
 
-def try_failures(server):
-    same(raises(mondlexi.Refused, "no tenant", mondlexi.Client, server.at, "nobody").number, 5, "its number")
-    with mondlexi.Client(server.at, "away") as client:
+def try_failures(clients, server):
+    same(raises(mondlexi.Refused, "no tenant", clients.Client, server.at, "nobody").number, 5, "its number")
+    with clients.Client(server.at, "away") as client:
         raises(mondlexi.Fault, "get of a tenant that is down", client.get, 0)
         raises(mondlexi.Fault, "cas of a tenant that is down", client.cas, [(0, 0, 1)])
         raises(mondlexi.Fault, "read of a tenant that is down", client.read, [0, 1])
     for name in ("", "T", "a" * 17, "t t", "t\n"):
-        raises(ValueError, f"tenant {name!r}", mondlexi.Client, server.at, name)
+        raises(ValueError, f"tenant {name!r}", clients.Client, server.at, name)
     for text in ("", HOST, at(0), at(65536), at("a"), "::1:7000", f" {server.at}", "unix:", "unix:" + "s" * 108, "unix:a\0"):
-        raises(ValueError, f"a server at {text!r}", mondlexi.Client, text, "t")
+        raises(ValueError, f"a server at {text!r}", clients.Client, text, "t")
     for seconds in (-1.0, float("nan"), float("inf")):
-        raises(ValueError, f"timeout {seconds}", mondlexi.Client, server.at, "t", timeout=seconds)
-        raises(ValueError, f"patience {seconds}", mondlexi.Client, server.at, "t", patience=seconds)
-        raises(ValueError, f"within {seconds}", mondlexi.Client, server.at, "t", within=seconds)
+        raises(ValueError, f"timeout {seconds}", clients.Client, server.at, "t", timeout=seconds)
+        raises(ValueError, f"patience {seconds}", clients.Client, server.at, "t", patience=seconds)
+        raises(ValueError, f"within {seconds}", clients.Client, server.at, "t", within=seconds)
     for at_server, tenant, within in ((5, "t", 0), (server.at, b"t", 0), (server.at, "t", "1"), (server.at, "t", None)):
-        raises(TypeError, f"a client of {at_server!r}, {tenant!r}, {within!r}", mondlexi.Client, at_server, tenant, within=within)
+        raises(TypeError, f"a client of {at_server!r}, {tenant!r}, {within!r}", clients.Client, at_server, tenant, within=within)
 
 
-def try_threads(server):
+def try_threads(clients, server):
     """Threads that share one client count in one word; two of them have counts of their changes."""
     def count(caller):
         for _ in range(10):
             while not caller.cas([(8, value := client.get(8), value + 1)]):
                 pass
 
-    with mondlexi.Client(server.at, "t") as client:
-        callers = (client, client, mondlexi.Counted(client, 6), mondlexi.Counted(client, 7))
+    with clients.Client(server.at, "t") as client:
+        callers = (client, client, clients.Counted(client, 6), clients.Counted(client, 7))
         threads = [threading.Thread(target=count, args=(caller,)) for caller in callers]
         for thread in threads:
             thread.start()
@@ -101,20 +104,20 @@ def try_threads(server):
         same(client.get(8), 40, "what four threads counted")
 
 
-def try_a_killed_server(server):
-    first, second = (mondlexi.Client(server.at, "t") for _ in range(2))
+def try_a_killed_server(clients, server):
+    first, second = (clients.Client(server.at, "t") for _ in range(2))
     before = first.get(8)
     server.kill()
     raises(mondlexi.Lost, "get from a killed server", first.get, 8)
     raises(mondlexi.Unknown, "cas at a killed server", second.cas, [(8, before, before + 1)])
     raises(mondlexi.Lost, "cas behind Unknown", second.cas, [(8, before, before + 1)])
-    raises(mondlexi.Lost, "nobody listens", mondlexi.Client, server.at, "t")
-    raises(mondlexi.Lost, "nobody listens for a while", mondlexi.Client, server.at, "t", within=0.1)
+    raises(mondlexi.Lost, "nobody listens", clients.Client, server.at, "t")
+    raises(mondlexi.Lost, "nobody listens for a while", clients.Client, server.at, "t", within=0.1)
     raises(mondlexi.Lost, "reconnect where nobody listens", second.reconnect, 0.1)
     timer = threading.Timer(0.3, server.start)
     timer.start()
     try:
-        mondlexi.Client(server.at, "t", within=PATIENCE).close()
+        clients.Client(server.at, "t", within=PATIENCE).close()
         first.reconnect(PATIENCE)
     finally:
         timer.join()
@@ -122,22 +125,23 @@ def try_a_killed_server(server):
     first.close()
 
 
-def try_a_connection_to_itself():
+def try_a_connection_to_itself(clients):
     """Where nobody listens, a socket may be given the very port that it connects to; here it asks for it."""
     with socket.create_server((HOST, 0)) as listener:
         port = listener.getsockname()[1]
-    connect = socket.create_connection
+    connect, stream = socket.create_connection, asyncio.open_connection
     socket.create_connection = lambda at, timeout: connect(at, timeout, at)
+    asyncio.open_connection = lambda host, port: stream(host, port, local_addr=(host, port))
     try:
-        error = raises(mondlexi.Lost, "a connection to itself", mondlexi.Client, at(port), "t")
+        error = raises(mondlexi.Lost, "a connection to itself", clients.Client, at(port), "t")
     finally:
-        socket.create_connection = connect
+        socket.create_connection, asyncio.open_connection = connect, stream
     same("nobody listens" in str(error), True, f"what is said of a connection to itself: {error}")
 
 
-def try_a_late_change(server):
+def try_a_late_change(clients, server):
     """A change on which its client has given up is made all the same, once the server goes on."""
-    client = mondlexi.Client(server.at, "t")
+    client = clients.Client(server.at, "t")
     before = client.get(9)
     server.process.send_signal(signal.SIGSTOP)
     with impatient(client):
@@ -151,7 +155,7 @@ def try_a_late_change(server):
     client.close()
 
 
-def try_a_full_local_socket(folder):
+def try_a_full_local_socket(clients, folder):
     """A client waits for room where as many connections wait as the system lets wait."""
     path = str(folder / "full")
     with socket.socket(socket.AF_UNIX) as listener, socket.socket(socket.AF_UNIX) as first:
@@ -159,10 +163,10 @@ def try_a_full_local_socket(folder):
         listener.listen(0)
         first.connect(path)
         started = time.monotonic()
-        raises(mondlexi.Lost, "a local socket without room", mondlexi.Client, f"unix:{path}", "t", timeout=0.3)
+        raises(mondlexi.Lost, "a local socket without room", clients.Client, f"unix:{path}", "t", timeout=0.3)
         same(0.3 <= time.monotonic() - started, True, "how long a client waits for room")
         with ThreadPoolExecutor() as others:
-            lost = others.submit(raises, mondlexi.Lost, "a local socket with room and no reply", mondlexi.Client, f"unix:{path}", "t")
+            lost = others.submit(raises, mondlexi.Full, "a local socket with room and no reply", clients.Client, f"unix:{path}", "t")
             time.sleep(0.3)
             listener.accept()[0].close()
             connection, _ = listener.accept()
@@ -170,14 +174,14 @@ def try_a_full_local_socket(folder):
                 same(connection.recv(100), b"TENANT t\n", "what is sent where there is room again")
             lost.result()
     for text in (path, str(folder / "absent"), str(folder)):
-        raises(mondlexi.Lost, f"nobody listens at {text}", mondlexi.Client, f"unix:{text}", "t")
+        raises(mondlexi.Lost, f"nobody listens at {text}", clients.Client, f"unix:{text}", "t")
 
 
-def told(kind, *texts, call="cas", lines=None, holds=False, waits=PATIENCE, **named):
+def told(clients, kind, *texts, call="cas", lines=None, holds=False, waits=PATIENCE, **named):
     """A peer that says these texts behind the greeting brings about this exception, having been sent so many lines. The client
     waits for so many seconds for each."""
     peer = Peer("OK 4096\n", *texts, holds=holds)
-    client = mondlexi.Client(peer.at, "t", **named)
+    client = clients.Client(peer.at, "t", **named)
     arguments = {"cas": [[(0, 1, 2)]], "get": [0], "read": [[0, 1]]}[call]
     with impatient(client, waits):
         error = raises(kind, f"{call} answered {texts}", getattr(client, call), *arguments)
@@ -188,43 +192,44 @@ def told(kind, *texts, call="cas", lines=None, holds=False, waits=PATIENCE, **na
     return error
 
 
-def try_peers(folder):
+def try_peers(clients, folder):
     """What no server says today, or not at will, is said by a peer; and where there is none."""
-    try_a_connection_to_itself()
-    try_a_full_local_socket(folder)
+    try_a_connection_to_itself(clients)
+    try_a_full_local_socket(clients, folder)
     peer = Peer("OK 9\n", "BUSY\n", "BUSY\n", "YES\n", "B")
-    with mondlexi.Client(peer.at, "t") as client:
+    with clients.Client(peer.at, "t") as client:
         same(client.cas([(8, 0, 1), (2, 3, 4)]).made, True, "cas that is busy at first")
     peer.thread.join(PATIENCE)
     same(peer.lines, [b"TENANT t\n"] + 3 * [b"CAS 2:3:4 8:0:1\n"] + [b"QUIT\n"], "what a client sends")
     started = time.monotonic()
-    told(mondlexi.Busy, *300 * ["BUSY\n"], patience=0.3)
+    told(clients, mondlexi.Busy, *300 * ["BUSY\n"], patience=0.3)
     same(0.3 <= time.monotonic() - started, True, "patience")
-    told(mondlexi.Busy, "BUSY\n", "BYE\n", lines=2, patience=0)
-    told(mondlexi.Worn, "WORN\n")
-    told(mondlexi.Fault, "FAULT\n", call="get")
-    same(told(mondlexi.Refused, "ERR 6\n").number, 6, "the number of a refusal")
+    told(clients, mondlexi.Busy, "BUSY\n", "BYE\n", lines=2, patience=0)
+    told(clients, mondlexi.Worn, "WORN\n")
+    told(clients, mondlexi.Fault, "FAULT\n", call="get")
+    same(told(clients, mondlexi.Refused, "ERR 6\n").number, 6, "the number of a refusal")
     for text in ("", "YE", "yes\n", "YES\r\n", "YES\nYES\n", "NO 0 1\n", "NO 5 1\n", "NO 0 01\n", "VAL 1\n", "Y" * 99):
-        told(mondlexi.Unknown, text)
+        told(clients, mondlexi.Unknown, text)
     for text in ("", "VAL", "VAL -1\n", "VAL 281474976710656\n", "YES\n", "BUSY \n"):
-        told(mondlexi.Lost, text, call="get")
-    told(mondlexi.Lost, "VAL 1\n", "VAL 2\n", "", call="read", lines=3)
-    told(mondlexi.Unknown, holds=True, waits=0.2)
-    told(mondlexi.Lost, call="get", holds=True, waits=0.2)
+        told(clients, mondlexi.Lost, text, call="get")
+    told(clients, mondlexi.Lost, "VAL 1\n", "VAL 2\n", "", call="read", lines=3)
+    told(clients, mondlexi.Unknown, holds=True, waits=0.2)
+    told(clients, mondlexi.Lost, call="get", holds=True, waits=0.2)
     silent = Peer(holds=True)
-    raises(mondlexi.Lost, "a peer without a greeting", mondlexi.Client, silent.at, "t", timeout=0.2)
-    for text in ("", "OK\n", "OK 0\n", "OK 4097\n", "OK ADMIN\n"):
-        raises(mondlexi.Lost, f"greeting {text!r}", mondlexi.Client, Peer(text).at, "t")
-    try_a_count()
-    try_reads_and_reports()
+    raises(mondlexi.Lost, "a peer without a greeting", clients.Client, silent.at, "t", timeout=0.2)
+    raises(mondlexi.Full, "a peer that closes without a greeting", clients.Client, Peer("").at, "t")
+    for text in ("O", "OK\n", "OK 0\n", "OK 4097\n", "OK ADMIN\n"):
+        raises(mondlexi.Lost, f"greeting {text!r}", clients.Client, Peer(text).at, "t")
+    try_a_count(clients)
+    try_reads_and_reports(clients)
 
 
-def try_a_count():
+def try_a_count(clients):
     """By how much a count moves, and what is found out by it."""
     peer = Peer("OK 9\n", "NO 5 4\n", "YES\n", "YES\n", "NO 2 3\n", "FAULT\n", "FAULT\n", "NO 5 9\n",
                 "WORN\n", "WORN\n", "NO 5 11\n", "BUSY\n", "NO 5 12\n", "BYE\n")
-    with mondlexi.Client(peer.at, "t", patience=0) as client:
-        own = mondlexi.Counted(client, 5)
+    with clients.Client(peer.at, "t", patience=0) as client:
+        own = clients.Counted(client, 5)
         same(own.settle(), False, "settle where there was no change")
         same(own.cas([(2, 0, 1)]), mondlexi.Outcome(True), "a counted change")
         same(own.cas([(2, 0, 1)]), mondlexi.Outcome(False, 2, 3), "a counted change that fails")
@@ -241,27 +246,27 @@ def try_a_count():
     same([line[4:-1].decode() for line in peer.lines[1:-1]],
          ["5:0:1", "5:4:5", "2:0:1 5:5:7", "2:0:1 5:7:9", "2:3:4 5:7:9", "5:7:8", "5:7:8", "2:4:5 5:9:11", "5:9:10", "5:9:10",
           "2:5:7 5:11:13", "2:5:7 5:11:13"], "what is sent for a count")
-    own = mondlexi.Counted(mondlexi.Client(Peer("OK 9\n", "YES\n").at, "t"), 5, 0.3)
+    own = clients.Counted(clients.Client(Peer("OK 9\n", "YES\n").at, "t"), 5, 0.3)
     for call, arguments in ((own.cas, [[(2, 0, 1)]]), (own.settle, [])):
         raises(mondlexi.Lost, f"{call.__name__} where nobody listens any more", call, *arguments)
 
 
-def try_reads_and_reports():
+def try_reads_and_reports(clients):
     peer = Peer("OK 9\n", "VAL 1\n", "VAL 2\n", "NO 7 3\n", "NO 2 0\n", "BUSY\n", "YES\n", "BYE\n")
-    with mondlexi.Client(peer.at, "t") as client:
+    with clients.Client(peer.at, "t") as client:
         same(client.read([7, 2]), [3, 0], "read of words that change")
     peer = Peer("OK 9\n", "VAL 1\n", "VAL 2\n", "NO 7 3\n", "BYE\n")
-    with mondlexi.Client(peer.at, "t", patience=0) as client:
+    with clients.Client(peer.at, "t", patience=0) as client:
         raises(mondlexi.Busy, "read without patience", client.read, [2, 7])
     lines = [f"free{k:<12} {4096:4} {32:2} {64:2} {k:2} {'down' if k else 'up'}\n" for k in range(10, 26)]
     peer = Peer("OK ADMIN\n", "".join(lines) + "free 0\n", "BYE\n")
-    with mondlexi.Administrator(peer.at) as administrator:
+    with clients.Administrator(peer.at) as administrator:
         report = administrator.report()
         same((len(report.tenants), report.free), (16, 0), "a full report")
         same(report.tenants[15], mondlexi.TenantReport("free25", 4096, 32, 64, 25, False), "its last tenant")
     for text in ("free 1\n", "t 2 1 2 0 up\nfree 1\n", f"{'t':16} {2:4} {1:2} {0:2} up\nfree 1\n", 20 * lines[0], lines[0], "ERR\n"):
         peer = Peer("OK ADMIN\n", text)
-        raises(mondlexi.Lost, f"report {text!r}", mondlexi.Administrator(peer.at).report)
+        raises(mondlexi.Lost, f"report {text!r}", clients.Administrator(peer.at).report)
     peer = Peer("OK ADMIN\n", "ERR 3\n", "BYE\n")
-    with mondlexi.Administrator(peer.at) as administrator:
+    with clients.Administrator(peer.at) as administrator:
         raises(mondlexi.Refused, "report that is refused", administrator.report)

@@ -3,6 +3,7 @@ told to, and how a difference is told.
 
 Used by: scripts/check-programs, the other files of this folder.
 """
+import importlib.util
 import os
 import random
 import shutil
@@ -35,6 +36,11 @@ def wrong(text):
 def has(command):
     """Whether a program of this name can be called here."""
     return shutil.which(command) is not None
+
+
+def has_module(name):
+    """Whether this Python has a module of this name."""
+    return importlib.util.find_spec(name) is not None
 
 
 def is_built(program):

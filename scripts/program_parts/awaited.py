@@ -1,0 +1,63 @@
+"""The client for asyncio with calls that block: what tries `mondlexi` tries `mondlexi.aio` by it, call for call.
+
+Used by: scripts/check-programs, which gives this module or `mondlexi` to client.py and reads.py. What only asyncio has is tried
+in tasks.py.
+"""
+import asyncio
+import atexit
+
+from .common import PATIENCE
+
+import mondlexi.aio  # noqa: E402
+
+LOOP = asyncio.new_event_loop()
+atexit.register(LOOP.close)
+for _kind in (mondlexi.aio.Client, mondlexi.aio.Administrator):
+    _kind.__init__.__kwdefaults__["timeout"] = PATIENCE
+
+
+def await_it(work):
+    """What this gives. The loop also closes what was dropped meanwhile."""
+    try:
+        return LOOP.run_until_complete(work)
+    finally:
+        LOOP.run_until_complete(asyncio.sleep(0))
+
+
+class Blocking:
+    """A client of `mondlexi.aio`, whose calls block."""
+
+    def __init__(self, *arguments, **named):
+        self.awaited = self.kind(*arguments, **named)
+        self._session = self.awaited._session
+        await_it(self.awaited.__aenter__())
+
+    def __enter__(self):
+        return self
+
+    def __exit__(self, *raised):
+        await_it(self.awaited.__aexit__(*raised))
+
+    def __getattr__(self, name):
+        found = getattr(self.awaited, name)
+        return (lambda *arguments: await_it(found(*arguments))) if callable(found) else found
+
+
+class Client(Blocking):
+    kind = mondlexi.aio.Client
+
+
+class Administrator(Blocking):
+    kind = mondlexi.aio.Administrator
+
+
+class Counted:
+    def __init__(self, client, *arguments):
+        self.awaited = mondlexi.aio.Counted(client.awaited, *arguments)
+        await_it(self.awaited.begin())
+
+    def cas(self, entries):
+        return await_it(self.awaited.cas(entries))
+
+    def settle(self):
+        return await_it(self.awaited.settle())
