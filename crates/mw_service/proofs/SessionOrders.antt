@@ -16,9 +16,9 @@ use Rattle.mw_rule.specs.Steps.{IsPrefix}
 use Rattle.mw_rule.specs.declared.views.Finished.{Finished}
 use Rattle.mw_rule.proofs.WorkerStretches.{begins_itself, begins_on}
 use Rattle.mw_engine.specs.Brand.{Identity}
-use Rattle.mw_engine.specs.FromBelow.{Note, View, note, said_in}
+use Rattle.mw_engine.specs.FromBelow.{Note, View}
 use Rattle.mw_engine.specs.History.{IsAnswered}
-use Rattle.mw_service.specs.Borrowed.{AnswersWith, Borrows, IsAnsweredBy, LearnsNote, Says}
+use Rattle.mw_service.specs.Borrowed.{AnswersWith, Borrows, LearnsNote, Says}
 use Rattle.mw_service.specs.SessionOrder.{AreInOrder, IsPlaced, seen_in}
 
 -- a prefix of a prefix is one

@@ -1,16 +1,28 @@
 -- Proves goals of `IdlePass::figures` (src/idle_pass.rt) that the check does not prove by itself. Used by: the proof of that
 -- function alone. It may change freely as long as this crate checks.
+use Rattle.std.specs.Prelude.{map}
+use Rattle.std.proofs.Common.{ap, sym, subst, ◌∙◌}
+use Rattle.mw_rule.specs.Steps.{ExtendsView}
+use Rattle.mw_engine.specs.Figures.{TellAll}
+use Rattle.mw_engine.specs.FromBelow.{note}
+use Rattle.mw_engine.specs.LinesOfWorld.{places_told}
 use Rattle.mw_service.proofs.idle_pass.IdlePass.figures.Goals as goal
 
+-- the note changes nothing of what the pass knows
 pub returns-clause-counted : goal.returns-clause-counted
-returns-clause-counted g c = record {
-  borrows = record {
-    first = c.learn.new.self.pass.seat.me.0;
-    config = c.args.self.now.own.config;
-    openings = c.args.self.now.own.openings;
-    learns = c.learn.ensures.learned;
-    says = c.note-note.ensures.says;
-  };
-  keeps = c.figures-figures.ensures.looked.keeps;
-  told = c.figures-figures.ensures.tells;
-}
+returns-clause-counted g c =
+    let same = sym (λ i. (c.note-note.ensures.knows i).0) in
+    let first = c.learn.new.self.pass.seat.me.0 in
+    let identity = g.J.EngineBrand.identity in
+    let figures = c.figures-figures.result in
+    record {
+      borrows = record {
+        first = first;
+        config = c.args.self.now.own.config;
+        openings = c.args.self.now.own.openings;
+        learns = c.learn.ensures.learned;
+        says = c.note-note.ensures.says ∙ ap note same;
+      };
+      keeps = subst (ExtendsView first) same c.figures-figures.ensures.looked.keeps;
+      told = subst (TellAll identity.config.pool identity.config.pool identity.lines (map places_told identity.openings) figures.tenants.items figures.pool_free first) same c.figures-figures.ensures.tells;
+    }

@@ -1,16 +1,22 @@
 -- Proves goals of `IdlePass::serve` (src/idle_pass.rt) that the check does not prove by itself. Used by: the proof of that
 -- function alone. It may change freely as long as this crate checks.
+use Rattle.std.proofs.Common.{ap, sym, subst, ◌∙◌}
+use Rattle.mw_engine.specs.FromBelow.{View, note}
+use Rattle.mw_engine.specs.History.{IsAnswered}
 use Rattle.mw_service.proofs.idle_pass.IdlePass.serve.Goals as goal
 
+-- the note changes nothing of what the pass knows
 pub returns-clause-answered : goal.returns-clause-answered
-returns-clause-answered g c = record {
-  borrows = record {
-    first = c.learn.new.self.pass.seat.me.0;
-    config = c.args.self.now.own.config;
-    openings = c.args.self.now.own.openings;
-    learns = c.learn.ensures.learned;
-    says = c.note-note.ensures.says;
-  };
-  answered = c.serve-reply.ensures.answered;
-  possible = c.serve-reply.ensures.answers;
-}
+returns-clause-answered g c =
+    let same = sym (λ i. (c.note-note.ensures.knows i).0) in
+    record {
+      borrows = record {
+        first = c.learn.new.self.pass.seat.me.0;
+        config = c.args.self.now.own.config;
+        openings = c.args.self.now.own.openings;
+        learns = c.learn.ensures.learned;
+        says = c.note-note.ensures.says ∙ ap note same;
+      };
+      answered = subst (λ (last : View). IsAnswered c.learn.new.self.pass.seat.me.0 last c.args.tenant c.args.job.now c.serve-reply.result) same c.serve-reply.ensures.answered;
+      possible = c.serve-reply.ensures.answers;
+    }
