@@ -108,8 +108,7 @@ in_order identity (Finds name found ∷ later) old new goes =
     subst (λ (kept : Option Note). AreInOrder identity (seen_in new) (seen_in kept) later) goes.1.0 (in_order identity later goes.0 new goes.2)
 in_order identity (Asks tenant job reply ∷ later) old new goes =
     let rest = in_order identity later goes.0 new goes.2 in
-    let answer = goes.1.2 in
-    (
+    let answer = goes.1.2 in (
       seen_in goes.0,
       seen_with identity goes.1.0 goes.1.1 old goes.0 answer.borrows answer.answered.keeps.seen,
       placed identity goes.1.0 goes.1.1 old goes.0 answer.borrows (seen_in new) tenant job reply answer.answered (grows identity (seen_in new) (seen_in goes.0) later rest),
