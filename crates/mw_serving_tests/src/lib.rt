@@ -3,14 +3,6 @@
 #![tactic(auto)]
 
 #[cfg(test)]
-mod desk_tests;
-#[cfg(test)]
-mod local_lookout;
-#[cfg(test)]
-mod local_tests;
-#[cfg(test)]
-mod room_tests;
-#[cfg(test)]
 mod session_peers;
 #[cfg(test)]
 mod session_tests;
@@ -19,13 +11,7 @@ mod silence_tests;
 #[cfg(test)]
 mod slow_tests;
 #[cfg(test)]
-mod test_clients;
-#[cfg(test)]
 mod test_crowd;
-#[cfg(test)]
-mod test_serving;
-#[cfg(test)]
-mod test_shelf;
 #[cfg(test)]
 mod wait_tests;
 #[cfg(test)]

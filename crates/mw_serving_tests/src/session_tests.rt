@@ -3,10 +3,10 @@
 //!
 //! Nothing else uses it: it may change with what it tests.
 use crate::session_peers::{Chatter, Listener, Notebook};
-use crate::test_shelf::Shelf;
 use arrayvec::ArrayVec;
 use mw_session::{Ended, Service, Session};
 use mw_test_peers::{Failure, INPUT, OUTPUT, Page, Sender, replied};
+use mw_test_server::Shelf;
 use std::sync::Wait;
 
 /// More bytes than are read or written.

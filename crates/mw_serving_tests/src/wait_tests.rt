@@ -1,8 +1,7 @@
 //! Tests clients that wait for a worker for a limited time.
 //!
 //! Nothing else uses it: it may change with what it tests.
-use crate::test_clients::Caller;
-use crate::test_serving::{NO_LIMITS, Shop, serves_right};
+use mw_test_server::{Caller, NO_LIMITS, Shop, serves_right};
 use std::net::{Net, TcpListener, TcpStream};
 use std::test::Fail;
 use std::time::{Clock, Duration, Instant};

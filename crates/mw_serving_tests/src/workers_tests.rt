@@ -3,10 +3,9 @@
 //! Nothing else uses it: it may change with what it tests.
 ghost use Rattle.std.specs.Prelude.{◌<◌};
 
-use crate::test_clients::Caller;
 use crate::test_crowd::{Crowd, Heard, Script};
-use crate::test_serving::{NO_LIMITS, Shop, serve, serves_right};
 use mw_session::Ended;
+use mw_test_server::{Caller, NO_LIMITS, Shop, serve, serves_right};
 use mw_words::MAX_LINE;
 use mw_workers::ServeEnd;
 use std::alloc::{AllocError, Global};

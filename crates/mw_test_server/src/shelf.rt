@@ -1,7 +1,8 @@
 //! A service in memory, for tests: one tenant, `t`, and its words. Many workers may ask for them if they are under
 //! a lock.
 //!
-//! Used by: `session_tests`, `test_serving`. It may change freely as long as this crate checks and its tests pass.
+//! Used by: mw_listener_tests, mw_serving_tests. It may change freely as long as these check and their tests
+//! pass.
 use arrayvec::ArrayVec;
 use mw_report::{Figures, TenantFigures};
 use mw_session::Service;

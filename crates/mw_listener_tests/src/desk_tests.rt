@@ -1,9 +1,7 @@
 //! Tests a desk with several administrators: who gives way to another, who doesn't, and what happens at the end.
 //!
 //! Nothing else uses it: it may change with what it tests.
-use crate::test_clients::{Caller, come_and_go};
-use crate::test_serving::NO_LIMITS;
-use crate::test_shelf::{Clerk, Shelf};
+use mw_test_server::{Caller, Clerk, NO_LIMITS, Shelf, come_and_go};
 use mw_workers::{
     ClientListener, Closer, Desk, RoomWatch, ServeEnd, TURN, listen_at, port_of, serve_beside,
 };

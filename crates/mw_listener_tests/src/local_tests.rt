@@ -2,8 +2,7 @@
 //!
 //! Nothing else uses it: it may change with what it tests.
 use crate::local_lookout::Lookout;
-use crate::test_clients::Caller;
-use crate::test_serving::{NO_LIMITS, Shop, serves_beside};
+use mw_test_server::{Caller, NO_LIMITS, Shop, serves_beside};
 use mw_workers::{TimeLimits, listen_at};
 use std::fs::File;
 use std::io::ErrorKind;

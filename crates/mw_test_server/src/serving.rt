@@ -1,11 +1,11 @@
 //! A server for tests, over the words of one tenant.
 //!
-//! Used by: `desk_tests`, `local_tests`, `room_tests`, `silence_tests`, `slow_tests`, `wait_tests`, `workers_tests`. It may change freely as long as this
-//! crate checks and its tests pass.
+//! Used by: mw_listener_tests, mw_serving_tests. It may change freely as long as these check and their tests
+//! pass.
 ghost use Rattle.std.specs.Prelude.{◌<◌};
 
-use crate::test_clients::come_and_go;
-use crate::test_shelf::{Clerk, Shelf};
+use crate::callers::come_and_go;
+use crate::shelf::{Clerk, Shelf};
 use mw_workers::{Listener, ServeEnd, TimeLimits, listen_at, port_of, serve_all};
 use std::alloc::{AllocError, Global};
 use std::fs::File;

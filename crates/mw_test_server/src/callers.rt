@@ -1,8 +1,7 @@
 //! Clients over sockets, for tests: what they wait for must come within a limit of time.
 //!
-//! Used by: `desk_tests`, `local_tests`, `silence_tests`, `slow_tests`, `test_serving`, `wait_tests`,
-//! `workers_tests`. It may change freely as long as this
-//! crate checks and its tests pass.
+//! Used by: mw_listener_tests, mw_serving_tests. It may change freely as long as these check and their tests
+//! pass.
 use std::io::{self, ErrorKind, Read, Write};
 use std::net::{Net, TcpListener, TcpStream};
 use std::os::fd::OwnedFd;

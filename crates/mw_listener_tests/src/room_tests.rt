@@ -3,10 +3,9 @@
 //! Nothing else uses it: it may change with what it tests.
 ghost use Rattle.std.specs.Prelude.{None};
 
-use crate::test_serving::NO_LIMITS;
-use crate::test_shelf::{Clerk, Shelf};
 use arrayvec::ArrayVec;
 use mw_session::{Ended, Service, Session};
+use mw_test_server::{Clerk, NO_LIMITS, Shelf};
 use mw_workers::{
     Closer, Connection, Desk, Listener, Others, Patient, RoomWatch, ServeEnd, listen_at,
     serve_beside,
