@@ -86,6 +86,10 @@ wait_left limits times called now others =
     lesser (left_of (nanos limits.silence) (instant_nanos called) (instant_nanos now))
     (lesser (timing_left (nanos limits.line) times.part (instant_nanos now)) (turn_left others (timing_left (nanos limits.turn) times.turn (instant_nanos now))))
 
+-- how long one write may wait before it looks at the clock: for LOOK, or a shorter silence; without end if nothing is limited
+abbrev pub write_wait : WaitLimits → Option ℕ
+write_wait limits = if is_some limits.silence || is_some limits.line then lesser (nanos limits.silence) (Some (LOOK * 1_000_000)) else None
+
 -- whether a time runs, or is to run
 abbrev pub runs : Timing → Bool
 runs Stopped = false

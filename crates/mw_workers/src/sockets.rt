@@ -127,8 +127,8 @@ impl<'a, K: Clock + Sync> Listener for ClientListener<'a, K> {
 
     fn accept(&mut self) -> io::Result<Client<'a, K>> {
         let stream = self.door.next()?;
-        // A connection without its limit could hold its worker for ever, so it is closed and not served.
-        if limit_silence(&stream, self.limits.silence).is_err() {
+        // A connection without its limits could hold its worker for ever, so it is closed and not served.
+        if limit_waits(&stream, &self.limits).is_err() {
             return Err(io::Error::from(ErrorKind::ConnectionAborted));
         }
         Ok(Client {
@@ -139,15 +139,18 @@ impl<'a, K: Clock + Sync> Listener for ClientListener<'a, K> {
     }
 }
 
-/// Limits how long a read or a write waits for the client, if there is a limit.
+/// Limits how long a read or a write waits for the client, if there are limits.
 ///
 /// # Errors
 ///
 /// The system refuses.
-fn limit_silence(stream: &TcpStream, silence: Option<Duration>) -> io::Result<()> {
-    if silence.is_some() {
-        stream.set_read_timeout(silence)?;
-        stream.set_write_timeout(silence)?;
+fn limit_waits(stream: &TcpStream, limits: &WaitLimits) -> io::Result<()> {
+    if limits.silence.is_some() {
+        stream.set_read_timeout(limits.silence)?;
+    }
+    let write_wait = limits.write_wait();
+    if write_wait.is_some() {
+        stream.set_write_timeout(write_wait)?;
     }
     Ok(())
 }

@@ -21,11 +21,13 @@ ghost use Rattle.mw_workers.specs.TimesLeft.{
   timing_left,
   turn_left,
   wait_left,
+  write_wait,
 };
 
 use std::time::{Duration, Instant};
 
-/// How often a session looks whether others wait when its turn is over, in milliseconds.
+/// How often a session looks whether others wait when its turn is over, and how long a limited write waits before it looks
+/// at the clock, in milliseconds.
 const LOOK: u64 = 250;
 
 /// The byte that ends a line.
@@ -82,6 +84,19 @@ impl TimeLimits {
             line: in_seconds(self.line),
             turn: None,
         }
+    }
+}
+
+impl WaitLimits {
+    /// Gives how long one write may wait before it looks at the clock. The system tells how much was taken only when the
+    /// write ends, so a reply's time starts so late at most. None: nothing is limited.
+    pub(crate) fn write_wait(&self) -> Option<Duration>
+        ensures { nanos result ≡ write_wait self.now }
+    {
+        if self.silence.is_none() && self.line.is_none() {
+            return None;
+        }
+        lesser(self.silence, Some(Duration::from_millis(LOOK)))
     }
 }
 
@@ -247,7 +262,7 @@ fn turn_left(left: Option<Duration>, others: bool) -> Option<Duration>
 }
 
 /// Gives the lesser of two lengths of time. None: without end.
-fn lesser(one: Option<Duration>, other: Option<Duration>) -> Option<Duration>
+pub(crate) fn lesser(one: Option<Duration>, other: Option<Duration>) -> Option<Duration>
     ensures { nanos result ≡ lesser (nanos one) (nanos other) }
 {
     match (one, other) {

@@ -6,7 +6,7 @@ ghost use Rattle.std.specs.Prelude.{None};
 ghost use Rattle.std.specs.Io.{ReadsAtMost, WritesAtMost};
 
 use crate::peer::Others;
-use crate::time_limits::{Times, WaitLimits};
+use crate::time_limits::{Times, WaitLimits, lesser};
 use std::io::{self, ErrorKind, Read, Write};
 use std::net::TcpStream;
 use std::sync::Wait;
@@ -77,13 +77,21 @@ impl<'a, K: Clock, R: Wait, O: Others> TimedReader<'a, K, R, O> {
                 return Err(io::Error::from(ErrorKind::TimedOut));
             }
             match self.read_within(wait, piece) {
-                Err(fault) if fault.kind() == ErrorKind::WouldBlock => {
-                    now = Instant::now(pace.clock)?;
-                }
+                Err(fault) if is_no_end(&fault) => now = Instant::now(pace.clock)?,
                 answer => return answer,
             }
         }
         unreachable!()
+    }
+
+    /// Reads once for a whole silence. If a signal cuts that short, it reads on by the clock.
+    fn read_at_first(&mut self, piece: &mut [u8]) -> io::Result<usize>
+        ensures { ReadsAtMost result piece.new }
+    {
+        match self.read_within(self.pace.limits.silence, piece) {
+            Err(fault) if fault.kind() == ErrorKind::Interrupted => self.read_by_clock(piece),
+            answer => answer,
+        }
     }
 }
 
@@ -94,7 +102,7 @@ impl<K: Clock, R: Wait, O: Others> Read for TimedReader<'_, K, R, O> {
         let answer = if self.times.need_clock(&self.pace.limits) {
             self.read_by_clock(piece)
         } else {
-            self.read_within(self.pace.limits.silence, piece)
+            self.read_at_first(piece)
         };
         if let Ok(count) = answer {
             self.times = self.times.after_piece(&piece[..count]);
@@ -104,12 +112,12 @@ impl<K: Clock, R: Wait, O: Others> Read for TimedReader<'_, K, R, O> {
 }
 
 impl<'a, K: Clock, R: Wait, O: Others> TimedWriter<'a, K, R, O> {
-    /// Makes the writer of a session that begins. A write to its socket waits for a whole silence.
+    /// Makes the writer of a session that begins. A write to its socket waits as [`WaitLimits::write_wait`] says.
     pub(crate) fn new(pace: &'a Pace<'a, K, R, O>) -> Self {
         TimedWriter {
             pace,
             times: Times::new(),
-            set: pace.limits.silence,
+            set: pace.limits.write_wait(),
         }
     }
 
@@ -139,15 +147,28 @@ impl<'a, K: Clock, R: Wait, O: Others> TimedWriter<'a, K, R, O> {
             if wait == Some(Duration::ZERO) {
                 return Err(io::Error::from(ErrorKind::TimedOut));
             }
-            match self.write_within(wait, text) {
-                Err(fault) if fault.kind() == ErrorKind::WouldBlock => {
-                    now = Instant::now(pace.clock)?;
-                }
+            match self.write_within(lesser(wait, pace.limits.write_wait()), text) {
+                Err(fault) if is_no_end(&fault) => now = Instant::now(pace.clock)?,
                 answer => return answer,
             }
         }
         unreachable!()
     }
+
+    /// Writes once for a while. If nothing was taken meanwhile, it writes on by the clock.
+    fn write_at_first(&mut self, text: &[u8]) -> io::Result<usize>
+        ensures { WritesAtMost result text.now }
+    {
+        match self.write_within(self.pace.limits.write_wait(), text) {
+            Err(fault) if is_no_end(&fault) => self.write_by_clock(text),
+            answer => answer,
+        }
+    }
+}
+
+/// Tells whether a call gave nothing because its time was over or a signal came, and may be made again.
+fn is_no_end(fault: &io::Error) -> bool {
+    matches!(fault.kind(), ErrorKind::WouldBlock | ErrorKind::Interrupted)
 }
 
 impl<K: Clock, R: Wait, O: Others> Write for TimedWriter<'_, K, R, O> {
@@ -157,7 +178,7 @@ impl<K: Clock, R: Wait, O: Others> Write for TimedWriter<'_, K, R, O> {
         let answer = if self.times.need_clock(&self.pace.limits) {
             self.write_by_clock(text)
         } else {
-            self.write_within(self.pace.limits.silence, text)
+            self.write_at_first(text)
         };
         if let Ok(count) = answer {
             self.times = self.times.after_write(count == text.len());
