@@ -40,8 +40,9 @@ class Server:
         same((self.process.returncode, out, err), (0, "", ""), "the end of the server")
 
     def kill(self):
+        """Ends it, and looks that it has said nothing."""
         self.process.kill()
-        self.process.communicate()
+        same(self.process.communicate(), ("", ""), "what the server said")
 
     def memory(self):
         """How many kilobytes it has in memory."""
@@ -76,6 +77,18 @@ class Client:
             pass
         return reply
 
+    def is_over(self, seconds):
+        """Whether the server closes within so many seconds; what it says is dropped."""
+        self.socket.settimeout(seconds)
+        try:
+            while self.socket.recv(4096):
+                pass
+        except TimeoutError:
+            return False
+        except OSError:
+            pass
+        return True
+
     def close(self):
         self.lines.close()
         self.socket.close()
@@ -94,7 +107,7 @@ def each(count, work):
     def run(number):
         try:
             work(number)
-        except (SystemExit, OSError, ValueError) as fault:
+        except (Exception, SystemExit) as fault:
             faults.append(fault)
 
     threads = [threading.Thread(target=run, args=(number,)) for number in range(count)]
