@@ -2,6 +2,7 @@
 
 Used by: scripts/check-crowd.
 """
+import atexit
 import os
 import socket
 import subprocess
@@ -31,6 +32,7 @@ class Server:
         self.process = subprocess.Popen([MWSERVE, "--tenants", "tenants", "--listen", "127.0.0.1:0", *options], cwd=folder,
                                         env={**os.environ, **(environment or {})}, stdin=subprocess.DEVNULL,
                                         stdout=subprocess.PIPE, stderr=subprocess.PIPE, text=True)
+        atexit.register(self.process.kill)
         self.admin = int(self.process.stdout.readline().split()[1]) if "--admin" in options else None
         self.port = int(self.process.stdout.readline().split()[1])
 
