@@ -10,7 +10,7 @@ use Rattle.mw_world.specs.declared.config.Config.{Config}
 use Rattle.mw_world.specs.Definition.Calls.{Called as CallOn, called_at}
 use Rattle.mw_world.specs.Definition.State.{tenants_of}
 use Rattle.mw_table.specs.FromRule.{FileToken, ExtendsWithLearned, HeldFile, LeavesRest, WorkerToken, Serves, Starts, View, LearnsFileCall, after_call, without_file, takes_files, with_file_given, first_held, other_held, seen_at, went as went_of}
-use Rattle.mw_table.proofs.FromRule.{begins_on, without_file_right, calls_take_files, calls_file, calls_give_back, on_again}
+use Rattle.mw_table.proofs.FromRule.{begins_on, behind_files, without_file_right, calls_take_files, calls_file, calls_give_back, on_again}
 use Rattle.mw_core.specs.FileCalls.{HasFiled}
 
 -- knowledge that has grown twice has grown
@@ -25,6 +25,7 @@ goes_on_on first between last one two =
       seen = λ tenant low. begins_on (seen_at first.seen tenant) (seen_at between.seen tenant) (seen_at last.seen tenant) (one.seen tenant low) (two.seen tenant (there tenant low));
       told = λ tenant low. begins_on (seen_at first.told tenant) (seen_at between.seen tenant) (seen_at last.seen tenant) (one.told tenant low) (two.seen tenant (there tenant low));
       known_run = on_again first.known_run between.known_run last.known_run one.known_run two.known_run;
+      behind = two.behind;
     }
 
 files_on : (first between last : View) → LeavesRest first between → LeavesRest between last → LeavesRest first last
@@ -61,6 +62,7 @@ module _ (old its last : View) (held found : HeldFile) (well : Bool) (after : Fi
         seen = made.files.goes_on.seen;
         told = made.files.goes_on.told;
         known_run = made.files.goes_on.known_run;
+        behind = behind_files last (other_held last.files) last.learned_run made.files.goes_on.behind;
       };
       right = without_file_right last made.files.right;
       same_mine = made.files.same_mine;

@@ -69,13 +69,16 @@ served_stands first now actor served = by (replied actor) refl
   where
     by : (reply : Option Reply) → replied actor ≡ reply → OutcomeAs reply first now actor
     by None is = served
-    by (Some reply) is = record {
-      token = served.token;
-      keeps = served.serves.keeps;
-      right = served.serves.right;
-      answered = calls_end first now served.token actor reply served.serves is;
-      whole = served.whole;
-    }
+    by (Some reply) is =
+        let answered = calls_end first now served.token actor reply served.serves is in
+        record {
+          token = served.token;
+          keeps = served.serves.keeps;
+          right = served.serves.right;
+          answered = answered;
+          whole = served.whole;
+          run = answered.run served.whole;
+        }
 
 -- a request that came before this call, or with it
 pub since_first : (idle : Bool) (first now : View) (actor : ActorState) → idle ≡ true → IsSince idle first now actor → first ≡ now
@@ -121,6 +124,7 @@ look_stands old new actor next (Ok reply) looks first since =
       right = kept.1;
       answered = call.1;
       whole = call.2;
+      run = call.1.run call.2;
     }
 look_stands old new actor next (Err why) looks first since =
     let call = looks.call first true (core_since old.idle first old.seat.me.0 actor since) in

@@ -2,8 +2,8 @@
 -- BUSY, FAULT, WORN, or a NO that an entry explains.
 -- Used by: StepOrFileCall, the proofs of Engine::serve, try_look, advance, file and make_step. It may change freely as long as
 -- this crate checks.
-use Rattle.std.specs.Prelude.{◌≡◌, ℕ, ◌-◌, ◌==◌, Bool, nat_lt, Option, Some, None, IfSome, [], ◌∷◌, ◌++◌, List, map, Result, Ok, Err, IfOk}
-use Rattle.std.proofs.Common.{refl, sym, subst, ◌∙◌, get_or, ap, arith}
+use Rattle.std.specs.Prelude.{◌≡◌, ℕ, ◌-◌, ◌==◌, Bool, nat_lt, Option, Some, None, IfSome, [], ◌∷◌, List, map, Result, Ok, Err, IfOk}
+use Rattle.std.proofs.Common.{refl, sym, subst, ◌∙◌, get_or, ap}
 use Rattle.std.proofs.lemmas.Option.{none-some, same_Some, slice_get-get_or, slice_get_within}
 use Rattle.mw_words.specs.declared.gates.Gate.{Gate}
 use Rattle.mw_words.specs.declared.jobs.Job.{Job}
@@ -33,8 +33,8 @@ use Rattle.mw_actor.specs.ActorState.{ActorState, first_point}
 use Rattle.mw_actor.specs.Asks.{asks}
 use Rattle.mw_actor.specs.Program.{goes, replied, reply_at, tells}
 use Rattle.mw_disk.specs.Facts.{Facts}
-use Rattle.mw_core.specs.FromTable.{Answered, Each, IsCarried, IsFinished, AddsFinishedIf, Pass, WorkerToken, View, finished_as, settled, settled_as, stepped, told as told_by, actor_after, went_well}
-use Rattle.mw_core.proofs.FromTable.{calls_end, requests_go_on_from_calls}
+use Rattle.mw_core.specs.FromTable.{Each, IsCarried, IsFinished, AddsFinishedIf, Pass, WorkerToken, View, finished_as, settled, settled_as, stepped, told as told_by, actor_after, went_well}
+use Rattle.mw_core.proofs.FromTable.{calls_end, each_last, requests_go_on_from_calls}
 use Rattle.mw_core.specs.declared.calls.Advance.{Advance}
 use Rattle.mw_core.specs.declared.read_rounds.WhyAgain.{WhyAgain}
 use Rattle.mw_core.specs.Steps.{Advances, Begins, Ends, StepsOnce}
@@ -115,12 +115,12 @@ IsChange (Get address) = ⊥
 IsChange (Cas entries) = Unit {0}
 
 -- The reply to a change is one that it can have, because it is right at its place.
-change_can : (first now : View) (token : WorkerToken) (tenant : ℕ) (job : Job) (reply : Reply) → IsChange job → Answered first now token tenant job reply → IsReplyTo job reply
-change_can first now token tenant (Get address) reply change answered = absurd change
-change_can first now token tenant (Cas entries) (Val value) change answered = absurd (let reads = answered.right.reads in cc)
-change_can first now token tenant (Cas entries) Yes change answered = tt
-change_can first now token tenant (Cas entries) (No at value) change answered =
-    let right = answered.right in
+change_can : (now : View) (token : WorkerToken) (tenant : ℕ) (job : Job) (reply : Reply) (place : ℕ) → IsChange job → IsFinished now (finished_as token tenant job reply place) → IsReplyTo job reply
+change_can now token tenant (Get address) reply place change finished = absurd change
+change_can now token tenant (Cas entries) (Val value) place change finished = absurd (let reads = finished.right.reads in cc)
+change_can now token tenant (Cas entries) Yes place change finished = tt
+change_can now token tenant (Cas entries) (No at value) place change finished =
+    let right = finished.right in
     let here = right.is_entry in
     let below = slice_get_within entries.items right.index right.entry here in (
       right.index,
@@ -129,9 +129,9 @@ change_can first now token tenant (Cas entries) (No at value) change answered =
       same_Some (get_or entries.items right.index right.entry) right.entry (sym (slice_get-get_or entries.items right.index right.entry below) ∙ here),
       record { address = sym right.same_address; other = right.differs },
     )
-change_can first now token tenant (Cas entries) Busy change answered = tt
-change_can first now token tenant (Cas entries) Fault change answered = tt
-change_can first now token tenant (Cas entries) Worn change answered = tt
+change_can now token tenant (Cas entries) Busy place change finished = tt
+change_can now token tenant (Cas entries) Fault place change finished = tt
+change_can now token tenant (Cas entries) Worn place change finished = tt
 
 -- A request stays on its way, whatever it is told, if a change that then has its reply has one that it can have.
 goes_way : (actor : ActorState) (next : ℕ) (job : Job) (point : Point) (observation : Observation) → IsOnItsWay job point
@@ -154,12 +154,9 @@ same_way actor next same way = subst (λ (one : ActorState). IsOnItsWay one.job 
 -- so has a request that was served
 served_can : (first now : View) (actor : ActorState) → IsInProgress first now actor → ChangeCan actor
 served_can first now actor served change reply is =
-    change_can first now served.token actor.tenant actor.job reply change (calls_end first now served.token actor reply served.serves is)
-
--- a fact of each element is a fact of the last
-each_last : {A : Type 0} (P : A → Type 0) (all : List A) (last : A) → Each P (all ++ last ∷ []) → P last
-each_last P [] last holds = holds.0
-each_last P (one ∷ all) last holds = each_last P all last holds.1
+    let answered = calls_end first now served.token actor reply served.serves is in
+    change_can now served.token actor.tenant actor.job reply answered.place change
+    (each_last (IsFinished now) first.mine (finished_as served.token actor.tenant actor.job reply answered.place) (subst (Each (IsFinished now)) answered.noted served.serves.right.mine))
 
 -- so has a request that its pass carried when it made the step
 stepped_can : (old new : Pass) (actor next : ActorState) → IsCarried old actor → replied actor ≡ None → StepsOnce old new actor next → ChangeCan next
@@ -175,17 +172,9 @@ stepped_can old new actor next carried running once change reply is =
     let noted = subst (λ (found : Option Reply). AddsFinishedIf after actor.tenant token.begun actor.job found old.seat.me.0.mine new.seat.me.0.mine) (ap replied same ∙ is) (once.took.ends mine actor had refl) in
     let right = each_last (IsFinished new.seat.me.0) old.seat.me.0.mine (finished_as after actor.tenant actor.job reply noted.place)
     (subst (Each (IsFinished new.seat.me.0)) noted.noted once.took.right.mine) in
-    let first : View = record old.seat.me.0 { seen = [] } in
-    let answered : Answered first new.seat.me.0 after actor.tenant actor.job reply = record {
-      place = noted.place;
-      noted = noted.noted;
-      no_smaller = omega arith;
-      within = right.within;
-      right = right.right;
-      evidence = right.evidence;
-    } in
     let same_job = ap (λ (one : ActorState). one.job) same in
-    change_can first new.seat.me.0 after actor.tenant next.job reply change (subst (λ (job : Job). Answered first new.seat.me.0 after actor.tenant job reply) same_job answered)
+    change_can new.seat.me.0 after actor.tenant next.job reply noted.place change
+    (subst (λ (job : Job). IsFinished new.seat.me.0 (finished_as after actor.tenant job reply noted.place)) same_job right)
 
 -- a request stays on its way over its first step
 pub begins_way : (old new : Pass) (actor next : ActorState) → Begins old new actor next → IsInProgress old.seat.me.0 new.seat.me.0 next → IsOnItsWay actor.job actor.point → IsOnItsWay next.job next.point

@@ -6,7 +6,7 @@ use Rattle.mw_words.specs.declared.jobs.Job.{Job}
 use Rattle.mw_words.specs.declared.replies.Reply.{Reply}
 use Rattle.mw_actor.specs.ActorState.{ActorState}
 use Rattle.mw_actor.specs.Program.{replied}
-use Rattle.mw_core.specs.FromTable.{Answered, IsRight, ExtendsView, WorkerToken, Serves, View}
+use Rattle.mw_core.specs.FromTable.{Answered, IsInRun, IsRight, ExtendsView, WorkerToken, Serves, View}
 use Rattle.mw_core.specs.declared.read_rounds.WhyAgain.{WhyAgain}
 
 -- The request is under way: its thread has noted nothing since the request came. All that its steps found is known.
@@ -18,13 +18,16 @@ pub record IsInProgress (first now : View) (actor : ActorState) : Type 0 where
 -- A tenant's request for a job was answered. What the thread has seen goes on from what it had seen when the request
 -- came, and is right. Since then it has noted this request alone, with its reply, at a place that is right and no
 -- smaller than what it had seen then. All that the request's steps found is known. It is the evidence for BUSY, FAULT
--- and WORN; WORN may rest on the number of the worker's attempt too.
+-- and WORN; WORN may rest on the number of the worker's attempt too. One run of the world is behind all that the thread
+-- knows now. It has this very request: its arrival after all that the thread knew when the request came, its steps, and its
+-- hand-out; its worker did nothing else since. It handed out this reply under the request's number.
 pub record IsAnswered (first now : View) (tenant : ℕ) (job : Job) (reply : Reply) : Type 0 where
   pub token : WorkerToken
   pub keeps : ExtendsView first now
   pub right : IsRight now
   pub answered : Answered first now token tenant job reply
   pub whole : token.is_whole ≡ true
+  pub run : IsInRun token.worker tenant token.request job (Some reply) first now
 
 -- When the request came: with this call if the pass is idle; else earlier, and it is under way.
 abbrev pub IsSince : Bool → View → View → ActorState → Type 0

@@ -14,5 +14,6 @@ pub mod Replies
 pub mod Requests
 pub mod Parts
 pub mod Steps
+pub mod StoreAlone
 pub mod TenantWords
 pub mod Notes

@@ -12,7 +12,8 @@
 //! - `specs/Passes`: which passes are its own. `specs/Requests`: which requests they may bring.
 //! - `specs/Identity`: what a tenant's line is, and which jobs are for it.
 //! - `specs/LinesOfWorld`: how these lines agree with the world of the shared words.
-//! - `specs/History`: what is known of a request that was answered. `specs/Replies`: which replies a job can have.
+//! - `specs/History`: what is known of a request that was answered. `specs/StoreAlone`: that it is answered as its
+//!   tenant's store alone answers it. `specs/Replies`: which replies a job can have.
 //! - `specs/DisksAtEnd`: which words are on the disks that are given at the end.
 //!
 //! Used by: mw_service, mw_programs, mw_engine_tests.
@@ -25,6 +26,7 @@ mod figures;
 mod file_calls;
 mod guarded_file;
 mod hold;
+mod laws;
 mod listed;
 mod meet;
 mod new_parts;
@@ -41,6 +43,7 @@ pub use brand::EngineBrand;
 pub use end::NoDisks;
 pub use engine::Engine;
 pub use hold::{Hold, NoHold, Point};
+pub use laws::answers_are_of_the_store_alone;
 pub use mw_actor::Actor;
 pub use mw_core::{Advance, Note, Pass, WhyAgain};
 pub use parts::EngineParts;

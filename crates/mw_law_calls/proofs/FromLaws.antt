@@ -9,6 +9,7 @@ pub use Rattle.mw_law_store.proofs.Attempts.{attempts_are_numbers}
 pub use Rattle.mw_law_store.proofs.Histories.{asks_stand_once, seals_stay_long}
 pub use Rattle.mw_law_store.proofs.AbstractStateLaws.{got_within}
 pub use Rattle.mw_law_store.proofs.ReplyPlaceLaws.{on_with, replies_are_linearized, requests_begin, requests_have_begun, requests_stay_begun, sealed_are_right}
-pub use Rattle.mw_law_store.proofs.RunSimulation.{events_are_simulated, runs_are_simulated}
+pub use Rattle.mw_law_store.proofs.DurabilityInRunsLaws.{runs_hold_changes}
+pub use Rattle.mw_law_store.proofs.RunSimulation.{events_are_simulated, every_run_is_durably_linearizable, runs_are_simulated}
 pub use Rattle.mw_law_store.proofs.SealedLists.{places_stay_right}
 pub use Rattle.mw_law_store.proofs.ReadRetryLaws.{reads_find_their_way}

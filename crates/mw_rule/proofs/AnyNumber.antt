@@ -21,13 +21,15 @@ use Rattle.mw_law_calls.specs.CallStarts.{CanStart, HasWords, IsAtCall}
 use Rattle.mw_law_calls.proofs.CallEndLaws.{calls_meet_faults}
 use Rattle.mw_law_calls.proofs.CallStartLaws.{calls_can_start, calls_have_words}
 use Rattle.mw_law_calls.proofs.TokensTellCalls.{file_tokens_tell_calls}
+use Rattle.mw_rule.specs.declared.views.Finished.{Finished}
 use Rattle.mw_rule.specs.declared.views.HeldFile.{HeldFile}
 use Rattle.mw_rule.specs.declared.views.WorkerToken.{WorkerToken}
 use Rattle.mw_rule.specs.declared.views.View.{View}
 use Rattle.mw_rule.specs.KnownRuns.{given_to}
 use Rattle.mw_rule.specs.FileCalls.{Calls, fails, place_held, places_held}
 use Rattle.mw_rule.specs.WordActions.{WentOn}
-use Rattle.mw_rule.specs.Rule.{Each, Fits, Holds, HoldsFile, Waits, WaitsIf, events_of_worker}
+use Rattle.mw_rule.specs.Rule.{Each, Fits, Holds, HoldsFile, IsHandedOut, Waits, WaitsIf, events_of_worker}
+use Rattle.mw_rule.proofs.HandedReplies.{handed_however}
 use Rattle.mw_rule.proofs.KnownRunLaws.{plain_fails}
 use Rattle.mw_rule.proofs.WorkerStretches.{made_on}
 use Rattle.mw_rule.proofs.Totals.{each_on}
@@ -133,6 +135,13 @@ module _ (old new : View) (worker : ℕ) (actor : ActorState) (called : Called) 
     evidence = so.evidence;
   }
 
+  handed_so : (other : ℕ) (its : Finished) → IsHandedOut config (world_at config went.openings) (went.before ++ (went.events ++ FileEvent worker (Fail one) ∷ [])) its
+      → IsHandedOut config (world_at config went.openings) (went.before ++ (went.events ++ FileEvent worker (Fail other) ∷ [])) its
+  handed_so other its handed =
+      subst (λ (events : List WorldEvent). IsHandedOut config (world_at config went.openings) events its) (append_assoc went.before went.events (FileEvent worker (Fail other) ∷ []))
+      (handed_however config (world_at config went.openings) state all worker (Fail one) (Fail other) its went.played.runs
+      (subst (λ (events : List WorldEvent). IsHandedOut config (world_at config went.openings) events its) (sym (append_assoc went.before went.events (FileEvent worker (Fail one) ∷ []))) handed))
+
   knows_so : (other : ℕ) → Fits config went.openings went.next (went.events ++ FileEvent worker (Fail other) ∷ []) new
   knows_so other = record {
     same_config = went.knows.same_config;
@@ -162,4 +171,6 @@ module _ (old new : View) (worker : ℕ) (actor : ActorState) (called : Called) 
     known_run = went.known_run ∙ ap (λ (events : List WorldEvent). Some (record { openings = given_to went.openings (tenants_of config); before = went.before; events = events })) (plain_fails went.events worker one other);
     knew = went.knew;
     knows = knows_so other;
+    handed = each_on (IsHandedOut config (world_at config went.openings) (went.before ++ (went.events ++ FileEvent worker (Fail one) ∷ [])))
+        (IsHandedOut config (world_at config went.openings) (went.before ++ (went.events ++ FileEvent worker (Fail other) ∷ []))) (handed_so other) new.mine went.handed;
   }

@@ -105,6 +105,7 @@ module _ (config : Config) (openings : ℕ → TenantStart) (before : List World
       noted = [];
       right = tt;
       ends = refl;
+      handed = tt;
       few = λ tenant request. omega arith;
       fresh = λ other over. refl;
       over = tt;

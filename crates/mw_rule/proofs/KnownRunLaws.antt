@@ -3,14 +3,16 @@
 -- Used by: Preservation, SplitLaws, WordActionLaws, AnyNumber, ViewAfterStep, WholeCallLaws, mw_table, mw_core. Its statements
 -- may change with mw_table and mw_core; its proofs may change freely.
 use Rattle.std.specs.Prelude.{ℕ, ◌≡◌, List, [], ◌∷◌, ◌++◌, map, Option, Some, None}
-use Rattle.std.proofs.Common.{refl, sym, ap, ◌∙◌, append_assoc, append-nil}
+use Rattle.std.proofs.Common.{refl, sym, ap, subst, ◌∙◌, append_assoc, append-nil}
 use Rattle.mw_world_file.specs.declared.outcomes.Outcome.TheVariants.{Fail}
 use Rattle.mw_world.specs.declared.config.Config.{Config}
 use Rattle.mw_world.specs.Definition.Events.{WorldEvent, File as FileEvent}
-use Rattle.mw_world.specs.Definition.State.{TenantStart}
+use Rattle.mw_world.specs.Definition.State.{TenantStart, world_at}
 use Rattle.mw_rule.specs.KnownRuns.{KnownRun, ExtendsRun, ExtendsKnownRun, known_run_of, plain}
-use Rattle.mw_rule.specs.Rule.{IsRunOf}
+use Rattle.mw_rule.specs.Rule.{IsHandedOut, IsRunOf}
 use Rattle.mw_rule.specs.declared.views.View.{View}
+use Rattle.mw_rule.proofs.HandedReplies.{handed_more}
+use Rattle.mw_rule.proofs.Totals.{each_on}
 
 pub on_again : (first between last : Option KnownRun) → ExtendsKnownRun first between → ExtendsKnownRun between last → ExtendsKnownRun first last
 on_again None between last one two = tt
@@ -42,6 +44,9 @@ pub run_with_more : (config : Config) (openings : ℕ → TenantStart) (before e
 run_with_more config openings before events more view is = record {
   known = on_with_more config view.known_run openings before events more is.known;
   told = on_with_more config view.learned_run openings before events more is.told;
+  handed = each_on (IsHandedOut config (world_at config openings) (before ++ events)) (IsHandedOut config (world_at config openings) (before ++ (events ++ more)))
+      (λ one so. subst (λ (all : List WorldEvent). IsHandedOut config (world_at config openings) all one) (append_assoc before events more) (handed_more config (world_at config openings) (before ++ events) more one so))
+      view.mine is.handed;
 }
 
 -- the run as it is known doesn't tell which device call failed at its end

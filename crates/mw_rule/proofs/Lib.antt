@@ -1,4 +1,5 @@
 pub mod AnyNumber
+pub mod ArrivalNumbers
 pub mod Apart
 pub mod WholeCallLaws
 pub mod KnownRunLaws
@@ -6,11 +7,13 @@ pub mod Events
 pub mod FileCalls
 pub mod FileCallRule
 pub mod FileCallEvents
+pub mod FilesOfSeen
 pub mod FromLaws
 pub mod EvidenceSteps
 pub mod EvidenceInRuns
 pub mod EvidenceOfReads
 pub mod EvidenceAtPoints
+pub mod HandedReplies
 pub mod HeldFiles
 pub mod Preservation
 pub mod Known
@@ -22,6 +25,9 @@ pub mod FinishedRequests
 pub mod SplitLaws
 pub mod KnowledgeIsRight
 pub mod RequestEvents
+pub mod RequestsInRuns
+pub mod RunsBehind
+pub mod StoreAloneLaws
 pub mod Totals
 pub mod ViewAfterStep
 pub mod Words

@@ -15,13 +15,13 @@ use Rattle.mw_world.specs.declared.config.Config.{Config}
 use Rattle.mw_world.specs.Definition.Cells.{Cells, read}
 use Rattle.mw_world.specs.Definition.Extent.{has_place}
 use Rattle.mw_world.specs.Definition.Events.{WorldEvent}
-use Rattle.mw_world.specs.Definition.State.{State, TenantStart, IsConfig}
+use Rattle.mw_world.specs.Definition.State.{State, TenantStart, IsConfig, world_at}
 use Rattle.mw_law_calls.proofs.FromLaws.{same_or_other}
 use Rattle.mw_law_calls.specs.OtherEvents.{AreBesideFile}
 use Rattle.mw_rule.specs.declared.views.View.{View}
 use Rattle.mw_rule.specs.KnownRuns.{KnownRun, ExtendsKnownRun, known_run_of}
 use Rattle.mw_rule.specs.Layout.{index_of, words_of}
-use Rattle.mw_rule.specs.Rule.{Fits, IsRunOf, TableInvariant, BitsMatch, WentOnFor, has, holds_of, notes_of, total}
+use Rattle.mw_rule.specs.Rule.{Each, Fits, IsHandedOut, IsRunOf, TableInvariant, BitsMatch, WentOnFor, has, holds_of, notes_of, total}
 use Rattle.mw_rule.proofs.KnownRunLaws.{run_with_more, stays}
 use Rattle.mw_rule.proofs.Layouts.{index_injective, places_within, places_in_table}
 use Rattle.mw_rule.proofs.HeldFiles.{all_held_on}
@@ -49,8 +49,9 @@ pub keep : (config : Config) (begun : (ℕ → TenantStart) → List WorldEvent 
     → ((tenant request : ℕ) → total (notes_of tenant request) s.views + notes_of tenant request new ≤ 1 + notes_of tenant request old)
     → ((tenant : ℕ) → AreBesideFile config tenant tied.state more ⊎ (1 ≤ holds_of tenant old)) → ((tenant : ℕ) → holds_of tenant new ≡ holds_of tenant old)
     → new.known_run ≡ Some (known_run_of config tied.past.openings tied.past.before (tied.events ++ more)) → new.learned_run ≡ old.learned_run
+    → Each (IsHandedOut config (world_at config tied.past.openings) (tied.past.before ++ (tied.events ++ more))) new.mine
     → WentOnFor config begun s tied more (record { words = slice_set s.words index bits; homes = s.homes; views = slice_set s.views id new }) new
-keep config begun s tied id index bits worker old new after more at own same leads fits ties few beside same_files known_run same_told =
+keep config begun s tied id index bits worker old new after more at own same leads fits ties few beside same_files known_run same_told handed =
     record { on = record { after = kept; same_openings = refl; same_before = refl; events = refl }; known_run = known_run }
   where
     on_so : (other : ℕ) (view : View) → get_elem? s.views other ≡ some view → IsRunOf config tied.past.openings tied.past.before (tied.events ++ more) view
@@ -61,6 +62,7 @@ keep config begun s tied id index bits worker old new after more at own same lea
       known = subst (λ (known : Option KnownRun). ExtendsKnownRun known (Some (known_run_of config tied.past.openings tied.past.before (tied.events ++ more)))) (sym known_run)
           (stays (Some (known_run_of config tied.past.openings tied.past.before (tied.events ++ more))));
       told = subst (λ (told : Option KnownRun). ExtendsKnownRun told (Some (known_run_of config tied.past.openings tied.past.before (tied.events ++ more)))) (sym same_told) (on_so id old at).told;
+      handed = handed;
     }
 
     kept : TableInvariant config begun (record { words = slice_set s.words index bits; homes = s.homes; views = slice_set s.views id new })

@@ -39,17 +39,15 @@ use Rattle.mw_rule.specs.declared.views.WorkerToken.{WorkerToken}
 use Rattle.mw_rule.specs.Steps.{AddsFinished, Notes, AddsFinishedIf, comes, finished_as, settled, settled_as, stepped, told_as, actor_after}
 use Rattle.mw_rule.specs.RunEvents.{hand_out}
 use Rattle.mw_rule.specs.Evidence.{HasEvidence}
-use Rattle.mw_rule.specs.Rule.{Each, HasEvidenceFor, Holds, IsOver, worker_event_if, is_of, events_of_worker, times_finished}
+use Rattle.mw_rule.specs.Rule.{Each, HasEvidenceFor, Holds, IsHandedOut, IsOver, worker_event_if, is_of, events_of_worker, times_finished}
 use Rattle.mw_rule.specs.Prefixes.{CameAfter, HasBegunFor}
 use Rattle.mw_rule.proofs.EvidenceSteps.{evidence_of, whole_evidence}
 use Rattle.mw_rule.proofs.EvidenceInRuns.{first_with_evidence, evidence_told, quota_so}
+use Rattle.mw_rule.proofs.HandedReplies.{handed_after, hands_out, itself}
 use Rattle.mw_rule.proofs.WorkerStretches.{Leads, leads_on, made_on, no_fewer, one_gift, over_on, played_on, same_start, sealed_on, tenant_there}
 use Rattle.mw_rule.proofs.KnowledgeIsRight.{IsRightIn, right_on}
 use Rattle.mw_rule.proofs.Totals.{times_none, weight_few}
 use Rattle.mw_rule.proofs.Words.{cells_after, done_is, observation_after}
-
-pub itself : (n : ℕ) → (n == n) ≡ true
-itself n = grind (arith, nat_tests)
 
 not_it : (one other : ℕ) → other ≢ one → (one == other) ≡ false
 not_it one other apart = grind (arith, nat_tests, apart)
@@ -92,6 +90,7 @@ pub record Reached (config : Config) (openings : ℕ → TenantStart) (old : Sta
   pub same_cells : after.cells ≡ cells
   pub noted : List Finished
   pub right : Each (IsRightIn config openings after) noted
+  pub handed : Each (IsHandedOut config old more) noted
   pub own : Each (λ one. one.worker ≡ worker) noted
   pub ends : IsSo noted
   pub few : (tenant request : ℕ) → times_finished tenant request noted ≤ 1
@@ -234,6 +233,10 @@ module _ (config : Config) (openings : ℕ → TenantStart) (before : List World
       (λ tenant low. ap (λ (start : AbstractState). start.words) (sym (same_start config openings before state played token.worker after (Hand token.worker ∷ []) leads tenant low)))
       (λ tenant low. sealed_on config openings before state played token.worker after (Hand token.worker ∷ []) leads tenant low) the_finished stands_right
 
+  is_handed : IsHandedOut config state (Hand token.worker ∷ []) the_finished
+  unfolding the_finished
+  is_handed = (0, hands_out config state token.worker token.request next reply holds.actor stands holds.request)
+
   is_own : the_finished.worker ≡ token.worker
   unfolding the_finished
   is_own = refl
@@ -290,7 +293,7 @@ settles config openings before old state played events more token next leads hol
         → Reached config openings old token.worker events (more ++ hand_out token.worker reply) (settled_as token next reply) state.cells (AddsFinishedIf token next.tenant token.begun next.job reply [])
     by None stands =
         subst (λ all. Reached config openings old token.worker events all (settled_as token next None) state.cells (AddsFinishedIf token next.tenant token.begun next.job None [])) (sym (append-nil more))
-        (record { after = state; leads = leads; holds = holds; same_cells = refl; noted = []; right = tt; own = tt; ends = refl; few = λ tenant request. omega arith; fresh = λ other over. refl; over = tt })
+        (record { after = state; leads = leads; holds = holds; same_cells = refl; noted = []; right = tt; handed = tt; own = tt; ends = refl; few = λ tenant request. omega arith; fresh = λ other over. refl; over = tt })
     by (Some reply) stands = record {
       after = after_hand state token.worker next;
       leads = leads_on config old state (after_hand state token.worker next) token.worker more (Hand token.worker ∷ []) leads (hand_leads config openings state (events ++ more) token next holds reply stands);
@@ -299,6 +302,11 @@ settles config openings before old state played events more token next leads hol
       same_cells = refl;
       noted = the_finished config openings before state played (events ++ more) token next holds reply stands ∷ [];
       right = (handed_right config openings before state played (events ++ more) token next holds reply stands, tt);
+      handed = (
+        handed_after config old state more (Hand token.worker ∷ []) (the_finished config openings before state played (events ++ more) token next holds reply stands) leads.runs
+            (is_handed config openings before state played (events ++ more) token next holds reply stands),
+        tt,
+      );
       own = (is_own config openings before state played (events ++ more) token next holds reply stands, tt);
       ends = is_noted config openings before state played (events ++ more) token next holds reply stands;
       few = is_few config openings before state played (events ++ more) token next holds reply stands;

@@ -17,12 +17,11 @@ use Rattle.mw_world.specs.Claim.Headline.{IsExecution}
 use Rattle.mw_world.specs.Definition.Cells.{read}
 use Rattle.mw_world.specs.Definition.Extent.{has_place}
 use Rattle.mw_world.specs.Definition.Events.{WorldEvent}
-use Rattle.mw_world.specs.Definition.State.{State, TenantStart, WorkerState, tenants_of}
+use Rattle.mw_world.specs.Definition.State.{State, TenantStart, WorkerState, tenants_of, world_at}
 use Rattle.mw_law_calls.proofs.FromLaws.{requests_have_begun, same_or_other}
 use Rattle.mw_law_calls.specs.FromLaws.{IsBeginning, SealedChange, sealed_of}
 use Rattle.mw_rule.specs.declared.views.PlainLoad.{PlainLoad}
 use Rattle.mw_rule.specs.declared.views.HeldFile.{HeldFile}
-use Rattle.mw_rule.specs.declared.views.WorkerToken.{WorkerToken}
 use Rattle.mw_rule.specs.declared.views.View.{View}
 use Rattle.mw_rule.specs.Steps.{ExtendsWithLearned, IsPrefix, StoodThere}
 use Rattle.mw_rule.specs.RunEvents.{JoinsOn, PlainLoadsGoOn, PartsOn}
@@ -30,13 +29,14 @@ use Rattle.mw_rule.specs.Layout.{index_of}
 use Rattle.mw_rule.specs.Splits.{without_file, takes_files, dealt, with_file_given, first_held, merges, head_of, learns, left_over, maker, meets, note, of_head, of_rest, other_held, tokens_from, token_of, rest_of, spent}
 use Rattle.mw_rule.specs.Laws.{TakingFilesKeepsTheRule, SplitsKeepTheRule, GivingFilesKeepsTheRule, MergingKeepsTheRule, LearningKeepsTheRule, PlainLoadsKeepTheRule, MeetingKeepsTheRule, NotesKeepTheRule, StartsUnderTheRule}
 use Rattle.mw_rule.specs.KnownRuns.{ExtendsKnownRun, known_run_of}
-use Rattle.mw_rule.specs.Rule.{Continues, Each, Fits, has, HasEvidenceFor, Holds, holds_of, HoldsFile, IsLive, IsOver, IsRight, IsRunOf, IsSpent, notes_of, TableInvariant, BitsMatch, times, times_held, total, weight, WentOnFor}
+use Rattle.mw_rule.specs.Rule.{Continues, Each, Fits, has, HasEvidenceFor, Holds, holds_of, HoldsFile, IsHandedOut, IsLive, IsOver, IsRight, IsRunOf, IsSpent, notes_of, TableInvariant, BitsMatch, times, times_held, total, weight, WentOnFor}
 use Rattle.mw_rule.specs.Prefixes.{Gave, HasBegunFor, opening_at, seen_at}
 use Rattle.mw_rule.proofs.KnownRunLaws.{stays}
 use Rattle.mw_rule.proofs.KnowledgeIsRight.{without_file_right, takes_files_right, dealt_right, with_file_given_right, merges_right, learns_right, left_right, meets_right, mine_in, note_right, nothing_right, sees_right}
-use Rattle.mw_rule.proofs.Totals.{each_more, heads_and_rests, times_behind, times_more, total_more, total_set, total_two, weight_none}
+use Rattle.mw_rule.proofs.Totals.{each_head, each_more, each_rest, heads_and_rests, times_behind, times_more, total_more, total_set, total_two, weight_none}
 use Rattle.mw_rule.proofs.FinishedRequests.{each_of_head, each_of_rest, parts_sum}
-use Rattle.mw_rule.proofs.ViewAfterStep.{all_at, all_seen, live_fits, sees, sees_on}
+use Rattle.mw_rule.proofs.RunsBehind.{behind_so}
+use Rattle.mw_rule.proofs.ViewAfterStep.{all_at, all_seen, live_fits, prefix_of_all, sees}
 
 -- the rule of the same words, when threads know other things of the same world
 other_views : (config : Config) (begun : (ℕ → TenantStart) → List WorldEvent → Type 0) (s now : Table ActorState View) (tied : TableInvariant config begun s) → now.words ≡ s.words
@@ -63,8 +63,8 @@ other_views config begun s now tied same fits known alone once one_hand = record
 stood_there : (config : Config) (openings : ℕ → TenantStart) (events : List WorldEvent) (state : State) (view : View) (index bits : ℕ) → view.config ≡ config → IsExecution config openings events state
     → ((tenant : ℕ) → tenant < tenants_of config → Gave openings state tenant (opening_at view.openings tenant))
     → ((tenant : ℕ) → tenant < tenants_of config → seen_at view.seen tenant ≡ sealed_of openings state tenant)
-    → ((at : At) → has_place config at ≡ true → index_of config.pool at ≡ index → bits ≡ pack at (read state.cells at)) → StoodThere view index bits
-stood_there config openings events state view index bits same played gave all is = record {
+    → ((at : At) → has_place config at ≡ true → index_of config.pool at ≡ index → bits ≡ pack at (read state.cells at)) → Each (HoldsFile config state) view.files → StoodThere view index bits
+stood_there config openings events state view index bits same played gave all is files = record {
   openings = openings;
   events = events;
   state = state;
@@ -72,6 +72,7 @@ stood_there config openings events state view index bits same played gave all is
   gave = subst (λ (one : Config). (tenant : ℕ) → tenant < tenants_of one → Gave openings state tenant (opening_at view.openings tenant)) (sym same) gave;
   seen = subst (λ (one : Config). (tenant : ℕ) → tenant < tenants_of one → seen_at view.seen tenant ≡ sealed_of openings state tenant) (sym same) all;
   same_bits = subst (λ (one : Config). (at : At) → has_place one at ≡ true → index_of one.pool at ≡ index → bits ≡ pack at (read state.cells at)) (sym same) is;
+  files = subst (λ (one : Config). Each (HoldsFile one state) view.files) (sym same) files;
 }
 
 -- a thread that knows a table's run knows it when nothing has happened
@@ -114,10 +115,18 @@ looks_as config begun id index view make files plain_loads live makes s tied at 
     let words : slice_set s.words index (make bits) ≡ s.words = ap (slice_set s.words index) (makes bits) ∙ set-get_or s.words index 0 in
     record {
       view = new;
-      goes_on = let on = sees_on config sealed known_run view view.tokens view.mine files fits.same_config fits.seen fits.told follows.known in
-          record { same_config = refl; same_openings = refl; same_spent = refl; same_told = refl; seen = on.seen; told = on.told; known_run = on.known_run };
+      goes_on = record {
+        same_config = refl;
+        same_openings = refl;
+        same_spent = refl;
+        same_told = refl;
+        seen = prefix_of_all config sealed view.config fits.same_config view.seen fits.seen;
+        told = prefix_of_all config sealed view.config fits.same_config view.told fits.told;
+        known_run = follows.known;
+        behind = behind_so config openings tied.past.before tied.events tied.state new new_fits tied.past.played tied.past.no_starts refl follows.handed;
+      };
       learned_run = follows.told;
-      stood = stood_there config openings before tied.state new index bits fits.same_config tied.past.played fits.gave (all_at sealed (tenants_of config)) (λ place there is. sym (ap (slice_index s.words) is) ∙ tied.ties place there);
+      stood = stood_there config openings before tied.state new index bits fits.same_config tied.past.played fits.gave (all_at sealed (tenants_of config)) (λ place there is. sym (ap (slice_index s.words) is) ∙ tied.ties place there) hold_files;
       right = right;
       same_token = refl;
       same_mine = refl;
@@ -129,7 +138,7 @@ looks_as config begun id index view make files plain_loads live makes s tied at 
             | inr else ↦ tied.fits other one else.1
           ])
           (λ other one is. elim (at_set s.views id other new one is) [
-            | inl here ↦ subst (IsRunOf config openings tied.past.before tied.events) here.1 (record { known = stays (Some known_run); told = follows.told })
+            | inl here ↦ subst (IsRunOf config openings tied.past.before tied.events) here.1 (record { known = stays (Some known_run); told = follows.told; handed = follows.handed })
             | inr else ↦ tied.known other one else.1
           ]) (λ worker. let sums = total_set (has worker) s.views id view new at in let all = tied.alone worker in omega (arith, sums, all))
           (λ tenant request. let sums = total_set (notes_of tenant request) s.views id view new at in let all = tied.once tenant request in omega (arith, sums, all))
@@ -203,14 +212,6 @@ parts_on config begun id view left right fit follow sums notes holds s tied at =
     let all = tied.one_hand tenant in
     let even = holds tenant in omega (arith, first, second, all, even))
 
-each_head : (P : WorkerToken → Type 0) (all : List WorkerToken) → Each P all → Each P (head_of all)
-each_head P [] holds = tt
-each_head P (one ∷ rest) holds = (holds.0, tt)
-
-each_rest : (P : WorkerToken → Type 0) (all : List WorkerToken) → Each P all → Each P (rest_of all)
-each_rest P [] holds = tt
-each_rest P (one ∷ rest) holds = holds.1
-
 pub deals_on : (config : Config) (begun : (ℕ → TenantStart) → List WorldEvent → Type 0) → PartsOn config begun (λ view. Unit {0}) left_over dealt
 deals_on config begun id view any = parts_on config begun id view (left_over view) (dealt view) (λ openings state events fit. elim fit [
   | inl gone ↦ (
@@ -221,7 +222,10 @@ deals_on config begun id view any = parts_on config begun id view (left_over vie
     inr (record { same_config = fits.same_config; gave = fits.gave; token = each_rest (Holds config openings state events) view.tokens fits.token; seen = fits.seen; told = fits.told; right = left_right view fits.right; over = each_of_rest (IsOver state) view.tokens view.mine fits.over; files = fits.files }),
     inr (record { same_config = fits.same_config; gave = fits.gave; token = each_head (Holds config openings state events) view.tokens fits.token; seen = fits.seen; told = fits.told; right = dealt_right view fits.right; over = each_of_head (IsOver state) view.tokens view.mine fits.over; files = tt }),
   )
-]) (λ openings before events is. (record { known = is.known; told = is.told }, record { known = is.known; told = is.told })) (λ worker. heads_and_rests worker view.tokens) (λ tenant request. parts_sum tenant request view.tokens view.mine) (λ tenant. omega arith)
+]) (λ openings before events is. (
+  record { known = is.known; told = is.told; handed = each_of_rest (IsHandedOut config (world_at config openings) (before ++ events)) view.tokens view.mine is.handed },
+  record { known = is.known; told = is.told; handed = each_of_head (IsHandedOut config (world_at config openings) (before ++ events)) view.tokens view.mine is.handed },
+)) (λ worker. heads_and_rests worker view.tokens) (λ tenant request. parts_sum tenant request view.tokens view.mine) (λ tenant. omega arith)
 
 pub deals_keep : (config : Config) (begun : (ℕ → TenantStart) → List WorldEvent → Type 0) → SplitsKeepTheRule config begun
 deals_keep config begun id view s tied at = (deals_on config begun id view tt s tied at).after
@@ -231,7 +235,7 @@ notes_on config begun id view live = parts_on config begun id view view (note vi
     let fits = live_fits config openings state events view live fit in (
       inr fits,
       inr (record { same_config = fits.same_config; gave = fits.gave; token = tt; seen = fits.seen; told = fits.told; right = note_right view fits.right; over = tt; files = tt }),
-    )) (λ openings before events is. (is, record { known = is.known; told = is.told })) (λ worker. omega arith) (λ tenant request. omega arith) (λ tenant. omega arith)
+    )) (λ openings before events is. (is, record { known = is.known; told = is.told; handed = tt })) (λ worker. omega arith) (λ tenant request. omega arith) (λ tenant. omega arith)
 
 pub notes_keep : (config : Config) (begun : (ℕ → TenantStart) → List WorldEvent → Type 0) → NotesKeepTheRule config begun
 notes_keep config begun id view live s tied at = (notes_on config begun id view live s tied at).after
@@ -272,7 +276,7 @@ giving_files_on config begun id view live = parts_on config begun id view (witho
         over = tt;
         files = first_holds (HoldsFile config state) view.files fits.files;
       }),
-    )) (λ openings before events is. (record { known = is.known; told = is.told }, record { known = is.known; told = is.told })) (λ worker. omega arith) (λ tenant request. omega arith) (λ tenant. held_apart tenant view.files)
+    )) (λ openings before events is. (record { known = is.known; told = is.told; handed = is.handed }, record { known = is.known; told = is.told; handed = tt })) (λ worker. omega arith) (λ tenant request. omega arith) (λ tenant. held_apart tenant view.files)
 
 pub giving_files_keeps : (config : Config) (begun : (ℕ → TenantStart) → List WorldEvent → Type 0) → GivingFilesKeepsTheRule config begun
 giving_files_keeps config begun id view live s tied at = (giving_files_on config begun id view live s tied at).after
@@ -307,7 +311,7 @@ joins_on config begun id other view its both live its_live notes sums holds fit 
       ]
     ])
     (λ third one is. elim (at_set (slice_set s.views id both) other third spent one is) [
-      | inl here ↦ subst (IsRunOf config openings tied.past.before tied.events) here.1 (record { known = tt; told = tt })
+      | inl here ↦ subst (IsRunOf config openings tied.past.before tied.events) here.1 (record { known = tt; told = tt; handed = tt })
       | inr else ↦ elim (at_set s.views id third both one else.1) [
         | inl there ↦ subst (IsRunOf config openings tied.past.before tied.events) there.1 (follow openings tied.past.before tied.events (tied.known id view at) (tied.known other its was))
         | inr third_one ↦ tied.known third one third_one.1
@@ -340,7 +344,7 @@ learning_on config begun id other view its live its_live may = joins_on config b
       right = learns_right view its fits.right;
       over = fits.over;
       files = fits.files;
-    }) (λ openings before events own its. record { known = own.known; told = its.known })
+    }) (λ openings before events own its. record { known = own.known; told = its.known; handed = own.handed })
 
 pub meeting_on : (config : Config) (begun : (ℕ → TenantStart) → List WorldEvent → Type 0) → JoinsOn config begun (λ view its. (its.tokens ≡ []) × IsPrefix (tenants_of view.config) view.seen its.seen) meets
 meeting_on config begun id other view its live its_live may = joins_on config begun id other view its (meets view its) live its_live (λ tenant request. omega arith) (λ worker. omega arith) (λ tenant. omega arith)
@@ -354,7 +358,7 @@ meeting_on config begun id other view its live its_live may = joins_on config be
           (its_fits.same_config ∙ sym fits.same_config) may.1 fits.right its_fits.right;
       over = fits.over;
       files = fits.files;
-    }) (λ openings before events own its. record { known = its.known; told = its.known })
+    }) (λ openings before events own its. record { known = its.known; told = its.known; handed = own.handed })
 
 held_behind : (tenant : ℕ) (all more : List HeldFile) → times_held tenant (all ++ more) ≡ times_held tenant all + times_held tenant more
 held_behind tenant [] more = omega arith
@@ -376,7 +380,8 @@ merging_on config begun id other view its live its_live first = joins_on config 
           (its_fits.same_config ∙ sym fits.same_config) first few single fits.right its_fits.right;
       over = each_more (IsOver state) view.mine its.mine fits.over its_fits.over;
       files = each_more (HoldsFile config state) view.files its.files fits.files its_fits.files;
-    }) (λ openings before events own its. record { known = its.known; told = its.known })
+    }) (λ openings before events own theirs.
+    record { known = theirs.known; told = theirs.known; handed = each_more (IsHandedOut config (world_at config openings) (before ++ events)) view.mine its.mine own.handed theirs.handed })
 
 pub taking_files_on : (config : Config) (begun : (ℕ → TenantStart) → List WorldEvent → Type 0) → JoinsOn config begun (λ view its. Unit {0}) takes_files
 taking_files_on config begun id other view its live its_live may = joins_on config begun id other view its (takes_files view its) live its_live (λ tenant request. omega arith) (λ worker. omega arith)
@@ -390,7 +395,7 @@ taking_files_on config begun id other view its live its_live may = joins_on conf
       right = takes_files_right view its fits.right;
       over = fits.over;
       files = each_more (HoldsFile config state) view.files its.files fits.files its_fits.files;
-    }) (λ openings before events own its. record { known = own.known; told = its.known })
+    }) (λ openings before events own its. record { known = own.known; told = its.known; handed = own.handed })
 
 pub taking_files_keeps : (config : Config) (begun : (ℕ → TenantStart) → List WorldEvent → Type 0) → TakingFilesKeepsTheRule config begun
 taking_files_keeps config begun id other view its live its_live s tied at apart its_at = (taking_files_on config begun id other view its live its_live tt s tied at apart its_at).after
@@ -478,7 +483,7 @@ starts config begun openings before state given known_run worker_states files wo
       long = long;
       ties = ties;
       fits = λ id view is. inr (subst (Fits config openings state []) (the_one (maker config given known_run worker_states files) view id is) all_fit);
-      known = λ id view is. subst (IsRunOf config openings before []) (the_one (maker config given known_run worker_states files) view id is) (record { known = known; told = tt });
+      known = λ id view is. subst (IsRunOf config openings before []) (the_one (maker config given known_run worker_states files) view id is) (record { known = known; told = tt; handed = tt });
       alone = λ worker. let one = one_each worker_states worker 0 config.workers in omega (arith, one);
       once = λ tenant request. omega arith;
       one_hand = λ tenant. let one = one_each_file tenant in omega (arith, one);

@@ -1,7 +1,7 @@
 -- A step of a request, also its first one, keeps the table's rule (`specs/Rule`).
 -- Used by: the laws steps_keep_the_rule and the_run_goes_on, WordActionLaws, Events, FileCallRule, Known. It may change freely
 -- as long as this crate checks.
-use Rattle.std.specs.Prelude.{ℕ, ◌≡◌, ◌≤◌, ◌<◌, true, false, List, [], ◌∷◌, ◌++◌, length, slice_index, slice_set, Option, Some, None}
+use Rattle.std.specs.Prelude.{ℕ, ◌≡◌, ◌≤◌, ◌<◌, true, false, List, [], ◌∷◌, ◌++◌, length, map, slice_index, slice_set, Option, Some, None}
 use Rattle.std.proofs.Common.{refl, sym, ap, subst, ◌∙◌, append-nil, inl, inr, arith}
 use Rattle.std.proofs.lemmas.Bool.Decides.{nat_tests}
 use Rattle.std.proofs.lemmas.List.{length-append}
@@ -40,15 +40,20 @@ use Rattle.mw_rule.specs.declared.views.Finished.{Finished}
 use Rattle.mw_rule.specs.declared.views.WorkerToken.{WorkerToken}
 use Rattle.mw_rule.specs.declared.views.View.{View}
 use Rattle.mw_rule.specs.Steps.{FindsWayAt, IsFound, Notes, AddsFinishedIf, LearnsStep, comes, stepped, told, told_as, actor_after}
+use Rattle.mw_rule.specs.KnownRuns.{known_run_of, plain}
+use Rattle.mw_rule.specs.RunBehind.{Arrives}
 use Rattle.mw_rule.specs.RunEvents.{FirstStepsGoOn, StepsGoOn, events_of}
 use Rattle.mw_rule.specs.Laws.{FirstStepsKeepTheRule, StepsKeepTheRule}
 use Rattle.mw_rule.specs.Layout.{index_of}
 use Rattle.mw_rule.specs.Rule.{Each, Fits, Holds, TableInvariant, BitsMatch, WentOnFor}
 use Rattle.mw_rule.specs.Prefixes.{seen_at}
 use Rattle.mw_rule.specs.Ways.{finds, made_of_bits}
+use Rattle.mw_rule.proofs.ArrivalNumbers.{arrivals_more, asked_in_run, plain_arrivals}
 use Rattle.mw_rule.proofs.HeldFiles.{all_held_on, come_beside, step_beside}
+use Rattle.mw_rule.proofs.KnownRunLaws.{plain_more}
 use Rattle.mw_rule.proofs.Preservation.{ties_on}
 use Rattle.mw_rule.proofs.WorkerStretches.{played_on, stays_there}
+use Rattle.mw_rule.proofs.RequestsInRuns.{same_did}
 use Rattle.mw_rule.proofs.RequestEvents.{Reached, after_come, come_holds, come_leads, steps}
 use Rattle.mw_rule.proofs.ViewAfterStep.{Moved, live_fits, moves, told_worker}
 use Rattle.mw_rule.proofs.Words.{cells_after, observation_after, step_other, step_packs, step_tells}
@@ -282,6 +287,29 @@ module _ (config : Config) (begun : (ℕ → TenantStart) → List WorldEvent �
       (all_held_on config tied.past.openings (tied.past.before ++ tied.events) state tied.past.played reached.after (begins_with actor) reached.leads.runs old.files (λ its few. beside its)
       (its_fits config begun s tied id old at token only).files)
 
+-- the run that the thread knows then has the arrival
+first_arrives : (config : Config) (begun : (ℕ → TenantStart) → List WorldEvent → Type 0) (s : Table ActorState View) (tied : TableInvariant config begun s) (id : ℕ) (old : View) (at : get_elem? s.views id ≡ some old)
+    (token : WorkerToken) (only : old.tokens ≡ token ∷ []) (tenant : ℕ) (job : Job) (more : List WorldEvent) (new : View) (next : Table ActorState View)
+    → WentOnFor config begun s tied (Come token.worker tenant job ∷ more) next new → Arrives token.worker tenant (tied.state.tenant_states tenant).asked job old new
+first_arrives config begun s tied id old at token only tenant job more new next run =
+    let past = tied.past in
+    let all = Come token.worker tenant job ∷ more in
+    let asked = asked_in_run config past.openings (past.before ++ tied.events) tied.state tenant past.played in
+    let sum = arrivals_more tenant past.before tied.events in
+    let plain_sum = arrivals_more tenant past.before (map plain tied.events) in
+    let same = plain_arrivals tenant tied.events in
+    record {
+      known = known_run_of config past.openings past.before (tied.events ++ all);
+      is_known = run.known_run ∙ (λ i. Some (known_run_of config (run.on.same_openings i) (run.on.same_before i) (run.on.events i)));
+      until = map plain tied.events;
+      since = map plain more;
+      parted = plain_more tied.events all;
+      follows = (tied.known id old at).known;
+      number = omega (arith, asked, sum, plain_sum, same);
+      idle = λ other its.
+          same_did token.worker tied.events ∙ (its_holds config begun s tied id old at token only).made ∙ ap (λ (one : WorkerToken). one.made) (same_one token other (sym only ∙ its));
+    }
+
 pub first_steps_on : (config : Config) (begun : (ℕ → TenantStart) → List WorldEvent → Type 0) → FirstStepsGoOn config begun
 unfolding the_first
 first_steps_on config begun id worker view actor make may makes s tied at =
@@ -304,6 +332,9 @@ first_steps_on config begun id worker view actor make may makes s tied at =
         right = moved.right;
         request = number;
         begun = many;
+        arrival = λ token only.
+            subst (λ (one : WorkerToken). Arrives one.worker actor.tenant number actor.job view moved.view) (same_one may.token token (sym may.has.only ∙ only))
+            (first_arrives config begun s tied id view at may.token may.has.only actor.tenant actor.job (events_of may.token.worker (Bits bits) may.token.attempt actor) moved.view _ moved.run);
         no_fewer = no_shorter (seen_at view.seen actor.tenant) (sealed_of tied.past.openings tied.state actor.tenant) (fits.seen actor.tenant there);
         token = moved.token;
         ready = moved.ready;

@@ -65,6 +65,14 @@ pub each_more : {A : Type 0} (P : A → Type 0) (all more : List A) → Each P a
 each_more P [] more first rest = rest
 each_more P (one ∷ all) more first rest = (first.0, each_more P all more first.1 rest)
 
+pub each_head : (P : WorkerToken → Type 0) (all : List WorkerToken) → Each P all → Each P (head_of all)
+each_head P [] holds = tt
+each_head P (one ∷ rest) holds = (holds.0, tt)
+
+pub each_rest : (P : WorkerToken → Type 0) (all : List WorkerToken) → Each P all → Each P (rest_of all)
+each_rest P [] holds = tt
+each_rest P (one ∷ rest) holds = holds.1
+
 -- the first token, and the others
 pub heads_and_rests : (worker : ℕ) (all : List WorkerToken) → times worker (rest_of all) + times worker (head_of all) ≡ times worker all
 heads_and_rests worker [] = refl

@@ -2,7 +2,7 @@
 -- Used by: FileCallRule, StepRule, WordActionLaws, Events, FileCalls, SplitLaws, mw_table. Its statements may change with
 -- mw_table; its proofs may change freely.
 use Rattle.std.specs.Prelude.{ℕ, zero, suc, ◌+◌, ◌≡◌, ◌≢◌, ◌≤◌, ◌<◌, ◌==◌, true, false, List, [], ◌∷◌, ◌++◌, length, map, slice_index_or, slice_set, Option, Some, None}
-use Rattle.std.proofs.Common.{refl, sym, ap, subst, ◌∙◌, ◌⊎◌, inl, inr, arith}
+use Rattle.std.proofs.Common.{refl, sym, ap, subst, ◌∙◌, append_assoc, ◌⊎◌, inl, inr, arith}
 use Rattle.std.proofs.lemmas.List.{length-append}
 use mathlib.Core.Option.{some}
 use lib.ListN.{get_elem?}
@@ -16,7 +16,7 @@ use Rattle.mw_world.specs.Claim.Headline.{IsExecution}
 use Rattle.mw_world.specs.Definition.Calls.{Called as CallOn, called_at}
 use Rattle.mw_world.specs.Definition.Cells.{Cells}
 use Rattle.mw_world.specs.Definition.Events.{WorldEvent}
-use Rattle.mw_world.specs.Definition.State.{State, TenantStart, tenants_of}
+use Rattle.mw_world.specs.Definition.State.{State, TenantStart, tenants_of, world_at}
 use Rattle.mw_law_calls.specs.OtherEvents.{AreBesideFile}
 use Rattle.mw_law_calls.proofs.CallStartLaws.{calls_have_words}
 use Rattle.mw_law_calls.proofs.FromLaws.{runs_are_bit_exact}
@@ -25,13 +25,16 @@ use Rattle.mw_rule.specs.declared.views.Finished.{Finished}
 use Rattle.mw_rule.specs.declared.views.HeldFile.{HeldFile}
 use Rattle.mw_rule.specs.declared.views.WorkerToken.{WorkerToken}
 use Rattle.mw_rule.specs.declared.views.View.{View}
-use Rattle.mw_rule.specs.Steps.{ExtendsWithLearned, IsReady, IsReadyAt, IsReadyFor, settled_as, stepped, told, told_as, actor_after}
+use Rattle.mw_rule.specs.Steps.{ExtendsWithLearned, IsPrefix, IsReady, IsReadyAt, IsReadyFor, settled_as, stepped, told, told_as, actor_after}
 use Rattle.mw_rule.specs.KnownRuns.{KnownRun, ExtendsKnownRun, known_run_of}
-use Rattle.mw_rule.specs.Rule.{Each, Fits, has, Holds, holds_of, HoldsFile, IsLive, IsOfThese, IsOver, IsRight, IsSpent, notes_of, TableInvariant, BitsMatch, times, times_held, times_finished, total, weight, WentOnFor}
+use Rattle.mw_rule.specs.Rule.{Each, Fits, has, Holds, holds_of, HoldsFile, IsHandedOut, IsLive, IsOfThese, IsOver, IsRight, IsSpent, notes_of, TableInvariant, BitsMatch, times, times_held, times_finished, total, weight, WentOnFor}
 use Rattle.mw_rule.specs.Prefixes.{ArePrefixes, all_of, opening_at, seen_at}
 use Rattle.mw_rule.proofs.KnownRunLaws.{run_with_more}
 use Rattle.mw_rule.proofs.Preservation.{keep}
-use Rattle.mw_rule.proofs.WorkerStretches.{begins_itself, gave_on, over_on, played_on, seen_on}
+use Rattle.mw_rule.specs.RunBehind.{IsBehind}
+use Rattle.mw_rule.proofs.HandedReplies.{handed_after}
+use Rattle.mw_rule.proofs.RunsBehind.{behind_so}
+use Rattle.mw_rule.proofs.WorkerStretches.{begins_itself, gave_on, over_on, past_on, played_on, seen_on}
 use Rattle.mw_rule.proofs.KnowledgeIsRight.{IsRightIn, mine_in, sees_right}
 use Rattle.mw_rule.proofs.RequestEvents.{Reached}
 use Rattle.mw_rule.proofs.Totals.{each_more, each_on, own_once, times_more, times_none, total_none, total_one}
@@ -73,18 +76,24 @@ abbrev pub sees : Config → (ℕ → List SealedChange) → KnownRun → View �
 sees config sealed known_run old token mine files = record old { tokens = token; seen = all_of sealed (tenants_of config); known_run = Some known_run; mine = mine; files = files }
 
 -- What was seen is a prefix of what is seen now.
+pub prefix_of_all : (config : Config) (sealed : ℕ → List SealedChange) (its : Config) → its ≡ config → (seen : List (List SealedChange)) → ArePrefixes (tenants_of config) seen sealed
+    → IsPrefix (tenants_of its) seen (all_of sealed (tenants_of config))
+prefix_of_all config sealed its same seen first tenant low =
+    let there = subst (λ (one : Config). tenant < tenants_of one) same low in
+    subst (IsBeginning (seen_at seen tenant)) (sym (all_at sealed (tenants_of config) tenant there)) (first tenant there)
+
 pub sees_on : (config : Config) (sealed : ℕ → List SealedChange) (known_run : KnownRun) (old : View) (token : List WorkerToken) (mine : List Finished) (files : List HeldFile) → old.config ≡ config → ArePrefixes (tenants_of config) old.seen sealed
-    → ArePrefixes (tenants_of config) old.told sealed → ExtendsKnownRun old.known_run (Some known_run) → ExtendsWithLearned old (sees config sealed known_run old token mine files)
-sees_on config sealed known_run old token mine files same seen told on = record {
+    → ArePrefixes (tenants_of config) old.told sealed → ExtendsKnownRun old.known_run (Some known_run) → IsBehind (sees config sealed known_run old token mine files)
+    → ExtendsWithLearned old (sees config sealed known_run old token mine files)
+sees_on config sealed known_run old token mine files same seen told on behind = record {
   same_config = refl;
   same_openings = refl;
   same_spent = refl;
   same_told = refl;
-  seen = λ tenant low. let there = subst (λ (one : Config). tenant < tenants_of one) same low in
-      subst (IsBeginning (seen_at old.seen tenant)) (sym (all_at sealed (tenants_of config) tenant there)) (seen tenant there);
-  told = λ tenant low. let there = subst (λ (one : Config). tenant < tenants_of one) same low in
-      subst (IsBeginning (seen_at old.told tenant)) (sym (all_at sealed (tenants_of config) tenant there)) (told tenant there);
+  seen = prefix_of_all config sealed old.config same old.seen seen;
+  told = prefix_of_all config sealed old.config same old.told told;
   known_run = on;
+  behind = behind;
 }
 
 pub all_seen : (sealed : ℕ → List SealedChange) (tenants : ℕ) → ArePrefixes tenants (all_of sealed tenants) sealed
@@ -195,6 +204,12 @@ moves config begun s tied more id index bits old token f cells files IsSo at onl
     let as_many = times_map f same one.worker old.tokens in
     let once : times one.worker old.tokens ≡ 1 = ap (times one.worker) only ∙ own_once one.worker token (sym is) in omega (arith, as_many, once)) reached.noted reached.own))
     (λ worker. let as_many = times_map f same worker old.tokens in let few = fits.right.alone worker in omega (arith, as_many, few)) in
+    let handed : Each (IsHandedOut config (world_at config openings) (tied.past.before ++ (tied.events ++ more))) new.mine =
+    each_more (IsHandedOut config (world_at config openings) (tied.past.before ++ (tied.events ++ more))) old.mine reached.noted follows.handed
+    (each_on (IsHandedOut config tied.state more) (IsHandedOut config (world_at config openings) (tied.past.before ++ (tied.events ++ more)))
+    (λ one so. subst (λ (all : List WorldEvent). IsHandedOut config (world_at config openings) all one) (append_assoc tied.past.before tied.events more)
+    (handed_after config (world_at config openings) tied.state before more one tied.past.played.runs so)) reached.noted reached.handed) in
+    let past = past_on config begun tied.state reached.after tied.events more token.worker tied.past reached.leads in
     let new_fits : Fits config openings reached.after (tied.events ++ more) new = record {
       same_config = fits.same_config;
       gave = gave;
@@ -212,8 +227,9 @@ moves config begun s tied more id index bits old token f cells files IsSo at onl
           (subst (λ all. BitsMatch config all (slice_set s.words index bits)) (sym reached.same_cells) ties)
           (λ tenant request.
           let all = noted_few config begun s tied reached.noted reached.few reached.fresh tenant request in
-          let sum = times_more tenant request old.mine reached.noted in omega (arith, all, sum)) beside same_files refl refl;
-      goes_on = sees_on config sealed known_run old (map f old.tokens) (old.mine ++ reached.noted) files fits.same_config (seen old.seen fits.seen) (seen old.told fits.told) follows.known;
+          let sum = times_more tenant request old.mine reached.noted in omega (arith, all, sum)) beside same_files refl refl handed;
+      goes_on = sees_on config sealed known_run old (map f old.tokens) (old.mine ++ reached.noted) files fits.same_config (seen old.seen fits.seen) (seen old.told fits.told) follows.known
+          (behind_so config openings tied.past.before (tied.events ++ more) reached.after new new_fits past.played past.no_starts refl handed);
       right = right;
       token = refl;
       ready = subst (λ (one : Config). Each (IsReady one) (map f old.tokens)) (sym fits.same_config)

@@ -16,7 +16,8 @@ use Rattle.mw_world.specs.Claim.Headline.{IsExecution}
 use Rattle.mw_world.specs.Definition.Calls.{Called as CallOn, starts_from}
 use Rattle.mw_world.specs.Definition.Extent.{has_place}
 use Rattle.mw_world.specs.Definition.Events.{WorldEvent}
-use Rattle.mw_world.specs.Definition.State.{IsConfig, TenantStart, State}
+use Rattle.mw_world.specs.Definition.State.{IsConfig, TenantStart, State, world_at}
+use Rattle.mw_rule.specs.declared.views.Finished.{Finished}
 use Rattle.mw_rule.specs.declared.views.HeldFile.{HeldFile}
 use Rattle.mw_rule.specs.declared.views.WorkerToken.{WorkerToken}
 use Rattle.mw_rule.specs.declared.views.View.{View}
@@ -25,7 +26,7 @@ use Rattle.mw_rule.specs.KnownRuns.{KnownRun, ExtendsKnownRun, known_run_of}
 use Rattle.mw_rule.specs.FileCalls.{LoadedAs, went}
 use Rattle.mw_rule.specs.Layout.{index_of, words_of}
 use Rattle.mw_rule.specs.WordActions.{Breaks, Comes, Exchanges, FindsFault, Loads, Looks, WordAction, ActionsAreAllowed, ActionsChangeWords, ActionsExtendRuns, StandsAt, Steps, WentOn, WentOnAt, events_by, index_by, bits_left, told_by}
-use Rattle.mw_rule.specs.Rule.{Fits, IsLive, IsRunOf, TableInvariant, BitsMatch, WentOnFor}
+use Rattle.mw_rule.specs.Rule.{Each, Fits, IsHandedOut, IsLive, IsRunOf, TableInvariant, BitsMatch, WentOnFor}
 use Rattle.mw_rule.specs.Ways.{finds}
 use Rattle.mw_rule.proofs.KnownRunLaws.{on_with_more}
 use Rattle.mw_rule.proofs.Layouts.{places_in_table}
@@ -90,6 +91,13 @@ played_so config its openings other state events all one two three played =
     subst (λ (c : Config). IsExecution c other all state) one
     (subst (λ (o : ℕ → TenantStart). IsExecution config o all state) two (subst (λ (e : List WorldEvent). IsExecution config openings e state) three played))
 
+-- a run that hands out their replies does so, given by equal parts
+handed_so : (config its : Config) (openings other : ℕ → TenantStart) (events all : List WorldEvent) (mine : List Finished) → config ≡ its → openings ≡ other → events ≡ all
+    → Each (IsHandedOut config (world_at config openings) events) mine → Each (IsHandedOut its (world_at its other) all) mine
+handed_so config its openings other events all mine one two three handed =
+    subst (λ (c : Config). Each (IsHandedOut c (world_at c other) all) mine) one
+    (subst (λ (o : ℕ → TenantStart). Each (IsHandedOut config (world_at config o) all) mine) two (subst (λ (e : List WorldEvent). Each (IsHandedOut config (world_at config openings) e) mine) three handed))
+
 -- the world has what the table has at an index
 stands_so : (config its : Config) (state : State) (words : List ℕ) (index : ℕ) → config ≡ its → BitsMatch config state.cells words → StandsAt its state index (slice_index words index)
 stands_so config its state words index same ties at there is =
@@ -134,6 +142,8 @@ module _ (config : Config) (begun : (ℕ → TenantStart) → List WorldEvent �
               (λ i. run.same_before i ++ run.events i) after.past.played;
           knew = fits_so config old.config past.openings past.openings tied.state tied.events tied.events old same refl refl fits;
           knows = fits_so config old.config after.past.openings past.openings after.state after.events (tied.events ++ more) new same run.same_openings run.events later;
+          handed = handed_so config old.config after.past.openings past.openings (after.past.before ++ after.events) (past.before ++ (tied.events ++ more)) new.mine same run.same_openings
+              (λ i. run.same_before i ++ run.events i) (after.known id new (set_there s.views id old new at)).handed;
         };
         stood = stands_so config old.config tied.state s.words index same tied.ties;
         stands = set_stands config old.config after.state s.words index bits same past.played.made tied.long after.ties;

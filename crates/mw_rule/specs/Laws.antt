@@ -20,17 +20,18 @@ use Rattle.mw_world.specs.Definition.Events.{WorldEvent}
 use Rattle.mw_world.specs.Definition.State.{State, TenantStart, WorkerState, tenants_of}
 use Rattle.mw_law_calls.specs.CallEnds.{exchange_of, fault_of}
 use Rattle.mw_law_calls.specs.FileTokens.{file_told}
+use Rattle.mw_law_calls.specs.FromLaws.{put_sealed}
 use Rattle.mw_rule.specs.declared.views.Finished.{Finished}
 use Rattle.mw_rule.specs.declared.views.HeldFile.{HeldFile}
 use Rattle.mw_rule.specs.declared.views.View.{View}
-use Rattle.mw_rule.specs.Steps.{LearnsFirstStep, IsNextStep, LearnsPlainLoad, MayCome, IsPrefix, LearnsStep}
+use Rattle.mw_rule.specs.Steps.{LearnsFirstStep, IsNextStep, LearnsPlainLoad, MayCome, IsPrefix, LearnsStep, StoodThere}
 use Rattle.mw_rule.specs.KnownRuns.{KnownRun, ExtendsKnownRun, known_run_of}
 use Rattle.mw_rule.specs.Splits.{without_file, takes_files, dealt, with_file_given, merges, learns, left_over, maker, meets, note, spent}
 use Rattle.mw_rule.specs.FileCalls.{broken_so, Calls, fails, filed_so, Loaded, place_held, LearnsFileCall}
 use Rattle.mw_rule.specs.declared.views.WorkerToken.{WorkerToken}
 use Rattle.mw_rule.specs.Layout.{index_of, words_of}
-use Rattle.mw_rule.specs.Rule.{Each, HoldsFile, IsLive, IsRight, BitsMatch, TableInvariant, times_held}
-use Rattle.mw_rule.specs.Prefixes.{Gave, opening_at}
+use Rattle.mw_rule.specs.Rule.{Each, HoldsFile, IsLive, IsRight, BitsMatch, TableInvariant, times_held, words_given}
+use Rattle.mw_rule.specs.Prefixes.{Gave, opening_at, seen_at}
 use Rattle.mw_rule.specs.Ways.{made_of_bits, finds}
 
 module _ (config : Config) (begun : (ℕ → TenantStart) → List WorldEvent → Type 0) where
@@ -151,3 +152,9 @@ HaveOwnChanges mine = (index another : ℕ) (one other : Finished) → slice_get
 -- This is so of a thread's finished requests.
 abbrev pub ChangesAreOwn : Type 0
 ChangesAreOwn = (view : View) → IsRight view → HaveOwnChanges view.mine
+
+-- If a thread made a load, the words of each file that it holds are those that the latest start gave the file's tenant, with all
+-- changes that the thread has seen put over them.
+abbrev pub FilesAreOfSeen : Type 0
+FilesAreOfSeen = (view : View) (index bits : ℕ) → StoodThere view index bits
+    → Each (λ held. (file_told held.file).contents ≡ put_sealed (words_given view held.file.tenant) (seen_at view.seen held.file.tenant)) view.files

@@ -10,5 +10,7 @@ pub mod Layout
 pub mod Laws
 pub mod WordActions
 pub mod Rule
+pub mod RunBehind
+pub mod StoreAlone
 pub mod Prefixes
 pub mod Ways

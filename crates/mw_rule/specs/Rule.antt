@@ -17,7 +17,8 @@ use Rattle.mw_world.specs.Definition.Calls.{Called as CallOn, starts_from}
 use Rattle.mw_world.specs.Definition.Cells.{Cells, read}
 use Rattle.mw_world.specs.Definition.Extent.{has_place}
 use Rattle.mw_world.specs.Definition.Events.{WorldEvent, Come, Step, File, Hand, Restart}
-use Rattle.mw_world.specs.Definition.State.{State, TenantStart, tenants_of}
+use Rattle.mw_world.specs.Definition.State.{State, TenantStart, tenants_of, world_at}
+use Rattle.mw_world.specs.Definition.World.{replies_to}
 use Rattle.mw_law_calls.specs.FromLaws.{AreNoStarts, IsRightAt, SealedChange, sealed_of, words_after}
 use Rattle.mw_law_calls.specs.FileTokens.{TellsFile}
 use Rattle.mw_law_calls.specs.CallStarts.{IsAtCall}
@@ -202,10 +203,16 @@ pub record Fits (config : Config) (openings : ℕ → TenantStart) (state : Stat
   pub over : Each (IsOver state) view.mine
   pub files : Each (HoldsFile config state) view.files
 
--- This run extends the one that the thread knows, and the one that the thread was told.
+-- These events, from this world on, hand out the reply of this finished request to its tenant, under its number.
+abbrev pub IsHandedOut : Config → State → List WorldEvent → Finished → Type 0
+IsHandedOut config start events one = (index : ℕ) × (slice_get (replies_to config one.tenant start events) index ≡ Some (one.request, one.reply))
+
+-- This run extends the one that the thread knows, and the one that the thread was told. It hands out the reply of each request
+-- that the thread's workers finished.
 pub record IsRunOf (config : Config) (openings : ℕ → TenantStart) (before events : List WorldEvent) (view : View) : Type 0 where
   pub known : ExtendsKnownRun view.known_run (Some (known_run_of config openings before events))
   pub told : ExtendsKnownRun view.learned_run (Some (known_run_of config openings before events))
+  pub handed : Each (IsHandedOut config (world_at config openings) (before ++ events)) view.mine
 
 -- The view is spent: the thread gave all that it knew to another, and has no token and no finished request.
 pub record IsSpent (view : View) : Type 0 where
@@ -221,7 +228,7 @@ IsLive view = (view.is_spent ≡ false) ⊎ ((one : WorkerToken) × (rest : List
 --
 -- - the words of the table are those of the world after it (`ties`);
 -- - what each thread knows is true after it, unless its view is spent (`fits`);
--- - the run extends what each thread knows of it (`known`);
+-- - the run extends what each thread knows of it, and hands out the replies of its finished requests (`known`);
 -- - no worker has two tokens, no request is finished twice, and no tenant's file is held twice (`alone`, `once`, `one_hand`).
 pub record TableInvariant (config : Config) (begun : (ℕ → TenantStart) → List WorldEvent → Type 0) (s : Table ActorState View) : Type 0 where
   pub state : State

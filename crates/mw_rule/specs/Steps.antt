@@ -32,8 +32,9 @@ use Rattle.mw_rule.specs.declared.views.Finished.{Finished}
 use Rattle.mw_rule.specs.declared.views.WorkerToken.{WorkerToken}
 use Rattle.mw_rule.specs.declared.views.View.{View}
 use Rattle.mw_rule.specs.KnownRuns.{ExtendsKnownRun}
+use Rattle.mw_rule.specs.RunBehind.{Arrives, IsBehind}
 use Rattle.mw_rule.specs.Layout.{index_of}
-use Rattle.mw_rule.specs.Rule.{Each, IsRight}
+use Rattle.mw_rule.specs.Rule.{Each, HoldsFile, IsRight}
 use Rattle.mw_rule.specs.Prefixes.{ArePrefixes, Gave, opening_at, seen_at}
 
 -- The token when its worker's request is in this state. If the request has its reply, the reply is handed out, and
@@ -127,7 +128,7 @@ pub record ExtendsView (old new : View) : Type 0 where
   pub known_run : ExtendsKnownRun old.known_run new.known_run
 
 -- The same over the thread's own steps and loads. What it was told stays; what it was told of changes is a prefix of
--- what it has seen now.
+-- what it has seen now. One run is behind all that it knows now.
 pub record ExtendsWithLearned (old new : View) : Type 0 where
   pub same_config : new.config ≡ old.config
   pub same_openings : new.openings ≡ old.openings
@@ -136,9 +137,11 @@ pub record ExtendsWithLearned (old new : View) : Type 0 where
   pub seen : IsPrefix (tenants_of old.config) old.seen new.seen
   pub told : IsPrefix (tenants_of old.config) old.told new.seen
   pub known_run : ExtendsKnownRun old.known_run new.known_run
+  pub behind : IsBehind new
 
 -- These bits were at an index of the table, in a world after some run. That run's latest start gave the tenants what
--- the thread knows, and the changes sealed in it are exactly those that the thread has seen.
+-- the thread knows, and the changes sealed in it are exactly those that the thread has seen. What the thread knows of
+-- its files is true in that world.
 pub record StoodThere (view : View) (index bits : ℕ) : Type 0 where
   pub openings : ℕ → TenantStart
   pub events : List WorldEvent
@@ -147,6 +150,7 @@ pub record StoodThere (view : View) (index bits : ℕ) : Type 0 where
   pub gave : (tenant : ℕ) → tenant < tenants_of view.config → Gave openings state tenant (opening_at view.openings tenant)
   pub seen : (tenant : ℕ) → tenant < tenants_of view.config → seen_at view.seen tenant ≡ sealed_of openings state tenant
   pub same_bits : (at : At) → has_place view.config at ≡ true → index_of view.config.pool at ≡ index → bits ≡ pack at (read state.cells at)
+  pub files : Each (HoldsFile view.config state) view.files
 
 -- the finished request: the one of this token, of this tenant and for this job, with its reply and its position
 abbrev pub finished_as : WorkerToken → ℕ → Job → Reply → ℕ → Finished
@@ -216,9 +220,10 @@ pub record LearnsPlainLoad (index bits : ℕ) (old new : View) : Type 0 where
   pub same_files : new.files ≡ old.files
 
 -- What a thread learns when it meets others. What it has seen may only grow; its tokens and finished requests stay, and
--- all of it is right. This says nothing of its files.
+-- all of it is right. One run is behind it. This says nothing of its files.
 pub record LearnsMeeting (old new : View) : Type 0 where
   pub keeps : ExtendsView old new
+  pub behind : IsBehind new
   pub right : IsRight new
   pub same_token : new.tokens ≡ old.tokens
   pub same_mine : new.mine ≡ old.mine
@@ -234,14 +239,19 @@ pub record LearnsStep (got : Got) (old new : View) : Type 0 where
   pub same_files : new.files ≡ old.files
   pub found : Finds got old
 
+-- The request came to the worker of the thread's token.
+abbrev pub ArrivesHere : ActorState → ℕ → View → View → Type 0
+ArrivesHere actor request old new = (token : WorkerToken) → old.tokens ≡ token ∷ [] → Arrives token.worker actor.tenant request actor.job old new
+
 -- What a thread learns when this request comes and makes its first step, which found this. When it came, at least as
--- many changes of its tenant were sealed as the thread had seen.
+-- many changes of its tenant were sealed as the thread had seen. The run that the thread knows then has its arrival.
 pub record LearnsFirstStep (actor : ActorState) (got : Got) (old new : View) : Type 0 where
   pub goes_on : ExtendsWithLearned old new
   pub right : IsRight new
   pub request : ℕ
   pub begun : ℕ
   pub no_fewer : length (seen_at old.seen actor.tenant) ≤ begun
+  pub arrival : ArrivesHere actor request old new
   pub token : new.tokens ≡ map (λ one. told got (comes actor request begun one)) old.tokens
   pub ready : Each (IsReady new.config) new.tokens
   pub ends : EndsAtOnce actor request begun got old new

@@ -18,6 +18,7 @@ use Rattle.mw_rule.specs.declared.views.WorkerToken.{WorkerToken}
 use Rattle.mw_rule.specs.declared.views.View.{View}
 use Rattle.mw_rule.specs.Steps.{LearnsFirstStep, ExtendsView, LearnsPlainLoad, MayCome, LearnsMeeting, AddsFinishedIf, LearnsStep, comes, finished_as, settled, stepped, actor_after}
 use Rattle.mw_rule.specs.KnownRuns.{KnownRun}
+use Rattle.mw_rule.specs.RunBehind.{IsInRun}
 use Rattle.mw_rule.specs.Splits.{without_file, takes_files, knows, token_of}
 use Rattle.mw_rule.specs.FileCalls.{Starts, LearnsFileCall, after_call}
 use Rattle.mw_rule.specs.Evidence.{HasEvidence}
@@ -26,17 +27,20 @@ use Rattle.mw_rule.specs.Prefixes.{seen_at}
 
 -- The thread serves this request: `first` is what it knew when the request came, `now` what it knows now. It has this
 -- token alone, what it has seen has only grown, and it is right. The finished requests are those from before. When
--- the request has its reply, it is added, at a position that is at least what the thread had seen when it came.
+-- the request has its reply, it is added, at a position that is at least what the thread had seen when it came. If the
+-- request came after the table was made, the run behind what the thread knows has it.
 pub record Serves (first now : View) (token : WorkerToken) (actor : ActorState) : Type 0 where
   pub only : now.tokens ≡ settled token actor ∷ []
   pub keeps : ExtendsView first now
   pub right : IsRight now
   pub begun : length (seen_at first.seen actor.tenant) ≤ token.begun
   pub noted : AddsFinishedIf token actor.tenant (length (seen_at first.seen actor.tenant)) actor.job (replied actor) first.mine now.mine
+  pub run : token.is_whole ≡ true → IsInRun token.worker actor.tenant token.request actor.job (replied actor) first now
 
 -- The request was answered with this reply. It is the one request that was added to the finished ones. The reply is
 -- right at its position among the changes that the thread has seen, which is at least what the thread had seen at
--- first. If the request came after the table was made, a reply that rests on no word has its evidence.
+-- first. If the request came after the table was made, a reply that rests on no word has its evidence, and the run behind what
+-- the thread knows has the request and its reply.
 pub record Answered (first now : View) (token : WorkerToken) (tenant : ℕ) (job : Job) (reply : Reply) : Type 0 where
   pub place : ℕ
   pub noted : now.mine ≡ first.mine ++ finished_as token tenant job reply place ∷ []
@@ -44,6 +48,7 @@ pub record Answered (first now : View) (token : WorkerToken) (tenant : ℕ) (job
   pub within : place ≤ length (seen_at now.seen tenant)
   pub right : IsRightAt (words_given now tenant) (seen_at now.seen tenant) place token.request job reply
   pub evidence : token.is_whole ≡ true → HasEvidence token.found token.attempt tenant (quota_given now tenant) reply
+  pub run : token.is_whole ≡ true → IsInRun token.worker tenant token.request job (Some reply) first now
 
 -- After a request's first step the thread serves it. The facts below say that it goes on to serve it.
 abbrev pub CallsBegin : Type 0

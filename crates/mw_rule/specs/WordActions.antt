@@ -22,7 +22,7 @@ use Rattle.mw_world.specs.Definition.Calls.{Called as CallOn, device_calls, is_m
 use Rattle.mw_world.specs.Definition.Cells.{read}
 use Rattle.mw_world.specs.Definition.Extent.{has_place}
 use Rattle.mw_world.specs.Definition.Events.{WorldEvent, Come, File as FileEvent}
-use Rattle.mw_world.specs.Definition.State.{TenantStart, State}
+use Rattle.mw_world.specs.Definition.State.{TenantStart, State, world_at}
 use Rattle.mw_law_calls.specs.CallEnds.{exchange_of, fault_of}
 use Rattle.mw_law_calls.specs.FileTokens.{file_told}
 use Rattle.mw_law_calls.specs.FromLaws.{AreNoStarts}
@@ -33,7 +33,7 @@ use Rattle.mw_rule.specs.RunEvents.{StepsOn, events_loaded, events_of, starts_by
 use Rattle.mw_rule.specs.KnownRuns.{known_run_of}
 use Rattle.mw_rule.specs.FileCalls.{Calls, Loaded, LearnsFileCall, broken_so, fails, filed_so, place_held}
 use Rattle.mw_rule.specs.Layout.{index_of}
-use Rattle.mw_rule.specs.Rule.{Fits, IsLive, IsRunOf, TableInvariant}
+use Rattle.mw_rule.specs.Rule.{Each, Fits, IsHandedOut, IsLive, IsRunOf, TableInvariant}
 use Rattle.mw_rule.specs.Ways.{finds, made_of_bits}
 
 -- What a thread with this view may do to a word. `Steps`: a step of the request that it carries. `Comes`: the first
@@ -95,7 +95,8 @@ told_by view (FindsFault worker actor called held status by found failed) bits n
 
 -- A run of the world is extended by these events. What the thread knew was true before them, and what it knows now is
 -- true after them. The run has a part from before the table was made, then events that are no starts. It extends the
--- run that the thread knew, if it knew one, and the run that it was told. The thread now knows this run with these events.
+-- run that the thread knew, if it knew one, and the run that it was told. The thread now knows this run with these events. They
+-- hand out the reply of each request that its workers finished.
 pub record WentOn (more : List WorldEvent) (old new : View) : Type 0 where
   pub openings : ℕ → TenantStart
   pub before : List WorldEvent
@@ -109,6 +110,7 @@ pub record WentOn (more : List WorldEvent) (old new : View) : Type 0 where
   pub known_run : new.known_run ≡ Some (known_run_of old.config openings before (events ++ more))
   pub knew : Fits old.config openings state events old
   pub knows : Fits old.config openings next (events ++ more) new
+  pub handed : Each (IsHandedOut old.config (world_at old.config openings) (before ++ (events ++ more))) new.mine
 
 -- In this world, the place with this index has these bits.
 abbrev pub StandsAt : Config → State → ℕ → ℕ → Type 0

@@ -5,7 +5,8 @@
 //! its definition in `specs`, and then its proof.
 ghost use Rattle.mw_rule.specs.WholeCalls.{CallsBegin, CallsTakeFiles, CallsDealt, CallsEnd, CallsFile, CallsGiveBack, CallsGoOn, CallsMeet, CallsOverPlainLoads, CallsStart};
 ghost use Rattle.mw_rule.specs.RunEvents.{FileCallsEndOn, FileCallsFindFaultsOn, FileCallsLoadOn, FileCallsMeetFaultsOn, FirstStepsGoOn, JoinsGoOn, PlainLoadsGoOn, PartsGoOn, StepsGoOn};
-ghost use Rattle.mw_rule.specs.Laws.{TakingFilesKeepsTheRule, FileCallsEndWell, FileCallsFindFaults, FileCallsLoad, FileCallsMeetFaults, ChangesAreOwn, SplitsKeepTheRule, GivingFilesKeepsTheRule, FirstStepsKeepTheRule, MergedPartsAgain, MergingKeepsTheRule, LearningKeepsTheRule, PlainLoadsKeepTheRule, MeetingKeepsTheRule, MeetingsAreRight, NotesKeepTheRule, NotesLoseNothing, PartsAreRight, StartsUnderTheRule, StepsKeepTheRule};
+ghost use Rattle.mw_rule.specs.Laws.{TakingFilesKeepsTheRule, FileCallsEndWell, FileCallsFindFaults, FileCallsLoad, FileCallsMeetFaults, FilesAreOfSeen, ChangesAreOwn, SplitsKeepTheRule, GivingFilesKeepsTheRule, FirstStepsKeepTheRule, MergedPartsAgain, MergingKeepsTheRule, LearningKeepsTheRule, PlainLoadsKeepTheRule, MeetingKeepsTheRule, MeetingsAreRight, NotesKeepTheRule, NotesLoseNothing, PartsAreRight, StartsUnderTheRule, StepsKeepTheRule};
+ghost use Rattle.mw_rule.specs.StoreAlone.{FinishedAreOfStoreAlone};
 ghost use Rattle.mw_rule.specs.Layout.{PlacesAreInTable, PlacesAreWithin, PlacesStandApart};
 ghost use Rattle.mw_rule.specs.WordActions.{AnyNumberFails, FirstStepsAreEvents, PlainLoadsAreNoEvents, ActionsAreAllowed, ActionsChangeWords, ActionsExtendRuns, StepsAreEvents};
 
@@ -117,13 +118,15 @@ pub fn what_is_known_is_parted<B: Begins>()
 {}
 
 /// What a thread has seen and finished stays right when it is split, and when two threads meet, which loses no
-/// finished request. It follows that each request that was answered YES has a change of its own.
+/// finished request. It follows that each request that was answered YES has a change of its own. After a load, each
+/// file that a thread holds has the words that the start gave, with all changes that the thread has seen put over them.
 pub fn knowledge_stays_right()
     ensures parts { PartsAreRight }
     ensures meetings { MeetingsAreRight }
     ensures nothing_lost { NotesLoseNothing }
     ensures part_again { MergedPartsAgain }
     ensures own { ChangesAreOwn }
+    ensures files { FilesAreOfSeen }
 {}
 
 /// A thread serves a request from its first step, or from the making of the table if its worker has it already, until
@@ -144,4 +147,13 @@ pub fn calls_are_noted()
     ensures meet { CallsMeet }
     ensures dealt { CallsDealt }
     ensures end { CallsEnd }
+{}
+
+/// The requests that a thread's workers finished are answered as each tenant's store alone answers them, as long as
+/// the run behind what the thread knows has numbers left.
+///
+/// Given the tenant's marks, that store hands out each reply under its request's number. The words of the tenant's
+/// file are its first words with all changes of these marks put over them, and each YES has its change among these.
+pub fn finished_are_of_the_store_alone()
+    ensures { FinishedAreOfStoreAlone }
 {}

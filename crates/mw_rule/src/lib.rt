@@ -5,11 +5,12 @@
 //!
 //! - `specs/Layout`: the index of each shared word. `specs/Ways`: what each kind of step makes of a word's bits.
 //! - `specs/Rule`: the rule, and what one thread's knowledge means. `specs/KnownRuns`: the table's run as a thread
-//!   knows it. `specs/Evidence`: what the replies BUSY, FAULT and WORN rest on.
+//!   knows it. `specs/RunBehind`: the run behind what a thread knows, with its requests. `specs/Evidence`: what the
+//!   replies BUSY, FAULT and WORN rest on.
 //! - `specs/Steps`: what a step requires of the thread that makes it, and what the thread learns. `specs/FileCalls`:
 //!   the same for a call on a file. `specs/WholeCalls`: the same for a whole request.
 //! - `specs/Splits`: how threads split and merge what they know.
-//! - `specs/Laws`, `specs/RunEvents` and `specs/WordActions`: what is proved of all these.
+//! - `specs/Laws`, `specs/RunEvents`, `specs/WordActions` and `specs/StoreAlone`: what is proved of all these.
 //!
 //! `mw_table` makes the steps.
 //!
@@ -25,9 +26,10 @@ mod ways;
 
 pub use indexes::{LINE, SLOT_WIDE, SLOTS_FROM, index_of};
 pub use laws::{
-    calls_are_noted, file_calls_are_events, file_calls_keep_the_rule, knowledge_stays_right,
-    moves_are_of_the_run, places_stand_apart, steps_keep_the_rule, tables_start_under_the_rule,
-    the_run_goes_on, what_is_known_is_parted,
+    calls_are_noted, file_calls_are_events, file_calls_keep_the_rule,
+    finished_are_of_the_store_alone, knowledge_stays_right, moves_are_of_the_run,
+    places_stand_apart, steps_keep_the_rule, tables_start_under_the_rule, the_run_goes_on,
+    what_is_known_is_parted,
 };
 pub use rule::{Begins, Deals, GivesFile, Learns, Meets, Merges, Notes, TakesFiles, WorldRule};
 pub use views::{

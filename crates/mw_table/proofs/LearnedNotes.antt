@@ -19,6 +19,7 @@ pub learned_so : (bits : ℕ) (said old new : View) → LearnsPlainLoad 0 bits (
 learned_so bits said old new looked went = record {
   keeps = record {
     keeps = record { same_config = looked.goes_on.same_config; same_openings = looked.goes_on.same_openings; seen = looked.goes_on.seen; known_run = looked.goes_on.known_run };
+    behind = looked.goes_on.behind;
     right = looked.right;
     same_token = looked.same_token;
     same_mine = looked.same_mine;

@@ -16,6 +16,7 @@ use Rattle.mw_rule.specs.WordActions.{AddsNoEvent}
 use Rattle.mw_rule.specs.Rule.{IsLive, IsRight, times}
 use Rattle.mw_rule.specs.Prefixes.{seen_at}
 use Rattle.mw_rule.proofs.Apart.{changes_are_own}
+use Rattle.mw_rule.proofs.RunsBehind.{behind_dealt, behind_left}
 use Rattle.mw_rule.proofs.WholeCallLaws.{keeps_on, keeps_so}
 use Rattle.mw_rule.proofs.KnownRunLaws.{on_again}
 use Rattle.mw_rule.proofs.Events.{looks_are_no_events}
@@ -174,6 +175,7 @@ module _ (one other : View) (own theirs : ℕ × ℕ) (ones : numbers one ≡ ow
   pub one_met : LearnsMeeting one (dealt story.all)
   one_met = record {
     keeps = record { same_config = keeps_first.same_config; same_openings = keeps_first.same_openings; seen = keeps_first.seen; known_run = keeps_first.known_run };
+    behind = behind_dealt story.all merging.goes_on.behind;
     right = dealt_right story.all merging.right;
     same_token = ap head_of merging.same_token ∙ again.0 ∙ story.told.looking.same_token;
     same_mine = (λ i. of_head (merging.same_token i) (merging.same_mine i)) ∙ again.1 ∙ story.told.looking.same_mine;
@@ -189,6 +191,7 @@ module _ (one other : View) (own theirs : ℕ × ℕ) (ones : numbers one ≡ ow
           begins_on (seen_at other.seen tenant) (seen_at story.told.learned.seen tenant) (seen_at story.all.seen tenant) (learned_so.goes_on.seen tenant low) (merging.goes_on.seen tenant there);
       known_run = on_again other.known_run story.told.learned.known_run story.all.known_run learned_so.goes_on.known_run merging.goes_on.known_run;
     };
+    behind = behind_left story.all merging.goes_on.behind;
     right = left_right story.all merging.right;
     same_token = ap rest_of merging.same_token ∙ again.2 ∙ its_own.0;
     same_mine = (λ i. of_rest (merging.same_token i) (merging.same_mine i)) ∙ again.3 ∙ its_own.1;

@@ -3,6 +3,8 @@
 pub use Rattle.mw_rule.specs.WholeCalls.{Answered, Serves}
 pub use Rattle.mw_rule.specs.Steps.{LearnsFirstStep, FindsWayAt, ExtendsWithLearned, HasToken, IsFound, IsReady, IsReadyAt, IsReadyFor, ExtendsView, LearnsPlainLoad, MayCome, LearnsMeeting, AddsFinishedIf, LearnsStep, comes, finished_as, settled, settled_as, stepped, told, actor_after}
 pub use Rattle.mw_rule.specs.RunEvents.{events_loaded, starts_by}
+pub use Rattle.mw_rule.specs.RunBehind.{IsBehind, IsInRun}
+pub use Rattle.mw_rule.specs.StoreAlone.{HadNumbers, IsOfStoreAlone}
 pub use Rattle.mw_rule.specs.KnownRuns.{KnownRun, ExtendsKnownRun, known_run_of}
 pub use Rattle.mw_rule.specs.Splits.{note, without_file, takes_files, with_file_given, first_held, other_held, token_of}
 pub use Rattle.mw_rule.specs.FileCalls.{Calls, LeavesRest, Loaded, LoadedAs, Starts, LearnsFileCall, after_call, broken_so, fails, filed_so, place_held, places_held, went}

@@ -2,6 +2,7 @@
 -- when two threads meet, which loses no finished request. Used by: that law alone. It may change freely as long as this crate
 -- checks.
 use Rattle.mw_rule.proofs.Apart.{changes_are_own}
+use Rattle.mw_rule.proofs.FilesOfSeen.{files_are_of_seen}
 use Rattle.mw_rule.proofs.FinishedRequests.{merged_parts_again, notes_lose_nothing}
 use Rattle.mw_rule.proofs.KnowledgeIsRight.{meetings_are_right, parts_are_right}
 use Rattle.mw_rule.proofs.laws.knowledge_stays_right.Goals as goal
@@ -20,3 +21,6 @@ returns-clause-part_again c = merged_parts_again
 
 pub returns-clause-own : goal.returns-clause-own
 returns-clause-own c = changes_are_own
+
+pub returns-clause-files : goal.returns-clause-files
+returns-clause-files c = files_are_of_seen
