@@ -10,7 +10,7 @@ use crate::peers::Peer;
 use crate::steps::by_steps;
 use mw_engine::{Engine, EngineBrand, Pass};
 use mw_report::Figures;
-use mw_session::{Service, Session};
+use mw_session::{Duplex, NoOthers, RecordedStream, Service, Session};
 use mw_words::{Entries, Entry, Job, Name, Reply};
 use std::alloc::Global;
 use std::sync::Wait;
@@ -85,19 +85,25 @@ impl<'a, 'l, J: EngineBrand, R: Wait> Worker<'a, 'l, J, R> {
 
     /// Runs a session of this worker with a client that says this. Gives what the client is told.
     pub(crate) fn session(&mut self, alloc: Global, says: &[u8]) -> Vec<u8> {
-        let mut says = says;
         let mut told = Vec::new(alloc);
+        let mut stream = RecordedStream::new(Duplex {
+            reader: says,
+            writer: &mut told,
+        });
         let rt = self.rt;
-        Session::run(alloc, rt, &mut says, &mut told, self);
+        Session::run(alloc, rt, &NoOthers, &mut stream, self);
         told
     }
 
     /// Tells whether a session of this worker with this peer goes as it must.
     pub(crate) fn serves(&mut self, alloc: Global, peer: &Peer<'_>) -> bool {
-        let mut sender = peer.sender();
         let mut page = peer.page();
+        let mut stream = RecordedStream::new(Duplex {
+            reader: peer.sender(),
+            writer: &mut page,
+        });
         let rt = self.rt;
-        let ended = Session::run(alloc, rt, &mut sender, &mut page, self);
+        let ended = Session::run(alloc, rt, &NoOthers, &mut stream, self);
         ended == peer.ended && peer.was_told(&page)
     }
 }

@@ -1,10 +1,11 @@
 //! Tests what is told of a system without room for connections, at a listener and at a desk.
 //!
 //! Nothing else uses it: it may change with what it tests.
-ghost use Rattle.std.specs.Prelude.{None};
+ghost use Rattle.std.specs.Prelude.{◌≡◌, [], None, Some};
+ghost use Rattle.mw_session.specs.KnownStreams.{reads_of, writes_of};
 
 use arrayvec::ArrayVec;
-use mw_session::{Ended, Service, Session};
+use mw_session::{Duplex, Ended, RecordedStream, Service, Session};
 use mw_test_server::{Clerk, NO_LIMITS, Shelf};
 use mw_workers::{
     Closer, Connection, Desk, Listener, Others, Patient, RoomWatch, ServeEnd, listen_at,
@@ -25,24 +26,41 @@ use std::{io, thread};
 
 /// A connection with nobody at its other end.
 #[derive(Drop)]
-struct Nobody;
+struct Nobody {
+    stream: RecordedStream<Duplex<io::Empty, io::Sink>>,
+}
+
+impl Nobody {
+    fn new() -> Nobody {
+        Nobody {
+            stream: RecordedStream::new(Duplex {
+                reader: io::empty(),
+                writer: io::sink(),
+            }),
+        }
+    }
+}
 
 impl Connection for Nobody {
-    ghost left = { λ _. None };
+    ghost left = { λ _. Some [] };
 
     ghost sent = { λ _. None };
 
+    ghost reads = { λ c. reads_of c.stream };
+
+    ghost writes = { λ c. writes_of c.stream };
+
     fn serve<S: Service, R: Wait, O: Others>(
-        self,
+        &mut self,
         rt: &R,
         alloc: Global,
         service: &mut S,
-        _others: &O,
+        others: &O,
     ) -> Ended {
-        let mut says: &[u8] = &[];
-        let mut page = Vec::new(alloc);
-        Session::run(alloc, rt, &mut says, &mut page, service)
+        Session::run(alloc, rt, others, &mut self.stream, service)
     }
+
+    fn leave<R: Wait>(&mut self, _rt: &R) {}
 }
 
 /// A listener that answers as each letter of a text says: `c` gives a connection, `a` says that a client
@@ -62,7 +80,7 @@ impl Listener for Door<'_> {
         if let [first, rest @ ..] = answers {
             self.answers = rest;
             if *first == b'c' {
-                return Ok(Nobody);
+                return Ok(Nobody::new());
             }
             if *first == b'a' {
                 return Err(io::Error::from(ErrorKind::ConnectionAborted));

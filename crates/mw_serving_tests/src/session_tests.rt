@@ -4,13 +4,26 @@
 //! Nothing else uses it: it may change with what it tests.
 use crate::session_peers::{Chatter, Listener, Notebook};
 use arrayvec::ArrayVec;
-use mw_session::{Ended, Service, Session};
+use mw_session::{Duplex, Ended, NoOthers, RecordedStream, Service, Session};
 use mw_test_peers::{Failure, INPUT, OUTPUT, Page, Sender, replied};
 use mw_test_server::Shelf;
+use std::io::{Read, Write};
 use std::sync::Wait;
 
 /// More bytes than are read or written.
 const ALL: usize = usize::MAX;
+
+/// Runs a session of this service with a peer that says what this reader gives, and is told by this writer. Gives how
+/// it ended.
+fn run<S: Service, R: Wait + AllocGlobal, I: Read + Drop, O: Write + Drop>(
+    rt: &R,
+    service: &mut S,
+    reader: I,
+    writer: O,
+) -> Ended {
+    let mut stream = RecordedStream::new(Duplex { reader, writer });
+    Session::run(rt.alloc(), rt, &NoOthers, &mut stream, service)
+}
 
 /// Tells whether a session of this service with this peer tells it just that, and ends so.
 fn is_told<S: Service, R: Wait + AllocGlobal>(
@@ -20,9 +33,8 @@ fn is_told<S: Service, R: Wait + AllocGlobal>(
     told: &[u8],
     wanted: Ended,
 ) -> bool {
-    let mut sender = sender;
     let mut page = Page::new(ALL, ALL, Failure::Error);
-    let ended = Session::run(rt.alloc(), rt, &mut sender, &mut page, service);
+    let ended = run(rt, service, sender, &mut page);
     ended == wanted && page.text.as_slice() == told
 }
 
@@ -162,9 +174,9 @@ fn breaks_off(
     taken: u8,
     failure: Failure,
 ) -> bool {
-    let mut sender = Sender::new(INPUT, ALL, Failure::Nothing);
+    let sender = Sender::new(INPUT, ALL, Failure::Nothing);
     let mut page = Page::new(1, usize::from(taken), failure);
-    let ended = Session::run(rt.alloc(), rt, &mut sender, &mut page, shelf);
+    let ended = run(rt, shelf, sender, &mut page);
     ended == Ended::WriteFault(u64::from(taken))
         && Some(page.text.as_slice()) == OUTPUT.get(..usize::from(taken))
         && page.calls == usize::from(taken) + 1
@@ -235,9 +247,8 @@ const MANY: u32 = 20_000;
 
 #[test]
 fn a_long_session(rt: HostRuntime) {
-    let mut chatter = Chatter::new(b"GET 0\n", MANY);
+    let chatter = Chatter::new(b"GET 0\n", MANY);
     let mut listener = Listener::new(b"ERR 3\n");
-    let mut shelf = Shelf::new(2);
-    let ended = Session::run(rt.alloc(), &rt, &mut chatter, &mut listener, &mut shelf);
+    let ended = run(&rt, &mut Shelf::new(2), chatter, &mut listener);
     assert!(rt; ended == Ended::PeerEnd && listener.times == MANY);
 }

@@ -1,10 +1,11 @@
 //! Clients in memory, for tests: each has a script of what it says and what it must be told.
 //!
 //! Used by: `workers_tests`. It may change freely as long as this crate checks and its tests pass.
-ghost use Rattle.std.specs.Prelude.{None, Some};
+ghost use Rattle.std.specs.Prelude.{◌≡◌, None, Some};
+ghost use Rattle.mw_session.specs.KnownStreams.{inner_of, reads_of, writes_of};
 
 use arrayvec::ArrayVec;
-use mw_session::{Ended, Service, Session};
+use mw_session::{Duplex, Ended, PeerStream, RecordedStream, Service, Session};
 use mw_test_peers::{Failure, Page};
 use mw_workers::{Connection, Listener, Others};
 use std::alloc::Global;
@@ -47,40 +48,91 @@ impl Heard {
             && self.sessions == usize::from(script.ends.is_some())
     }
 
-    fn note(&mut self, text: &[u8], ended: Ended) {
+    fn hear(&mut self, text: &[u8]) {
         // If there is no room, the test finds that something is missing.
         let _ = self.text.try_extend_from_slice(text);
+    }
+
+    fn note(&mut self, ended: Ended) {
         self.ended = Some(ended);
         self.sessions = self.sessions.saturating_add(1);
+    }
+}
+
+/// What a client says and takes. What it takes is heard.
+#[derive(Drop)]
+struct HeardStream<'a> {
+    pair: Duplex<&'a [u8], Page>,
+    heard: &'a Mutex<Heard>,
+}
+
+impl<'a> PeerStream for HeardStream<'a> {
+    ghost remaining = { λ s. Some s.pair.reader.now };
+
+    ghost contents = { λ _. None };
+
+    fn read<R: Wait, O: Others>(
+        &mut self,
+        rt: &R,
+        others: &O,
+        piece: &mut [u8],
+    ) -> io::Result<usize> {
+        self.pair.read(rt, others, piece)
+    }
+
+    fn write<R: Wait, O: Others>(&mut self, rt: &R, others: &O, text: &[u8]) -> io::Result<usize> {
+        let taken = self.pair.write(rt, others, text)?;
+        self.heard.lock(rt).hear(&text[..taken]);
+        Ok(taken)
+    }
+
+    fn end_writing(&mut self) -> io::Result<()> {
+        Ok(())
     }
 }
 
 /// One client.
 #[derive(Drop)]
 pub struct Client<'a> {
-    says: &'a [u8],
-    takes: usize,
+    stream: RecordedStream<HeardStream<'a>>,
     heard: &'a Mutex<Heard>,
 }
 
+impl<'a> Client<'a> {
+    fn new(says: &'a [u8], takes: usize, heard: &'a Mutex<Heard>) -> Self {
+        let pair = Duplex {
+            reader: says,
+            writer: Page::new(usize::MAX, takes, Failure::Error),
+        };
+        Client {
+            stream: RecordedStream::new(HeardStream { pair, heard }),
+            heard,
+        }
+    }
+}
+
 impl<'a> Connection for Client<'a> {
-    ghost left = { λ c. Some c.says.now };
+    ghost left = { λ c. Some (inner_of c.stream).pair.reader.now };
 
     ghost sent = { λ _. None };
 
+    ghost reads = { λ c. reads_of c.stream };
+
+    ghost writes = { λ c. writes_of c.stream };
+
     fn serve<S: Service, R: Wait, O: Others>(
-        self,
+        &mut self,
         rt: &R,
         alloc: Global,
         service: &mut S,
-        _others: &O,
+        others: &O,
     ) -> Ended {
-        let mut page = Page::new(usize::MAX, self.takes, Failure::Error);
-        let mut says = self.says;
-        let ended = Session::run(alloc, rt, &mut says, &mut page, service);
-        self.heard.lock(rt).note(&page.text, ended);
+        let ended = Session::run(alloc, rt, others, &mut self.stream, service);
+        self.heard.lock(rt).note(ended);
         ended
     }
+
+    fn leave<R: Wait>(&mut self, _rt: &R) {}
 }
 
 /// Clients that come one after the other.
@@ -104,11 +156,7 @@ impl<'a> Listener for Crowd<'a> {
             return Err(io::Error::from(ErrorKind::NotFound));
         };
         match script.says {
-            Some(says) => Ok(Client {
-                says,
-                takes: script.takes,
-                heard,
-            }),
+            Some(says) => Ok(Client::new(says, script.takes, heard)),
             None => Err(io::Error::from(ErrorKind::ConnectionAborted)),
         }
     }

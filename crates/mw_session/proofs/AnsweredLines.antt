@@ -1,7 +1,7 @@
 -- One answered line is a run of the session (`Talked`), and two such runs in order make one.
 -- Used by: SessionEnds, the proofs of Session::answer and Session::answer_all. It may change freely as long as this crate
 -- checks.
-use Rattle.std.proofs.Common.{◌≡◌, ℕ, ◌<◌, List, [], ◌∷◌, ◌++◌, length, Option, Some, None, Result, Ok, Err, IsErr, refl, sym, ap, ◌∙◌, subst, append-nil, append_assoc, arith}
+use Rattle.std.proofs.Common.{◌≡◌, ℕ, ◌<◌, List, [], ◌∷◌, ◌++◌, length, Some, None, Result, Ok, Err, IsErr, refl, sym, ap, ◌∙◌, subst, append-nil, append_assoc, arith}
 use Rattle.mw_frame.specs.declared.lines.Line.{Line}
 use Rattle.mw_frame.specs.Stream.{Stream, Open, Ended as Closed, fed, lines_of}
 use Rattle.mw_session.specs.declared.steps.Bound.{Bound}
@@ -13,11 +13,12 @@ use Rattle.mw_session.specs.Talk.{Answer, Call, Heard, Script, after, does, talk
 use Rattle.mw_session.specs.Lines.{HearsAll}
 use Rattle.mw_session.specs.StepOfLine.{Judges}
 use Rattle.mw_session.specs.SessionParts.{Gives, Next, On, Performs, Sent, Spoken, Talked, Turned, Writes, end_of, goes, next_of}
+use Rattle.mw_session.specs.StreamRecords.{WriteRecord}
 use Rattle.mw_session.proofs.WrittenTexts.{sent_then, sent_nothing}
 
 -- ---- one line
 
-module _ (a b : Option (List ℕ)) (Asked : List Call → Type 0) (n m : ℕ) (line : Line) (bound new : Bound) where
+module _ (a b : WriteRecord) (Asked : List Call → Type 0) (n m : ℕ) (line : Line) (bound new : Bound) where
   abbrev pub talked_line : (step : Step) (text sent unsent : List ℕ) → Judges bound line step → Performs Asked step bound new text → Sent a b n m sent → text ≡ sent ++ unsent
       → Talked a b Asked n m (line ∷ []) bound (next_of step new) unsent
   talked_line step text sent unsent j p s whole = record {
@@ -35,20 +36,23 @@ module _ (a b : Option (List ℕ)) (Asked : List Call → Type 0) (n m : ℕ) (l
         ∙ ap (λ t. after t p.calls (goes (next_of step new) rest unused)) whole;
   }
 
+module _ (a b : WriteRecord) (Asked : List Call → Type 0) (n m : ℕ) (line : Line) (bound new : Bound) where
   pub line_breaks : (step : Step) (text : List ℕ) (r : Result (Unit {0}) Ended) → IsErr r → Judges bound line step → Performs Asked step bound new text → Writes a b n m text r
       → Turned a b Asked n m (line ∷ []) bound new r
   line_breaks step text (Ok x) is j p w = absurd (cc is)
   line_breaks step text (Err (WriteFault told)) is j p w = (
-    w.4,
+    w.6,
+    w.0,
+    w.1,
     record {
       next = next_of step new;
-      unsent = w.1;
-      some = w.3;
-      talked = talked_line step text w.0 w.1 j p w.5 w.2;
+      unsent = w.3;
+      some = w.5;
+      talked = talked_line a w.0 Asked n m line bound new step text w.2 w.3 j p w.7 w.4;
       earlier = [];
       last = j.heard;
       heard = refl;
-      part = w.0;
+      part = w.2;
       replied = refl;
     },
   )
@@ -78,11 +82,11 @@ module _ (a b : Option (List ℕ)) (Asked : List Call → Type 0) (n m : ℕ) (l
 
   pub line_ends : (step : Step) (text : List ℕ) (ended : Ended) → end_of step ≡ Some ended → Judges bound line step → Performs Asked step bound new text → Sent a b n m text
       → Turned a b Asked n m (line ∷ []) bound new (Err ended)
-  line_ends step text ended e j p s = ends_as step ended e (talked_line step text text [] j p s (sym (append-nil text)))
+  line_ends step text ended e j p s = ends_as step ended e (talked_line a b Asked n m line bound new step text text [] j p s (sym (append-nil text)))
 
   pub line_goes_on : (step : Step) (text : List ℕ) → end_of step ≡ None → Judges bound line step → Performs Asked step bound new text → Sent a b n m text
       → Talked a b Asked n m (line ∷ []) bound (On new) []
-  line_goes_on step text e j p s = goes_as step e (talked_line step text text [] j p s (sym (append-nil text)))
+  line_goes_on step text e j p s = goes_as step e (talked_line a b Asked n m line bound new step text text [] j p s (sym (append-nil text)))
 
 -- ---- one part after another
 
@@ -97,7 +101,7 @@ after_after s t c d rest =
     ap (λ text. record { text = text; calls = c ++ (d ++ rest.calls); end = rest.end }) (sym (append_assoc s t rest.text))
     ∙ ap (λ calls. record { text = (s ++ t) ++ rest.text; calls = calls; end = rest.end }) (sym (append_assoc c d rest.calls))
 
-pub talked_nothing : (a : Option (List ℕ)) (Asked : List Call → Type 0) (n : ℕ) (bound : Bound) → Asked [] → Talked a a Asked n n [] bound (On bound) []
+pub talked_nothing : (a : WriteRecord) (Asked : List Call → Type 0) (n : ℕ) (bound : Bound) → Asked [] → Talked a a Asked n n [] bound (On bound) []
 talked_nothing a Asked n bound asked = record {
   heard = [];
   hears = tt;
@@ -109,7 +113,7 @@ talked_nothing a Asked n bound asked = record {
   talks = λ unheard unused. refl;
 }
 
-module _ (a b c : Option (List ℕ)) (Asked1 Asked2 Asked : List Call → Type 0) (both : (xs ys : List Call) → Asked1 xs → Asked2 ys → Asked (xs ++ ys)) (n m k : ℕ) (ls ks : List Line) (bound middle : Bound) where
+module _ (a b c : WriteRecord) (Asked1 Asked2 Asked : List Call → Type 0) (both : (xs ys : List Call) → Asked1 xs → Asked2 ys → Asked (xs ++ ys)) (n m k : ℕ) (ls ks : List Line) (bound middle : Bound) where
   abbrev pub talked_then : (next : Next) (unsent : List ℕ) → Talked a b Asked1 n m ls bound (On middle) [] → Talked b c Asked2 m k ks middle next unsent
       → Talked a c Asked n k (ls ++ ks) bound next unsent
   talked_then next unsent t u = record {
@@ -131,20 +135,23 @@ module _ (a b c : Option (List ℕ)) (Asked1 Asked2 Asked : List Call → Type 0
         (ap (λ l. l ++ (u.sent ++ unsent)) (append-nil t.sent) ∙ sym (append_assoc t.sent u.sent unsent));
   }
 
+module _ (a b c : WriteRecord) (Asked1 Asked2 Asked : List Call → Type 0) (both : (xs ys : List Call) → Asked1 xs → Asked2 ys → Asked (xs ++ ys)) (n m k : ℕ) (ls ks : List Line) (bound middle : Bound) where
   pub turned_then : (new : Bound) (r : Result (Unit {0}) Ended) → Talked a b Asked1 n m ls bound (On middle) [] → Turned b c Asked2 m k ks middle new r
       → Turned a c Asked n k (ls ++ ks) bound new r
-  turned_then new (Ok x) t u = talked_then (On new) [] t u
-  turned_then new (Err Quit) t u = talked_then _ [] t u
-  turned_then new (Err TooLong) t u = talked_then _ [] t u
+  turned_then new (Ok x) t u = talked_then a b c Asked1 Asked2 Asked both n m k ls ks bound middle (On new) [] t u
+  turned_then new (Err Quit) t u = talked_then a b c Asked1 Asked2 Asked both n m k ls ks bound middle _ [] t u
+  turned_then new (Err TooLong) t u = talked_then a b c Asked1 Asked2 Asked both n m k ls ks bound middle _ [] t u
   turned_then new (Err (WriteFault told)) t u =
-      let v = u.1 in
+      let v = u.3 in
       let said = talk middle v.earlier v.talked.answers in (
         u.0,
+        u.1,
+        u.2,
         record {
           next = v.next;
           unsent = v.unsent;
           some = v.some;
-          talked = talked_then v.next v.unsent t v.talked;
+          talked = talked_then a b u.1 Asked1 Asked2 Asked both n m k ls ks bound middle v.next v.unsent t v.talked;
           earlier = t.heard ++ v.earlier;
           last = v.last;
           heard = ap (λ hs. t.heard ++ hs) v.heard ∙ sym (append_assoc t.heard v.earlier (v.last ∷ []));
@@ -161,11 +168,11 @@ module _ (a b c : Option (List ℕ)) (Asked1 Asked2 Asked : List Call → Type 0
 pub gives_then : (old middle new : Stream) (ls ks : List Line) → Gives old ls middle → Gives middle ks new → Gives old (ls ++ ks) new
 gives_then old middle new ls ks g h more = g more ∙ ap (λ l. ls ++ l) (h more) ∙ sym (append_assoc ls ks (lines_of (fed new more)))
 
-pub spoken_nothing : (a : Option (List ℕ)) (Asked : List Call → Type 0) (n : ℕ) (feed : Stream) (bound : Bound) → Asked [] → Spoken a a Asked n n feed feed bound bound
+pub spoken_nothing : (a : WriteRecord) (Asked : List Call → Type 0) (n : ℕ) (feed : Stream) (bound : Bound) → Asked [] → Spoken a a Asked n n feed feed bound bound
 spoken_nothing a Asked n feed bound asked = record { lines = []; gives = λ more. refl; talked = talked_nothing a Asked n bound asked }
 
 -- one more line is given and answered
-pub spoken_more : (a b c : Option (List ℕ)) (Asked1 Asked2 Asked : List Call → Type 0) → ((xs ys : List Call) → Asked1 xs → Asked2 ys → Asked (xs ++ ys)) → (n m k : ℕ) (old middle new : Stream) (line : Line) (bound next last : Bound)
+pub spoken_more : (a b c : WriteRecord) (Asked1 Asked2 Asked : List Call → Type 0) → ((xs ys : List Call) → Asked1 xs → Asked2 ys → Asked (xs ++ ys)) → (n m k : ℕ) (old middle new : Stream) (line : Line) (bound next last : Bound)
     → Spoken a b Asked1 n m old middle bound next → Gives middle (line ∷ []) new → Talked b c Asked2 m k (line ∷ []) next (On last) [] → Spoken a c Asked n k old new bound last
 spoken_more a b c Asked1 Asked2 Asked both n m k old middle new line bound next last h g t = record {
   lines = h.lines ++ line ∷ [];

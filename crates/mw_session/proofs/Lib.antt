@@ -6,3 +6,5 @@ pub mod AnsweredLines
 pub mod SessionEnds
 pub mod LineJudgments
 pub mod LinesHeard
+mod Agreements
+mod Fieldless

@@ -1,8 +1,8 @@
 -- What the reader, the feed and `read_line` answer gives the facts that a session's contracts need.
 -- Used by: the proofs of step_at, Session::answer and Session::run. It may change freely as long as this crate checks.
-use Rattle.std.proofs.Common.{◌≡◌, ℕ, ◌<◌, false, List, [], ◌∷◌, length, take, Option, None, Result, Ok, Err, OnOk, slice_get, refl, sym, ap, ◌∙◌, subst}
+use Rattle.std.proofs.Common.{◌≡◌, ◌==◌, ℕ, false, cond, List, [], ◌∷◌, take, Option, None, Result, Ok, Err, OnOk, slice_get, refl, sym, ap, ◌∙◌, subst}
 use Rattle.std.specs.Result.{is_err}
-use Rattle.std.specs.Io.KnownBytes.{Consumes, IsAtEnd, ReadConsumes}
+use Rattle.mw_session.specs.StreamRecords.{ReadRecord, WriteRecord, reads_after, with_end, with_read, with_read_fault}
 use Rattle.arrayvec.specs.ArrayVec.{ArrayVec}
 use Rattle.mw_line.specs.declared.requests.LineFault.{LineFault}
 use Rattle.mw_line.specs.declared.requests.Request.{Request}
@@ -12,6 +12,7 @@ use Rattle.mw_frame.specs.Stream.{Stream, behind, lines_of}
 use Rattle.mw_session.specs.declared.steps.Bound.{Bound}
 use Rattle.mw_session.specs.declared.steps.Step.{Step}
 use Rattle.mw_session.specs.declared.session.Ended.{Ended}
+use Rattle.mw_session.specs.declared.session.Ended.TheVariants.{PeerEnd}
 use Rattle.mw_session.specs.Talk.{Call, Said, step_at}
 use Rattle.mw_session.specs.Lines.{Hears, Says}
 use Rattle.mw_session.specs.StepOfLine.{Judges}
@@ -25,7 +26,7 @@ judged bound line text bytes said step is same says e = record {
   step = e;
 }
 
-module _ (a b : Option (List ℕ)) (n m : ℕ) where
+module _ (a b : WriteRecord) (n m : ℕ) where
   pub wrote_all : (text : List ℕ) (r : Result (Unit {0}) Ended) → is_err r ≡ false → Writes a b n m text r → Sent a b n m text
   wrote_all text (Ok x) h w = w
   wrote_all text (Err e) h w = absurd (cc h)
@@ -35,6 +36,10 @@ module _ (a b : Option (List ℕ)) (n m : ℕ) where
   turned_ok Asked ls bound new (Ok x) h t = t
   turned_ok Asked ls bound new (Err e) h t = absurd (cc h)
 
+-- the end of the stream is found by a read, and not in the lines
+pub no_peer_end : (a b : WriteRecord) (n m : ℕ) (Asked : List Call → Type 0) (ls : List Line) (bound new : Bound) (ended : Ended) → ended ≡ PeerEnd → Turned a b Asked n m ls bound new (Err ended) → ⊥
+no_peer_end a b n m Asked ls bound new ended is t = subst (λ e. Turned a b Asked n m ls bound new (Err e)) is t
+
 no_first : (ls : List Line) → None ≡ slice_get ls 0 → ls ≡ []
 no_first [] h = refl
 no_first (l ∷ ls) h = absurd (cc h)
@@ -43,13 +48,16 @@ pub none_left : (old new : Stream) (r : Option Line) → r ≡ None → r ≡ sl
 none_left old new r is first left =
     ap lines_of (left ∙ ap (λ x. behind x old) is) ∙ no_first (lines_of old) (sym is ∙ first)
 
-pub read_some : {E : Type 0} (a b : Option (List ℕ)) (r : Result ℕ E) (n : ℕ) (buf : List ℕ) → r ≡ Ok n → ReadConsumes a b r buf → Consumes a b (take n buf)
-read_some {E} a b r n buf is h = let k = subst (λ (x : Result ℕ E). ReadConsumes a b x buf) is h in k.0
+pub read_some : {E : Type 0} (a b : ReadRecord) (r : Result ℕ E) (n : ℕ) (buf : List ℕ) → r ≡ Ok n → (n == 0) ≡ false → b ≡ reads_after a r buf → b ≡ with_read a (take n buf)
+read_some {E} a b r n buf is some h =
+    h ∙ ap (λ (x : Result ℕ E). reads_after a x buf) is ∙ ap (λ test. cond test (with_end a) (with_read a (take n buf))) some
 
-pub read_end : {E : Type 0} (a b : Option (List ℕ)) (r : Result ℕ E) (n : ℕ) (buf : List ℕ) → r ≡ Ok n → n ≡ 0 → 0 < length buf → ReadConsumes a b r buf → Consumes a b [] × IsAtEnd b
-read_end {E} a b r n buf is zero some h =
-    let k = subst (λ (x : Result ℕ E). ReadConsumes a b x buf) is h in
-    (subst (λ i. Consumes a b (take i buf)) zero k.0, k.1 zero some)
+pub read_end : {E : Type 0} (a b : ReadRecord) (r : Result ℕ E) (n : ℕ) (buf : List ℕ) → r ≡ Ok n → n ≡ 0 → b ≡ reads_after a r buf → b ≡ with_end a
+read_end {E} a b r n buf is zero h =
+    h ∙ ap (λ (x : Result ℕ E). reads_after a x buf) is ∙ ap (λ i. cond (i == 0) (with_end a) (with_read a (take i buf))) zero
+
+pub read_failed : {E : Type 0} (a b : ReadRecord) (r : Result ℕ E) (e : E) (buf : List ℕ) → r ≡ Err e → b ≡ reads_after a r buf → b ≡ with_read_fault a
+read_failed {E} a b r e buf is h = h ∙ ap (λ (x : Result ℕ E). reads_after a x buf) is
 
 pub on_ok : {E : Type 0} (r : Result (Unit {0}) E) (s t : Stream) → is_err r ≡ false → OnOk r (s ≡ t) → s ≡ t
 on_ok (Ok x) s t h k = k

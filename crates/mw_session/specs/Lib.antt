@@ -3,6 +3,8 @@ pub mod Transitions
 pub mod ServiceCalls
 pub mod Lines
 pub mod StepOfLine
+pub mod StreamRecords
+pub mod KnownStreams
 pub mod SessionParts
 pub mod WholeSessions
 pub mod UnderWay

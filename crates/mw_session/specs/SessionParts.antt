@@ -2,7 +2,7 @@
 -- Used by: UnderWay, the contracts of replies.rt, session.rt, steps.rt and writer.rt. It may change with session.rt and
 -- replies.rt, as long as WholeSessions still follows.
 use Rattle.std.specs.Prelude.{◌≡◌, ℕ, ◌+◌, ◌-◌, ◌^◌, ◌<◌, ◌++◌, min, List, [], ◌∷◌, length, Option, Some, None, Result, Ok, Err}
-use Rattle.std.specs.Io.KnownBytes.{Appends}
+use Rattle.mw_session.specs.StreamRecords.{WriteRecord, with_write_fault, with_written}
 use Rattle.mw_frame.specs.declared.lines.Line.{Line}
 use Rattle.mw_frame.specs.Stream.{Stream, fed, lines_of}
 use Rattle.mw_session.specs.declared.steps.Bound.{Bound}
@@ -20,22 +20,23 @@ abbrev pub counted : ℕ → List ℕ → ℕ
 counted count bytes = min (count + length bytes) (2 ^ 64 - 1)
 
 -- these bytes were written, and the count includes them
-pub record Sent (before now : Option (List ℕ)) (old_count new_count : ℕ) (sent : List ℕ) : Type 0 where
-  pub wrote : Appends before now sent
+pub record Sent (before now : WriteRecord) (old_count new_count : ℕ) (sent : List ℕ) : Type 0 where
+  pub wrote : now ≡ with_written before sent
   pub count : old_count < 2 ^ 64 → new_count ≡ counted old_count sent
 
 -- a first part of the text was written, and this rest was not
-pub record Sending (before now : Option (List ℕ)) (old_count new_count : ℕ) (text rest : List ℕ) : Type 0 where
+pub record Sending (before now : WriteRecord) (old_count new_count : ℕ) (text rest : List ℕ) : Type 0 where
   pub sent : List ℕ
   pub whole : text ≡ sent ++ rest
   pub is_sent : Sent before now old_count new_count sent
 
--- How the write of a text ended: the text was written whole; or the writer failed, and a first part was written, not
--- all.
-abbrev pub Writes : Option (List ℕ) → Option (List ℕ) → ℕ → ℕ → List ℕ → Result (Unit {0}) Ended → Type 0
+-- How the write of a text ended: the text was written whole; or a first part was written, not all, and one write failed
+-- or took no byte.
+abbrev pub Writes : WriteRecord → WriteRecord → ℕ → ℕ → List ℕ → Result (Unit {0}) Ended → Type 0
 Writes before now count new_count text (Ok _) = Sent before now count new_count text
 Writes before now count new_count text (Err (WriteFault told)) =
-    (sent : List ℕ) × (unsent : List ℕ) × (text ≡ sent ++ unsent) × (0 < length unsent) × (told ≡ new_count) × Sent before now count new_count sent
+    (middle : WriteRecord) × (now ≡ with_write_fault middle)
+    × (sent : List ℕ) × (unsent : List ℕ) × (text ≡ sent ++ unsent) × (0 < length unsent) × (told ≡ new_count) × Sent before middle count new_count sent
 Writes before now count new_count text (Err Quit) = ⊥
 Writes before now count new_count text (Err PeerEnd) = ⊥
 Writes before now count new_count text (Err TooLong) = ⊥
@@ -86,7 +87,7 @@ pub record Performs (Asked : List Call → Type 0) (step : Step) (old new : Boun
       → does step old (answers ++ unused) rest ≡ after text calls (goes (next_of step new) rest unused)
 
 -- These lines were heard in a session bound so. Their text was sent without its last part `unsent`, which may be empty.
-pub record Talked (before now : Option (List ℕ)) (Asked : List Call → Type 0) (count new_count : ℕ) (lines : List Line) (bound : Bound) (next : Next) (unsent : List ℕ) : Type 0 where
+pub record Talked (before now : WriteRecord) (Asked : List Call → Type 0) (count new_count : ℕ) (lines : List Line) (bound : Bound) (next : Next) (unsent : List ℕ) : Type 0 where
   pub heard : List Heard
   pub hears : HearsAll lines heard
   pub answers : List Answer
@@ -97,9 +98,8 @@ pub record Talked (before now : Option (List ℕ)) (Asked : List Call → Type 0
   pub talks : (unheard : List Heard) (unused : List Answer)
       → talk bound (heard ++ unheard) (answers ++ unused) ≡ after (sent ++ unsent) calls (goes next (λ bound left. talk bound unheard left) unused)
 
--- The writer failed in the text of these lines. The replies to all lines but the last were sent whole, and the last
--- line's reply was not.
-pub record Breaks (before now : Option (List ℕ)) (Asked : List Call → Type 0) (count new_count : ℕ) (lines : List Line) (bound : Bound) : Type 0 where
+-- The text of these lines was not sent whole. The replies to all lines but the last were, and the last line's reply was not.
+pub record Breaks (before now : WriteRecord) (Asked : List Call → Type 0) (count new_count : ℕ) (lines : List Line) (bound : Bound) : Type 0 where
   pub next : Next
   pub unsent : List ℕ
   pub some : 0 < length unsent
@@ -110,12 +110,13 @@ pub record Breaks (before now : Option (List ℕ)) (Asked : List Call → Type 0
   pub part : List ℕ
   pub replied : talked.sent ≡ (talk bound earlier talked.answers).text ++ part
 
--- how a part ends: the session goes on, or it has ended
-abbrev pub Turned : Option (List ℕ) → Option (List ℕ) → (List Call → Type 0) → ℕ → ℕ → List Line → Bound → Bound → Result (Unit {0}) Ended → Type 0
+-- how a part ends: the session goes on, or it has ended; if by a fault of a write, one write failed or took no byte
+abbrev pub Turned : WriteRecord → WriteRecord → (List Call → Type 0) → ℕ → ℕ → List Line → Bound → Bound → Result (Unit {0}) Ended → Type 0
 Turned before now Asked count new_count lines bound new (Ok _) = Talked before now Asked count new_count lines bound (On new) []
 Turned before now Asked count new_count lines bound new (Err Quit) = Talked before now Asked count new_count lines bound (Over Quits) []
 Turned before now Asked count new_count lines bound new (Err TooLong) = Talked before now Asked count new_count lines bound (Over Cuts) []
-Turned before now Asked count new_count lines bound new (Err (WriteFault told)) = (told ≡ new_count) × Breaks before now Asked count new_count lines bound
+Turned before now Asked count new_count lines bound new (Err (WriteFault told)) =
+    (told ≡ new_count) × (middle : WriteRecord) × (now ≡ with_write_fault middle) × Breaks before middle Asked count new_count lines bound
 Turned before now Asked count new_count lines bound new (Err PeerEnd) = ⊥
 Turned before now Asked count new_count lines bound new (Err ReadFault) = ⊥
 Turned before now Asked count new_count lines bound new (Err Memory) = ⊥
@@ -125,7 +126,7 @@ abbrev pub Gives : Stream → List Line → Stream → Type 0
 Gives old lines new = (more : List ℕ) → lines_of (fed old more) ≡ lines ++ lines_of (fed new more)
 
 -- A session that goes on: it took these lines from its stream, and answered them whole.
-pub record Spoken (before now : Option (List ℕ)) (Asked : List Call → Type 0) (count new_count : ℕ) (old new : Stream) (bound new_bound : Bound) : Type 0 where
+pub record Spoken (before now : WriteRecord) (Asked : List Call → Type 0) (count new_count : ℕ) (old new : Stream) (bound new_bound : Bound) : Type 0 where
   pub lines : List Line
   pub gives : Gives old lines new
   pub talked : Talked before now Asked count new_count lines bound (On new_bound) []

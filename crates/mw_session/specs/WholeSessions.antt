@@ -1,8 +1,7 @@
 -- Defines what a whole session has read, written and asked for, by how it ended.
--- Used by: mw_workers, mw_programs, the contracts of session.rt. It is the contract of Session::run: a change here changes what
+-- Used by: mw_workers, mw_service, the contracts of session.rt. It is the contract of Session::run: a change here changes what
 -- a connection is promised.
-use Rattle.std.specs.Prelude.{◌≡◌, ℕ, ◌-◌, ◌^◌, ◌<◌, ◌++◌, min, List, [], ◌∷◌, length, Option}
-use Rattle.std.specs.Io.KnownBytes.{Appends, Consumes, IsAtEnd}
+use Rattle.std.specs.Prelude.{◌≡◌, ℕ, ◌-◌, ◌^◌, ◌<◌, ◌++◌, min, List, [], ◌∷◌, length}
 use Rattle.mw_frame.specs.declared.lines.Line.{Line}
 use Rattle.mw_frame.specs.Lines.{lines}
 use Rattle.mw_session.specs.declared.steps.Bound.TheVariants.{Nobody}
@@ -10,6 +9,7 @@ use Rattle.mw_session.specs.declared.session.Ended.{Ended}
 use Rattle.mw_session.specs.declared.session.Ended.TheVariants.{Quit, PeerEnd, TooLong, ReadFault, WriteFault, Memory}
 use Rattle.mw_session.specs.Talk.{Answer, Call, Cuts, End, Heard, Listens, Quits, Script, after, talk}
 use Rattle.mw_session.specs.Lines.{HearsAll}
+use Rattle.mw_session.specs.StreamRecords.{ReadRecord, WriteRecord, with_end, with_read, with_read_fault, with_write_fault, with_written}
 
 -- The talk of what was heard is this text with these calls, and no line lacked its answer.
 abbrev pub IsTalk : List Heard → List Answer → List ℕ → List Call → Type 0
@@ -39,18 +39,35 @@ pub record BeginsTalk (heard : List Heard) (answers : List Answer) (text : List 
 -- What was written, by how the session ended. If the peer sends no more or the reader failed, every line that was read
 -- was answered. If the session ended at QUIT or at a line too long, or memory was out, every line that was looked at
 -- was answered. If the writer failed, the text begins the talk.
-abbrev pub EndsSo : Option (List ℕ) → List Line → List Heard → List Answer → List ℕ → List Call → Ended → Type 0
-EndsSo left unseen heard answers text calls PeerEnd = IsAtEnd left × (unseen ≡ []) × IsTalk heard answers text calls
-EndsSo left unseen heard answers text calls ReadFault = (unseen ≡ []) × IsTalk heard answers text calls
-EndsSo left unseen heard answers text calls Quit = EndsTalk heard answers text calls Quits
-EndsSo left unseen heard answers text calls TooLong = EndsTalk heard answers text calls Cuts
-EndsSo left unseen heard answers text calls Memory = IsTalk heard answers text calls
-EndsSo left unseen heard answers text calls (WriteFault told) = (told ≡ min (length text) (2 ^ 64 - 1)) × BeginsTalk heard answers text calls
+abbrev pub EndsSo : List Line → List Heard → List Answer → List ℕ → List Call → Ended → Type 0
+EndsSo unseen heard answers text calls PeerEnd = (unseen ≡ []) × IsTalk heard answers text calls
+EndsSo unseen heard answers text calls ReadFault = (unseen ≡ []) × IsTalk heard answers text calls
+EndsSo unseen heard answers text calls Quit = EndsTalk heard answers text calls Quits
+EndsSo unseen heard answers text calls TooLong = EndsTalk heard answers text calls Cuts
+EndsSo unseen heard answers text calls Memory = IsTalk heard answers text calls
+EndsSo unseen heard answers text calls (WriteFault told) = (told ≡ min (length text) (2 ^ 64 - 1)) × BeginsTalk heard answers text calls
 
--- What holds of a session. The reader had `left` before it and `new_left` after it; the writer had taken `taken` before
--- it and `new_taken` after it. `Asked` says that these calls led the service from its state before the session to the
--- one after it.
-pub record Holds (left new_left taken new_taken : Option (List ℕ)) (Asked : List Call → Type 0) (ended : Ended) : Type 0 where
+-- The record of reads when a session has ended so: one read found the end exactly at PeerEnd, and one failed exactly at ReadFault.
+abbrev pub reads_at_end : Ended → ReadRecord → ReadRecord
+reads_at_end PeerEnd reads = with_end reads
+reads_at_end ReadFault reads = with_read_fault reads
+reads_at_end Quit reads = reads
+reads_at_end TooLong reads = reads
+reads_at_end Memory reads = reads
+reads_at_end (WriteFault told) reads = reads
+
+-- The record of writes when a session has ended so: one write failed or took no byte exactly at WriteFault.
+abbrev pub writes_at_end : Ended → WriteRecord → WriteRecord
+writes_at_end (WriteFault told) writes = with_write_fault writes
+writes_at_end PeerEnd writes = writes
+writes_at_end ReadFault writes = writes
+writes_at_end Quit writes = writes
+writes_at_end TooLong writes = writes
+writes_at_end Memory writes = writes
+
+-- What holds of a session. Its stream had these records of reads and writes before it, and the new ones after it. `Asked` says
+-- that these calls led the service from its state before the session to the one after it.
+pub record Holds (reads new_reads : ReadRecord) (writes new_writes : WriteRecord) (Asked : List Call → Type 0) (ended : Ended) : Type 0 where
   -- what was read, the lines of it that were looked at, the other lines, and what was heard
   pub read : List ℕ
   pub seen : List Line
@@ -59,11 +76,11 @@ pub record Holds (left new_left taken new_taken : Option (List ℕ)) (Asked : Li
   -- what the service answered, and its calls, both in order
   pub answers : List Answer
   pub calls : List Call
-  -- what the writer took
+  -- what was written
   pub text : List ℕ
-  pub is_read : Consumes left new_left read
+  pub is_read : new_reads ≡ reads_at_end ended (with_read reads read)
   pub are_lines : lines read ≡ seen ++ unseen
   pub is_heard : HearsAll seen heard
   pub is_asked : Asked calls
-  pub is_taken : Appends taken new_taken text
-  pub ends : EndsSo new_left unseen heard answers text calls ended
+  pub is_written : new_writes ≡ writes_at_end ended (with_written writes text)
+  pub ends : EndsSo unseen heard answers text calls ended

@@ -21,17 +21,25 @@
 //!
 //! After each fault but the first the session goes on, bound as it was.
 //!
-//! mw_workers runs a session for each connection, and mw_programs one for a script. What a session says is
+//! A session reads and writes a [`RecordedStream`], which records what was read and written, and which call failed.
+//!
+//! mw_workers runs a session for each connection, and mw_service one for a script. What a session says is
 //! `specs/Talk`; CONTRIBUTING lists under *A command* what a new line needs.
 #![tactic(auto)]
 
 mod laws;
+mod recorded_stream;
 mod replies;
 mod service;
 mod session;
 mod steps;
+mod stream;
+mod stream_call;
+mod transcript;
 mod writer;
 
 pub use laws::one_hearing;
+pub use recorded_stream::RecordedStream;
 pub use service::Service;
 pub use session::{Ended, Session};
+pub use stream::{Duplex, NoOthers, Others, PeerStream};

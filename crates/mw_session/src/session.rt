@@ -1,22 +1,26 @@
 //! Runs one session: reads the client's bytes, and answers the lines that have come.
 //!
-//! mw_workers calls [`Session::run`] for each connection, and mw_programs for a script. `specs/WholeSessions` says
+//! mw_workers calls [`Session::run`] for each connection, and mw_service for a script. `specs/WholeSessions` says
 //! what it promises; the loop may change with `specs/UnderWay` and `specs/SessionParts`. README and docs/PROMISES
 //! cite `Session::run`.
 ghost use Rattle.std.specs.Prelude.{◌≡◌, [], ◌∷◌, List, OnOk};
+ghost use Rattle.std.specs.Io.KnownBytes.{IsAtEnd};
 ghost use Rattle.mw_frame.specs.declared.lines.Line.{Line as LineRead};
 ghost use Rattle.mw_frame.specs.Stream.{lines_of};
+ghost use Rattle.mw_session.specs.KnownStreams.{IsTied, inner_of, reads_of, writes_of};
 ghost use Rattle.mw_session.specs.SessionParts.{Gives, Turned};
 ghost use Rattle.mw_session.specs.ServiceCalls.{AreAnswered, IsServed};
 ghost use Rattle.mw_session.specs.WholeSessions.{Holds};
+ghost use Rattle.mw_session.specs.declared.session.Ended.TheVariants.{PeerEnd};
 
+use crate::recorded_stream::RecordedStream;
 use crate::replies::perform;
 use crate::service::Service;
 use crate::steps::{Bound, step_at};
+use crate::stream::{Others, PeerStream};
 use crate::writer::write_counted;
 use mw_frame::{Feed, Line};
 use std::alloc::Global;
-use std::io::{Read, Write};
 use std::sync::Wait;
 
 /// How a session ended.
@@ -28,16 +32,16 @@ pub enum Ended {
     PeerEnd,
     /// A line was too long, and the peer was told so.
     TooLong,
-    /// The reader failed.
+    /// A read failed.
     ReadFault,
-    /// The writer failed, or took nothing, after it had taken so many bytes of this session. The number stops at
+    /// A write failed, or took nothing, after so many bytes of this session were taken. The number stops at
     /// `u64::MAX`.
     WriteFault(u64),
     /// Memory was out for what came.
     Memory,
 }
 
-/// How many bytes are asked of a reader at a time.
+/// How many bytes are asked of the stream at a time.
 const PIECE: usize = 512;
 
 /// A session under way.
@@ -47,22 +51,25 @@ pub struct Session {
     feed: Feed,
     /// For whom the session speaks.
     bound: Bound,
-    /// How many bytes the writer has taken; stops at `u64::MAX`.
+    /// How many bytes the stream has taken; stops at `u64::MAX`.
     written: u64,
 }
 
 impl Session {
     /// Serves one peer until the session ends: reads its lines, and writes the reply to each before it looks at the
-    /// next. It may wait for ever, because a reader may never end.
-    pub fn run<R: Read, W: Write, S: Service>(
+    /// next. While it waits for the peer, the stream may ask whether others wait. It may wait for ever, because a stream
+    /// may never end.
+    pub fn run<T: PeerStream, R: Wait, O: Others, S: Service>(
         alloc: Global,
-        rt: &impl Wait,
-        reader: &mut R,
-        writer: &mut W,
+        rt: &R,
+        others: &O,
+        stream: &mut RecordedStream<T>,
         service: &mut S,
     ) -> Ended
-        ensures { Holds (R.remaining reader.old) (R.remaining reader.new) (W.contents writer.old) (W.contents writer.new)
+        ensures holds { Holds (reads_of stream.old) (reads_of stream.new) (writes_of stream.old) (writes_of stream.new)
             (AreAnswered S.answered service.old service.new) result }
+        ensures tied { IsTied T.remaining T.contents stream.old stream.new }
+        ensures at_end { result ≡ PeerEnd → IsAtEnd (T.remaining (inner_of stream.new)) }
     {
         let Ok(feed) = Feed::new(alloc) else {
             return Ended::Memory;
@@ -74,13 +81,13 @@ impl Session {
         };
         let mut piece = [0; PIECE];
         for _ in rt.forever() {
-            match reader.read(&mut piece) {
+            match stream.read(rt, others, &mut piece) {
                 Ok(0) => return Ended::PeerEnd,
                 Ok(count) => {
                     if session.feed.feed(&piece[..count]).is_err() {
                         return Ended::Memory;
                     }
-                    if let Err(ended) = session.answer_all(writer, service) {
+                    if let Err(ended) = session.answer_all(rt, others, stream, service) {
                         return ended;
                     }
                 }
@@ -91,20 +98,24 @@ impl Session {
     }
 
     /// Answers the complete lines that have come, in order. The error says how the session ended.
-    fn answer_all<W: Write, S: Service>(
+    fn answer_all<T: PeerStream, R: Wait, O: Others, S: Service>(
         &mut self,
-        writer: &mut W,
+        rt: &R,
+        others: &O,
+        stream: &mut RecordedStream<T>,
         service: &mut S,
     ) -> Result<(), Ended>
         requires { IsServed (S.has_words service.old) self.old.bound }
         ensures turned { (lines : List LineRead) × Gives self.old.feed lines self.new.feed
-            × Turned (W.contents writer.old) (W.contents writer.new) (AreAnswered S.answered service.old service.new)
+            × Turned (writes_of stream.old) (writes_of stream.new) (AreAnswered S.answered service.old service.new)
             self.old.written self.new.written lines self.old.bound self.new.bound result }
+        ensures reads { reads_of stream.new ≡ reads_of stream.old }
+        ensures tied { IsTied T.remaining T.contents stream.old stream.new }
         ensures all { OnOk result (lines_of self.new.feed ≡ []) }
         ensures served { OnOk result (IsServed (S.has_words service.new) self.new.bound) }
     {
         while let Some(line) = self.feed.next() {
-            let answered = self.answer(&line, writer, service);
+            let answered = self.answer(rt, others, &line, stream, service);
             if answered.is_err() {
                 return answered;
             }
@@ -113,21 +124,25 @@ impl Session {
     }
 
     /// Answers a line. The error says how the session ended.
-    fn answer<W: Write, S: Service>(
+    fn answer<T: PeerStream, R: Wait, O: Others, S: Service>(
         &mut self,
+        rt: &R,
+        others: &O,
         line: &Line,
-        writer: &mut W,
+        stream: &mut RecordedStream<T>,
         service: &mut S,
     ) -> Result<(), Ended>
         requires { IsServed (S.has_words service.old) self.old.bound }
-        ensures turned { Turned (W.contents writer.old) (W.contents writer.new) (AreAnswered S.answered service.old service.new)
+        ensures turned { Turned (writes_of stream.old) (writes_of stream.new) (AreAnswered S.answered service.old service.new)
             self.old.written self.new.written (line.now ∷ []) self.old.bound self.new.bound result }
+        ensures reads { reads_of stream.new ≡ reads_of stream.old }
+        ensures tied { IsTied T.remaining T.contents stream.old stream.new }
         ensures served { IsServed (S.has_words service.new) self.new.bound }
         ensures feed { self.new.feed ≡ self.old.feed }
     {
         let step = step_at(self.bound, line);
         let text = perform(&step, &mut self.bound, service);
-        let sent = write_counted(writer, text.bytes(), &mut self.written);
+        let sent = write_counted(rt, others, stream, text.bytes(), &mut self.written);
         if sent.is_err() {
             return sent;
         }

@@ -11,11 +11,11 @@ ghost use Rattle.mw_workers.specs.Sessions.{AreServed, chosen};
 
 use crate::acceptor::accept_one;
 use crate::patience::{Patient, RoomWatch};
-use crate::peer::{Connection, Intake, Listener, Others};
+use crate::peer::{Connection, Intake, Listener};
 use crate::server::{ServeEnd, serve_all};
 use crate::sockets::Closer;
 use crossbeam_channel::{Receiver, Sender};
-use mw_session::Service;
+use mw_session::{Others, Service};
 use std::alloc::{AllocError, Global};
 use std::sync::Wait;
 use std::sync::atomic::{AtomicBool, Ordering};
@@ -238,11 +238,13 @@ fn serve_in_turn<C: Connection + Drop, I: Iterator<Item = C> + Drop, S: Service,
     requires can { I.can_next connections }
     requires ends { IsFinite (I.remaining connections) }
     ensures { (all : List C) × (turns : List Bool) × Drains I.next_gives connections all × (length turns ≡ length all)
-        × AreServed C.left C.sent (AreAnswered S.answered) service.old (chosen turns all) service.new }
+        × AreServed C.left C.sent C.reads C.writes (AreAnswered S.answered) service.old (chosen turns all) service.new }
 {
     for connection in connections {
         if queue.is_open() {
+            let mut connection = connection;
             connection.serve(rt, alloc, service, queue);
+            connection.leave(rt);
         }
     }
 }

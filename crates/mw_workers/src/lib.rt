@@ -29,9 +29,9 @@
 //! Each reply is sent at once: a TCP connection is set not to hold back what is written to it. If the
 //! system refuses that, the client is served all the same.
 //!
-//! mw_programs listens and serves by it. Its proofs are about which connection is put where; of threads and sockets
-//! they say nothing. What a client or an operator sees of it is in docs/PROTOCOL and docs/OPERATING: change them
-//! together.
+//! mw_programs listens and serves by it. Its proofs are about which connection is put where, and what its session read
+//! and wrote; of threads and sockets they say nothing. What a client or an operator sees of it is in docs/PROTOCOL and
+//! docs/OPERATING: change them together.
 #![tactic(auto)]
 
 mod acceptor;
@@ -49,8 +49,9 @@ mod worker;
 
 pub use acceptor::accept_all;
 pub use desk::{DESK_QUEUE, Desk, TURN, serve_beside};
+pub use mw_session::{NoOthers, Others};
 pub use patience::{FIRST_PAUSE, LONGEST_PAUSE, Patient, RoomWatch};
-pub use peer::{Connection, Intake, Listener, NoOthers, Others};
+pub use peer::{Connection, Intake, Listener};
 pub use server::{QUEUE, ServeEnd, serve_all};
 pub use sockets::{Client, ClientListener, Closer, listen_at, port_of};
 pub use time_limits::TimeLimits;

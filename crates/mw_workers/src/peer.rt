@@ -1,20 +1,18 @@
-//! Defines the traits of a listener, of a place where connections wait for a worker, of a client's connection, and of
-//! what a session is told of those that wait.
+//! Defines the traits of a listener, of a place where connections wait for a worker, and of a client's connection.
 //!
 //! `sockets.rt` implements [`Listener`] and [`Connection`] for clients, `patience.rt` a listener over another one,
-//! `server.rt` implements [`Intake`], `desk.rt` [`Others`], and tests have peers of their own. A new call needs a body
-//! in each.
-ghost use Rattle.std.specs.Prelude.{ℕ, List, Option};
+//! `server.rt` implements [`Intake`], and tests have peers of their own. A new call needs a body in each.
+ghost use Rattle.std.specs.Prelude.{ℕ, ◌≡◌, List, Option};
 ghost use Rattle.std.specs.declared.result.Result.{Result as Outcome};
 ghost use Rattle.std.specs.declared.io.Error.{Error as IoError};
 ghost use Rattle.mw_session.specs.ServiceCalls.{AreAnswered};
-ghost use Rattle.mw_session.specs.WholeSessions.{Holds};
+ghost use Rattle.mw_session.specs.StreamRecords.{ReadRecord, WriteRecord};
+ghost use Rattle.mw_workers.specs.Sessions.{IsSessionOf};
 
-use mw_session::{Ended, Service};
+use mw_session::{Ended, Others, Service};
 use std::alloc::Global;
 use std::io;
 use std::sync::Wait;
-use std::time::Duration;
 
 /// Gives connections.
 pub trait Listener {
@@ -44,48 +42,36 @@ pub trait Intake<C> {
         ensures { puts self.old connection self.new };
 }
 
-/// Tells a session whether other clients wait for its worker.
-pub trait Others {
-    /// Gives for how long the client may end no line while others wait. None: nobody waits for this worker
-    /// alone.
-    fn turn(&self) -> Option<Duration>;
-
-    /// Tells whether others wait now.
-    fn wait(&self) -> bool;
-}
-
-/// Nobody waits for this worker alone: whoever waits is served by the first worker that is free.
-#[derive(Drop)]
-pub struct NoOthers;
-
-impl Others for NoOthers {
-    fn turn(&self) -> Option<Duration> {
-        None
-    }
-
-    fn wait(&self) -> bool {
-        false
-    }
-}
-
-/// A client's connection, which is served once. Dropping it closes it.
+/// A client's connection, to be served once. Dropping it closes it.
 pub trait Connection {
-    // The bytes that the client sent and nobody has read yet, if they are known.
+    // The bytes that the client sent and nobody has read yet, where they are known.
     ghost left: { Self → Option (List ℕ) };
 
-    // The bytes that were sent to the client, if they are known.
+    // The bytes that were sent to the client, where they are known.
     ghost sent: { Self → Option (List ℕ) };
 
-    /// Serves the client by one session, [`mw_session::Session::run`], and closes the connection. Gives how
-    /// the session ended. A client may say nothing, or not read what it is told, so this may wait for ever;
-    /// but if it ends no line for a whole turn while others wait, its session may be ended.
+    // What was read from the client, as it was recorded.
+    ghost reads: { Self → ReadRecord };
+
+    // What was written to the client, as it was recorded.
+    ghost writes: { Self → WriteRecord };
+
+    /// Serves the client by one session, [`mw_session::Session::run`]. Gives how the session ended. A client may
+    /// say nothing, or not read what it is told, so this may wait for ever; but if it ends no line for a whole turn
+    /// while others wait, its session may be ended.
     fn serve<S: Service, R: Wait, O: Others>(
-        self,
+        &mut self,
         rt: &R,
         alloc: Global,
         service: &mut S,
         others: &O,
     ) -> Ended
-        ensures { (closed : Self) × Holds (left self) (left closed) (sent self) (sent closed)
+        ensures { IsSessionOf (left self.old) (left self.new) (sent self.old) (sent self.new)
+            (reads self.old) (reads self.new) (writes self.old) (writes self.new)
             (AreAnswered S.answered service.old service.new) result };
+
+    /// Lets a client whose session has ended read all that it was told, before its connection is closed. Nothing more
+    /// is written.
+    fn leave<R: Wait>(&mut self, rt: &R)
+        ensures { writes self.new ≡ writes self.old };
 }

@@ -1,27 +1,25 @@
 //! Implements listeners and connections by TCP sockets and local sockets.
 //!
-//! mw_programs calls [`listen_at`]. No contract says what a socket carries. The limits at the top may have other
-//! numbers; docs/OPERATING and docs/PROTOCOL tell what follows from them.
-ghost use Rattle.std.specs.Prelude.{None};
+//! mw_programs calls [`listen_at`]. No contract says what a socket carries; what was read from it and written to it is
+//! recorded. The limits at the top may have other numbers; docs/OPERATING and docs/PROTOCOL tell what follows from them.
+ghost use Rattle.std.specs.Prelude.{◌≡◌, None};
+ghost use Rattle.mw_session.specs.KnownStreams.{reads_of, writes_of};
 
 use crate::listening_socket::{ListeningSocket, listen};
 use crate::local::listen_local;
-use crate::peer::{Connection, Listener, Others};
+use crate::peer::{Connection, Listener};
 use crate::time_limits::{TimeLimits, WaitLimits};
-use crate::timed_stream::{Pace, TimedReader, TimedWriter};
-use mw_session::{Ended, Service, Session};
+use crate::timed_stream::TimedStream;
+use mw_session::{Ended, NoOthers, Others, PeerStream, RecordedStream, Service, Session};
 use std::alloc::Global;
 use std::fs::File;
-use std::io::{self, ErrorKind, Read};
+use std::io::{self, ErrorKind};
 use std::net::{Net, Shutdown, TcpListener, TcpStream};
 use std::rt::Files;
 use std::sync::Wait;
-use std::time::{Clock, Duration, Instant};
+use std::time::Clock;
 
-/// How long a client whose session has ended is read at most before its connection is closed, in seconds.
-const FAREWELL: u64 = 1;
-
-/// How many times such a client is read at most.
+/// How many times a client whose session has ended is read at most before its connection is closed.
 const LINGER_READS: u32 = 1024;
 
 /// How many bytes one read of such a client takes at most. So at most 1 MiB is read.
@@ -41,9 +39,7 @@ pub struct ClientListener<'a, K> {
 /// A client's connection, over TCP or by a local socket.
 #[derive(Drop)]
 pub struct Client<'a, K> {
-    stream: TcpStream,
-    clock: &'a K,
-    limits: WaitLimits,
+    stream: RecordedStream<TimedStream<'a, K>>,
 }
 
 /// Listens at an address. At `127.0.0.1:7000` it listens over TCP; at port 0 the system picks a free port.
@@ -131,10 +127,9 @@ impl<'a, K: Clock + Sync> Listener for ClientListener<'a, K> {
         if limit_waits(&stream, &self.limits).is_err() {
             return Err(io::Error::from(ErrorKind::ConnectionAborted));
         }
+        let stream = TimedStream::new(stream, self.clock, self.limits);
         Ok(Client {
-            stream,
-            clock: self.clock,
-            limits: self.limits,
+            stream: RecordedStream::new(stream),
         })
     }
 }
@@ -160,28 +155,22 @@ impl<'a, K: Clock> Connection for Client<'a, K> {
 
     ghost sent = { λ _. None };
 
+    ghost reads = { λ c. reads_of c.stream };
+
+    ghost writes = { λ c. writes_of c.stream };
+
     fn serve<S: Service, R: Wait, O: Others>(
-        self,
+        &mut self,
         rt: &R,
         alloc: Global,
         service: &mut S,
         others: &O,
     ) -> Ended {
-        let mut limits = self.limits;
-        limits.turn = others.turn();
-        let pace = Pace {
-            stream: &self.stream,
-            clock: self.clock,
-            rt,
-            others,
-            limits,
-        };
-        let mut reader = TimedReader::new(&pace);
-        let mut writer = TimedWriter::new(&pace);
-        let ended = Session::run(alloc, rt, &mut reader, &mut writer, service);
-        // If the system refuses this, the connection is closed all the same.
-        let _ = say_goodbye(self.clock, &self.stream);
-        ended
+        Session::run(alloc, rt, others, &mut self.stream, service)
+    }
+
+    fn leave<R: Wait>(&mut self, rt: &R) {
+        say_goodbye(rt, &mut self.stream);
     }
 }
 
@@ -190,26 +179,18 @@ impl<'a, K: Clock> Connection for Client<'a, K> {
 /// read.
 ///
 /// Nothing more is written. What the client still sends is read and dropped, until the client closes its
-/// side, was read [`LINGER_READS`] times, or [`FAREWELL`] seconds have passed, whatever it sends.
-///
-/// # Errors
-///
-/// The system refuses, the clock can't be read, or the client is silent until then.
-fn say_goodbye<K: Clock>(clock: &K, mut stream: &TcpStream) -> io::Result<()> {
-    let begun = Instant::now(clock)?;
-    stream.shutdown(Shutdown::Write)?;
+/// side, was read [`LINGER_READS`] times, or is read no longer (`end_writing` of its stream), or a call fails.
+fn say_goodbye<T: PeerStream, R: Wait>(rt: &R, stream: &mut RecordedStream<T>)
+    ensures { writes_of stream.new ≡ writes_of stream.old }
+{
+    // If the system refuses this, the connection is closed all the same.
+    if stream.end_writing().is_err() {
+        return;
+    }
     let mut piece = [0; LINGER_PIECE];
-    let farewell = Duration::from_secs(FAREWELL);
-    let mut left = farewell;
     for _ in 0..LINGER_READS {
-        stream.set_read_timeout(Some(left))?;
-        if stream.read(&mut piece)? == 0 {
-            break;
-        }
-        left = farewell.saturating_sub(begun.elapsed(clock)?);
-        if left.is_zero() {
-            break;
+        if stream.read(rt, &NoOthers, &mut piece).unwrap_or(0) == 0 {
+            return;
         }
     }
-    Ok(())
 }

@@ -1,52 +1,73 @@
-//! A reader and a writer over a client's socket, for one session, within the limits of its waits.
+//! The stream of a client's socket, for one session, within the limits of its waits.
 //!
-//! `sockets.rt` gives both to the session. How long a call may wait is calculated in `time_limits.rt`. Nothing is proved
-//! of sockets, so this may change freely as long as this crate checks and its tests pass.
+//! `sockets.rt` makes one for each client. How long a call may wait is calculated in `time_limits.rt`. Nothing is proved
+//! of sockets, so this may change freely as long as this crate checks and its tests pass. [`FAREWELL`] may have another
+//! number; docs/PROTOCOL and docs/OPERATING tell it.
 ghost use Rattle.std.specs.Prelude.{None};
 ghost use Rattle.std.specs.Io.{ReadsAtMost, WritesAtMost};
 
-use crate::peer::Others;
 use crate::time_limits::{Times, WaitLimits, lesser};
+use mw_session::{Others, PeerStream};
 use std::io::{self, ErrorKind, Read, Write};
-use std::net::TcpStream;
+use std::net::{Shutdown, TcpStream};
 use std::sync::Wait;
 use std::time::{Clock, Duration, Instant};
 
-/// A client's socket, and what limits its waits.
+/// How long a client whose session has ended is read at most before its connection is closed, in seconds.
+const FAREWELL: u64 = 1;
+
+/// A client's socket, and what limits its waits. A call fails if a limit is over, or the clock can't be read.
 #[derive(Drop)]
-pub(crate) struct Pace<'a, K, R, O> {
-    pub(crate) stream: &'a TcpStream,
-    pub(crate) clock: &'a K,
-    pub(crate) rt: &'a R,
-    pub(crate) others: &'a O,
-    pub(crate) limits: WaitLimits,
+pub(crate) struct TimedStream<'a, K> {
+    stream: TcpStream,
+    clock: &'a K,
+    /// The limits of a session whose worker nobody waits for.
+    limits: WaitLimits,
+    reading: Pace,
+    writing: Pace,
+    farewell: Option<Farewell>,
 }
 
-/// Reads what the client sends. A read fails if a limit is over, or the clock can't be read.
-#[derive(Drop)]
-pub(crate) struct TimedReader<'a, K, R, O> {
-    pace: &'a Pace<'a, K, R, O>,
+/// The times of one direction, and the limit of a wait that the socket has now.
+#[derive(Clone, Copy)]
+struct Pace {
     times: Times,
-    /// The limit of a read that the socket has now.
     set: Option<Duration>,
 }
 
-/// Writes replies to the client. A write fails if a limit is over, or the clock can't be read.
-#[derive(Drop)]
-pub(crate) struct TimedWriter<'a, K, R, O> {
-    pace: &'a Pace<'a, K, R, O>,
-    times: Times,
-    /// The limit of a write that the socket has now.
-    set: Option<Duration>,
+/// When the writing ended, and how long the client is still read.
+#[derive(Clone, Copy)]
+struct Farewell {
+    begun: Instant,
+    left: Duration,
 }
 
-impl<'a, K: Clock, R: Wait, O: Others> TimedReader<'a, K, R, O> {
-    /// Makes the reader of a session that begins. A read of its socket waits for a whole silence.
-    pub(crate) fn new(pace: &'a Pace<'a, K, R, O>) -> Self {
-        TimedReader {
-            pace,
-            times: Times::new(),
-            set: pace.limits.silence,
+impl<'a, K: Clock> TimedStream<'a, K> {
+    /// Makes the stream of a session that begins. The socket has these limits: a read waits for a whole silence, and a
+    /// write as [`WaitLimits::write_wait`] says.
+    pub(crate) fn new(stream: TcpStream, clock: &'a K, limits: WaitLimits) -> Self {
+        TimedStream {
+            stream,
+            clock,
+            limits,
+            reading: Pace {
+                times: Times::new(),
+                set: limits.silence,
+            },
+            writing: Pace {
+                times: Times::new(),
+                set: limits.write_wait(),
+            },
+            farewell: None,
+        }
+    }
+
+    /// Gives the limits while these others may wait for the worker.
+    fn limits_beside<O: Others>(&self, others: &O) -> WaitLimits {
+        WaitLimits {
+            silence: self.limits.silence,
+            line: self.limits.line,
+            turn: others.turn(),
         }
     }
 
@@ -54,30 +75,37 @@ impl<'a, K: Clock, R: Wait, O: Others> TimedReader<'a, K, R, O> {
     fn read_within(&mut self, wait: Option<Duration>, piece: &mut [u8]) -> io::Result<usize>
         ensures { ReadsAtMost result piece.new }
     {
-        let mut stream = self.pace.stream;
-        if wait != self.set {
-            stream.set_read_timeout(wait)?;
-            self.set = wait;
+        if wait != self.reading.set {
+            self.stream.set_read_timeout(wait)?;
+            self.reading.set = wait;
         }
-        stream.read(piece)
+        self.stream.read(piece)
     }
 
     /// Reads until a limit is over, which the clock tells.
-    fn read_by_clock(&mut self, piece: &mut [u8]) -> io::Result<usize>
+    fn read_by_clock<R: Wait, O: Others>(
+        &mut self,
+        rt: &R,
+        others: &O,
+        limits: &WaitLimits,
+        piece: &mut [u8],
+    ) -> io::Result<usize>
         ensures { ReadsAtMost result piece.new }
     {
-        let pace = self.pace;
-        let called = Instant::now(pace.clock)?;
+        let clock = self.clock;
+        let called = Instant::now(clock)?;
         let mut now = called;
-        self.times = self.times.started(called);
-        for _ in pace.rt.forever() {
-            let others = pace.others.wait();
-            let wait = self.times.wait_left(&pace.limits, called, now, others);
+        self.reading.times = self.reading.times.started(called);
+        for _ in rt.forever() {
+            let wait = self
+                .reading
+                .times
+                .wait_left(limits, called, now, others.wait());
             if wait == Some(Duration::ZERO) {
                 return Err(io::Error::from(ErrorKind::TimedOut));
             }
             match self.read_within(wait, piece) {
-                Err(fault) if is_no_end(&fault) => now = Instant::now(pace.clock)?,
+                Err(fault) if is_no_end(&fault) => now = Instant::now(clock)?,
                 answer => return answer,
             }
         }
@@ -85,70 +113,75 @@ impl<'a, K: Clock, R: Wait, O: Others> TimedReader<'a, K, R, O> {
     }
 
     /// Reads once for a whole silence. If a signal cuts that short, it reads on by the clock.
-    fn read_at_first(&mut self, piece: &mut [u8]) -> io::Result<usize>
+    fn read_at_first<R: Wait, O: Others>(
+        &mut self,
+        rt: &R,
+        others: &O,
+        limits: &WaitLimits,
+        piece: &mut [u8],
+    ) -> io::Result<usize>
         ensures { ReadsAtMost result piece.new }
     {
-        match self.read_within(self.pace.limits.silence, piece) {
-            Err(fault) if fault.kind() == ErrorKind::Interrupted => self.read_by_clock(piece),
+        match self.read_within(limits.silence, piece) {
+            Err(fault) if fault.kind() == ErrorKind::Interrupted => {
+                self.read_by_clock(rt, others, limits, piece)
+            }
             answer => answer,
         }
     }
-}
 
-impl<K: Clock, R: Wait, O: Others> Read for TimedReader<'_, K, R, O> {
-    ghost remaining = { λ _. None };
-
-    fn read(&mut self, piece: &mut [u8]) -> io::Result<usize> {
-        let answer = if self.times.need_clock(&self.pace.limits) {
-            self.read_by_clock(piece)
-        } else {
-            self.read_at_first(piece)
-        };
+    /// Reads once for what is left of the farewell.
+    fn read_at_farewell(&mut self, farewell: Farewell, piece: &mut [u8]) -> io::Result<usize>
+        ensures { ReadsAtMost result piece.new }
+    {
+        if farewell.left.is_zero() {
+            return Err(io::Error::from(ErrorKind::TimedOut));
+        }
+        self.stream.set_read_timeout(Some(farewell.left))?;
+        let answer = self.stream.read(piece);
         if let Ok(count) = answer {
-            self.times = self.times.after_piece(&piece[..count]);
+            if count > 0 {
+                self.farewell = Some(farewell.later(self.clock));
+            }
         }
         answer
-    }
-}
-
-impl<'a, K: Clock, R: Wait, O: Others> TimedWriter<'a, K, R, O> {
-    /// Makes the writer of a session that begins. A write to its socket waits as [`WaitLimits::write_wait`] says.
-    pub(crate) fn new(pace: &'a Pace<'a, K, R, O>) -> Self {
-        TimedWriter {
-            pace,
-            times: Times::new(),
-            set: pace.limits.write_wait(),
-        }
     }
 
     /// Writes once, and waits at most for so long.
     fn write_within(&mut self, wait: Option<Duration>, text: &[u8]) -> io::Result<usize>
         ensures { WritesAtMost result text.now }
     {
-        let mut stream = self.pace.stream;
-        if wait != self.set {
-            stream.set_write_timeout(wait)?;
-            self.set = wait;
+        if wait != self.writing.set {
+            self.stream.set_write_timeout(wait)?;
+            self.writing.set = wait;
         }
-        stream.write(text)
+        self.stream.write(text)
     }
 
     /// Writes until a limit is over, which the clock tells.
-    fn write_by_clock(&mut self, text: &[u8]) -> io::Result<usize>
+    fn write_by_clock<R: Wait, O: Others>(
+        &mut self,
+        rt: &R,
+        others: &O,
+        limits: &WaitLimits,
+        text: &[u8],
+    ) -> io::Result<usize>
         ensures { WritesAtMost result text.now }
     {
-        let pace = self.pace;
-        let called = Instant::now(pace.clock)?;
+        let clock = self.clock;
+        let called = Instant::now(clock)?;
         let mut now = called;
-        self.times = self.times.started(called);
-        for _ in pace.rt.forever() {
-            let others = pace.others.wait();
-            let wait = self.times.wait_left(&pace.limits, called, now, others);
+        self.writing.times = self.writing.times.started(called);
+        for _ in rt.forever() {
+            let wait = self
+                .writing
+                .times
+                .wait_left(limits, called, now, others.wait());
             if wait == Some(Duration::ZERO) {
                 return Err(io::Error::from(ErrorKind::TimedOut));
             }
-            match self.write_within(lesser(wait, pace.limits.write_wait()), text) {
-                Err(fault) if is_no_end(&fault) => now = Instant::now(pace.clock)?,
+            match self.write_within(lesser(wait, limits.write_wait()), text) {
+                Err(fault) if is_no_end(&fault) => now = Instant::now(clock)?,
                 answer => return answer,
             }
         }
@@ -156,12 +189,32 @@ impl<'a, K: Clock, R: Wait, O: Others> TimedWriter<'a, K, R, O> {
     }
 
     /// Writes once for a while. If nothing was taken meanwhile, it writes on by the clock.
-    fn write_at_first(&mut self, text: &[u8]) -> io::Result<usize>
+    fn write_at_first<R: Wait, O: Others>(
+        &mut self,
+        rt: &R,
+        others: &O,
+        limits: &WaitLimits,
+        text: &[u8],
+    ) -> io::Result<usize>
         ensures { WritesAtMost result text.now }
     {
-        match self.write_within(self.pace.limits.write_wait(), text) {
-            Err(fault) if is_no_end(&fault) => self.write_by_clock(text),
+        match self.write_within(limits.write_wait(), text) {
+            Err(fault) if is_no_end(&fault) => self.write_by_clock(rt, others, limits, text),
             answer => answer,
+        }
+    }
+}
+
+impl Farewell {
+    /// Gives what is left of it now: nothing if the clock can't be read.
+    fn later<K: Clock>(self, clock: &K) -> Farewell {
+        let left = match self.begun.elapsed(clock) {
+            Ok(passed) => Duration::from_secs(FAREWELL).saturating_sub(passed),
+            Err(_) => Duration::ZERO,
+        };
+        Farewell {
+            begun: self.begun,
+            left,
         }
     }
 }
@@ -171,22 +224,52 @@ fn is_no_end(fault: &io::Error) -> bool {
     matches!(fault.kind(), ErrorKind::WouldBlock | ErrorKind::Interrupted)
 }
 
-impl<K: Clock, R: Wait, O: Others> Write for TimedWriter<'_, K, R, O> {
+impl<K: Clock> PeerStream for TimedStream<'_, K> {
+    ghost remaining = { λ _. None };
+
     ghost contents = { λ _. None };
 
-    fn write(&mut self, text: &[u8]) -> io::Result<usize> {
-        let answer = if self.times.need_clock(&self.pace.limits) {
-            self.write_by_clock(text)
+    fn read<R: Wait, O: Others>(
+        &mut self,
+        rt: &R,
+        others: &O,
+        piece: &mut [u8],
+    ) -> io::Result<usize> {
+        if let Some(farewell) = self.farewell {
+            return self.read_at_farewell(farewell, piece);
+        }
+        let limits = self.limits_beside(others);
+        let answer = if self.reading.times.need_clock(&limits) {
+            self.read_by_clock(rt, others, &limits, piece)
         } else {
-            self.write_at_first(text)
+            self.read_at_first(rt, others, &limits, piece)
         };
         if let Ok(count) = answer {
-            self.times = self.times.after_write(count == text.len());
+            self.reading.times = self.reading.times.after_piece(&piece[..count]);
         }
         answer
     }
 
-    fn flush(&mut self) -> io::Result<()> {
+    fn write<R: Wait, O: Others>(&mut self, rt: &R, others: &O, text: &[u8]) -> io::Result<usize> {
+        let limits = self.limits_beside(others);
+        let answer = if self.writing.times.need_clock(&limits) {
+            self.write_by_clock(rt, others, &limits, text)
+        } else {
+            self.write_at_first(rt, others, &limits, text)
+        };
+        if let Ok(count) = answer {
+            self.writing.times = self.writing.times.after_write(count == text.len());
+        }
+        answer
+    }
+
+    fn end_writing(&mut self) -> io::Result<()> {
+        let begun = Instant::now(self.clock)?;
+        self.stream.shutdown(Shutdown::Write)?;
+        self.farewell = Some(Farewell {
+            begun,
+            left: Duration::from_secs(FAREWELL),
+        });
         Ok(())
     }
 }

@@ -7,13 +7,13 @@ ghost use Rattle.std.specs.Iterator.{Drains, IsFinite};
 ghost use Rattle.mw_session.specs.ServiceCalls.{AreAnswered};
 ghost use Rattle.mw_workers.specs.Sessions.{AreServed};
 
-use crate::peer::{Connection, NoOthers};
-use mw_session::Service;
+use crate::peer::Connection;
+use mw_session::{NoOthers, Service};
 use std::alloc::Global;
 use std::sync::Wait;
 
 /// Serves each connection by one session, in the order in which they come, until no more come. However a
-/// session ends, it serves the next connection.
+/// session ends, its connection is closed, and the next is served.
 pub fn serve_each<C: Connection + Drop, I: Iterator<Item = C> + Drop, S: Service, R: Wait>(
     rt: &R,
     alloc: Global,
@@ -23,9 +23,11 @@ pub fn serve_each<C: Connection + Drop, I: Iterator<Item = C> + Drop, S: Service
     requires can { I.can_next connections }
     requires ends { IsFinite (I.remaining connections) }
     ensures { (all : List C) × Drains I.next_gives connections all
-        × AreServed C.left C.sent (AreAnswered S.answered) service.old all service.new }
+        × AreServed C.left C.sent C.reads C.writes (AreAnswered S.answered) service.old all service.new }
 {
     for connection in connections {
+        let mut connection = connection;
         connection.serve(rt, alloc, service, &NoOthers);
+        connection.leave(rt);
     }
 }

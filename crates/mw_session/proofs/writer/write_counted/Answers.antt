@@ -1,21 +1,42 @@
 -- Proves goals of `write_counted` (src/writer.rt) that the check does not prove by itself. Used by: the proof of that function
 -- alone. It may change freely as long as this crate checks.
-use Rattle.std.proofs.Common.{sym, subst, take, length, ◌≤◌}
-use Rattle.std.specs.Io.KnownBytes.{Appends}
-use Rattle.mw_session.proofs.WrittenTexts.{sending_starts, sending_more, write_fits, write_takes}
+use Rattle.std.proofs.Common.{◌≡◌, ◌==◌, false, rules, sym, subst, ◌∙◌, length, take, ◌≤◌, refl}
+use Rattle.mw_session.specs.KnownStreams.{inner_of, reads_of, writes_of}
+use Rattle.mw_session.specs.StreamRecords.{with_written}
+use Rattle.mw_session.proofs.Agreements.{agree_nothing, tied_then}
+use Rattle.mw_session.proofs.WrittenTexts.{sending_more, sending_starts, write_fits, write_takes}
 use Rattle.mw_session.proofs.writer.write_counted.Goals as goal
 
 pub loop-rest-init : goal.loop-rest-init
-loop-rest-init g c = sending_starts (g.W.Write.contents c.args.writer.now) c.args.count.now c.args.text.now
+loop-rest-init g c =
+    let T = g.T.PeerStream in
+    let s = c.args.stream.now in
+    record {
+      sending = sending_starts (writes_of s) c.args.count.now c.args.text.now;
+      reads = refl;
+      tied = agree_nothing (T.remaining (inner_of s)) (T.contents (inner_of s)) (reads_of s) (writes_of s);
+    }
 
 pub loop-rest-preserved : goal.loop-rest-preserved
 loop-rest-preserved g c =
-    let W = g.W.Write.contents in
+    let T = g.T.PeerStream in
+    let before = c.loop-rest.stream in
+    let after = c.write.new.self in
     let rest = c.loop-rest.rest.now in
     let taken = c.unwrap_or-taken.result in
-    sending_more (W c.args.writer.now) (W c.loop-rest.writer) (W c.write.new.self) c.args.count.now c.loop-rest.count c.saturating_add.result c.args.text.now rest taken
-    c.loop-rest.invariant
-    (subst (λ k. k ≤ length rest) (sym c.unwrap_or-taken.ensures) (write_fits c.write.result rest c.write.ensures.bound))
-    (subst (λ k. Appends (W c.loop-rest.writer) (W c.write.new.self) (take k rest)) (sym c.unwrap_or-taken.ensures)
-    (write_takes (W c.loop-rest.writer) (W c.write.new.self) c.write.result rest c.write.ensures.bytes))
-    c.saturating_add.ensures
+    let some : (taken == 0) ≡ false = search rules in
+    record {
+      sending = sending_more (writes_of c.args.stream.now) (writes_of before) (writes_of after) c.args.count.now c.loop-rest.count c.saturating_add.result c.args.text.now rest taken
+          c.loop-rest.invariant.sending
+          (subst (λ k. k ≤ length rest) (sym c.unwrap_or-taken.ensures) (write_fits c.write.result rest c.write.ensures.bound))
+          (subst (λ k. writes_of after ≡ with_written (writes_of before) (take k rest)) (sym c.unwrap_or-taken.ensures)
+          (write_takes (writes_of before) (writes_of after) c.write.result rest c.write.ensures.writes (subst (λ k. (k == 0) ≡ false) c.unwrap_or-taken.ensures some)))
+          c.saturating_add.ensures;
+      reads = c.write.ensures.reads ∙ c.loop-rest.invariant.reads;
+      tied = tied_then T.remaining T.contents c.args.stream.now before after c.loop-rest.invariant.tied c.write.ensures.tied;
+    }
+
+pub returns-then-taken-eq0-clause-tied : goal.returns-then-taken-eq0-clause-tied
+returns-then-taken-eq0-clause-tied g c =
+    let T = g.T.PeerStream in
+    tied_then T.remaining T.contents c.args.stream.now c.loop-rest.stream c.write.new.self c.loop-rest.invariant.tied c.write.ensures.tied

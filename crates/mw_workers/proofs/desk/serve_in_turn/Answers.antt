@@ -12,11 +12,11 @@ loop-connection-preserved-then-is_open g c =
     let so_far = c.loop-connection.invariant in (
       so_far.0 ++ true ∷ [],
       one_more so_far.0 c.loop-connection.yielded true c.in-Some.connection so_far.1,
-      subst (λ l. AreServed g.C.Connection.left g.C.Connection.sent (AreAnswered g.S.Service.answered) c.args.service.now l c.serve.new.service)
+      subst (λ l. AreServed g.C.Connection.left g.C.Connection.sent g.C.Connection.reads g.C.Connection.writes (AreAnswered g.S.Service.answered) c.args.service.now l c.serve.new.service)
           (sym (chosen_more so_far.0 c.loop-connection.yielded c.in-Some.connection so_far.1))
-          (goes_further (IsServed g.C.Connection.left g.C.Connection.sent (AreAnswered g.S.Service.answered))
+          (goes_further (IsServed g.C.Connection.left g.C.Connection.sent g.C.Connection.reads g.C.Connection.writes (AreAnswered g.S.Service.answered))
           c.args.service.now (chosen so_far.0 c.loop-connection.yielded) c.loop-connection.service c.in-Some.connection c.serve.new.service
-          so_far.2 (c.serve.result, c.serve.ensures.0, c.serve.ensures.1)),
+          so_far.2 (c.serve.result, c.serve.new.self, c.serve.ensures)),
     )
 
 pub loop-connection-preserved : goal.loop-connection-preserved
@@ -24,6 +24,6 @@ loop-connection-preserved g c =
     let so_far = c.loop-connection.invariant in (
       so_far.0 ++ false ∷ [],
       one_more so_far.0 c.loop-connection.yielded false c.in-Some.connection so_far.1,
-      subst (λ l. AreServed g.C.Connection.left g.C.Connection.sent (AreAnswered g.S.Service.answered) c.args.service.now l c.loop-connection.service)
+      subst (λ l. AreServed g.C.Connection.left g.C.Connection.sent g.C.Connection.reads g.C.Connection.writes (AreAnswered g.S.Service.answered) c.args.service.now l c.loop-connection.service)
           (sym (chosen_same so_far.0 c.loop-connection.yielded c.in-Some.connection so_far.1)) so_far.2,
     )

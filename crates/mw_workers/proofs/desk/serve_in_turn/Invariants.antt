@@ -9,4 +9,4 @@ use Rattle.mw_workers.proofs.desk.serve_in_turn.Given as goal
 abbrev pub invariant-loop-connection : goal.invariant-loop-connection
 invariant-loop-connection g l =
     (turns : List Bool) × (length turns ≡ length l.yielded)
-    × AreServed g.C.Connection.left g.C.Connection.sent (AreAnswered g.S.Service.answered) l.initial.service (chosen turns l.yielded) l.service
+    × AreServed g.C.Connection.left g.C.Connection.sent g.C.Connection.reads g.C.Connection.writes (AreAnswered g.S.Service.answered) l.initial.service (chosen turns l.yielded) l.service

@@ -1,8 +1,10 @@
 -- Proves goals of `Session::answer_all` (src/session.rt) that the check does not prove by itself. Used by: the proof of that
 -- function alone. It may change freely as long as this crate checks.
-use Rattle.std.proofs.Common.{sym, subst, ◌∙◌, [], ◌∷◌, ◌++◌}
+use Rattle.std.proofs.Common.{refl, sym, subst, ◌∙◌, [], ◌∷◌, ◌++◌}
+use Rattle.mw_session.specs.KnownStreams.{inner_of, reads_of, writes_of}
 use Rattle.mw_session.specs.SessionParts.{Gives}
 use Rattle.mw_session.specs.ServiceCalls.{AreAnswered}
+use Rattle.mw_session.proofs.Agreements.{agree_nothing, tied_then}
 use Rattle.mw_session.proofs.LineJudgments.{none_left, turned_ok}
 use Rattle.mw_session.proofs.StepOutputs.{asked_nothing, asked_then}
 use Rattle.mw_session.proofs.AnsweredLines.{fewer_lines, gives_then, spoken_more, spoken_nothing, turned_then}
@@ -11,10 +13,14 @@ use Rattle.mw_session.proofs.session.Session.answer_all.Goals as goal
 pub loop-line-init : goal.loop-line-init
 loop-line-init g c =
     let s = g.S.Service in
+    let T = g.T.PeerStream in
     let old = c.args.self.now in
+    let stream = c.args.stream.now in
     let now = c.args.service.now in
     record {
-      spoken = spoken_nothing (g.W.Write.contents c.args.writer.now) (AreAnswered s.answered now now) old.written old.feed old.bound (asked_nothing s.answered now);
+      spoken = spoken_nothing (writes_of c.args.stream.now) (AreAnswered s.answered now now) old.written old.feed old.bound (asked_nothing s.answered now);
+      reads = refl;
+      tied = agree_nothing (T.remaining (inner_of stream)) (T.contents (inner_of stream)) (reads_of stream) (writes_of stream);
       served = c.requires;
     }
 
@@ -26,7 +32,7 @@ loop-line-smaller g c =
 
 pub loop-line-preserved : goal.loop-line-preserved
 loop-line-preserved g c =
-    let W = g.W.Write.contents in
+    let T = g.T.PeerStream in
     let s = g.S.Service in
     let first = c.args.self.now in
     let old = c.loop-line.self in
@@ -36,20 +42,21 @@ loop-line-preserved g c =
     let middle = c.loop-line.service in
     let end = a.new.service in
     record {
-      spoken = spoken_more (W c.args.writer.now) (W c.loop-line.writer) (W a.new.writer)
+      spoken = spoken_more (writes_of c.args.stream.now) (writes_of c.loop-line.stream) (writes_of a.new.stream)
           (AreAnswered s.answered start middle) (AreAnswered s.answered middle end) (AreAnswered s.answered start end)
           (asked_then s.answered start middle end)
           first.written old.written a.new.self.written first.feed old.feed a.new.self.feed line first.bound old.bound a.new.self.bound
           c.loop-line.invariant.spoken
           (subst (λ f. Gives old.feed (line ∷ []) f) (sym a.ensures.feed) c.in-Some.ensures.lines)
-          (turned_ok (W c.loop-line.writer) (W a.new.writer) old.written a.new.self.written (AreAnswered s.answered middle end) (line ∷ []) old.bound a.new.self.bound a.result
+          (turned_ok (writes_of c.loop-line.stream) (writes_of a.new.stream) old.written a.new.self.written (AreAnswered s.answered middle end) (line ∷ []) old.bound a.new.self.bound a.result
           (sym c.is_err.ensures.value ∙ c.if-is_err.false) a.ensures.turned);
+      reads = a.ensures.reads ∙ c.loop-line.invariant.reads;
+      tied = tied_then T.remaining T.contents c.args.stream.now c.loop-line.stream a.new.stream c.loop-line.invariant.tied a.ensures.tied;
       served = a.ensures.served;
     }
 
 pub returns-then-is_err-clause-turned : goal.returns-then-is_err-clause-turned
 returns-then-is_err-clause-turned g c =
-    let W = g.W.Write.contents in
     let s = g.S.Service in
     let first = c.args.self.now in
     let old = c.loop-line.self in
@@ -62,7 +69,7 @@ returns-then-is_err-clause-turned g c =
       so_far.lines ++ line ∷ [],
       gives_then first.feed old.feed a.new.self.feed so_far.lines (line ∷ []) so_far.gives
           (subst (λ f. Gives old.feed (line ∷ []) f) (sym a.ensures.feed) c.in-Some.ensures.lines),
-      turned_then (W c.args.writer.now) (W c.loop-line.writer) (W a.new.writer)
+      turned_then (writes_of c.args.stream.now) (writes_of c.loop-line.stream) (writes_of a.new.stream)
           (AreAnswered s.answered start middle) (AreAnswered s.answered middle end) (AreAnswered s.answered start end)
           (asked_then s.answered start middle end)
           first.written old.written a.new.self.written so_far.lines (line ∷ []) first.bound old.bound a.new.self.bound a.result so_far.talked a.ensures.turned,
@@ -70,3 +77,9 @@ returns-then-is_err-clause-turned g c =
 
 pub returns-clause-all : goal.returns-clause-all
 returns-clause-all g c = none_left c.loop-line.self.feed c.next.new.self c.next.result c.in_default.is c.next.ensures.first c.next.ensures.left
+
+pub returns-then-is_err-clause-tied : goal.returns-then-is_err-clause-tied
+returns-then-is_err-clause-tied g c =
+    let T = g.T.PeerStream in
+    let a = c.answer-answered in
+    tied_then T.remaining T.contents c.args.stream.now c.loop-line.stream a.new.stream c.loop-line.invariant.tied a.ensures.tied

@@ -1,7 +1,8 @@
 -- States what stays true from turn to turn in the loops of `Session::answer_all` (src/session.rt). Used by: the proof of that
 -- function alone. It may change freely as long as this crate checks.
-use Rattle.std.proofs.Common.{length}
+use Rattle.std.proofs.Common.{◌≡◌, length}
 use Rattle.mw_frame.specs.Stream.{lines_of}
+use Rattle.mw_session.specs.KnownStreams.{IsTied, reads_of, writes_of}
 use Rattle.mw_session.specs.SessionParts.{Spoken}
 use Rattle.mw_session.specs.ServiceCalls.{AreAnswered, IsServed}
 use Rattle.mw_session.proofs.session.Session.answer_all.Given as goal
@@ -9,11 +10,13 @@ use Rattle.mw_session.proofs.session.Session.answer_all.Given as goal
 -- the lines so far were answered
 abbrev pub invariant-loop-line : goal.invariant-loop-line
 invariant-loop-line g l =
-    let W = g.W.Write.contents in
+    let T = g.T.PeerStream in
     let s = g.S.Service in
     record {
-      spoken : Spoken (W l.initial.writer) (W l.writer) (AreAnswered s.answered l.initial.service l.service)
+      spoken : Spoken (writes_of l.initial.stream) (writes_of l.stream) (AreAnswered s.answered l.initial.service l.service)
           l.initial.self.written l.self.written l.initial.self.feed l.self.feed l.initial.self.bound l.self.bound;
+      reads : reads_of l.stream ≡ reads_of l.initial.stream;
+      tied : IsTied T.remaining T.contents l.initial.stream l.stream;
       served : IsServed (s.has_words l.service) l.self.bound;
     }
 

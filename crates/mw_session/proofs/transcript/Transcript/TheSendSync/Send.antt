@@ -1,0 +1,7 @@
+-- A transcript owns nothing, so it may go to another thread. This answers `unsafe impl Send for Transcript` in src/transcript.rt; no
+-- other file uses it. It must be proved again if Transcript gets a field that owns something.
+use denote.Param.Send.{IsSend, owning_send}
+use Rattle.mw_session.specs.contracts.transcript.Transcript.{the_row, the_type}
+
+pub send : IsSend the_row
+send = owning_send the_type tt (λ d. tt) (λ k x w. tt)

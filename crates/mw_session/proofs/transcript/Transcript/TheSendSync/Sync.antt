@@ -1,0 +1,9 @@
+-- A transcript owns nothing, so threads may share it. This answers `unsafe impl Sync for Transcript` in src/transcript.rt; no other file
+-- uses it. It must be proved again if Transcript gets a field that owns something.
+use denote.Param.Send.{IsSync, cell_keyless}
+use denote.Memory.{part_of, raw_all}
+use Rattle.mw_session.specs.contracts.transcript.Transcript.{the_row}
+
+pub sync : IsSync the_row
+unfolding part_of
+sync = record { shared = λ d b o κ. λ q vs. (cell_keyless q (raw_all the_row.mir) vs b o, ((λ _. (tt, tt)), tt)) }
