@@ -121,7 +121,7 @@ impl<J: EngineBrand> Pools<J> {
         let most = passes.len().saturating_sub(1);
         let reads = cut::<J>(&mut passes, most.min(usize::from(readers)))?;
         Ok(Pools {
-            reads: ReadPool::new(pool_of(rt, reads)?),
+            reads: read_pool_of(rt, reads)?,
             changes: pool_of(rt, passes)?,
             admin,
         })
@@ -161,6 +161,23 @@ fn pool_of<J: EngineBrand, R: AllocGlobal + Wait>(
     PassPool::new(rt, rt.alloc(), passes)
 }
 
+/// Makes a pool of these passes that only read.
+///
+/// # Errors
+///
+/// [`AllocError`] if memory is out, or there is no pass.
+fn read_pool_of<J: EngineBrand, R: AllocGlobal>(
+    rt: &R,
+    passes: Vec<Pass>,
+) -> Result<ReadPool<J>, AllocError>
+    requires new { All (IsNew J.identity) passes.items }
+{
+    if passes.is_empty() {
+        return Err(AllocError);
+    }
+    ReadPool::new(rt.alloc(), passes)
+}
+
 /// Makes a borrower for each client that is served at once, and one more for the administrator, if there are passes for
 /// the administrator.
 ///
@@ -178,13 +195,20 @@ fn borrowers_for<'a, J: EngineBrand, D: Disk, H, R: AllocGlobal, T>(
 {
     let mut made = Vec::with_capacity(rt.alloc(), usize::from(clients) + 1)?;
     for _ in 0..clients {
-        let borrower = Borrower::new(engine, Some(&pools.reads), &pools.changes, rt, watch);
+        let borrower = Borrower::new(
+            made.len(),
+            engine,
+            Some(&pools.reads),
+            &pools.changes,
+            rt,
+            watch,
+        );
         if made.push(borrower).is_err() {
             return Err(AllocError);
         }
     }
     if let Some(own) = &pools.admin {
-        let borrower = Borrower::new(engine, None, own, rt, watch);
+        let borrower = Borrower::new(0, engine, None, own, rt, watch);
         if made.push(borrower).is_err() {
             return Err(AllocError);
         }

@@ -24,7 +24,7 @@ use mw_opening::{
     WatchedFile, are_all_open, note_cause, open_files, open_plain, read_tenants_file,
 };
 use mw_service::{FaultWatch, Worker};
-use mw_session::Ended;
+use mw_session::{Duplex, Ended, RecordedStream};
 use mw_words::MAX_WORKERS;
 use std::alloc::AllocError;
 use std::fs::File;
@@ -338,7 +338,7 @@ where
     requires new { All (IsNew J.identity) passes.items }
     requires some { 0 < vec_len passes }
 {
-    let mut script = match open_plain(rt, path) {
+    let script = match open_plain(rt, path) {
         Ok(script) => script,
         Err(fault) => return Err(ServeFault::CannotRead(path, fault)),
     };
@@ -346,7 +346,11 @@ where
         return Err(ServeFault::Memory);
     };
     let mut worker = Worker::new(engine, pass, rt, watch);
-    match worker.run(rt.alloc(), &mut script, out) {
+    let mut stream = RecordedStream::new(Duplex {
+        reader: script,
+        writer: out,
+    });
+    match worker.run(rt.alloc(), &mut stream) {
         Ended::Quit | Ended::PeerEnd | Ended::TooLong => Ok(()),
         Ended::ReadFault | Ended::WriteFault(_) | Ended::Memory => Err(ServeFault::Ended),
     }

@@ -1,3 +1,4 @@
 pub mod SessionOrders
 pub mod Sessions
 pub mod Workers
+pub mod SinceStarts

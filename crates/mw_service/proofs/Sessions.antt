@@ -1,8 +1,9 @@
 -- A session that a worker served is one of the worker's pass (its handle to the engine), with the same calls.
 -- Used by: the proof of Worker::run. It may change freely as long as this crate checks.
-use Rattle.std.specs.Prelude.{ℕ, List, [], ◌∷◌, Option}
+use Rattle.std.specs.Prelude.{List, [], ◌∷◌}
 use Rattle.std.proofs.Common.{ap}
 use Rattle.mw_session.specs.declared.session.Ended.{Ended}
+use Rattle.mw_session.specs.StreamRecords.{ReadRecord, WriteRecord}
 use Rattle.mw_session.specs.Talk.{Call}
 use Rattle.mw_session.specs.Transitions.{GoesThrough}
 use Rattle.mw_session.specs.WholeSessions.{Holds}
@@ -14,9 +15,9 @@ part_goes part steps old [] new same = ap part same
 part_goes part steps old (item ∷ later) new goes = (part goes.0, goes.1, part_goes part steps goes.0 later new goes.2)
 
 -- a session whose calls are as Asked says is one whose calls are as Told says, if Asked implies Told
-pub told_otherwise : (left new_left taken new_taken : Option (List ℕ)) (Asked Told : List Call → Type 0) (ended : Ended) → ((calls : List Call) → Asked calls → Told calls)
-    → Holds left new_left taken new_taken Asked ended → Holds left new_left taken new_taken Told ended
-told_otherwise left new_left taken new_taken Asked Told ended tell holds = record {
+pub told_otherwise : (reads new_reads : ReadRecord) (writes new_writes : WriteRecord) (Asked Told : List Call → Type 0) (ended : Ended) → ((calls : List Call) → Asked calls → Told calls)
+    → Holds reads new_reads writes new_writes Asked ended → Holds reads new_reads writes new_writes Told ended
+told_otherwise reads new_reads writes new_writes Asked Told ended tell holds = record {
   read = holds.read;
   seen = holds.seen;
   unseen = holds.unseen;
@@ -28,6 +29,6 @@ told_otherwise left new_left taken new_taken Asked Told ended tell holds = recor
   are_lines = holds.are_lines;
   is_heard = holds.is_heard;
   is_asked = tell holds.calls holds.is_asked;
-  is_taken = holds.is_taken;
+  is_written = holds.is_written;
   ends = holds.ends;
 }

@@ -1,6 +1,6 @@
 -- Defines what is answered to a session that borrows a pass (a handle to the engine) for each request, by its notes: what it
 -- had seen before, and what it has seen then.
--- Used by: the contracts of src/idle_pass.rt, src/pass_pool.rt, src/read_pool.rt and src/borrower.rt. A change here changes what
+-- Used by: the contracts of src/idle_pass.rt, src/locked_passes.rt, src/pass_pool.rt, src/read_pool.rt and src/borrower.rt. A change here changes what
 -- a client is promised that shares the workers with others.
 use Rattle.std.specs.Prelude.{◌≡◌, ℕ, length, map, Option, Some, None, MatchOption}
 use Rattle.mw_words.specs.declared.jobs.Job.{Job}
@@ -16,6 +16,7 @@ use Rattle.mw_engine.specs.Identity.{HasNone, IsFirst}
 use Rattle.mw_engine.specs.LinesOfWorld.{places_told}
 use Rattle.mw_engine.specs.Notes.{IsNoteOf}
 use Rattle.mw_engine.specs.Replies.{IsReplyTo}
+use Rattle.mw_service.specs.SinceStart.{IsSinceStart}
 
 -- a session's note, if it has one, is of this engine
 abbrev pub IsNoteOfEngine : Identity → Option Note → Type 0
@@ -31,12 +32,14 @@ LearnsNote (Some said) before first = HasLearned (said_in said) before first
 abbrev pub Says : View → Option Note → Type 0
 Says last kept = MatchOption kept ⊥ (λ made. said_in made ≡ note last)
 
--- A session borrowed a pass that knew `before`, and that knows `last` with the answer. The pass is one of this engine's. It
--- first learned from the session's note; the session's new note says all that it has seen with the answer.
+-- A session borrowed a pass that knew `before`, and that knows `last` with the answer. The pass is one of this engine's, and knew
+-- a run since the engine's start. It first learned from the session's note; the session's new note says all that it has seen with
+-- the answer.
 pub record Borrows (identity : Identity) (before last : View) (old new : Option Note) : Type 0 where
   pub first : View
   pub config : before.config ≡ identity.config
   pub openings : before.openings ≡ identity.openings
+  pub begun : IsSinceStart identity before.known_run
   pub learns : LearnsNote old before first
   pub says : Says last new
 
@@ -55,8 +58,12 @@ pub record AreCountedBy (identity : Identity) (before last : View) (old : Option
   pub keeps : ExtendsView borrows.first last
   pub told : TellAll identity.config.pool identity.config.pool identity.lines (map places_told identity.openings) figures.tenants.items figures.pool_free borrows.first last
 
--- The same with some pass, which is under a lock that doesn't tell what it knew. So of BUSY, FAULT and WORN these say no more
--- than that some views of the world explain them: what their steps found stays with the pass, and no note tells it.
+-- The same with some pass, which is under a lock that doesn't tell what it knew. What the request's steps found stays with the
+-- pass. The session's new note tells the run that the pass knew last: it has the arrival of a request of this tenant for this job,
+-- after all that the session knew before, its steps and its reply. BUSY and FAULT are explained by that run alone: if it had
+-- numbers left at every moment, the tenant's store alone gives this reply, and WORN never comes
+-- (`answers_are_of_the_store_alone` of mw_engine). That two sessions are not told the reply to one request, only the pass knows
+-- (`IdlePass::serve`).
 abbrev pub IsAnsweredWith : Identity → Option Note → ℕ → Job → Reply → Option Note → Type 0
 IsAnsweredWith identity old tenant job reply new = (before last : View) × IsAnsweredBy identity before last old tenant job reply new
 

@@ -1,3 +1,4 @@
 pub mod Borrowed
 pub mod Served
 pub mod SessionOrder
+pub mod SinceStart

@@ -23,6 +23,8 @@ pub struct Borrower<'a, J: EngineBrand, D: Disk, H, R, T> {
     reads: Option<&'a ReadPool<J>>,
     /// The passes for changes.
     passes: &'a PassPool<J>,
+    /// Its number among the sessions, which says which pass it reads with.
+    number: usize,
     /// What its sessions have seen. None before the first reply to a job and the first figures.
     note: Option<Note>,
     rt: &'a R,
@@ -31,8 +33,10 @@ pub struct Borrower<'a, J: EngineBrand, D: Disk, H, R, T> {
 }
 
 impl<'a, J: EngineBrand, D: Disk, H, R, T> Borrower<'a, J, D, H, R, T> {
-    /// Makes a service that borrows from these pools. It tells the watch of each request that is answered FAULT.
+    /// Makes the service of the session of this number, which borrows from these pools. It tells the watch of each request
+    /// that is answered FAULT.
     pub fn new(
+        number: usize,
         engine: &'a Engine<J, D, H>,
         reads: Option<&'a ReadPool<J>>,
         passes: &'a PassPool<J>,
@@ -43,6 +47,7 @@ impl<'a, J: EngineBrand, D: Disk, H, R, T> Borrower<'a, J, D, H, R, T> {
             engine,
             reads,
             passes,
+            number,
             note: None,
             rt,
             watch,
@@ -67,7 +72,7 @@ impl<J: EngineBrand, D: Disk + Drop, H: Hold + Drop, R: Wait, T: FaultWatch> Ser
         let note = self.note.take();
         let (reply, note) = match (self.reads, job) {
             (Some(reads), Job::Get(address)) => {
-                reads.read(self.rt, self.engine, note, tenant, *address)
+                reads.read(self.rt, self.engine, self.number, note, tenant, *address)
             }
             _ => self.passes.serve(self.rt, self.engine, note, tenant, job),
         };
@@ -81,7 +86,7 @@ impl<J: EngineBrand, D: Disk + Drop, H: Hold + Drop, R: Wait, T: FaultWatch> Ser
     fn figures(&mut self) -> Figures {
         let note = self.note.take();
         let (figures, note) = match self.reads {
-            Some(reads) => reads.figures(self.rt, self.engine, note),
+            Some(reads) => reads.figures(self.rt, self.engine, self.number, note),
             None => self.passes.figures(self.rt, self.engine, note),
         };
         self.note = Some(note);

@@ -7,6 +7,7 @@ ghost use Rattle.mw_engine.specs.Notes.{IsNoteOf};
 ghost use Rattle.mw_engine.specs.Passes.{IsPassOf};
 ghost use Rattle.mw_report.specs.Table.{AreWithinLimits};
 ghost use Rattle.mw_service.specs.Borrowed.{AreCountedBy, IsAnsweredBy, IsNoteOfEngine, LearnsNote};
+ghost use Rattle.mw_service.specs.SinceStart.{IsSinceStart};
 
 use mw_disk::Disk;
 use mw_engine::{Engine, EngineBrand, Hold, Note, Pass};
@@ -22,6 +23,7 @@ pub struct IdlePass<J: EngineBrand> {
     pub(crate) brand: PhantomData<J>,
     ghost own: { IsPassOf J.identity pass },
     ghost idle: { pass.idle ≡ true },
+    ghost begun: { IsSinceStart J.identity pass.seat.me.0.known_run },
 }
 
 impl<J: EngineBrand> IdlePass<J> {

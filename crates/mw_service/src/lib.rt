@@ -16,6 +16,7 @@
 mod borrower;
 mod idle_pass;
 mod laws;
+mod locked_passes;
 mod pass_pool;
 mod read_pool;
 mod served;

@@ -1,6 +1,6 @@
 //! A pool of passes, from which sessions borrow one for each request.
 //!
-//! mw_programs makes it; `borrower` borrows from it, and `read_pool` is one for reads alone. Its contracts use `specs/Borrowed`: change both together.
+//! mw_programs makes it; `borrower` borrows from it. Its contracts use `specs/Borrowed`: change both together.
 ghost use Rattle.std.specs.Prelude.{◌≡◌, ◌<◌, All, Some, IfOk, vec_len};
 ghost use Rattle.mw_engine.specs.Identity.{IsFor};
 ghost use Rattle.mw_engine.specs.Notes.{IsNoteOf};
@@ -8,27 +8,24 @@ ghost use Rattle.mw_engine.specs.Passes.{IsNew};
 ghost use Rattle.mw_report.specs.Table.{AreWithinLimits};
 ghost use Rattle.mw_service.specs.Borrowed.{AreCountedWith, IsAnsweredWith, IsNoteOfEngine};
 
-use crate::idle_pass::IdlePass;
+use crate::locked_passes::LockedPasses;
 use crossbeam_channel::{Receiver, Sender};
 use mw_disk::Disk;
 use mw_engine::{Engine, EngineBrand, Hold, Note, Pass};
 use mw_report::Figures;
 use mw_words::{Job, Reply};
 use std::alloc::{AllocError, Global};
-use std::marker::PhantomData;
-use std::sync::{Mutex, Wait};
+use std::sync::Wait;
 
-/// Passes of an engine, which sessions borrow. A pass stays in its lock while it is borrowed, so each lock always has an
-/// idle pass of this engine, however a session ends. Who has a pass's ticket takes its lock without waiting; while all
-/// tickets are out, sessions wait for one.
+/// Passes of an engine, which sessions borrow. Who has a pass's ticket takes its lock without waiting; while all tickets
+/// are out, sessions wait for one.
 #[derive(Drop)]
 pub struct PassPool<J: EngineBrand> {
-    passes: Vec<Mutex<IdlePass<J>>>,
-    /// The tickets of the passes that are free: their indexes.
+    passes: LockedPasses<J>,
+    /// The tickets of the passes that are free: their numbers.
     free: Receiver<usize>,
     /// Where tickets are returned.
     returned: Sender<usize>,
-    ghost some: { 0 < vec_len passes },
 }
 
 impl<J: EngineBrand> PassPool<J> {
@@ -40,13 +37,14 @@ impl<J: EngineBrand> PassPool<J> {
     pub fn new<R: Wait>(rt: &R, alloc: Global, passes: Vec<Pass>) -> Result<PassPool<J>, AllocError>
         requires new { All (IsNew J.identity) passes.items }
         requires some { 0 < vec_len passes }
-        ensures { IfOk result (λ pool. vec_len pool.passes ≡ vec_len passes) }
+        ensures { IfOk result (λ pool. vec_len pool.passes.passes ≡ vec_len passes) }
     {
-        let Ok((returned, free)) = crossbeam_channel::bounded(alloc, passes.len()) else {
+        let count = passes.len();
+        let Ok((returned, free)) = crossbeam_channel::bounded(alloc, count) else {
             return Err(AllocError);
         };
-        let passes = locked(alloc, passes)?;
-        give_tickets(rt, &returned, passes.len())?;
+        let passes = LockedPasses::new(alloc, passes)?;
+        give_tickets(rt, &returned, count)?;
         Ok(PassPool {
             passes,
             free,
@@ -70,16 +68,13 @@ impl<J: EngineBrand> PassPool<J> {
         ensures its { IsNoteOf J.identity result.1 }
     {
         let ticket = self.take(rt);
-        let answered = {
-            let mut lent = self.of_ticket(ticket).lock(rt);
-            lent.serve(engine, rt, note, tenant, job)
-        };
+        let answered = self.passes.serve(rt, engine, ticket, note, tenant, job);
         self.give_back(rt, ticket);
         answered
     }
 
-    /// Gives the figures for a session that has seen what the note says, with a pass of this pool, and a note of what it
-    /// has seen then. It waits until a pass is free.
+    /// Gives the figures for a session that has seen what the note says, with a pass of this pool, and a note of what the
+    /// session has seen then. It waits until a pass is free.
     pub(crate) fn figures<D: Disk, H, R: Wait>(
         &self,
         rt: &R,
@@ -92,10 +87,7 @@ impl<J: EngineBrand> PassPool<J> {
         ensures its { IsNoteOf J.identity result.1 }
     {
         let ticket = self.take(rt);
-        let counted = {
-            let mut lent = self.of_ticket(ticket).lock(rt);
-            lent.figures(engine, note)
-        };
+        let counted = self.passes.figures(rt, engine, ticket, note);
         self.give_back(rt, ticket);
         counted
     }
@@ -110,37 +102,6 @@ impl<J: EngineBrand> PassPool<J> {
     fn give_back<R: Wait>(&self, rt: &R, ticket: usize) {
         let _ = self.returned.send(rt, ticket);
     }
-
-    /// Gives the lock of a ticket's pass.
-    fn of_ticket(&self, ticket: usize) -> &Mutex<IdlePass<J>> {
-        let index = ticket.min(self.passes.len() - 1);
-        &self.passes[index]
-    }
-}
-
-/// Puts each of these passes into a lock.
-///
-/// # Errors
-///
-/// [`AllocError`] if memory is out. The passes are dropped.
-fn locked<J: EngineBrand>(
-    alloc: Global,
-    passes: Vec<Pass>,
-) -> Result<Vec<Mutex<IdlePass<J>>>, AllocError>
-    requires new { All (IsNew J.identity) passes.items }
-    ensures { IfOk result (λ made. vec_len made ≡ vec_len passes) }
-{
-    let mut made = Vec::with_capacity(alloc, passes.len())?;
-    for pass in passes {
-        let idle = IdlePass {
-            pass,
-            brand: PhantomData,
-        };
-        if made.push(Mutex::new(idle)).is_err() {
-            return Err(AllocError);
-        }
-    }
-    Ok(made)
 }
 
 /// Gives a ticket for each of so many passes.

@@ -1,38 +1,51 @@
 //! A pool of passes with which nothing but reads and reports is done.
 //!
 //! mw_programs makes it, and `borrower` borrows from it. Its contracts use `specs/Borrowed`: change both together.
-ghost use Rattle.std.specs.Prelude.{Some};
+ghost use Rattle.std.specs.Prelude.{◌≡◌, ◌<◌, All, Some, IfOk, vec_len};
 ghost use Rattle.mw_words.specs.declared.jobs.Job.TheVariants.{Get};
 ghost use Rattle.mw_engine.specs.Identity.{IsFor};
 ghost use Rattle.mw_engine.specs.Notes.{IsNoteOf};
+ghost use Rattle.mw_engine.specs.Passes.{IsNew};
 ghost use Rattle.mw_report.specs.Table.{AreWithinLimits};
 ghost use Rattle.mw_service.specs.Borrowed.{AreCountedWith, IsAnsweredWith, IsNoteOfEngine};
 
-use crate::pass_pool::PassPool;
+use crate::locked_passes::LockedPasses;
 use mw_disk::Disk;
-use mw_engine::{Engine, EngineBrand, Hold, Note};
+use mw_engine::{Engine, EngineBrand, Hold, Note, Pass};
 use mw_report::Figures;
 use mw_words::{Job, Reply};
+use std::alloc::{AllocError, Global};
 use std::sync::Wait;
 
-/// Passes for reads and reports. It takes no change, so none of its passes waits for a disk.
+/// Passes for reads and reports. It takes no change, so none of its passes waits for a disk, and a read keeps one for a
+/// microsecond or two. So each session has its pass, which it shares with few others, and there are no tickets to wait for.
 #[derive(Drop)]
 pub struct ReadPool<J: EngineBrand> {
-    passes: PassPool<J>,
+    passes: LockedPasses<J>,
 }
 
 impl<J: EngineBrand> ReadPool<J> {
-    /// Lets these passes only read.
-    pub fn new(passes: PassPool<J>) -> Self {
-        ReadPool { passes }
+    /// Makes a pool of these passes, which only read.
+    ///
+    /// # Errors
+    ///
+    /// [`AllocError`] if memory is out. The passes are dropped.
+    pub fn new(alloc: Global, passes: Vec<Pass>) -> Result<Self, AllocError>
+        requires new { All (IsNew J.identity) passes.items }
+        requires some { 0 < vec_len passes }
+        ensures { IfOk result (λ pool. vec_len pool.passes.passes ≡ vec_len passes) }
+    {
+        let passes = LockedPasses::new(alloc, passes)?;
+        Ok(ReadPool { passes })
     }
 
-    /// Reads a tenant's word for a session that has seen what the note says. Gives the reply, and a note of what the
-    /// session has seen then. It waits until a pass is free.
+    /// Reads a tenant's word for the session of this number, which has seen what the note says. Gives the reply, and a
+    /// note of what the session has seen then. It waits while the session's pass serves another.
     pub(crate) fn read<D: Disk + Drop, H: Hold + Drop, R: Wait>(
         &self,
         rt: &R,
         engine: &Engine<J, D, H>,
+        number: usize,
         note: Option<Note>,
         tenant: u8,
         address: u16,
@@ -43,15 +56,16 @@ impl<J: EngineBrand> ReadPool<J> {
         ensures its { IsNoteOf J.identity result.1 }
     {
         self.passes
-            .serve(rt, engine, note, tenant, &Job::Get(address))
+            .serve(rt, engine, number, note, tenant, &Job::Get(address))
     }
 
-    /// Gives the figures for a session that has seen what the note says, and a note of what it has seen then. It waits
-    /// until a pass is free.
+    /// Gives the figures for the session of this number, which has seen what the note says, and a note of what the session
+    /// has seen then. It waits while the session's pass serves another.
     pub(crate) fn figures<D: Disk, H, R: Wait>(
         &self,
         rt: &R,
         engine: &Engine<J, D, H>,
+        number: usize,
         note: Option<Note>,
     ) -> (Figures, Note)
         requires its { IsNoteOfEngine J.identity note }
@@ -59,6 +73,6 @@ impl<J: EngineBrand> ReadPool<J> {
         ensures limits { AreWithinLimits result.0.tenants.items result.0.pool_free }
         ensures its { IsNoteOf J.identity result.1 }
     {
-        self.passes.figures(rt, engine, note)
+        self.passes.figures(rt, engine, number, note)
     }
 }

@@ -3,15 +3,17 @@
 //! Used by: mw_programs, for a script and for each client of a server without `--clients`. `specs/Served` says what a
 //! session of a worker is: change both together. docs/PROMISES cites `Worker::run`.
 ghost use Rattle.std.specs.Prelude.{◌≡◌, true};
+ghost use Rattle.std.specs.Io.KnownBytes.{IsAtEnd};
+ghost use Rattle.mw_session.specs.KnownStreams.{IsTied, inner_of, reads_of, writes_of};
+ghost use Rattle.mw_session.specs.declared.session.Ended.TheVariants.{PeerEnd};
 ghost use Rattle.mw_engine.specs.Passes.{IsPassOf};
 ghost use Rattle.mw_service.specs.Served.{IsSession};
 
 use crate::watch::FaultWatch;
 use mw_disk::Disk;
 use mw_engine::{Engine, EngineBrand, Hold, Pass};
-use mw_session::{Ended, Session};
+use mw_session::{Ended, NoOthers, PeerStream, RecordedStream, Session};
 use std::alloc::Global;
-use std::io::{Read, Write};
 use std::sync::Wait;
 
 /// A worker of an engine. Its pass is idle between two requests.
@@ -51,13 +53,15 @@ impl<J: EngineBrand, D: Disk + Drop, H: Hold + Drop, R: Wait, T: FaultWatch> Wor
     /// Serves one session: reads its lines and writes the reply to each, until it ends.
     ///
     /// Each reply to a job is right at a position in its tenant's history, or has its evidence. The
-    /// position is no earlier than what the worker had seen when it asked. A reader may never end, so this
+    /// position is no earlier than what the worker had seen when it asked. A stream may never end, so this
     /// may wait for ever.
-    pub fn run<I: Read, O: Write>(&mut self, alloc: Global, reader: &mut I, writer: &mut O) -> Ended
-        ensures session { IsSession J.identity (I.remaining reader.old) (I.remaining reader.new) (O.contents writer.old) (O.contents writer.new)
+    pub fn run<I: PeerStream>(&mut self, alloc: Global, stream: &mut RecordedStream<I>) -> Ended
+        ensures session { IsSession J.identity (reads_of stream.old) (reads_of stream.new) (writes_of stream.old) (writes_of stream.new)
             self.old.pass self.new.pass result }
+        ensures tied { IsTied I.remaining I.contents stream.old stream.new }
+        ensures at_end { result ≡ PeerEnd → IsAtEnd (I.remaining (inner_of stream.new)) }
     {
         let rt = self.rt;
-        Session::run(alloc, rt, reader, writer, self)
+        Session::run(alloc, rt, &NoOthers, stream, self)
     }
 }

@@ -20,6 +20,7 @@ returns-clause-counted g c =
         first = first;
         config = c.args.self.now.own.config;
         openings = c.args.self.now.own.openings;
+        begun = c.args.self.now.begun;
         learns = c.learn.ensures.learned;
         says = c.note-note.ensures.says ∙ ap note same;
       };

@@ -14,6 +14,7 @@ returns-clause-answered g c =
         first = c.learn.new.self.pass.seat.me.0;
         config = c.args.self.now.own.config;
         openings = c.args.self.now.own.openings;
+        begun = c.args.self.now.begun;
         learns = c.learn.ensures.learned;
         says = c.note-note.ensures.says ∙ ap note same;
       };

@@ -1,17 +1,18 @@
--- Proves goals of `locked` (src/pass_pool.rt) that the check does not prove by itself. Used by: the proof of that function
+-- Proves goals of `locked` (src/locked_passes.rt) that the check does not prove by itself. Used by: the proof of that function
 -- alone. It may change freely as long as this crate checks.
 use Rattle.std.proofs.Common.{◌≡◌, ◌+◌, length, sym, ◌∙◌}
 use Rattle.std.specs.Vec.Iter.{into_iter_items}
 use Rattle.mw_engine.specs.Passes.{IsNew}
+use Rattle.mw_service.proofs.SinceStarts.{of_new}
 use Rattle.mw_service.proofs.Workers.{behind, of_next, one_more, pushed}
-use Rattle.mw_service.proofs.pass_pool.locked.Goals as goal
+use Rattle.mw_service.proofs.locked_passes.locked.Goals as goal
 
 pub invariant_of-idle : goal.invariant_of-idle
 invariant_of-idle g c =
     let left = into_iter_items c.loop-pass.pass-iterator in
     let rest = into_iter_items c.next.new.self in
     let new = of_next (IsNew g.J.EngineBrand.identity) left rest c.in-Some.pass c.in-Some.ensures.steps.0 c.loop-pass.invariant.new in
-    record { own = new.own; idle = new.idle }
+    record { own = new.own; idle = new.idle; begun = of_new g.J.EngineBrand.identity c.in-Some.pass new }
 
 pub loop-pass-preserved : goal.loop-pass-preserved
 loop-pass-preserved g c =
